@@ -1,0 +1,28 @@
+use crate::channel::Slot;
+
+/// The octet that an idle bearer channel sends: the A-law character of the value +1, with its even
+/// bits inverted (ITU-T G.711, table 1a: the lowest positive interval).
+pub const IDLE: u8 = 0xD5;
+
+/// The tones that a call puts on a bearer channel (ITU-T Q.35 names them; their octets are given
+/// with each trace).
+#[derive(Clone, Copy, Debug, PartialEq, Eq)]
+pub enum Kind {
+    /// Ringing tone: the called party is being alerted.
+    Ringback,
+    /// Busy tone: the called party cannot be reached.
+    Busy,
+}
+
+/// What the exchange connects: one direction of a connection, a conference member, or a tone.
+///
+/// `since` is the number of the first frame that the circuit stands in.
+#[derive(Clone, Copy, Debug, PartialEq, Eq)]
+pub enum Circuit {
+    /// `to` hears `from`. A two-way connection is two of these.
+    Pair { from: Slot, to: Slot, since: u32 },
+    /// `at` sits in the conference room `room`.
+    Member { room: u8, at: Slot, since: u32 },
+    /// `to` hears a tone.
+    Tone { kind: Kind, to: Slot, since: u32 },
+}
