@@ -1,1 +1,6 @@
 pub mod Channels
+pub mod FrameInput
+pub mod ALaw
+pub mod Circuits
+pub mod Holding
+pub mod Hears

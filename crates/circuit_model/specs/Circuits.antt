@@ -1,0 +1,36 @@
+-- What a circuit names and who hears it. Source: this exchange's own.
+use Rattle.std.specs.Prelude.{ℕ, ◌&&◌, ◌||◌, Bool, true, false, ◌==◌, List, Option, find}
+use Rattle.circuit_model.specs.declared.channel.Slot.{Slot}
+use Rattle.circuit_model.specs.declared.circuit.Kind.{Kind}
+use Rattle.circuit_model.specs.declared.circuit.Circuit.{Circuit}
+use Rattle.circuit_model.specs.declared.circuit.Circuit.TheVariants.{Pair, Member, Tone}
+
+abbrev pub same_slot : Slot → Slot → Bool
+same_slot x y = (x.line == y.line) && (x.place == y.place)
+
+-- the slot that hears something by the circuit
+abbrev pub listener : Circuit → Slot
+listener (Pair from to since) = to
+listener (Member room at since) = at
+listener (Tone kind to since) = to
+
+-- the first frame that the circuit stands in
+abbrev pub since_of : Circuit → ℕ
+since_of (Pair from to since) = since
+since_of (Member room at since) = since
+since_of (Tone kind to since) = since
+
+-- the circuit names the slot, as the one that hears or the one that is heard
+abbrev pub names : Slot → Circuit → Bool
+names x (Pair from to since) = same_slot x from || same_slot x to
+names x (Member room at since) = same_slot x at
+names x (Tone kind to since) = same_slot x to
+
+abbrev pub is_member : Circuit → Bool
+is_member (Pair from to since) = false
+is_member (Member room at since) = true
+is_member (Tone kind to since) = false
+
+-- the circuit by which a slot hears
+abbrev pub heard_by : List Circuit → Slot → Option Circuit
+heard_by circuits x = find (λ c. same_slot x (listener c)) circuits

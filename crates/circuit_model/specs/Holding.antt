@@ -1,0 +1,66 @@
+-- The circuits that stand, and what the commands make of them. Source: this exchange's own; the terms connection, room member and tone
+-- are those of circuit switching (ITU-T Q.9).
+use Rattle.std.specs.Prelude.{◌≡◌, ℕ, ◌+◌, ◌*◌, ◌<◌, ◌≤◌, ◌⊎◌, not, Bool, List, [], ◌∷◌, ◌++◌, filter, All, Contains, count_by, slice_index_or}
+use Rattle.circuit_model.specs.declared.channel.Slot.{Slot}
+use Rattle.circuit_model.specs.declared.circuit.Kind.{Kind}
+use Rattle.circuit_model.specs.declared.circuit.Circuit.{Circuit}
+use Rattle.circuit_model.specs.declared.circuit.Circuit.TheVariants.{Pair, Member, Tone}
+use Rattle.circuit_model.specs.Circuits.{names, is_member, since_of}
+
+-- the circuits that stand, a list that is read as a set, and the number of the next frame
+pub record Holding : Type 0 where
+  pub circuits : List Circuit
+  pub next : ℕ
+
+-- nothing stands before the first frame
+abbrev pub empty : Holding
+empty = record { circuits = []; next = 0 }
+
+pub data Command : Type 0 where
+  Connect : (x y : Slot) → Command
+  Seat : (x : Slot) (room : ℕ) → Command
+  Give_tone : (x : Slot) (kind : Kind) → Command
+  Clear : (x : Slot) → Command
+  Frame : Command
+
+-- what a command makes of a holding. A circuit stands since the next frame; a frame's boundary changes the number alone
+abbrev pub after : Holding → Command → Holding
+after h (Connect x y) = record h { circuits = h.circuits ++ Pair x y h.next ∷ Pair y x h.next ∷ [] }
+after h (Seat x room) = record h { circuits = h.circuits ++ Member room x h.next ∷ [] }
+after h (Give_tone x kind) = record h { circuits = h.circuits ++ Tone kind x h.next ∷ [] }
+after h (Clear x) = record h { circuits = filter (λ c. not (names x c)) h.circuits }
+after h Frame = record h { next = h.next + 1 }
+
+abbrev pub after_all : Holding → List Command → Holding
+after_all h [] = h
+after_all h (c ∷ cs) = after_all (after h c) cs
+
+-- the circuits of each frame: those that stood at its boundary
+abbrev pub frames : Holding → List Command → List (List Circuit)
+frames h [] = []
+frames h (Connect x y ∷ cs) = frames (after h (Connect x y)) cs
+frames h (Seat x room ∷ cs) = frames (after h (Seat x room)) cs
+frames h (Give_tone x kind ∷ cs) = frames (after h (Give_tone x kind)) cs
+frames h (Clear x ∷ cs) = frames (after h (Clear x)) cs
+frames h (Frame ∷ cs) = h.circuits ∷ frames (after h Frame) cs
+
+-- the circuits of frame f of those listed; none where there is no such frame
+abbrev pub circuits_of : List (List Circuit) → ℕ → List Circuit
+circuits_of held f = slice_index_or held f []
+
+-- all that names a slot
+abbrev pub naming : List Circuit → Slot → List Circuit
+naming circuits x = filter (names x) circuits
+
+-- a slot stands in one way: idle, with one tone, as one room's member, or in a connection with one other slot, both ways
+pub data Stands (circuits : List Circuit) (x : Slot) : Type 0 where
+  Is_idle : naming circuits x ≡ [] → Stands circuits x
+  Has_tone : (kind : Kind) (since : ℕ) → naming circuits x ≡ Tone kind x since ∷ [] → Stands circuits x
+  Is_seated : (room since : ℕ) → naming circuits x ≡ Member room x since ∷ [] → Stands circuits x
+  Is_connected : (y : Slot) (since : ℕ) → ¬ (y ≡ x) → (naming circuits x ≡ Pair x y since ∷ Pair y x since ∷ []) ⊎ (naming circuits x ≡ Pair y x since ∷ Pair x y since ∷ []) → Stands circuits x
+
+-- a holding of an exchange with so many bridge lines: no circuit is younger than the next frame, each member finds a port, and each slot stands in one way
+pub record Valid (bridges : ℕ) (h : Holding) : Type 0 where
+  pub young : All (λ c. since_of c ≤ h.next) h.circuits
+  pub seated : count_by is_member h.circuits ≤ 30 * bridges
+  pub standing : (x : Slot) → Stands h.circuits x
