@@ -1,0 +1,11 @@
+ghost use Rattle.std.specs.Prelude.{◌≡◌, ℕ};
+ghost use Rattle.control_memory.specs.Connecting.{connect, moved};
+ghost use Rattle.control_memory.specs.Examples.{at, both_halves};
+
+/// The rule of rearrangement, evaluated on a full line: between lines 0 and 1 no internal slot is
+/// left in common, so the first direction moves two live paths, and the second none.
+pub fn worked_layouts()
+    ensures first { moved (both_halves 15) (connect 3 30 (both_halves 15) (at 0 15) (at 1 15)) ≡ 2 }
+    ensures second { let once = connect 3 30 (both_halves 15) (at 0 15) (at 1 15) in moved once (connect 3 30 once (at 1 15) (at 0 15)) ≡ 0 }
+{
+}
