@@ -117,7 +117,7 @@ finds_path test layout from to slot within has passes =
     finds test 0 layout (number_of from) (record { to = to; slot = slot }) has
       (ap (λ (f : Slot). test (record { from = f; to = to; slot = slot })) (ap slot_numbered (omega arith) ∙ numbered_number from within) ∙ passes)
 
-hops_agree : (h k : Hop) → Some h ≡ Some k → (h.to ≡ k.to) × (h.slot ≡ k.slot)
+pub hops_agree : (h k : Hop) → Some h ≡ Some k → (h.to ≡ k.to) × (h.slot ≡ k.slot)
 hops_agree h k e = let is = some_same h k e in (ap (λ (x : Hop). x.to) is, ap (λ (x : Hop). x.slot) is)
 
 -- two paths from one inlet are one
