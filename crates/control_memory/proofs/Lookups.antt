@@ -1,10 +1,10 @@
 -- Which paths the lookups of a layout find.
-use Rattle.std.proofs.Common.{◌≡◌, ℕ, zero, suc, ◌+◌, ◌*◌, ◌/◌, ◌%◌, ◌<◌, ◌≤◌, ◌⊎◌, ◌&&◌, Bool, true, false, cond, eqb, List, [], ◌∷◌, length, Option, Some, None, refl, sym, ◌∙◌, ap, subst, inl, inr, ⊎_elim, arith}
+use Rattle.std.proofs.Common.{◌≡◌, ℕ, zero, suc, ◌+◌, ◌*◌, ◌/◌, ◌%◌, ◌<◌, ◌⊎◌, ◌&&◌, Bool, true, false, cond, eqb, [], ◌∷◌, length, Option, Some, None, refl, sym, ◌∙◌, ap, subst, inl, inr, ⊎_elim, arith}
 use Rattle.std.specs.Prelude.{find, slice_index_or, ◌==◌}
 use Rattle.std.proofs.lemmas.Bool.{eqb-true, eq-eqb}
 use Rattle.circuit_model.specs.declared.channel.Slot.{Slot}
 use Rattle.circuit_model.specs.Circuits.{same_slot}
-use Rattle.control_memory.specs.Layout.{Hop, Path, Layout, number_of, slot_numbered, hop_of, paths, paths_from, path_in, path_out, path_to, IsSlot, HasPath, Legal}
+use Rattle.control_memory.specs.Layout.{Hop, Path, Layout, number_of, slot_numbered, paths, paths_from, path_in, path_out, path_to, IsSlot, HasPath, Legal}
 
 -- ---- numbers of slots
 pub number_numbered : (n : ℕ) → number_of (slot_numbered n) ≡ n
@@ -26,11 +26,11 @@ pub record Stands (n : ℕ) (hops : Layout) (p : Path) : Type 0 where
 
 later : (n : ℕ) (hop : Option Hop) (hops : Layout) (p : Path) → Stands (n + 1) hops p → Stands n (hop ∷ hops) p
 later n hop hops p s = record {
-    k = suc s.k;
-    inside = let i = s.inside in omega (arith, i);
-    there = s.there;
-    from = s.from ∙ ap slot_numbered (omega arith);
-  }
+  k = suc s.k;
+  inside = let i = s.inside in omega (arith, i);
+  there = s.there;
+  from = s.from ∙ ap slot_numbered (omega arith);
+}
 
 none_some : {X : Type 0} (x : X) → (let n : Option X = None in n) ≡ Some x → ⊥
 none_some x e = cc
@@ -45,13 +45,15 @@ found_here : (test : Path → Bool) (n : ℕ) (hop : Hop) (hops : Layout) (p : P
     → (find test (paths_from (n + 1) hops) ≡ Some p → Stands (n + 1) hops p × (test p ≡ true))
     → cond b (Some (path_at n hop)) (find test (paths_from (n + 1) hops)) ≡ Some p → Stands n (Some hop ∷ hops) p × (test p ≡ true)
 found_here test n hop hops p true passes later_on e =
-    let is : path_at n hop ≡ p = some_same (path_at n hop) p e in
-    (record {
+    let is : path_at n hop ≡ p = some_same (path_at n hop) p e in (
+      record {
         k = 0;
         inside = omega arith;
         there = ap (λ (q : Path). Some (record { to = q.to; slot = q.slot })) is;
         from = sym (ap (λ (q : Path). q.from) is) ∙ ap slot_numbered (omega arith);
-      }, subst (λ q. test q ≡ true) is passes)
+      },
+      subst (λ q. test q ≡ true) is passes,
+    )
 found_here test n hop hops p false passes later_on e = let rest = later_on e in (later n (Some hop) hops p rest.0, rest.1)
 
 pub found : (test : Path → Bool) (n : ℕ) (hops : Layout) (p : Path) → find test (paths_from n hops) ≡ Some p → Stands n hops p × (test p ≡ true)
@@ -105,9 +107,9 @@ stands_path lines layout p size s =
     let inside : k < 30 * lines = let i = s.inside in omega (arith, i, size) in
     let number : number_of p.from ≡ k = ap number_of from ∙ number_numbered k in
     record {
-        inlet = subst (IsSlot lines) (sym from) (omega (arith, inside), omega arith);
-        path = ap (λ n. slice_index_or layout n None) number ∙ s.there;
-      }
+      inlet = subst (IsSlot lines) (sym from) (omega (arith, inside), omega arith);
+      path = ap (λ n. slice_index_or layout n None) number ∙ s.there;
+    }
 
 pub found_path : (test : Path → Bool) (lines : ℕ) (layout : Layout) (p : Path) → length layout ≡ 30 * lines → find test (paths layout) ≡ Some p → IsPathOf lines layout p × (test p ≡ true)
 found_path test lines layout p size e = let f = found test 0 layout p e in (stands_path lines layout p size f.0, f.1)
@@ -115,7 +117,7 @@ found_path test lines layout p size e = let f = found test 0 layout p e in (stan
 pub finds_path : (test : Path → Bool) (layout : Layout) (from to : Slot) (slot : ℕ) → from.place < 30 → HasPath layout from to slot → test (record { from = from; to = to; slot = slot }) ≡ true → (q : Path) × (find test (paths layout) ≡ Some q)
 finds_path test layout from to slot within has passes =
     finds test 0 layout (number_of from) (record { to = to; slot = slot }) has
-      (ap (λ (f : Slot). test (record { from = f; to = to; slot = slot })) (ap slot_numbered (omega arith) ∙ numbered_number from within) ∙ passes)
+    (ap (λ (f : Slot). test (record { from = f; to = to; slot = slot })) (ap slot_numbered (omega arith) ∙ numbered_number from within) ∙ passes)
 
 pub hops_agree : (h k : Hop) → Some h ≡ Some k → (h.to ≡ k.to) × (h.slot ≡ k.slot)
 hops_agree h k e = let is = some_same h k e in (ap (λ (x : Hop). x.to) is, ap (λ (x : Hop). x.slot) is)

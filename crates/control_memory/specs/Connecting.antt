@@ -1,7 +1,7 @@
 -- How a path joins a layout: in the lowest common slot, or after live paths are moved along an alternating chain of two slots. Source:
 -- M. C. Paull, "Reswitching of connection networks", Bell System Technical Journal 41 (1962); the Slepian-Duguid theorem says that as many
 -- internal slots as a line has places are enough. In graph terms the chain is Kempe's.
-use Rattle.std.specs.Prelude.{ℕ, zero, suc, ◌+◌, ◌*◌, ◌&&◌, not, Bool, true, false, ◌==◌, is_none, List, [], ◌∷◌, Option, Some, None, unwrap_or, option_map, slice_set, find, if◌then◌else◌}
+use Rattle.std.specs.Prelude.{ℕ, zero, suc, ◌+◌, ◌*◌, ◌&&◌, not, Bool, ◌==◌, is_none, List, [], ◌∷◌, Option, Some, None, unwrap_or, slice_set, find, if◌then◌else◌}
 use Rattle.std.specs.List.{range_with_len}
 use Rattle.circuit_model.specs.declared.channel.Slot.{Slot}
 use Rattle.circuit_model.specs.Circuits.{same_slot}

@@ -1,8 +1,8 @@
 -- Small fabrics, on which the definitions are evaluated.
-use Rattle.std.specs.Prelude.{ℕ, ◌+◌, ◌-◌, ◌*◌, List, [], ◌∷◌, Option, Some, None, replicate, zero, suc}
+use Rattle.std.specs.Prelude.{ℕ, ◌+◌, ◌*◌, None, replicate, zero, suc}
 use Rattle.circuit_model.specs.declared.channel.Slot.{Slot}
-use Rattle.control_memory.specs.Layout.{Hop, Path, Layout, paths}
-use Rattle.control_memory.specs.Connecting.{connect, moved}
+use Rattle.control_memory.specs.Layout.{Layout}
+use Rattle.control_memory.specs.Connecting.{connect}
 
 abbrev pub at : ℕ → ℕ → Slot
 at line place = record { line = line; place = place }

@@ -1,7 +1,7 @@
 -- Paths through a time-space-time fabric, and when they are legal. Source: C. Clos, "A study of non-blocking switching networks" (1953),
 -- for the three stages; M. C. Paull, "Reswitching of connection networks" (1962), for legality: in Paull's matrix no symbol stands
 -- twice in a row or in a column.
-use Rattle.std.specs.Prelude.{◌≡◌, ℕ, ◌+◌, ◌*◌, ◌/◌, ◌%◌, ◌<◌, ◌&&◌, Bool, ◌==◌, List, [], ◌∷◌, length, Option, Some, None, option_map, slice_index_or, slice_set, find}
+use Rattle.std.specs.Prelude.{◌≡◌, ℕ, ◌+◌, ◌*◌, ◌/◌, ◌%◌, ◌<◌, ◌&&◌, ◌==◌, List, [], ◌∷◌, length, Option, Some, None, option_map, slice_index_or, find}
 use Rattle.circuit_model.specs.declared.channel.Slot.{Slot}
 use Rattle.circuit_model.specs.Circuits.{same_slot}
 

@@ -1,3 +1,6 @@
 pub mod Layout
 pub mod Connecting
 pub mod Examples
+pub mod Tables
+pub mod Image
+pub mod Carrying
