@@ -1,1 +1,2 @@
 pub mod Age
+pub mod Slots

@@ -4,6 +4,7 @@ use Rattle.std.specs.Prelude.{find, slice_index_or, ◌==◌}
 use Rattle.std.proofs.lemmas.Bool.{eqb-true, eq-eqb}
 use Rattle.circuit_model.specs.declared.channel.Slot.{Slot}
 use Rattle.circuit_model.specs.Circuits.{same_slot}
+use Rattle.circuit_model.proofs.Slots.{both, and_true, same_slots, same_self}
 use Rattle.control_memory.specs.Layout.{Hop, Path, Layout, number_of, slot_numbered, paths, paths_from, path_in, path_out, path_to, IsSlot, HasPath, Legal}
 
 -- ---- numbers of slots
@@ -78,23 +79,6 @@ finds test n (Some first ∷ hops) (suc k) hop there passes =
     some_here test n first hops (test (path_at n first)) (inl (finds test (n + 1) hops k hop there (ap (λ m. test (path_at m hop)) (omega arith) ∙ passes)))
 
 -- ---- the three lookups
-both : (a b : Bool) → (a && b) ≡ true → (a ≡ true) × (b ≡ true)
-both true b e = (refl, e)
-both false b e = absurd (cc)
-
-and_true : (a b : Bool) → a ≡ true → b ≡ true → (a && b) ≡ true
-and_true a b x y = ap (λ c. c && b) x ∙ y
-
-pub same_slots : (x y : Slot) → same_slot x y ≡ true → x ≡ y
-same_slots x y e =
-    let parts = both (eqb x.line y.line) (eqb x.place y.place) e in
-    let line = eqb-true x.line y.line parts.0 in
-    let place = eqb-true x.place y.place parts.1 in
-    λ i. record { line = line i; place = place i }
-
-pub same_self : (x : Slot) → same_slot x x ≡ true
-same_self x = and_true (eqb x.line x.line) (eqb x.place x.place) (eq-eqb x.line x.line refl) (eq-eqb x.place x.place refl)
-
 -- a path that a lookup found stands in the layout, at a slot of its lines
 pub record IsPathOf (lines : ℕ) (layout : Layout) (p : Path) : Type 0 where
   pub inlet : IsSlot lines p.from
