@@ -1,1 +1,3 @@
 pub mod Age
+pub mod Slots
+pub mod Hearing
