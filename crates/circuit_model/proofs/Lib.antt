@@ -1,3 +1,4 @@
 pub mod Age
 pub mod Slots
 pub mod Hearing
+pub mod Validity
