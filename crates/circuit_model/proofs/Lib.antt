@@ -2,3 +2,4 @@ pub mod Age
 pub mod Slots
 pub mod Hearing
 pub mod Validity
+pub mod Recorded

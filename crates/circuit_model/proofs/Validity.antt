@@ -1,6 +1,6 @@
 -- Holdings stay valid.
 use Rattle.std.proofs.Common.{◌≡◌, ℕ, ◌+◌, ◌*◌, ◌<◌, ◌≤◌, Bool, true, false, cond, not, ◌&&◌, ◌||◌, ◌⊎◌, List, [], ◌∷◌, ◌++◌, Option, Some, None, refl, sym, ◌∙◌, ap, subst, inl, inr, ⊎_elim, arith, append-nil}
-use Rattle.std.specs.List.{filter, find, list_any, count_by, All}
+use Rattle.std.specs.List.{filter, find, list_any, count_by, All, Contains}
 use Rattle.std.proofs.lemmas.Grind.{common_steps}
 use Rattle.std.proofs.lemmas.List.Elements.{filter-append, All-append, All-filter, All-nil, All-cons}
 use Rattle.circuit_model.specs.declared.channel.Slot.{Slot}
@@ -8,8 +8,9 @@ use Rattle.circuit_model.specs.declared.circuit.Kind.{Kind}
 use Rattle.circuit_model.specs.declared.circuit.Circuit.{Circuit}
 use Rattle.circuit_model.specs.declared.circuit.Circuit.TheVariants.{Pair, Member, Tone}
 use Rattle.circuit_model.specs.Circuits.{same_slot, listener, names, is_idle, is_member, since_of, heard_by, unless_naming}
-use Rattle.circuit_model.specs.Holding.{Holding, empty, Command, Connect, Seat, Give_tone, Clear, Frame, after, naming, Stands, Is_idle, Has_tone, Is_seated, Is_connected, Valid}
-use Rattle.circuit_model.proofs.Slots.{true_or_false, same_slot-refl, same_slot-true, same_slot_cases, naming-idle, is_idle-naming, heard_by-naming, filter_filter}
+use Rattle.circuit_model.specs.Holding.{Holding, empty, Command, Connect, Seat, Give_tone, Clear, Frame, after, naming, Stands, Is_idle, Has_tone, Is_seated, Is_connected, Valid, IsAllowed}
+use Rattle.circuit_model.proofs.Slots.{true_or_false, same_slot-refl, same_slot-true, same_slot_cases, same_slot-false, naming-idle, is_idle-naming, heard_by-naming, listener_is_named, filter_filter}
+use Rattle.circuit_model.proofs.Age.{cons_cases, at_head, in_tail, none_in_nil}
 
 -- ---- counts and ages
 pub count_by-append : {X : Type 0} (p : X → Bool) (xs ys : List X) → count_by p (xs ++ ys) ≡ count_by p xs + count_by p ys
@@ -143,6 +144,13 @@ valid-clear bridges h x v = record {
 pub valid-frame : (bridges : ℕ) (h : Holding) → Valid bridges h → Valid bridges (after h Frame)
 valid-frame bridges h v = record { young = λ k d inside. omega (arith, v.young k d inside); seated = v.seated; standing = v.standing }
 
+pub valid-after : (bridges : ℕ) (h : Holding) (c : Command) → Valid bridges h → IsAllowed bridges h c → Valid bridges (after h c)
+valid-after bridges h (Connect x y) v allowed = valid-connect bridges h x y v allowed.0 allowed.1 allowed.2
+valid-after bridges h (Seat x room) v allowed = valid-seat bridges h x room v allowed.0 allowed.1
+valid-after bridges h (Give_tone x kind) v allowed = valid-tone bridges h x kind v allowed
+valid-after bridges h (Clear x) v allowed = valid-clear bridges h x v
+valid-after bridges h Frame v allowed = valid-frame bridges h v
+
 -- ---- whom a slot hears in a valid holding
 -- what names a slot says by which circuit it hears
 heard_by-stands : (circuits : List Circuit) (x : Slot) → Stands circuits x → heard_by circuits x ≡ None → is_idle circuits x ≡ true
@@ -164,3 +172,40 @@ pub heard_by-clear : (circuits : List Circuit) (x z : Slot) → Stands circuits 
 heard_by-clear circuits x z s =
     sym (heard_by-naming (filter (λ c. not (names x c)) circuits) z) ∙ ap (λ cs. heard_by cs z) (naming-clear circuits x z) ∙ cleared_among circuits x z s
     ∙ ap (unless_naming x) (heard_by-naming circuits z)
+
+-- ---- the one circuit that a slot hears
+in_filter : {X : Type 0} (p : X → Bool) (xs : List X) (y : X) → Contains xs y → p y ≡ true → Contains (filter p xs) y
+in_filter p [] y inside passes = inside
+in_filter p (x ∷ xs) y inside passes =
+    elim (cons_cases x xs y inside) [
+      | inl here ↦ let first : p x ≡ true = rw here passes in rw first (at_head x (filter p xs) y here)
+      | inr there ↦ let rest = in_filter p xs y there passes in elim (true_or_false (p x)) [
+          | inl kept ↦ rw kept (in_tail x (filter p xs) y rest)
+          | inr dropped ↦ rw dropped rest
+        ]
+    ]
+
+only_one : (d c : Circuit) → Contains (d ∷ []) c → d ≡ c
+only_one d c inside = ⊎_elim (λ (e : d ≡ c). e) (λ (no : Contains [] c). absurd (none_in_nil c no)) (cons_cases d [] c inside)
+
+one_of_two : (d e c : Circuit) → Contains (d ∷ e ∷ []) c → (d ≡ c) ⊎ (e ≡ c)
+one_of_two d e c inside = ⊎_elim (λ (first : d ≡ c). inl first) (λ (rest : Contains (e ∷ []) c). inr (only_one e c rest)) (cons_cases d (e ∷ []) c inside)
+
+-- of what names the slot, only what it hears by is for it
+heard_alone : (circuits : List Circuit) (x : Slot) (c : Circuit) → Stands circuits x → Contains (naming circuits x) c → same_slot x (listener c) ≡ true → heard_by (naming circuits x) x ≡ Some c
+heard_alone circuits x c (Is_idle e) inside for_x = absurd (none_in_nil c (rw e at inside))
+heard_alone circuits x c (Has_tone kind since e) inside for_x = let same = only_one _ c (rw e at inside) in rw e (grind (arith, common_steps))
+heard_alone circuits x c (Is_seated room since e) inside for_x = let same = only_one _ c (rw e at inside) in rw e (grind (arith, common_steps))
+heard_alone circuits x c (Is_connected y since apart (inl e)) inside for_x =
+    let other = same_slot-false x y (λ f. apart (sym f)) in
+    elim (one_of_two _ _ c (rw e at inside)) [ inl same ↦ absurd (grind (arith, common_steps)) | inr same ↦ rw e (grind (arith, common_steps)) ]
+heard_alone circuits x c (Is_connected y since apart (inr e)) inside for_x =
+    let other = same_slot-false x y (λ f. apart (sym f)) in
+    elim (one_of_two _ _ c (rw e at inside)) [ inl same ↦ rw e (grind (arith, common_steps)) | inr same ↦ absurd (grind (arith, common_steps)) ]
+
+-- a circuit that stands is the one that its slot hears by
+pub heard_by-listener : (circuits : List Circuit) (c : Circuit) → Stands circuits (listener c) → Contains circuits c → heard_by circuits (listener c) ≡ Some c
+heard_by-listener circuits c s inside =
+    let x : Slot = listener c in
+    let for_x = same_slot-refl x in
+    sym (heard_by-naming circuits x) ∙ heard_alone circuits x c s (in_filter (names x) circuits c inside (listener_is_named x c for_x)) for_x
