@@ -10,7 +10,7 @@ use Rattle.circuit_model.specs.declared.circuit.Circuit.TheVariants.{Pair, Membe
 use Rattle.circuit_model.specs.Circuits.{same_slot, listener, names, is_idle, is_member, since_of, heard_by, unless_naming}
 use Rattle.circuit_model.specs.Holding.{Holding, empty, Command, Connect, Seat, Give_tone, Clear, Frame, after, naming, Stands, Is_idle, Has_tone, Is_seated, Is_connected, Valid, IsAllowed}
 use Rattle.circuit_model.proofs.Slots.{true_or_false, same_slot-refl, same_slot-true, same_slot_cases, same_slot-false, naming-idle, is_idle-naming, heard_by-naming, listener_is_named, filter_filter}
-use Rattle.circuit_model.proofs.Age.{cons_cases, at_head, in_tail, none_in_nil}
+use Rattle.circuit_model.proofs.Age.{cons_cases, at_head, in_tail, none_in_nil, within_filtered}
 
 -- ---- counts and ages
 pub count_by-append : {X : Type 0} (p : X → Bool) (xs ys : List X) → count_by p (xs ++ ys) ≡ count_by p xs + count_by p ys
@@ -152,13 +152,16 @@ valid-after bridges h (Clear x) v allowed = valid-clear bridges h x v
 valid-after bridges h Frame v allowed = valid-frame bridges h v
 
 -- ---- whom a slot hears in a valid holding
--- what names a slot says by which circuit it hears
-heard_by-stands : (circuits : List Circuit) (x : Slot) → Stands circuits x → heard_by circuits x ≡ None → is_idle circuits x ≡ true
-heard_by-stands circuits x (Is_idle e) none = is_idle-naming circuits x e
-heard_by-stands circuits x (Has_tone kind since e) none = let same = same_slot-refl x in let found = sym (heard_by-naming circuits x) ∙ ap (λ cs. heard_by cs x) e in grind (arith, common_steps)
-heard_by-stands circuits x (Is_seated room since e) none = let same = same_slot-refl x in let found = sym (heard_by-naming circuits x) ∙ ap (λ cs. heard_by cs x) e in grind (arith, common_steps)
-heard_by-stands circuits x (Is_connected y since apart (inl e)) none = let same = same_slot-refl x in let found = sym (heard_by-naming circuits x) ∙ ap (λ cs. heard_by cs x) e in grind (arith, common_steps)
-heard_by-stands circuits x (Is_connected y since apart (inr e)) none = let same = same_slot-refl x in let found = sym (heard_by-naming circuits x) ∙ ap (λ cs. heard_by cs x) e in grind (arith, common_steps)
+-- a slot that hears nothing is named by nothing
+named_by_none : (circuits : List Circuit) (x : Slot) → Stands circuits x → heard_by (naming circuits x) x ≡ None → naming circuits x ≡ []
+named_by_none circuits x (Is_idle e) none = e
+named_by_none circuits x (Has_tone kind since e) none = let same = same_slot-refl x in let found = rw e at none in absurd (grind (arith, common_steps))
+named_by_none circuits x (Is_seated room since e) none = let same = same_slot-refl x in let found = rw e at none in absurd (grind (arith, common_steps))
+named_by_none circuits x (Is_connected y since apart (inl e)) none = let same = same_slot-refl x in let found = rw e at none in absurd (grind (arith, common_steps))
+named_by_none circuits x (Is_connected y since apart (inr e)) none = let same = same_slot-refl x in let found = rw e at none in absurd (grind (arith, common_steps))
+
+pub deaf_is_idle : (circuits : List Circuit) (x : Slot) → Stands circuits x → heard_by circuits x ≡ None → is_idle circuits x ≡ true
+deaf_is_idle circuits x s none = is_idle-naming circuits x (named_by_none circuits x s (heard_by-naming circuits x ∙ none))
 
 -- after a slot is cleared each hears what it heard, unless that named the slot
 cleared_among : (circuits : List Circuit) (x z : Slot) → Stands circuits z → heard_by (filter (λ c. not (names x c)) (naming circuits z)) z ≡ unless_naming x (heard_by (naming circuits z) z)
@@ -209,3 +212,20 @@ heard_by-listener circuits c s inside =
     let x : Slot = listener c in
     let for_x = same_slot-refl x in
     sym (heard_by-naming circuits x) ∙ heard_alone circuits x c s (in_filter (names x) circuits c inside (listener_is_named x c for_x)) for_x
+
+-- where x hears y, the other direction stands too
+other_way : (circuits : List Circuit) (x y : Slot) (since : ℕ) → Stands circuits x → heard_by (naming circuits x) x ≡ Some (Pair y x since) → Contains (naming circuits x) (Pair x y since)
+other_way circuits x y since (Is_idle e) hears = let no : None ≡ Some (Pair y x since) = rw e at hears in absurd cc
+other_way circuits x y since (Has_tone kind s e) hears = let same = same_slot-refl x in let no = rw e at hears in absurd (grind (arith, common_steps))
+other_way circuits x y since (Is_seated room s e) hears = let same = same_slot-refl x in let no = rw e at hears in absurd (grind (arith, common_steps))
+other_way circuits x y since (Is_connected z s apart (inl e)) hears =
+    let same = same_slot-refl x in let other = same_slot-false x z (λ f. apart (sym f)) in let found = rw e at hears in
+    rw e (at_head (Pair x z s) (Pair z x s ∷ []) (Pair x y since) (grind (arith, common_steps)))
+other_way circuits x y since (Is_connected z s apart (inr e)) hears =
+    let same = same_slot-refl x in let found = rw e at hears in
+    rw e (in_tail (Pair z x s) (Pair x z s ∷ []) (Pair x y since) (at_head (Pair x z s) [] (Pair x y since) (grind (arith, common_steps))))
+
+pub heard_by-mutual : (circuits : List Circuit) (x y : Slot) (since : ℕ) → Stands circuits x → Stands circuits y → heard_by circuits x ≡ Some (Pair y x since) → heard_by circuits y ≡ Some (Pair x y since)
+heard_by-mutual circuits x y since sx sy hears =
+    let inside = other_way circuits x y since sx (heard_by-naming circuits x ∙ hears) in
+    heard_by-listener circuits (Pair x y since) sy (within_filtered (names x) circuits (Pair x y since) inside)
