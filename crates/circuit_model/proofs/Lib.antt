@@ -3,3 +3,4 @@ pub mod Slots
 pub mod Hearing
 pub mod Validity
 pub mod Recorded
+pub mod Refused
