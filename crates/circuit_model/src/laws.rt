@@ -1,8 +1,8 @@
-ghost use Rattle.std.specs.Prelude.{◌≡◌, ◌<◌, ◌-◌, ℕ, List, [], ◌∷◌, map, pos, negsuc, Contains};
+ghost use Rattle.std.specs.Prelude.{◌≡◌, ◌<◌, ◌-◌, ℕ, List, [], ◌∷◌, length, map, pos, negsuc, slice_index, Contains};
 ghost use Rattle.circuit_model.specs.declared.circuit.Circuit.{Circuit};
 ghost use Rattle.circuit_model.specs.Circuits.{since_of};
 ghost use Rattle.circuit_model.specs.Holding.{Command, empty, frames, circuits_of};
-ghost use Rattle.circuit_model.specs.ALaw.{expand, compress};
+ghost use Rattle.circuit_model.specs.ALaw.{decision_values, expand, compress};
 ghost use Rattle.circuit_model.specs.Examples.{heard, a_connection, two_lines, a_reused_slot, three_lines, a_room, loud_lines, alone, a_pair_of_members, soft_lines, a_tone, a_late_connection, a_renewed_connection, quiet_lines, a_changing_room, counting_lines, two_rooms, a_full_room, loud_and_low, two_tones};
 
 /// The law of age: after any commands, a circuit that stands in frame `f` since an earlier frame
@@ -48,9 +48,11 @@ pub fn worked_edges()
     ensures tones { heard [] two_tones 0 (0 ∷ 1 ∷ 2 ∷ 3 ∷ 4 ∷ 5 ∷ []) ≡ 0x44 ∷ 0x44 ∷ 0x11 ∷ 0x22 ∷ 0x11 ∷ 0x22 ∷ [] }
 {}
 
-/// The A-law definitions, evaluated: the ends of the first interval and of the last, zero, ties,
-/// and values beyond the last decision value.
+/// The A-law definitions, evaluated: how many decision values there are and the last of them, the
+/// ends of the first interval and of the last, zero, ties, and values beyond the last decision value.
 pub fn worked_values()
+    ensures count { length decision_values ≡ 129 }
+    ensures last { slice_index decision_values 128 ≡ 4096 }
     ensures values { map expand (0xD5 ∷ 0x55 ∷ 0xAA ∷ 0x2A ∷ []) ≡ pos 1 ∷ negsuc 0 ∷ pos 4032 ∷ negsuc 4031 ∷ [] }
     ensures zero { compress (pos 0) ≡ 0xD5 }
     ensures below_tie { compress (pos 63) ≡ 0xCA }
