@@ -1,14 +1,12 @@
 -- Whom each slot hears after a command.
-use Rattle.std.proofs.Common.{◌≡◌, ℕ, ◌+◌, Bool, true, false, cond, not, ◌&&◌, ◌||◌, ◌⊎◌, List, [], ◌∷◌, ◌++◌, Option, Some, None, refl, sym, ◌∙◌, ap, inl, inr, ⊎_elim, arith, if◌then◌else◌}
-use Rattle.std.specs.List.{filter, find, list_any}
+use Rattle.std.proofs.Common.{◌≡◌, ℕ, true, List, [], ◌∷◌, ◌++◌, Some, None, sym, ◌∙◌, ap, inl, inr, arith, if◌then◌else◌}
 use Rattle.std.specs.Option.{option_or}
 use Rattle.std.proofs.lemmas.Grind.{common_steps}
 use Rattle.std.proofs.lemmas.List.Folds.{find-append}
 use Rattle.circuit_model.specs.declared.channel.Slot.{Slot}
-use Rattle.circuit_model.specs.declared.circuit.Kind.{Kind}
 use Rattle.circuit_model.specs.declared.circuit.Circuit.{Circuit}
-use Rattle.circuit_model.specs.declared.circuit.Circuit.TheVariants.{Pair, Member, Tone}
-use Rattle.circuit_model.specs.Circuits.{same_slot, listener, names, is_idle, heard_by}
+use Rattle.circuit_model.specs.declared.circuit.Circuit.TheVariants.{Pair}
+use Rattle.circuit_model.specs.Circuits.{same_slot, listener, is_idle, heard_by}
 use Rattle.circuit_model.proofs.Slots.{true_or_false, same_slot-refl, same_slot-true, same_slot_cases, idle_is_deaf}
 
 -- a slot hears the first of what stood and of what came, in that order
@@ -37,11 +35,11 @@ heard_by-two circuits x y z n idle_x idle_y =
     let e = heard_by-append circuits (Pair x y n ∷ Pair y x n ∷ []) z in
     elim (same_slot_cases z x) [
       | inl at_x ↦ let deaf : heard_by circuits z ≡ None = rw at_x (idle_is_deaf circuits x idle_x) in let same = same_slot-refl x in elim (same_slot_cases z y) [
-          | inl at_y ↦ let both : x ≡ y = sym at_x ∙ at_y in grind (arith, common_steps)
-          | inr off_y ↦ grind (arith, common_steps)
-        ]
+        | inl at_y ↦ let both : x ≡ y = sym at_x ∙ at_y in grind (arith, common_steps)
+        | inr off_y ↦ grind (arith, common_steps)
+      ]
       | inr off_x ↦ elim (same_slot_cases z y) [
-          | inl at_y ↦ let deaf : heard_by circuits z ≡ None = rw at_y (idle_is_deaf circuits y idle_y) in grind (arith, common_steps)
-          | inr off_y ↦ grind (arith, common_steps)
-        ]
+        | inl at_y ↦ let deaf : heard_by circuits z ≡ None = rw at_y (idle_is_deaf circuits y idle_y) in grind (arith, common_steps)
+        | inr off_y ↦ grind (arith, common_steps)
+      ]
     ]

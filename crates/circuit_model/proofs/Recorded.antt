@@ -1,10 +1,7 @@
 -- What commands make of a holding and of the frames that they record, one list of commands after another.
-use Rattle.std.proofs.Common.{◌≡◌, ℕ, zero, suc, ◌+◌, ◌<◌, Bool, true, false, not, List, [], ◌∷◌, ◌++◌, length, refl, sym, ◌∙◌, ap, subst, arith, append-nil}
-use Rattle.circuit_model.specs.declared.channel.Slot.{Slot}
-use Rattle.circuit_model.specs.declared.circuit.Kind.{Kind}
-use Rattle.circuit_model.specs.declared.circuit.Circuit.{Circuit}
-use Rattle.circuit_model.specs.Holding.{Holding, empty, Command, Connect, Seat, Give_tone, Clear, Frame, after, after_all, frames, circuits_of, Valid, IsAllowed, AreAllowed}
-use Rattle.circuit_model.proofs.Validity.{valid-empty, valid-after}
+use Rattle.std.proofs.Common.{◌≡◌, ℕ, zero, suc, ◌+◌, ◌<◌, List, [], ◌∷◌, ◌++◌, length, refl, ◌∙◌, ap, subst, arith, append-nil}
+use Rattle.circuit_model.specs.Holding.{Holding, Command, Connect, Seat, Give_tone, Clear, Frame, after, after_all, frames, circuits_of, Valid, AreAllowed}
+use Rattle.circuit_model.proofs.Validity.{valid-after}
 
 pub after_all-append : (h : Holding) (cs ds : List Command) → after_all h (cs ++ ds) ≡ after_all (after_all h cs) ds
 after_all-append h [] ds = refl

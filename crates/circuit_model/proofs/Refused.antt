@@ -1,9 +1,8 @@
 -- Holdings that are not valid.
-use Rattle.std.proofs.Common.{◌≡◌, ℕ, ◌+◌, List, [], ◌∷◌, inl, inr, sym, ◌∙◌}
+use Rattle.std.proofs.Common.{◌≡◌, ℕ, List, [], ◌∷◌, inl, inr, sym, ◌∙◌}
 use Rattle.circuit_model.specs.declared.channel.Slot.{Slot}
-use Rattle.circuit_model.specs.declared.circuit.Kind.{Kind}
 use Rattle.circuit_model.specs.declared.circuit.Circuit.{Circuit}
-use Rattle.circuit_model.specs.declared.circuit.Circuit.TheVariants.{Pair, Member, Tone}
+use Rattle.circuit_model.specs.declared.circuit.Circuit.TheVariants.{Pair}
 use Rattle.circuit_model.specs.Holding.{naming, Stands, Is_idle, Has_tone, Is_seated, Is_connected}
 
 -- what names a slot is no connection that is whole

@@ -1,6 +1,6 @@
 -- Holdings stay valid.
-use Rattle.std.proofs.Common.{◌≡◌, ℕ, ◌+◌, ◌*◌, ◌<◌, ◌≤◌, Bool, true, false, cond, not, ◌&&◌, ◌||◌, ◌⊎◌, List, [], ◌∷◌, ◌++◌, Option, Some, None, refl, sym, ◌∙◌, ap, subst, inl, inr, ⊎_elim, arith, append-nil}
-use Rattle.std.specs.List.{filter, find, list_any, count_by, All, Contains}
+use Rattle.std.proofs.Common.{◌≡◌, ℕ, ◌+◌, ◌*◌, ◌<◌, ◌≤◌, Bool, true, false, not, ◌⊎◌, List, [], ◌∷◌, ◌++◌, Some, None, refl, sym, ◌∙◌, ap, subst, inl, inr, ⊎_elim, arith, append-nil}
+use Rattle.std.specs.List.{filter, count_by, Contains}
 use Rattle.std.proofs.lemmas.Grind.{common_steps}
 use Rattle.std.proofs.lemmas.List.Elements.{filter-append, All-append, All-filter, All-nil, All-cons}
 use Rattle.circuit_model.specs.declared.channel.Slot.{Slot}
@@ -9,7 +9,7 @@ use Rattle.circuit_model.specs.declared.circuit.Circuit.{Circuit}
 use Rattle.circuit_model.specs.declared.circuit.Circuit.TheVariants.{Pair, Member, Tone}
 use Rattle.circuit_model.specs.Circuits.{same_slot, listener, names, is_idle, is_member, since_of, heard_by, unless_naming}
 use Rattle.circuit_model.specs.Holding.{Holding, empty, Command, Connect, Seat, Give_tone, Clear, Frame, after, naming, Stands, Is_idle, Has_tone, Is_seated, Is_connected, Valid, IsAllowed}
-use Rattle.circuit_model.proofs.Slots.{true_or_false, same_slot-refl, same_slot-true, same_slot_cases, same_slot-false, naming-idle, is_idle-naming, heard_by-naming, listener_is_named, filter_filter}
+use Rattle.circuit_model.proofs.Slots.{true_or_false, same_slot-refl, same_slot_cases, same_slot-false, naming-idle, is_idle-naming, heard_by-naming, listener_is_named, filter_filter}
 use Rattle.circuit_model.proofs.Age.{cons_cases, at_head, in_tail, none_in_nil, within_filtered}
 
 -- ---- counts and ages
@@ -59,9 +59,9 @@ stands-connect circuits x y z n apart idle_x idle_y s =
     elim (same_slot_cases z x) [
       | inl at_x ↦ subst (λ z. Stands (circuits ++ new) z) (sym at_x) (Is_connected y n (λ e. apart (sym e)) (inl (naming-new circuits new x idle_x ∙ both_name_first x y n)))
       | inr off_x ↦ elim (same_slot_cases z y) [
-          | inl at_y ↦ subst (λ z. Stands (circuits ++ new) z) (sym at_y) (Is_connected x n apart (inr (naming-new circuits new y idle_y ∙ both_name_second x y n)))
-          | inr off_y ↦ stands_alike circuits (circuits ++ new) z (naming-kept circuits new z (none_name_other x y z n off_x off_y)) s
-        ]
+        | inl at_y ↦ subst (λ z. Stands (circuits ++ new) z) (sym at_y) (Is_connected x n apart (inr (naming-new circuits new y idle_y ∙ both_name_second x y n)))
+        | inr off_y ↦ stands_alike circuits (circuits ++ new) z (naming-kept circuits new z (none_name_other x y z n off_x off_y)) s
+      ]
     ]
 
 stands-seat : (circuits : List Circuit) (x z : Slot) (room n : ℕ) → is_idle circuits x ≡ true → Stands circuits z → Stands (circuits ++ Member room x n ∷ []) z
@@ -136,10 +136,10 @@ valid-tone bridges h x kind v idle =
 
 pub valid-clear : (bridges : ℕ) (h : Holding) (x : Slot) → Valid bridges h → Valid bridges (after h (Clear x))
 valid-clear bridges h x v = record {
-    young = All-filter (λ c. not (names x c)) (λ c. since_of c ≤ h.next) h.circuits v.young;
-    seated = let s = v.seated in omega (arith, count_by-filter is_member (λ c. not (names x c)) h.circuits);
-    standing = λ z. stands-clear h.circuits x z (v.standing z);
-  }
+  young = All-filter (λ c. not (names x c)) (λ c. since_of c ≤ h.next) h.circuits v.young;
+  seated = let s = v.seated in omega (arith, count_by-filter is_member (λ c. not (names x c)) h.circuits);
+  standing = λ z. stands-clear h.circuits x z (v.standing z);
+}
 
 pub valid-frame : (bridges : ℕ) (h : Holding) → Valid bridges h → Valid bridges (after h Frame)
 valid-frame bridges h v = record { young = λ k d inside. omega (arith, v.young k d inside); seated = v.seated; standing = v.standing }
@@ -183,9 +183,9 @@ in_filter p (x ∷ xs) y inside passes =
     elim (cons_cases x xs y inside) [
       | inl here ↦ let first : p x ≡ true = rw here passes in rw first (at_head x (filter p xs) y here)
       | inr there ↦ let rest = in_filter p xs y there passes in elim (true_or_false (p x)) [
-          | inl kept ↦ rw kept (in_tail x (filter p xs) y rest)
-          | inr dropped ↦ rw dropped rest
-        ]
+        | inl kept ↦ rw kept (in_tail x (filter p xs) y rest)
+        | inr dropped ↦ rw dropped rest
+      ]
     ]
 
 only_one : (d c : Circuit) → Contains (d ∷ []) c → d ≡ c

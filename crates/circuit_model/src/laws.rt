@@ -3,7 +3,8 @@ ghost use Rattle.circuit_model.specs.declared.circuit.Circuit.{Circuit};
 ghost use Rattle.circuit_model.specs.Circuits.{since_of};
 ghost use Rattle.circuit_model.specs.Holding.{Command, empty, frames, circuits_of};
 ghost use Rattle.circuit_model.specs.ALaw.{decision_values, expand, compress};
-ghost use Rattle.circuit_model.specs.Examples.{heard, a_connection, two_lines, a_reused_slot, three_lines, a_room, loud_lines, alone, a_pair_of_members, soft_lines, a_tone, a_late_connection, a_renewed_connection, quiet_lines, a_changing_room, counting_lines, two_rooms, a_full_room, loud_and_low, two_tones};
+ghost use Rattle.circuit_model.specs.Hears.{hears};
+ghost use Rattle.circuit_model.specs.Examples.{first, heard, a_connection, two_lines, a_reused_slot, three_lines, a_room, loud_lines, alone, a_pair_of_members, soft_lines, a_tone, a_late_connection, a_renewed_connection, quiet_lines, a_changing_room, counting_lines, two_rooms, a_full_room, loud_and_low, two_tones};
 
 /// The law of age: after any commands, a circuit that stands in frame `f` since an earlier frame
 /// stood in frame `f - 1` too.
@@ -45,6 +46,7 @@ pub fn worked_edges()
     ensures newcomer { heard counting_lines a_changing_room 2 (4 ∷ 5 ∷ 6 ∷ 7 ∷ 8 ∷ []) ≡ 0xD5 ∷ 0xD4 ∷ 0xD4 ∷ 0xD4 ∷ 0xD5 ∷ [] }
     ensures apart { heard soft_lines two_rooms 0 (3 ∷ 4 ∷ 5 ∷ []) ≡ 0xD5 ∷ 0xD5 ∷ 0xD5 ∷ [] }
     ensures once { heard loud_and_low a_full_room 0 (4 ∷ []) ≡ 0xAA ∷ [] }
+    ensures no_octets { hears (λ kind. []) [] (frames empty a_tone) 1 (first 0) ≡ 0xD5 }
     ensures tones { heard [] two_tones 0 (0 ∷ 1 ∷ 2 ∷ 3 ∷ 4 ∷ 5 ∷ []) ≡ 0x44 ∷ 0x44 ∷ 0x11 ∷ 0x22 ∷ 0x11 ∷ 0x22 ∷ [] }
 {}
 

@@ -1,4 +1,4 @@
-use Rattle.std.proofs.Common.{◌+◌, ◌≡◌, ℕ, subst, arith}
+use Rattle.std.proofs.Common.{◌+◌, ◌≡◌, subst, arith}
 use Rattle.circuit_model.specs.Holding.{empty, frames, circuits_of, Valid}
 use Rattle.circuit_model.proofs.Validity.{valid-empty, valid-after}
 use Rattle.circuit_model.proofs.Recorded.{valid-frames}
