@@ -7,7 +7,7 @@ use Rattle.std.proofs.lemmas.Bool.Decides.{eqb_tells}
 use Rattle.std.proofs.lemmas.List.{get_or_past, length-map, length-replicate, get_or-replicate, map-set, get_or-map}
 use Rattle.circuit_model.specs.declared.channel.Slot.{Slot}
 use Rattle.circuit_model.specs.Ports.{has}
-use Rattle.circuit_model.proofs.Slots.{same_slots, same_self, apart_slots}
+use Rattle.circuit_model.proofs.Slots.{same_slot-true, same_slot-refl, same_slot-false}
 use Rattle.conference_ports.specs.declared.owner.Owner.{Owner}
 use Rattle.conference_ports.specs.Owners.{members, member_of}
 use Rattle.conference_ports.specs.Indexed.{IsIndexed, index_of}
@@ -30,7 +30,7 @@ none_at {X} n k =
 -- the owner that x has the port of is no other member
 not_mine : (x y : Slot) (o : Option Owner) → has x (member_of o) ≡ true → y ≢ x → has y (member_of o) ≡ false
 not_mine x y None mine apart = refl
-not_mine x y (Some owner) mine apart = apart_slots y owner.member (λ same. apart (same ∙ sym (same_slots x owner.member mine)))
+not_mine x y (Some owner) mine apart = same_slot-false y owner.member (λ same. apart (same ∙ sym (same_slot-true x owner.member mine)))
 
 same_index : (x y : Slot) → x.place < 30 → y.place < 30 → index_of x ≡ index_of y → x ≡ y
 same_index x y a b e =
@@ -76,12 +76,12 @@ members_set owners k o = map-set member_of owners k o
 others_stay : (external lines : ℕ) (owners : List (Option Owner)) (ports : List (Option ℕ)) (k : ℕ) (new : Owner) → Taken external lines owners ports k new → (x : Slot) → x ≢ new.member → position (has x) (members (set owners k (Some new))) ≡ position (has x) (members owners)
 others_stay external lines owners ports k new t x apart =
     ap (position (has x)) (members_set owners k (Some new))
-    ∙ position-set_other (has x) (members owners) k (Some new.member) None (apart_slots x new.member apart ∙ sym (ap (has x) (member_at owners k t.inside ∙ ap member_of t.free)))
+    ∙ position-set_other (has x) (members owners) k (Some new.member) None (same_slot-false x new.member apart ∙ sym (ap (has x) (member_at owners k t.inside ∙ ap member_of t.free)))
 
 mine_found : (external lines : ℕ) (owners : List (Option Owner)) (ports : List (Option ℕ)) (k : ℕ) (new : Owner) → Taken external lines owners ports k new → position (has new.member) (members (set owners k (Some new))) ≡ Some k
 mine_found external lines owners ports k new t =
     ap (position (has new.member)) (members_set owners k (Some new))
-    ∙ position-set_here (has new.member) (members owners) k (Some new.member) None (let n = members_long owners in let i = t.inside in omega (arith, n, i)) t.portless (same_self new.member)
+    ∙ position-set_here (has new.member) (members owners) k (Some new.member) None (let n = members_long owners in let i = t.inside in omega (arith, n, i)) t.portless (same_slot-refl new.member)
 
 taken : (external lines : ℕ) (owners : List (Option Owner)) (ports : List (Option ℕ)) (k : ℕ) (new : Owner) → Taken external lines owners ports k new → IsIndexed external lines (set owners k (Some new)) (set ports (index_of new.member) (Some k))
 taken external lines owners ports k new t =
@@ -125,7 +125,7 @@ indexed_taken external lines owners ports k new old line place first portless =
 other_owner : (external lines : ℕ) (owners : List (Option Owner)) (ports : List (Option ℕ)) (k : ℕ) (x : Slot) → IsIndexed external lines owners ports → position (has x) (members owners) ≡ Some k → (i : ℕ) → i ≢ k → (o : Option Owner) → get_or owners i None ≡ o → has x (member_of o) ≡ false
 other_owner external lines owners ports k x old at i apart None e = refl
 other_owner external lines owners ports k x old at i apart (Some owner) e =
-    apart_slots x owner.member (λ same. apart (some_number i k (sym (old.alone i owner e).2 ∙ ap (λ y. position (has y) (members owners)) (sym same) ∙ at)))
+    same_slot-false x owner.member (λ same. apart (some_number i k (sym (old.alone i owner e).2 ∙ ap (λ y. position (has y) (members owners)) (sym same) ∙ at)))
 
 -- the member of a port that the index names has that port alone
 pub named_owner : (external lines : ℕ) (owners : List (Option Owner)) (ports : List (Option ℕ)) (k : ℕ) (x : Slot) → IsIndexed external lines owners ports → position (has x) (members owners) ≡ Some k

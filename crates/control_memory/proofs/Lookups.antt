@@ -4,7 +4,7 @@ use Rattle.std.specs.Prelude.{find, slice_index_or, ◌==◌}
 use Rattle.std.proofs.lemmas.Bool.{eqb-true, eq-eqb}
 use Rattle.circuit_model.specs.declared.channel.Slot.{Slot}
 use Rattle.circuit_model.specs.Circuits.{same_slot}
-use Rattle.circuit_model.proofs.Slots.{both, and_true, same_slots, same_self}
+use Rattle.circuit_model.proofs.Slots.{same_slot-true, same_slot-refl}
 use Rattle.control_memory.specs.Layout.{Hop, Path, Layout, number_of, slot_numbered, paths, paths_from, path_in, path_out, path_to, IsSlot, HasPath, Legal}
 
 -- ---- numbers of slots
@@ -79,6 +79,13 @@ finds test n (Some first ∷ hops) (suc k) hop there passes =
     some_here test n first hops (test (path_at n first)) (inl (finds test (n + 1) hops k hop there (ap (λ m. test (path_at m hop)) (omega arith) ∙ passes)))
 
 -- ---- the three lookups
+both : (a b : Bool) → (a && b) ≡ true → (a ≡ true) × (b ≡ true)
+both true b e = (refl, e)
+both false b e = absurd (cc)
+
+and_true : (a b : Bool) → a ≡ true → b ≡ true → (a && b) ≡ true
+and_true a b x y = ap (λ c. c && b) x ∙ y
+
 -- a path that a lookup found stands in the layout, at a slot of its lines
 pub record IsPathOf (lines : ℕ) (layout : Layout) (p : Path) : Type 0 where
   pub inlet : IsSlot lines p.from
@@ -151,12 +158,12 @@ path_out_is lines slots layout from to slot legal inside has =
 pub path_to_found : (lines : ℕ) (layout : Layout) (at : Slot) (p : Path) → length layout ≡ 30 * lines → path_to layout at ≡ Some p → IsPathOf lines layout p × (p.to ≡ at)
 path_to_found lines layout at p size e =
     let f = found_path (λ q. same_slot at q.to) lines layout p size e in
-    (f.0, sym (same_slots at p.to f.1))
+    (f.0, sym (same_slot-true at p.to f.1))
 
 pub path_to_is : (lines slots : ℕ) (layout : Layout) (from to : Slot) (slot : ℕ) → Legal lines slots layout → IsSlot lines from → HasPath layout from to slot → path_to layout to ≡ Some (record { from = from; to = to; slot = slot })
 path_to_is lines slots layout from to slot legal inside has =
     let p : Path = record { from = from; to = to; slot = slot } in
-    let q = finds_path (λ r. same_slot to r.to) layout from to slot inside.1 has (same_self to) in
+    let q = finds_path (λ r. same_slot to r.to) layout from to slot inside.1 has (same_slot-refl to) in
     let f = path_to_found lines layout to q.0 legal.inlets q.1 in
     let there = subst (λ t. HasPath layout q.0.from t q.0.slot) f.1 f.0.path in
     q.1 ∙ ap (λ r. Some r) (same_path layout q.0 p f.0.path has (legal.one_inlet q.0.from from to q.0.slot slot f.0.inlet inside there has))
