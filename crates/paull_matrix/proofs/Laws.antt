@@ -1,6 +1,6 @@
 -- What a matrix has after a path more and a path less.
 use Rattle.std.proofs.Common.{◌≡◌, ◌⊎◌, ℕ, ◌<◌, ◌≤◌, Bool, eq-eqb, true, false, Option, Some, None, arith, refl, sym, ap, subst, ◌∙◌}
-use Rattle.std.specs.Prelude.{is_none, is_some}
+use Rattle.std.specs.Prelude.{nat_eq, is_none, is_some, ◌&&◌, ◌+◌, if◌then◌else◌}
 use Rattle.std.specs.Cmp.{IsTotalOrder, nat_cmp_total, tied_itself, Equal-is}
 use Rattle.std.proofs.lemmas.Option.{same_Some}
 use Rattle.std.proofs.lemmas.Map.Views.{exact_unsigned_eq}
@@ -11,8 +11,8 @@ use Rattle.std.proofs.lemmas.Cmp.{on_total, then_total}
 use Rattle.std.proofs.lemmas.Map.Lookups.{exact_pairs, exact_unsigned}
 use Rattle.std.proofs.lemmas.Bool.{cases_eq}
 use Rattle.paull_matrix.specs.Numbers.{lowest}
-use Rattle.paull_matrix.specs.Matrix.{by_row_and_slot, Matrix, row_slot, column_slot, names, has_path, no_paths, with_path, without_path, is_free_in_row, is_free_in_column, paths_of_row, paths_of_column, IsLegal}
-use Rattle.paull_matrix.proofs.Numbers.{lowest_passes, lowest_only, lowest_of_none, count_full}
+use Rattle.paull_matrix.specs.Matrix.{by_row_and_slot, Matrix, row_slot, column_slot, names, has_path, no_paths, with_path, without_path, is_free_in_row, is_free_in_column, paths_of_row, paths_of_column, paths_of_cell, IsLegal}
+use Rattle.paull_matrix.proofs.Numbers.{lowest_passes, lowest_only, lowest_of_none, count_full, count_more, count_same}
 
 pub places_total : IsTotalOrder by_row_and_slot
 places_total = then_total (on_total (λ (p : ℕ × ℕ). p.0) nat_cmp_total) (on_total (λ (p : ℕ × ℕ). p.1) nat_cmp_total)
@@ -27,6 +27,11 @@ tied_here p = ap is_eq (tied_itself places_total p)
 false_unless : (b : Bool) → (b ≡ true → ⊥) → b ≡ false
 false_unless true not_true = absurd (not_true refl)
 false_unless false not_true = refl
+
+pub both_true : (a b : Bool) → (a && b) ≡ true → (a ≡ true) × (b ≡ true)
+both_true true true e = (refl, refl)
+both_true true false e = absurd (cc)
+both_true false b e = absurd (cc)
 
 pub tied_apart : (i s k t : ℕ) → (k ≡ i → t ≡ s → ⊥) → eq_by_cmp by_row_and_slot (k, t) (i, s) ≡ false
 tied_apart i s k t apart = false_unless _ (λ tied.
@@ -152,3 +157,30 @@ column_lacks_one m j n all room none =
     let here : lowest (is_free_in_column m j) m.slots ≡ None = subst (λ k. lowest (is_free_in_column m j) k ≡ None) all none in
     let full = count_full (λ s. is_some (column_slot m j s)) (is_free_in_column m j) m.slots (λ s. some_unless_none (column_slot m j s)) here in
     omega arith
+
+-- how the paths of a cell differ between two matrices that differ in one path
+pub cell_differs : (m n : Matrix) (r s c : ℕ) → n.slots ≡ m.slots → s < m.slots → row_slot m r s ≡ Some c → row_slot n r s ≡ None
+    → ((k t : ℕ) → (k ≡ r → t ≡ s → ⊥) → row_slot n k t ≡ row_slot m k t)
+    → (i j : ℕ) → paths_of_cell m i j ≡ paths_of_cell n i j + (if nat_eq r i && nat_eq c j then 1 else 0)
+cell_differs m n r s c sizes inside stands gone same i j = elim (here_or_other r c i j) [
+  | inl here ↦
+      let at : row_slot m i s ≡ Some j = rw (here.0, here.1) stands in
+      let off : row_slot n i s ≡ None = rw here.0 gone in
+      let one : (nat_eq r i && nat_eq c j) ≡ true = rw (eq-eqb r i (sym here.0), eq-eqb c j (sym here.1)) refl in
+      rw (one, sizes) (count_more (has_path n i j) (has_path m i j) m.slots s inside (rw off refl) (names_it (row_slot m i s) j at)
+      (λ t other. ap (λ o. names o j) (same i t (λ _ slot. other slot))))
+  | inr away ↦
+      rw (neither away, sizes) (count_same (has_path m i j) (has_path n i j) m.slots (λ t _. alike away t) ∙ omega arith)
+]
+  where
+    neither : (i ≡ r → j ≡ c → ⊥) → (nat_eq r i && nat_eq c j) ≡ false
+    neither away = false_unless _ (λ both. let parts = both_true (nat_eq r i) (nat_eq c j) both in away (sym (exact_unsigned_eq r i parts.0)) (sym (exact_unsigned_eq c j parts.1)))
+
+    alike : (i ≡ r → j ≡ c → ⊥) → (t : ℕ) → has_path m i j t ≡ has_path n i j t
+    alike away t = elim (here_or_other r s i t) [
+      | inl here ↦
+          let at : row_slot m i t ≡ Some c = rw (here.0, here.1) stands in
+          let off : row_slot n i t ≡ None = rw (here.0, here.1) gone in
+          rw (at, off) (false_unless (nat_eq c j) (λ one. away here.0 (sym (exact_unsigned_eq c j one))))
+      | inr other ↦ ap (λ o. names o j) (sym (same i t other))
+    ]
