@@ -1,11 +1,11 @@
 -- The grammar and the walk agree: each piece is one step, and each string is a row of pieces and a tail.
-use Rattle.std.proofs.Common.{◌≡◌, ℕ, zero, suc, ◌<◌, ◌≤◌, ◌⊎◌, inl, inr, List, [], ◌∷◌, ◌++◌, length, take, drop, Bool, true, false, cond, ltb, refl, sym, ap, subst, ◌∙◌, arith, append_assoc, length-append}
+use Rattle.std.proofs.Common.{◌≡◌, ℕ, zero, suc, ◌<◌, ◌≤◌, ◌⊎◌, inl, inr, List, [], ◌∷◌, ◌++◌, length, take, drop, refl, sym, ap, subst, ◌∙◌, arith, append_assoc, length-append, map}
 use Rattle.std.specs.List.{AllByRecursion}
 use Rattle.std.proofs.lemmas.Bool.{cases_lt, le-ltb, lt-ltb}
 use Rattle.std.proofs.lemmas.List.{take_at, drop_at, take-append-drop, length-take, length-drop, nil_from_length}
 use Rattle.q931_elements.specs.InformationElement.{InformationElement}
-use Rattle.q931_elements.specs.Grammar.{Item, SingleOctet, VariableLength, IsItem, octets_of, element_of, IsLockingShift, IsNonLockingShift, Piece, Present, Shifted, IsPiece, spelled, present, IsUnfinished, IsTail, IsElementList}
-use Rattle.q931_elements.specs.Reading.{Front, Whole, LockingShift, NonLockingShift, Unfinished, front, variable_front, after_contents, after_item, elements_at, elements_of}
+use Rattle.q931_elements.specs.Grammar.{Item, SingleOctet, VariableLength, IsItem, octets_of, element_of, IsLockingShift, IsNonLockingShift, Piece, Present, Shifted, IsPiece, spelled, present, IsUnfinished, IsTail, IsElementList, IsPresent, octets_of_all}
+use Rattle.q931_elements.specs.Reading.{Whole, LockingShift, NonLockingShift, Unfinished, front, variable_front, after_item, elements_of}
 use Rattle.q931_elements.proofs.Steps.{elements_step, elements_from}
 
 -- ---- one octet at the front
@@ -187,3 +187,34 @@ read_within (suc n) octets le = read_longer n (read_within n) octets le
 -- each string of octets has a reading
 pub is_read : (octets : List ℕ) → IsElementList octets (elements_of octets)
 is_read octets = read_within (length octets) octets (omega arith)
+
+-- ---- what is written
+
+written_pieces : List Item → List Piece
+written_pieces [] = []
+written_pieces (item ∷ items) = Present item ∷ written_pieces items
+
+written_are : (items : List Item) → AllByRecursion IsPresent items → AllByRecursion IsPiece (written_pieces items)
+unfolding written_pieces
+written_are [] are = tt
+written_are (item ∷ items) (one, others) = (one, written_are items others)
+
+written_octets : (items : List Item) → octets_of_all items ≡ spelled (written_pieces items) ++ []
+unfolding written_pieces
+written_octets [] = refl
+written_octets (item ∷ items) = ap (λ left. octets_of item ++ left) (written_octets items) ∙ sym (append_assoc (octets_of item) (spelled (written_pieces items)) [])
+
+written_elements : (items : List Item) → map element_of items ≡ present (written_pieces items)
+unfolding written_pieces
+written_elements [] = refl
+written_elements (item ∷ items) = ap (λ es. element_of item ∷ es) (written_elements items)
+
+pub written_read : (items : List Item) → AllByRecursion IsPresent items → IsElementList (octets_of_all items) (map element_of items)
+written_read items are = record {
+  pieces = written_pieces items;
+  tail = [];
+  are_pieces = written_are items are;
+  is_tail = tt;
+  octets_are = written_octets items;
+  elements_are = written_elements items;
+}

@@ -1,5 +1,5 @@
 -- The elements, by what stands at the front: the bound on the pieces doesn't matter.
-use Rattle.std.proofs.Common.{◌≡◌, ℕ, zero, suc, ◌≤◌, List, [], ◌∷◌, length, drop, Bool, true, false, cond, ltb, refl, sym, ap, ◌∙◌, arith, length-drop}
+use Rattle.std.proofs.Common.{◌≡◌, ℕ, zero, suc, ◌≤◌, List, [], ◌∷◌, length, Bool, true, false, cond, ltb, refl, sym, ap, ◌∙◌, arith, length-drop}
 use Rattle.q931_elements.specs.InformationElement.{InformationElement}
 use Rattle.q931_elements.specs.Reading.{Front, Whole, LockingShift, NonLockingShift, Unfinished, front, variable_front, after_contents, after_item, elements_at, elements_within, elements_of}
 
@@ -60,13 +60,19 @@ elements_step (x ∷ xs) =
 pub elements_from : (octets : List ℕ) (at : Front) → at ≡ front octets → elements_of octets ≡ elements_at elements_of at
 elements_from octets at is = elements_step octets ∙ ap (elements_at elements_of) (sym is)
 
--- a step that leaves at most so many octets
-pub front_left : (octets : List ℕ) (at : Front) → at ≡ front octets → IsWithin (length octets) at
-front_left [] at is = rw is tt
-front_left (x ∷ xs) at is = rw is (wider (front (x ∷ xs)) (front_within x xs))
-  where
-    wider : (f : Front) → IsWithin (length xs) f → IsWithin (suc (length xs)) f
-    wider (Whole element rest) within = omega arith
-    wider LockingShift within = tt
-    wider (NonLockingShift rest) within = omega arith
-    wider Unfinished within = tt
+count_at : (others : List ℕ → List InformationElement) (n : ℕ) → ((octets : List ℕ) → length (others octets) ≤ length octets) → (at : Front) → IsWithin n at → length (elements_at others at) ≤ suc n
+count_at others n few (Whole element rest) within = omega (arith, few rest)
+count_at others n few LockingShift within = omega arith
+count_at others n few (NonLockingShift rest) within = omega (arith, few (after_item rest), item_shorter rest)
+count_at others n few Unfinished within = omega arith
+
+count_within : (n : ℕ) (octets : List ℕ) → length (elements_within n octets) ≤ length octets
+unfolding elements_within
+count_within zero octets = omega arith
+count_within (suc n) [] = omega arith
+count_within (suc n) (x ∷ xs) = count_at (elements_within n) (length xs) (count_within n) (front (x ∷ xs)) (front_within x xs)
+
+-- there are no more elements than octets
+pub elements_few : (octets : List ℕ) → length (elements_of octets) ≤ length octets
+unfolding elements_of
+elements_few octets = count_within (length octets) octets

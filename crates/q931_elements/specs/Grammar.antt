@@ -1,6 +1,6 @@
 -- The octets after a message's header, cut into pieces as a whole (ITU-T Q.931 (05/98), 4.5.1 to 4.5.4).
 use Rattle.std.specs.Prelude.{◌≡◌, ℕ, ◌<◌, ◌≤◌, ◌⊎◌, List, [], ◌∷◌, ◌++◌, length}
-use Rattle.std.specs.List.{AllByRecursion}
+use Rattle.std.specs.List.{AllByRecursion, flat_map}
 use Rattle.q931_elements.specs.InformationElement.{InformationElement}
 
 -- The two formats: a single octet, whose top bit is 1, and an identifier, whose top bit is 0, with a
@@ -69,3 +69,12 @@ pub record IsElementList (octets : List ℕ) (elements : List InformationElement
   pub is_tail : IsTail tail
   pub octets_are : octets ≡ spelled pieces ++ tail
   pub elements_are : elements ≡ present pieces
+
+-- ---- written elements: these are pieces too, and no shift stands among them
+
+abbrev pub IsPresent : Item → Type 0
+IsPresent item = IsPiece (Present item)
+
+-- the octets of elements that follow each other
+abbrev pub octets_of_all : List Item → List ℕ
+octets_of_all items = flat_map octets_of items

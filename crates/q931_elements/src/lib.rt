@@ -9,7 +9,7 @@ mod list;
 mod writer;
 
 pub use front::Element;
-pub use laws::{each_string_is_read, one_reading};
+pub use laws::{each_string_is_read, one_reading, written_is_read};
 pub use list::Elements;
 pub use writer::{LONGEST_MESSAGE, Writer};
 

@@ -26,7 +26,7 @@ impl<'a> Model for Elements<'a> {
 }
 
 impl<'a> Elements<'a> {
-    ghost use Rattle.std.specs.Prelude.{◌≡◌, ◌≢◌, ◌↔◌, ℕ, List, All, IsNone};
+    ghost use Rattle.std.specs.Prelude.{◌≡◌, ◌≢◌, ◌≤◌, ◌↔◌, All, IsNone, length};
     ghost use Rattle.std.specs.Option.{option_copied};
     ghost use Rattle.q931_elements.specs.Grammar.{IsElementList};
     ghost use Rattle.q931_elements.specs.InformationElement.{first_of};
@@ -36,6 +36,7 @@ impl<'a> Elements<'a> {
     pub fn new(octets: &'a [u8]) -> Elements<'a>
         ensures grammar { IsElementList octets.entry.now result }
         ensures computed { result ≡ elements_of octets.entry.now }
+        ensures few { length result ≤ length octets.entry.now }
     {
         Elements { rest: octets }
     }
