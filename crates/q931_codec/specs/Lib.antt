@@ -1,0 +1,3 @@
+pub mod MessageType
+pub mod Grammar
+pub mod Reading
