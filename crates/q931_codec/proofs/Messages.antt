@@ -60,7 +60,7 @@ guard_ok : (b : Bool) (d : Discard) (x : Result Message Discard) (m : Message) �
 guard_ok true d x m is = (refl, is)
 guard_ok false d x m is = absurd cc
 
-ok_is : (x y : Message) → ◌≡◌ {A = Result Message Discard} (Ok x) (Ok y) → x ≡ y
+pub ok_is : (x y : Message) → ◌≡◌ {A = Result Message Discard} (Ok x) (Ok y) → x ≡ y
 ok_is x y is = cc
 
 five : (high low type : ℕ) (rest : List ℕ) → high < 256 → low < 256 → IsMessage (8 ∷ 2 ∷ high ∷ low ∷ type ∷ rest) (made (leb 0x80 high) (high % 0x80 * 0x100 + low) (kind_of type) (elements_of rest))
