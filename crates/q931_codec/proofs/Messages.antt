@@ -1,5 +1,5 @@
 -- The reading from the front is the grammar's one reading.
-use Rattle.std.proofs.Common.{◌≡◌, ℕ, zero, suc, ◌+◌, ◌*◌, ◌/◌, ◌%◌, ◌^◌, ◌<◌, ◌≤◌, Bool, true, false, cond, eqb, leb, List, [], ◌∷◌, ◌++◌, length, get_or, Result, Ok, Err, refl, sym, ap, subst, ◌∙◌, arith, inl, inr, IfOk}
+use Rattle.std.proofs.Common.{◌≡◌, ℕ, ◌+◌, ◌*◌, ◌/◌, ◌%◌, ◌^◌, ◌<◌, Bool, true, false, cond, eqb, leb, List, [], ◌∷◌, ◌++◌, get_or, Result, Ok, Err, refl, sym, ap, subst, ◌∙◌, arith, inl, inr}
 use Rattle.std.proofs.lemmas.Bool.{eqb-true, cases_lt, le-leb, lt-leb}
 use Rattle.q931_elements.specs.InformationElement.{InformationElement}
 use Rattle.q931_elements.specs.Reading.{elements_of}
@@ -7,9 +7,9 @@ use Rattle.q931_elements.proofs.Readings.{reading_is, is_read}
 use Rattle.q931_codec.specs.declared.kind.MessageKind.{MessageKind}
 use Rattle.q931_codec.specs.declared.message.Message.{Message}
 use Rattle.q931_codec.specs.declared.message.Discard.{Discard}
-use Rattle.q931_codec.specs.declared.message.Discard.TheVariants.{Short, ReferenceLength, Discriminator}
+use Rattle.q931_codec.specs.declared.message.Discard.TheVariants.{ReferenceLength, Discriminator}
 use Rattle.q931_codec.specs.MessageType.{type_of, named_kinds, kind_among, kind_of, IsKind}
-use Rattle.q931_codec.specs.Grammar.{header, reference_octets, IsMessage}
+use Rattle.q931_codec.specs.Grammar.{reference_octets, IsMessage}
 use Rattle.q931_codec.specs.Reading.{reading, reading_from_length, reading_from_reference}
 
 abbrev made : Bool → ℕ → MessageKind → List InformationElement → Message

@@ -1,11 +1,11 @@
 -- The first element of a code among written rows.
-use Rattle.std.proofs.Common.{◌≡◌, ℕ, ◌+◌, ◌%◌, ◌<◌, Bool, true, false, cond, eqb, List, [], ◌∷◌, ◌++◌, map, Option, Some, None, IsTrue, ltb, refl, sym, ap, ◌∙◌, arith}
+use Rattle.std.proofs.Common.{◌≡◌, ℕ, ◌+◌, ◌%◌, ◌<◌, Bool, true, false, cond, eqb, List, [], ◌∷◌, ◌++◌, map, Option, Some, None, IsTrue, refl, ap, ◌∙◌, arith}
 use Rattle.std.specs.Prelude.{IfSome, is_some, option_and_then, option_map}
 use Rattle.std.specs.List.{flat_map}
 use Rattle.std.proofs.lemmas.Bool.Decides.{nat_tests}
 use Rattle.q931_elements.specs.InformationElement.{InformationElement, first_of}
 use Rattle.q931_elements.specs.Grammar.{element_of}
-use Rattle.q931_codec.specs.Outgoing.{OutgoingMessage, IsWritable, completed, given, rows, sent, received, cause_contents, one_octet, channel_contents, progress_contents}
+use Rattle.q931_codec.specs.Outgoing.{OutgoingMessage, IsWritable, completed, given, rows, received, cause_contents, one_octet, channel_contents, progress_contents}
 use Rattle.q931_codec.specs.declared.contents.ChannelIdentification.TheVariants.{Exclusive}
 use Rattle.q931_codec.specs.Contents.{cause_of, call_state_of, channel_of, one_channel, is_bearer_channel, first_octet}
 use Rattle.q931_codec.specs.Fields.{contents_given, HasFields}

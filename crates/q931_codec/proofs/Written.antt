@@ -1,9 +1,9 @@
 -- What is written element by element is the spelling, and is read as the message.
-use Rattle.std.proofs.Common.{◌≡◌, ℕ, ◌<◌, ◌≤◌, Bool, true, false, List, [], ◌∷◌, ◌++◌, length, Option, Some, None, refl, sym, ap, ◌∙◌, arith, append_assoc, inl, inr}
+use Rattle.std.proofs.Common.{◌≡◌, ℕ, ◌<◌, Bool, true, false, List, [], ◌∷◌, ◌++◌, refl, sym, ap, ◌∙◌, arith, append_assoc, inr}
 use Rattle.std.specs.List.{flat_map, AllByRecursion}
 use Rattle.std.proofs.lemmas.Grind.{flat_map-append}
 use Rattle.std.proofs.lemmas.List.{append-nil}
-use Rattle.q931_elements.specs.Grammar.{Item, SingleOctet, VariableLength, octets_of, octets_of_all, IsPresent}
+use Rattle.q931_elements.specs.Grammar.{Item, octets_of, octets_of_all, IsPresent}
 use Rattle.q931_elements.proofs.Readings.{written_read}
 use Rattle.q931_codec.specs.declared.kind.MessageKind.{MessageKind}
 use Rattle.q931_codec.specs.declared.kind.MessageKind.TheVariants as kind

@@ -1,5 +1,5 @@
 -- What the contents of information elements mean (ITU-T Q.931 (05/98), 4.5).
-use Rattle.std.specs.Prelude.{ℕ, ◌%◌, Bool, ◌&&◌, ◌==◌, not, nat_lt, nat_le, if◌then◌else◌, List, [], ◌∷◌, Option, Some, None, option_and_then, option_map}
+use Rattle.std.specs.Prelude.{ℕ, ◌%◌, Bool, ◌&&◌, ◌==◌, not, nat_lt, if◌then◌else◌, List, [], ◌∷◌, Option, Some, None, option_and_then, option_map}
 use Rattle.q931_elements.specs.InformationElement.{InformationElement, first_of}
 use Rattle.q931_codec.specs.declared.codes.TheConstants.{CAUSE, CALL_STATE, CHANNEL_IDENTIFICATION, RESTART_INDICATOR}
 use Rattle.q931_codec.specs.declared.contents.ChannelIdentification.{ChannelIdentification}

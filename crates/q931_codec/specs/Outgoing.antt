@@ -1,7 +1,6 @@
 -- Outgoing messages and their one spelling (ITU-T Q.931 (05/98), 4.5).
-use Rattle.std.specs.Prelude.{◌≡◌, ℕ, ◌+◌, ◌^◌, ◌<◌, ◌≤◌, Bool, true, false, IsTrue, List, [], ◌∷◌, ◌++◌, length, map, Option, Some, None, IfSome}
+use Rattle.std.specs.Prelude.{ℕ, ◌+◌, ◌^◌, ◌<◌, ◌≤◌, Bool, true, false, IsTrue, List, [], ◌∷◌, ◌++◌, length, map, Option, Some, None, IfSome}
 use Rattle.std.specs.List.{flat_map}
-use Rattle.q931_elements.specs.InformationElement.{InformationElement}
 use Rattle.q931_elements.specs.Grammar.{Item, SingleOctet, VariableLength, element_of, octets_of_all}
 use Rattle.q931_codec.specs.declared.codes.TheConstants.{SENDING_COMPLETE, BEARER_CAPABILITY, CAUSE, CALL_STATE, CHANNEL_IDENTIFICATION, PROGRESS_INDICATOR, CALLING_PARTY_NUMBER, CALLED_PARTY_NUMBER, RESTART_INDICATOR, LOW_LAYER_COMPATIBILITY, HIGH_LAYER_COMPATIBILITY}
 use Rattle.q931_codec.specs.declared.kind.MessageKind.{MessageKind}
@@ -44,6 +43,25 @@ outgoing_of m = record {
   restart = m.restart;
   low = m.low.now;
   high = m.high.now;
+}
+
+-- a message without elements
+abbrev pub bare : Bool → ℕ → MessageKind → OutgoingMessage
+bare flag reference kind = record {
+  flag = flag;
+  reference = reference;
+  kind = kind;
+  complete = false;
+  bearer = [];
+  cause = None;
+  state = None;
+  channel = None;
+  progress = false;
+  calling = [];
+  called = [];
+  restart = None;
+  low = [];
+  high = [];
 }
 
 -- what has a spelling

@@ -8,11 +8,9 @@ ghost use Rattle.q931_codec.specs.Fields.{HasFields};
 /// A string of octets is at most one message.
 pub fn one_message()
     ensures { (octets : List ℕ) (one other : Message) → IsMessage octets one → IsMessage octets other → one ≡ other }
-{
-}
+{}
 
 /// Each field of an outgoing message is read again from what was written.
 pub fn written_fields_are_read()
     ensures { (m : OutgoingMessage) → IsWritable m → HasFields (received m) m }
-{
-}
+{}

@@ -16,3 +16,6 @@ pub use laws::{one_message, written_fields_are_read};
 pub use message::{Discard, Message, read};
 pub use outgoing::Outgoing;
 pub use spelling::write;
+
+#[cfg(test)]
+mod tests;

@@ -1,20 +1,24 @@
 use crate::codes::{PROTOCOL_DISCRIMINATOR, REFERENCE_LENGTH};
 use crate::kind::MessageKind;
 use q931_elements::Elements;
+use thiserror::Error;
 
 /// Why a received message is discarded. A discarded message has no effect, and nothing answers it.
-#[derive(Clone, Copy, Debug, PartialEq, Eq)]
+#[derive(Clone, Copy, Debug, PartialEq, Eq, Error)]
 pub enum Discard {
     /// The protocol discriminator isn't that of user-network call control (Q.931, 5.8.1).
+    #[error("another protocol discriminator")]
     Discriminator = 1,
     /// The message ends before its message type (5.8.2).
+    #[error("the message is too short")]
     Short = 2,
     /// The call reference hasn't two octets. Q.931 (4.3) has others too, which this exchange ignores.
+    #[error("a call reference of another length")]
     ReferenceLength = 3,
 }
 
 /// A message as it was received. Contracts see `elements` as the list of its information elements.
-#[derive(Debug, Drop)]
+#[derive(Clone, Debug, Drop)]
 pub struct Message<'a> {
     /// The call reference flag (Q.931, 4.3): true where the message goes to the side that chose the
     /// call reference value.

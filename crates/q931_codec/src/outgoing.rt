@@ -33,3 +33,31 @@ pub struct Outgoing<'a> {
     /// The contents of the high layer compatibility (4.5.17), at most 3 octets.
     pub high: &'a [u8],
 }
+
+impl<'a> Outgoing<'a> {
+    ghost use Rattle.std.specs.Prelude.{◌≡◌};
+    ghost use Rattle.q931_codec.specs.Outgoing.{outgoing_of, bare};
+
+    /// A message without elements, to which the fields that are wanted are added, as in
+    /// `Outgoing { cause: Some(16), ..Outgoing::new(flag, reference, MessageKind::Release) }`.
+    pub fn new(flag: bool, reference: u16, kind: MessageKind) -> Outgoing<'a>
+        ensures { outgoing_of result ≡ bare flag reference kind }
+    {
+        Outgoing {
+            flag,
+            reference,
+            kind,
+            complete: false,
+            bearer: &[],
+            cause: None,
+            state: None,
+            channel: None,
+            progress: false,
+            calling: &[],
+            called: &[],
+            restart: None,
+            low: &[],
+            high: &[],
+        }
+    }
+}

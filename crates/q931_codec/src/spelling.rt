@@ -1,3 +1,9 @@
+ghost use Rattle.std.specs.Prelude.{◌≡◌, ◌+◌, ◌^◌, ◌<◌, ◌≤◌, IsTrue, List, [], ◌++◌, length, IfSome};
+ghost use Rattle.q931_elements.specs.Grammar.{octets_of_all};
+ghost use Rattle.q931_codec.specs.Contents.{is_bearer_channel};
+ghost use Rattle.q931_codec.specs.Grammar.{IsMessage, header};
+ghost use Rattle.q931_codec.specs.Outgoing.{outgoing_of, IsWritable, spelling, received, completed, given, cause_contents, one_octet, channel_contents, progress_contents};
+
 use crate::codes::{
     BEARER_CAPABILITY, CALL_STATE, CALLED_PARTY_NUMBER, CALLING_PARTY_NUMBER, CAUSE,
     CHANNEL_IDENTIFICATION, HIGH_LAYER_COMPATIBILITY, LOW_LAYER_COMPATIBILITY, PROGRESS_INDICATOR,
@@ -5,13 +11,7 @@ use crate::codes::{
 };
 use crate::outgoing::Outgoing;
 use arrayvec::ArrayVec;
-use q931_elements::Writer;
-
-ghost use Rattle.std.specs.Prelude.{◌≡◌, ◌+◌, ◌^◌, ◌<◌, ◌≤◌, IsTrue, List, [], ◌++◌, length, IfSome};
-ghost use Rattle.q931_elements.specs.Grammar.{octets_of_all};
-ghost use Rattle.q931_codec.specs.Contents.{is_bearer_channel};
-ghost use Rattle.q931_codec.specs.Grammar.{IsMessage, header};
-ghost use Rattle.q931_codec.specs.Outgoing.{outgoing_of, IsWritable, spelling, received, completed, given, cause_contents, one_octet, channel_contents, progress_contents};
+use q931_elements::{LONGEST_MESSAGE, Writer};
 
 // Octet 3 of a cause and of a progress indicator (Q.931, 4.5.12 and 4.5.23): ITU-T coding, and the
 // location "public network serving the local user".
@@ -22,7 +22,7 @@ const LOCATION: u8 = 0x82;
 ///
 /// The kind has a name, the call reference value is below 32,768, and each field is within the bounds
 /// that [`Outgoing`] gives for it.
-pub fn write(message: &Outgoing) -> ArrayVec<u8, 112>
+pub fn write(message: &Outgoing) -> ArrayVec<u8, LONGEST_MESSAGE>
     requires { IsWritable (outgoing_of message.now) }
     ensures spelled { result.items ≡ spelling (outgoing_of message.now) }
     ensures read_back { IsMessage result.items (received (outgoing_of message.now)) }
@@ -59,7 +59,7 @@ fn header(writer: &mut Writer, message: &Outgoing)
 }
 
 fn complete(writer: &mut Writer, complete: bool)
-    requires { length writer.old + 1 ≤ 112 }
+    requires { length writer.old + 1 ≤ LONGEST_MESSAGE }
     ensures octets { writer.new ≡ writer.old ++ octets_of_all (completed complete) }
     ensures room { length writer.new ≤ length writer.old + 1 }
 {
@@ -70,7 +70,7 @@ fn complete(writer: &mut Writer, complete: bool)
 
 // The element with these contents, where there are some.
 fn element(writer: &mut Writer, code: u8, contents: &[u8])
-    requires { length writer.old + 2 + length contents.now ≤ 112 }
+    requires { length writer.old + 2 + length contents.now ≤ LONGEST_MESSAGE }
     ensures octets { writer.new ≡ writer.old ++ octets_of_all (given (code, contents.now)) }
     ensures room { length writer.new ≤ length writer.old + 2 + length contents.now }
 {
@@ -81,7 +81,7 @@ fn element(writer: &mut Writer, code: u8, contents: &[u8])
 
 // The element of one octet, where there is one.
 fn octet(writer: &mut Writer, code: u8, octet: Option<u8>)
-    requires { length writer.old + 3 ≤ 112 }
+    requires { length writer.old + 3 ≤ LONGEST_MESSAGE }
     ensures octets { writer.new ≡ writer.old ++ octets_of_all (given (code, one_octet octet)) }
     ensures room { length writer.new ≤ length writer.old + 3 }
 {
@@ -91,7 +91,7 @@ fn octet(writer: &mut Writer, code: u8, octet: Option<u8>)
 }
 
 fn cause(writer: &mut Writer, value: Option<u8>)
-    requires room { length writer.old + 4 ≤ 112 }
+    requires room { length writer.old + 4 ≤ LONGEST_MESSAGE }
     requires value { IfSome value (λ v. v < 128) }
     ensures octets { writer.new ≡ writer.old ++ octets_of_all (given (CAUSE, cause_contents value)) }
     ensures room { length writer.new ≤ length writer.old + 4 }
@@ -104,7 +104,7 @@ fn cause(writer: &mut Writer, value: Option<u8>)
 // Octet 3 names a primary rate interface and this channel alone, octet 3.2 that the number of a
 // B-channel follows.
 fn channel(writer: &mut Writer, channel: Option<u8>)
-    requires room { length writer.old + 5 ≤ 112 }
+    requires room { length writer.old + 5 ≤ LONGEST_MESSAGE }
     requires channel { IfSome channel (λ c. IsTrue (is_bearer_channel c)) }
     ensures octets { writer.new ≡ writer.old ++ octets_of_all (given (CHANNEL_IDENTIFICATION, channel_contents channel)) }
     ensures room { length writer.new ≤ length writer.old + 5 }
@@ -116,7 +116,7 @@ fn channel(writer: &mut Writer, channel: Option<u8>)
 
 // Progress description 8: in-band information or an appropriate pattern is now available.
 fn progress(writer: &mut Writer, progress: bool)
-    requires { length writer.old + 4 ≤ 112 }
+    requires { length writer.old + 4 ≤ LONGEST_MESSAGE }
     ensures octets { writer.new ≡ writer.old ++ octets_of_all (given (PROGRESS_INDICATOR, progress_contents progress)) }
     ensures room { length writer.new ≤ length writer.old + 4 }
 {

@@ -14,6 +14,7 @@ fn lists(octets: &[u8], wanted: &[(u8, &[u8])]) -> bool {
 }
 
 const CALLED: (u8, &[u8]) = (0x70, b"\x80101");
+
 const CAUSE: (u8, &[u8]) = (0x08, b"\x80\x90");
 
 // Strings of octets from strangers, and the elements that each has.
@@ -36,12 +37,18 @@ const ROWS: [(&[u8], &[(u8, &[u8])]); 20] = [
     (b"\xA1\x98\x70", &[(0xA1, b"")]),
     (b"\xA1\x98", &[(0xA1, b"")]),
     // Unknown elements, of no contents and of more octets than there are.
-    (b"\x01\x00\xB0\x7F\x00", &[(0x01, b""), (0xB0, b""), (0x7F, b"")]),
+    (
+        b"\x01\x00\xB0\x7F\x00",
+        &[(0x01, b""), (0xB0, b""), (0x7F, b"")],
+    ),
     (b"\x08\x02\x80\x90\x28\xFF", &[CAUSE]),
     (b"\x08\x02\x80\x90\x28", &[CAUSE]),
     (b"\x00", &[]),
     (b"\x00\x00", &[(0x00, b"")]),
-    (b"\x80\x8F\xA0\xFF", &[(0x80, b""), (0x8F, b""), (0xA0, b""), (0xFF, b"")]),
+    (
+        b"\x80\x8F\xA0\xFF",
+        &[(0x80, b""), (0x8F, b""), (0xA0, b""), (0xFF, b"")],
+    ),
 ];
 
 #[test]
@@ -68,5 +75,8 @@ fn writes(rt: HostRuntime) {
     writer.single(0xA1);
     writer.element(0x08, b"\x82\xAC");
     writer.element(0x70, b"\x80101");
-    assert_eq!(rt; writer.finish().as_slice(), b"\xA1\x08\x02\x82\xAC\x70\x04\x80101".as_slice());
+    assert_eq!(rt;
+        writer.finish().as_slice(),
+        b"\xA1\x08\x02\x82\xAC\x70\x04\x80101".as_slice()
+    );
 }

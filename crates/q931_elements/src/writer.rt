@@ -7,7 +7,7 @@ pub const LONGEST_MESSAGE: usize = 112;
 /// Writes a message from its first octet on. Contracts see it as the octets that it has written.
 #[derive(Debug, Drop)]
 pub struct Writer {
-    octets: ArrayVec<u8, 112>,
+    octets: ArrayVec<u8, LONGEST_MESSAGE>,
 }
 
 impl Model for Writer {
@@ -32,7 +32,7 @@ impl Writer {
 
     /// Writes one octet: one of the header, or a single octet information element (Q.931, 4.5.1).
     pub fn single(&mut self, code: u8)
-        requires { length self.old + 1 ≤ 112 }
+        requires { length self.old + 1 ≤ LONGEST_MESSAGE }
         ensures { self.new ≡ self.old ++ code ∷ [] }
     {
         self.octets.push(code);
@@ -41,7 +41,7 @@ impl Writer {
     /// Writes a variable length information element: its identifier, the length of its contents, and
     /// the contents (Q.931, 4.5.1).
     pub fn element(&mut self, code: u8, contents: &[u8])
-        requires { length self.old + 2 + length contents.now ≤ 112 }
+        requires { length self.old + 2 + length contents.now ≤ LONGEST_MESSAGE }
         ensures { self.new ≡ self.old ++ code ∷ length contents.now ∷ contents.now }
     {
         self.octets.push(code);
@@ -52,7 +52,7 @@ impl Writer {
     }
 
     /// The octets that were written.
-    pub fn finish(self) -> ArrayVec<u8, 112>
+    pub fn finish(self) -> ArrayVec<u8, LONGEST_MESSAGE>
         ensures { result.items ≡ self }
     {
         self.octets

@@ -7,17 +7,43 @@ use Rattle.q931_codec.proofs.spelling.write.Goals as goal
 pub returns-clause-spelled : goal.returns-clause-spelled
 returns-clause-spelled c =
     c.finish.ensures
-    ∙ written_is (outgoing_of c.args.message.now) c.header.new.writer c.complete.new.writer c.element-5.new.writer c.header.ensures.octets c.complete.ensures.octets
-        (c.element.new.writer, c.element.ensures.octets,
-        (c.cause.new.writer, c.cause.ensures.octets,
-        (c.octet.new.writer, c.octet.ensures.octets,
-        (c.channel.new.writer, c.channel.ensures.octets,
-        (c.progress.new.writer, c.progress.ensures.octets,
-        (c.element-2.new.writer, c.element-2.ensures.octets,
-        (c.element-3.new.writer, c.element-3.ensures.octets,
-        (c.octet-2.new.writer, c.octet-2.ensures.octets,
-        (c.element-4.new.writer, c.element-4.ensures.octets,
-        (c.element-5.new.writer, c.element-5.ensures.octets, refl))))))))))
+    ∙ written_is (outgoing_of c.args.message.now) c.header.new.writer c.complete.new.writer c.element-5.new.writer c.header.ensures.octets c.complete.ensures.octets (
+      c.element.new.writer,
+      c.element.ensures.octets,
+      (
+        c.cause.new.writer,
+        c.cause.ensures.octets,
+        (
+          c.octet.new.writer,
+          c.octet.ensures.octets,
+          (
+            c.channel.new.writer,
+            c.channel.ensures.octets,
+            (
+              c.progress.new.writer,
+              c.progress.ensures.octets,
+              (
+                c.element-2.new.writer,
+                c.element-2.ensures.octets,
+                (
+                  c.element-3.new.writer,
+                  c.element-3.ensures.octets,
+                  (
+                    c.octet-2.new.writer,
+                    c.octet-2.ensures.octets,
+                    (
+                      c.element-4.new.writer,
+                      c.element-4.ensures.octets,
+                      (c.element-5.new.writer, c.element-5.ensures.octets, refl),
+                    ),
+                  ),
+                ),
+              ),
+            ),
+          ),
+        ),
+      ),
+    )
 
 pub returns-clause-read_back : goal.returns-clause-read_back
 returns-clause-read_back c =
