@@ -1,4 +1,4 @@
--- What is written element by element is the spelling, and is read as the message.
+-- What is written element by element is the encoding, and is read as the message.
 use Rattle.std.proofs.Common.{◌≡◌, ℕ, ◌<◌, Bool, true, false, List, [], ◌∷◌, ◌++◌, refl, sym, ap, ◌∙◌, arith, append_assoc, inr}
 use Rattle.std.specs.List.{flat_map, AllByRecursion}
 use Rattle.std.proofs.lemmas.Grind.{flat_map-append}
@@ -9,7 +9,7 @@ use Rattle.q931_codec.specs.declared.kind.MessageKind.{MessageKind}
 use Rattle.q931_codec.specs.declared.kind.MessageKind.TheVariants as kind
 use Rattle.q931_codec.specs.MessageType.{IsKind, IsNamed}
 use Rattle.q931_codec.specs.Grammar.{header, IsMessage}
-use Rattle.q931_codec.specs.Outgoing.{OutgoingMessage, IsWritable, completed, given, rows, sent, spelling, received}
+use Rattle.q931_codec.specs.Outgoing.{OutgoingMessage, IsWritable, completed, given, rows, sent, encoding, received}
 
 -- written grows by one row after the other
 abbrev pub Grows : List ℕ → List (ℕ × List ℕ) → List ℕ → Type 0
@@ -24,7 +24,7 @@ grown old (row ∷ rows) new (mid, first, others) =
     ∙ append_assoc old (octets_of_all (given row)) (octets_of_all (flat_map given rows))
     ∙ ap (λ (w : List ℕ). old ++ w) (sym (flat_map-append octets_of (given row) (flat_map given rows)))
 
-pub written_is : (m : OutgoingMessage) (start after new : List ℕ) → start ≡ header m.flag m.reference m.kind → after ≡ start ++ octets_of_all (completed m.complete) → Grows after (rows m) new → new ≡ spelling m
+pub written_is : (m : OutgoingMessage) (start after new : List ℕ) → start ≡ header m.flag m.reference m.kind → after ≡ start ++ octets_of_all (completed m.complete) → Grows after (rows m) new → new ≡ encoding m
 written_is m start after new start-is after-is grows =
     grown after (rows m) new grows
     ∙ ap (λ (w : List ℕ). w ++ octets_of_all (flat_map given (rows m))) after-is
@@ -75,8 +75,8 @@ completed_present : (complete : Bool) → AllByRecursion IsPresent (completed co
 completed_present true = ((omega arith, inr (omega arith)), tt)
 completed_present false = tt
 
-pub spelling_read : (m : OutgoingMessage) → IsWritable m → IsMessage (spelling m) (received m)
-spelling_read m is = record {
+pub encoding_read : (m : OutgoingMessage) → IsWritable m → IsMessage (encoding m) (received m)
+encoding_read m is = record {
   value = is.reference;
   kind = named_kind m.kind is.kind;
   rest = octets_of_all (sent m);

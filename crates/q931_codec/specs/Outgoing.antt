@@ -1,4 +1,4 @@
--- Outgoing messages and their one spelling (ITU-T Q.931 (05/98), 4.5).
+-- Outgoing messages and how they are encoded (ITU-T Q.931 (05/98), 4.5).
 use Rattle.std.specs.Prelude.{ℕ, ◌+◌, ◌^◌, ◌<◌, ◌≤◌, Bool, true, false, IsTrue, List, [], ◌∷◌, ◌++◌, length, map, Option, Some, None, IfSome}
 use Rattle.std.specs.List.{flat_map}
 use Rattle.q931_elements.specs.Grammar.{Item, SingleOctet, VariableLength, element_of, octets_of_all}
@@ -64,7 +64,7 @@ bare flag reference kind = record {
   high = [];
 }
 
--- what has a spelling
+-- what can be encoded
 pub record IsWritable (m : OutgoingMessage) : Type 0 where
   pub reference : m.reference < 2 ^ 15
   pub kind : IsNamed m.kind
@@ -105,12 +105,12 @@ abbrev pub completed : Bool → List Item
 completed true = SingleOctet SENDING_COMPLETE ∷ []
 completed false = []
 
--- an element without contents isn't written
+-- empty contents stand for no element
 abbrev pub given : ℕ × List ℕ → List Item
 given (code, []) = []
 given (code, octet ∷ octets) = VariableLength code (octet ∷ octets) ∷ []
 
--- the variable length elements in rising order of their codes
+-- the variable length elements in ascending order of their identifiers (4.5.1)
 abbrev pub rows : OutgoingMessage → List (ℕ × List ℕ)
 rows m =
     (BEARER_CAPABILITY, m.bearer)
@@ -128,9 +128,9 @@ rows m =
 abbrev pub sent : OutgoingMessage → List Item
 sent m = completed m.complete ++ flat_map given (rows m)
 
--- the one spelling of an outgoing message
-abbrev pub spelling : OutgoingMessage → List ℕ
-spelling m = header m.flag m.reference m.kind ++ octets_of_all (sent m)
+-- the octets of an outgoing message
+abbrev pub encoding : OutgoingMessage → List ℕ
+encoding m = header m.flag m.reference m.kind ++ octets_of_all (sent m)
 
 -- the message that its receiver reads
 abbrev pub received : OutgoingMessage → Message

@@ -3,7 +3,7 @@ use crate::kind::MessageKind;
 use q931_elements::Elements;
 use thiserror::Error;
 
-/// Why a received message is discarded. A discarded message has no effect, and nothing answers it.
+/// Why a received message is ignored: it changes no call, and gets no answer.
 #[derive(Clone, Copy, Debug, PartialEq, Eq, Error)]
 pub enum Discard {
     /// The protocol discriminator isn't that of user-network call control (Q.931, 5.8.1).
@@ -40,9 +40,9 @@ ghost use Rattle.q931_codec.specs.Reading.{HasOtherDiscriminator, IsShort, HasOt
 ///
 /// # Errors
 ///
-/// Looked at in this order: no octet is [`Discard::Short`], a first octet other than 08 is
-/// [`Discard::Discriminator`], one octet alone is `Short`, a second octet other than 02 is
-/// [`Discard::ReferenceLength`], and fewer than five octets are `Short`.
+/// - [`Discard::Discriminator`] where there is a first octet, and it isn't 08.
+/// - [`Discard::ReferenceLength`] where the first octet is 08, and there is a second that isn't 02.
+/// - [`Discard::Short`] where the octets are none, 08 alone, or 08 02 and fewer than three others.
 pub fn read(octets: &[u8]) -> Result<Message<'_>, Discard>
     // What is read is in the grammar, and what is in the grammar is read.
     ensures found { IfOk result (λ m. IsMessage octets.now m) }

@@ -4,7 +4,7 @@ use Rattle.std.specs.List.{AllByRecursion}
 use Rattle.std.proofs.lemmas.Bool.{cases_lt, le-ltb, lt-ltb}
 use Rattle.std.proofs.lemmas.List.{take_at, drop_at, take-append-drop, length-take, length-drop, nil_from_length}
 use Rattle.q931_elements.specs.InformationElement.{InformationElement}
-use Rattle.q931_elements.specs.Grammar.{Item, SingleOctet, VariableLength, IsItem, octets_of, element_of, IsLockingShift, IsNonLockingShift, Piece, Present, Shifted, IsPiece, spelled, present, IsUnfinished, IsTail, IsElementList, IsPresent, octets_of_all}
+use Rattle.q931_elements.specs.Grammar.{Item, SingleOctet, VariableLength, IsItem, octets_of, element_of, IsLockingShift, IsNonLockingShift, Piece, Present, Shifted, IsPiece, octets_of_pieces, present, IsUnfinished, IsTail, IsElementList, IsPresent, octets_of_all}
 use Rattle.q931_elements.specs.Reading.{Whole, LockingShift, NonLockingShift, Unfinished, front, variable_front, after_item, elements_of}
 use Rattle.q931_elements.proofs.Steps.{elements_step, elements_from}
 
@@ -67,15 +67,15 @@ read_tail (octet ∷ rest) (inr (inr unfinished)) = read_unfinished (octet ∷ r
 
 -- ---- at most one reading
 
-read_pieces : (pieces : List Piece) (tail : List ℕ) → AllByRecursion IsPiece pieces → IsTail tail → elements_of (spelled pieces ++ tail) ≡ present pieces
+read_pieces : (pieces : List Piece) (tail : List ℕ) → AllByRecursion IsPiece pieces → IsTail tail → elements_of (octets_of_pieces pieces ++ tail) ≡ present pieces
 read_pieces [] tail are is = read_tail tail is
 read_pieces (Present item ∷ pieces) tail (one, others) is =
-    ap elements_of (append_assoc (octets_of item) (spelled pieces) tail)
-    ∙ read_present item (spelled pieces ++ tail) one
+    ap elements_of (append_assoc (octets_of item) (octets_of_pieces pieces) tail)
+    ∙ read_present item (octets_of_pieces pieces ++ tail) one
     ∙ ap (λ es. element_of item ∷ es) (read_pieces pieces tail others is)
 read_pieces (Shifted shift item ∷ pieces) tail (one, others) is =
-    ap (λ octets. elements_of (shift ∷ octets)) (append_assoc (octets_of item) (spelled pieces) tail)
-    ∙ read_shifted shift item (spelled pieces ++ tail) one.0 one.1
+    ap (λ octets. elements_of (shift ∷ octets)) (append_assoc (octets_of item) (octets_of_pieces pieces) tail)
+    ∙ read_shifted shift item (octets_of_pieces pieces ++ tail) one.0 one.1
     ∙ read_pieces pieces tail others is
 
 -- what the grammar reads is what the walk finds
@@ -112,7 +112,7 @@ with_present octets item rest is parts others = record {
   tail = others.tail;
   are_pieces = (is, others.are_pieces);
   is_tail = others.is_tail;
-  octets_are = parts ∙ ap (λ left. octets_of item ++ left) others.octets_are ∙ sym (append_assoc (octets_of item) (spelled others.pieces) others.tail);
+  octets_are = parts ∙ ap (λ left. octets_of item ++ left) others.octets_are ∙ sym (append_assoc (octets_of item) (octets_of_pieces others.pieces) others.tail);
   elements_are = ap elements_of parts ∙ read_present item rest is ∙ ap (λ es. element_of item ∷ es) others.elements_are;
 }
 
@@ -122,7 +122,7 @@ with_shifted octets shift item rest is item-is parts others = record {
   tail = others.tail;
   are_pieces = ((is, item-is), others.are_pieces);
   is_tail = others.is_tail;
-  octets_are = parts ∙ ap (λ left. shift ∷ (octets_of item ++ left)) others.octets_are ∙ ap (λ left. shift ∷ left) (sym (append_assoc (octets_of item) (spelled others.pieces) others.tail));
+  octets_are = parts ∙ ap (λ left. shift ∷ (octets_of item ++ left)) others.octets_are ∙ ap (λ left. shift ∷ left) (sym (append_assoc (octets_of item) (octets_of_pieces others.pieces) others.tail));
   elements_are = ap elements_of parts ∙ read_shifted shift item rest is item-is ∙ others.elements_are;
 }
 
@@ -199,10 +199,10 @@ unfolding written_pieces
 written_are [] are = tt
 written_are (item ∷ items) (one, others) = (one, written_are items others)
 
-written_octets : (items : List Item) → octets_of_all items ≡ spelled (written_pieces items) ++ []
+written_octets : (items : List Item) → octets_of_all items ≡ octets_of_pieces (written_pieces items) ++ []
 unfolding written_pieces
 written_octets [] = refl
-written_octets (item ∷ items) = ap (λ left. octets_of item ++ left) (written_octets items) ∙ sym (append_assoc (octets_of item) (spelled (written_pieces items)) [])
+written_octets (item ∷ items) = ap (λ left. octets_of item ++ left) (written_octets items) ∙ sym (append_assoc (octets_of item) (octets_of_pieces (written_pieces items)) [])
 
 written_elements : (items : List Item) → map element_of items ≡ present (written_pieces items)
 unfolding written_pieces

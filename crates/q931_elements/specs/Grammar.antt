@@ -1,4 +1,5 @@
--- The octets after a message's header, cut into pieces as a whole (ITU-T Q.931 (05/98), 4.5.1 to 4.5.4).
+-- The octets behind a message's header, as a whole (ITU-T Q.931 (05/98), 4.5.1 to 4.5.4).
+-- All of them are pieces one after the other and then a tail. This exchange reads codeset 0 alone.
 use Rattle.std.specs.Prelude.{◌≡◌, ℕ, ◌<◌, ◌≤◌, ◌⊎◌, List, [], ◌∷◌, ◌++◌, length}
 use Rattle.std.specs.List.{AllByRecursion, flat_map}
 use Rattle.q931_elements.specs.InformationElement.{InformationElement}
@@ -29,7 +30,7 @@ IsLockingShift octet = (0x90 ≤ octet) × (octet < 0x98)
 abbrev pub IsNonLockingShift : ℕ → Type 0
 IsNonLockingShift octet = (0x98 ≤ octet) × (octet < 0xA0)
 
--- an information element, or a non-locking shift with the item that it stands before
+-- an information element, or a non-locking shift and the item that it hides
 pub data Piece : Type 0 where
   Present : Item → Piece
   Shifted : ℕ → Item → Piece
@@ -39,35 +40,35 @@ IsPiece (Present (SingleOctet octet)) = (0x80 ≤ octet) × ((octet < 0x90) ⊎ 
 IsPiece (Present (VariableLength code contents)) = code < 0x80
 IsPiece (Shifted shift item) = IsNonLockingShift shift × IsItem item
 
-abbrev pub spelled : List Piece → List ℕ
-spelled [] = []
-spelled (Present item ∷ pieces) = octets_of item ++ spelled pieces
-spelled (Shifted shift item ∷ pieces) = shift ∷ octets_of item ++ spelled pieces
+abbrev pub octets_of_pieces : List Piece → List ℕ
+octets_of_pieces [] = []
+octets_of_pieces (Present item ∷ pieces) = octets_of item ++ octets_of_pieces pieces
+octets_of_pieces (Shifted shift item ∷ pieces) = shift ∷ octets_of item ++ octets_of_pieces pieces
 
--- what a shift stands before is not among the elements
+-- the elements that no shift hides
 abbrev pub present : List Piece → List InformationElement
 present [] = []
 present (Present item ∷ pieces) = element_of item ∷ present pieces
 present (Shifted shift item ∷ pieces) = present pieces
 
--- no octet, or a variable length element that isn't wholly there
+-- no octet, or a variable length element that is cut short
 abbrev pub IsUnfinished : List ℕ → Type 0
 IsUnfinished [] = Unit {0}
 IsUnfinished (code ∷ []) = code < 0x80
 IsUnfinished (code ∷ len ∷ rest) = (code < 0x80) × (length rest < len)
 
--- where the list ends: at a locking shift with all that follows, or with something unfinished
+-- a locking shift and all that follows, or something unfinished, which a non-locking shift may stand before
 abbrev pub IsTail : List ℕ → Type 0
 IsTail [] = Unit {0}
 IsTail (octet ∷ rest) = IsLockingShift octet ⊎ ((IsNonLockingShift octet × IsUnfinished rest) ⊎ IsUnfinished (octet ∷ rest))
 
--- these octets are a row of pieces and a tail, and these are their elements
+-- these are the elements of these octets
 pub record IsElementList (octets : List ℕ) (elements : List InformationElement) : Type 0 where
   pub pieces : List Piece
   pub tail : List ℕ
   pub are_pieces : AllByRecursion IsPiece pieces
   pub is_tail : IsTail tail
-  pub octets_are : octets ≡ spelled pieces ++ tail
+  pub octets_are : octets ≡ octets_of_pieces pieces ++ tail
   pub elements_are : elements ≡ present pieces
 
 -- ---- written elements: these are pieces too, and no shift stands among them

@@ -6,7 +6,7 @@ pub record InformationElement : Type 0 where
   pub code : ℕ
   pub contents : List ℕ
 
--- the contents of the first element with this code; later ones of the same code don't count (5.8.5.2)
+-- the contents of the first element with this identifier; repeated ones are ignored (5.8.5.2)
 abbrev pub first_of : ℕ → List InformationElement → Option (List ℕ)
 first_of code [] = None
 first_of code (e ∷ es) = if e.code == code then Some e.contents else first_of code es

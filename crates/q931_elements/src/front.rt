@@ -59,7 +59,7 @@ fn variable_length(code: u8, octets: &[u8]) -> Front<'_>
     }
 }
 
-// What is left after the item that a non-locking shift stands before.
+// The octets behind the item that a non-locking shift hides.
 pub(crate) fn past(octets: &[u8]) -> &[u8]
     ensures { result.now ≡ after_item octets.now }
 {

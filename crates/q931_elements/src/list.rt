@@ -4,12 +4,12 @@ use std::marker::Model;
 
 /// The information elements of a message, in the order in which they were received.
 ///
-/// The octets are cut into single octet elements, variable length elements and non-locking shifts. The
-/// list ends where an element isn't wholly there, and at a locking shift, since this exchange reads
-/// codeset 0 alone (Q.931, 4.5.2 and 4.5.3). A non-locking shift and the one item after it, whatever
-/// that is, are passed over (4.5.4). Every string of octets is read, and each octet is looked at once.
+/// This exchange reads codeset 0 alone (Q.931, 4.5.2). So a non-locking shift hides the one item behind
+/// it, be that an element or another shift octet (4.5.4), and a locking shift hides all that follows
+/// (4.5.3). A variable length element whose length says more octets than there are is dropped. Every
+/// string of octets has a list, and reading it takes one pass over them.
 ///
-/// Contracts see an `Elements` as the list of the elements that it has left.
+/// Contracts see an `Elements` as the list of the elements that it has left to give.
 #[derive(Debug, Drop)]
 pub struct Elements<'a> {
     rest: &'a [u8],
@@ -41,7 +41,8 @@ impl<'a> Elements<'a> {
         Elements { rest: octets }
     }
 
-    /// The contents of the first element that is left with this code, `None` where there is none.
+    /// The contents of the first of the elements that are left with this identifier, `None` where none
+    /// of them has it. A repeated element is ignored (5.8.5.2).
     pub fn first(&self, code: u8) -> Option<&'a [u8]>
         ensures first { option_copied result ≡ first_of code self.now }
         ensures none { IsNone result ↔ All (λ e. e.code ≢ code) self.now }

@@ -30,7 +30,7 @@ const ROWS: [(&[u8], &[(u8, &[u8])]); 20] = [
     (b"\x96", &[]),
     (b"\xA1\x97\x70\x04\x80101", &[(0xA1, b"")]),
     (b"\x90\xA1", &[]),
-    // A non-locking shift before another shift, before what isn't whole, and at the end.
+    // A non-locking shift before another shift, before what is cut short, and at the end.
     (b"\x98\x90\x70\x04\x80101", &[CALLED]),
     (b"\x9F\x9F\xA1", &[(0xA1, b"")]),
     (b"\xA1\x98\x70\x04\x8010", &[(0xA1, b"")]),

@@ -2,7 +2,7 @@ ghost use Rattle.std.specs.Prelude.{◌≡◌, ◌+◌, ◌^◌, ◌<◌, ◌≤
 ghost use Rattle.q931_elements.specs.Grammar.{octets_of_all};
 ghost use Rattle.q931_codec.specs.Contents.{is_bearer_channel};
 ghost use Rattle.q931_codec.specs.Grammar.{IsMessage, header};
-ghost use Rattle.q931_codec.specs.Outgoing.{outgoing_of, IsWritable, spelling, received, completed, given, cause_contents, one_octet, channel_contents, progress_contents};
+ghost use Rattle.q931_codec.specs.Outgoing.{outgoing_of, IsWritable, encoding, received, completed, given, cause_contents, one_octet, channel_contents, progress_contents};
 
 use crate::codes::{
     BEARER_CAPABILITY, CALL_STATE, CALLED_PARTY_NUMBER, CALLING_PARTY_NUMBER, CAUSE,
@@ -17,14 +17,13 @@ use q931_elements::{LONGEST_MESSAGE, Writer};
 // location "public network serving the local user".
 const LOCATION: u8 = 0x82;
 
-/// Writes a message in its one spelling: the header, Sending complete, and the other elements in rising
-/// order of their codes (Q.931, 4.5.1). It has at most 107 octets.
+/// Encodes a message: the header, Sending complete, and the variable length elements in ascending order
+/// of their identifiers (Q.931, 4.5.1). It has at most 107 octets.
 ///
-/// The kind has a name, the call reference value is below 32,768, and each field is within the bounds
-/// that [`Outgoing`] gives for it.
+/// Each field is within the bounds that [`Outgoing`] gives for it.
 pub fn write(message: &Outgoing) -> ArrayVec<u8, LONGEST_MESSAGE>
     requires { IsWritable (outgoing_of message.now) }
-    ensures spelled { result.items ≡ spelling (outgoing_of message.now) }
+    ensures encoded { result.items ≡ encoding (outgoing_of message.now) }
     ensures read_back { IsMessage result.items (received (outgoing_of message.now)) }
     ensures fits { length result.items ≤ 107 }
 {

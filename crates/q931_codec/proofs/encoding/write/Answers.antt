@@ -1,11 +1,11 @@
 use Rattle.std.proofs.Common.{refl, sym, subst, ◌∙◌}
 use Rattle.q931_codec.specs.Grammar.{IsMessage}
 use Rattle.q931_codec.specs.Outgoing.{outgoing_of, received}
-use Rattle.q931_codec.proofs.Written.{written_is, spelling_read}
-use Rattle.q931_codec.proofs.spelling.write.Goals as goal
+use Rattle.q931_codec.proofs.Written.{written_is, encoding_read}
+use Rattle.q931_codec.proofs.encoding.write.Goals as goal
 
-pub returns-clause-spelled : goal.returns-clause-spelled
-returns-clause-spelled c =
+pub returns-clause-encoded : goal.returns-clause-encoded
+returns-clause-encoded c =
     c.finish.ensures
     ∙ written_is (outgoing_of c.args.message.now) c.header.new.writer c.complete.new.writer c.element-5.new.writer c.header.ensures.octets c.complete.ensures.octets (
       c.element.new.writer,
@@ -47,4 +47,4 @@ returns-clause-spelled c =
 
 pub returns-clause-read_back : goal.returns-clause-read_back
 returns-clause-read_back c =
-    subst (λ octets. IsMessage octets (received (outgoing_of c.args.message.now))) (sym (returns-clause-spelled c)) (spelling_read (outgoing_of c.args.message.now) c.requires)
+    subst (λ octets. IsMessage octets (received (outgoing_of c.args.message.now))) (sym (returns-clause-encoded c)) (encoding_read (outgoing_of c.args.message.now) c.requires)
