@@ -6,7 +6,7 @@
 //! with the definition, at every octet and at every `i32`.
 #![tactic(auto)]
 
-ghost use Rattle.std.specs.Prelude.{◌≡◌, ℕ, ◌<◌};
+ghost use Rattle.std.specs.Prelude.{◌≡◌, ℕ, ◌<◌, ◌≤◌, nat_abs};
 ghost use Rattle.circuit_model.specs.ALaw.{interval_of, expand, compress};
 
 /// The even bits of an octet, counted from 1 at the top: they are inverted on the line (table 1a,
@@ -62,7 +62,8 @@ static VALUES: [i16; 256] = [
 ///
 /// Source: ITU-T G.711 (11/88), table 1a, columns 6 and 7.
 pub fn expand(octet: u8) -> i32
-    ensures { result ≡ expand octet }
+    ensures value { result ≡ expand octet }
+    ensures within { nat_abs result ≤ 4032 }
 {
     i32::from(VALUES[usize::from(octet)])
 }
@@ -88,7 +89,7 @@ fn interval_number(magnitude: u32) -> u8
 {
     // From 32 on each segment has sixteen intervals of one width, and its leading bit names it. Below
     // 32 the intervals are as wide as in the segment above, so the same sum numbers them.
-    let segment = 27 - magnitude.max(32).leading_zeros();
+    let segment = 27 - (magnitude | 32).leading_zeros();
     (16 * (segment - 1) + (magnitude >> segment)) as u8
 }
 
