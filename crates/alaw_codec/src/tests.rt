@@ -1,5 +1,4 @@
 use super::*;
-use std::test::Fail;
 
 /// The 256 octets as Python's `audioop.alaw2lin` decodes them into sixteen bits: eight times the
 /// values of table 1a.
