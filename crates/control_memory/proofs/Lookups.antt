@@ -4,6 +4,7 @@ use Rattle.std.specs.Prelude.{find, slice_index_or, ◌==◌}
 use Rattle.std.proofs.lemmas.Bool.{eqb-true, eq-eqb}
 use Rattle.circuit_model.specs.declared.channel.Slot.{Slot}
 use Rattle.circuit_model.specs.Circuits.{same_slot}
+use Rattle.circuit_model.proofs.Slots.{same_slot-true, same_slot-refl}
 use Rattle.control_memory.specs.Layout.{Hop, Path, Layout, number_of, slot_numbered, paths, paths_from, path_in, path_out, path_to, IsSlot, HasPath, Legal}
 
 -- ---- numbers of slots
@@ -85,16 +86,6 @@ both false b e = absurd (cc)
 and_true : (a b : Bool) → a ≡ true → b ≡ true → (a && b) ≡ true
 and_true a b x y = ap (λ c. c && b) x ∙ y
 
-pub same_slots : (x y : Slot) → same_slot x y ≡ true → x ≡ y
-same_slots x y e =
-    let parts = both (eqb x.line y.line) (eqb x.place y.place) e in
-    let line = eqb-true x.line y.line parts.0 in
-    let place = eqb-true x.place y.place parts.1 in
-    λ i. record { line = line i; place = place i }
-
-pub same_self : (x : Slot) → same_slot x x ≡ true
-same_self x = and_true (eqb x.line x.line) (eqb x.place x.place) (eq-eqb x.line x.line refl) (eq-eqb x.place x.place refl)
-
 -- a path that a lookup found stands in the layout, at a slot of its lines
 pub record IsPathOf (lines : ℕ) (layout : Layout) (p : Path) : Type 0 where
   pub inlet : IsSlot lines p.from
@@ -167,12 +158,12 @@ path_out_is lines slots layout from to slot legal inside has =
 pub path_to_found : (lines : ℕ) (layout : Layout) (at : Slot) (p : Path) → length layout ≡ 30 * lines → path_to layout at ≡ Some p → IsPathOf lines layout p × (p.to ≡ at)
 path_to_found lines layout at p size e =
     let f = found_path (λ q. same_slot at q.to) lines layout p size e in
-    (f.0, sym (same_slots at p.to f.1))
+    (f.0, sym (same_slot-true at p.to f.1))
 
 pub path_to_is : (lines slots : ℕ) (layout : Layout) (from to : Slot) (slot : ℕ) → Legal lines slots layout → IsSlot lines from → HasPath layout from to slot → path_to layout to ≡ Some (record { from = from; to = to; slot = slot })
 path_to_is lines slots layout from to slot legal inside has =
     let p : Path = record { from = from; to = to; slot = slot } in
-    let q = finds_path (λ r. same_slot to r.to) layout from to slot inside.1 has (same_self to) in
+    let q = finds_path (λ r. same_slot to r.to) layout from to slot inside.1 has (same_slot-refl to) in
     let f = path_to_found lines layout to q.0 legal.inlets q.1 in
     let there = subst (λ t. HasPath layout q.0.from t q.0.slot) f.1 f.0.path in
     q.1 ∙ ap (λ r. Some r) (same_path layout q.0 p f.0.path has (legal.one_inlet q.0.from from to q.0.slot slot f.0.inlet inside there has))

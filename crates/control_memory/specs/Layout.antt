@@ -60,6 +60,10 @@ IsSlot lines at = (at.line < lines) × (at.place < 30)
 abbrev pub HasPath : Layout → Slot → Slot → ℕ → Type 0
 HasPath layout from to slot = hop_of layout from ≡ Some (record { to = to; slot = slot })
 
+-- the layout joins an inlet to an outlet, in whatever slot
+abbrev pub Joins : Layout → Slot → Slot → Type 0
+Joins layout from to = (slot : ℕ) × HasPath layout from to slot
+
 -- a legal layout on so many lines and internal slots: each outlet ends at most one path, and no two paths of an incoming line, and no two
 -- of an outgoing line, share an internal slot. That an inlet begins at most one path is in the form of a layout
 pub record Legal (lines slots : ℕ) (layout : Layout) : Type 0 where

@@ -4,3 +4,4 @@ pub mod Examples
 pub mod Tables
 pub mod Image
 pub mod Carrying
+pub mod Shown

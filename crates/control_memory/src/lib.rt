@@ -5,8 +5,10 @@ mod control_table;
 mod heard;
 mod image;
 mod laws;
+mod path_map;
 
 pub use control_table::ControlTable;
 pub use heard::Heard;
 pub use image::Image;
 pub use laws::{tables_carry_their_layout, worked_layouts};
+pub use path_map::PathMap;
