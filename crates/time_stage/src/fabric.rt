@@ -5,10 +5,9 @@ ghost use Rattle.control_memory.specs.Layout.{Layout, Legal};
 ghost use Rattle.control_memory.specs.Image.{lines_of, HasLayout, EachSlot};
 ghost use Rattle.control_memory.specs.Carrying.{carried};
 
+use crate::interchange::{incoming, outgoing};
 use control_memory::Image;
 use frame_buffer::{Crossed, FrameBuffer, Highway};
-
-use crate::interchange::{incoming, outgoing};
 
 /// The three stages in a row, under one control memory: where its tables are those of a legal
 /// layout, each outlet gets the octet of the inlet of its path, and every other slot is idle.
@@ -34,3 +33,6 @@ pub fn carry(
     space_stage::cross(highway, image, crossed);
     outgoing(crossed, image, out);
 }
+
+#[cfg(test)]
+mod tests;
