@@ -4,3 +4,5 @@ pub mod ALaw
 pub mod Circuits
 pub mod Holding
 pub mod Hears
+pub mod Examples
+pub mod Ports

@@ -1,0 +1,6 @@
+pub mod Age
+pub mod Slots
+pub mod Hearing
+pub mod Validity
+pub mod Recorded
+pub mod Refused
