@@ -1,0 +1,4 @@
+pub mod TraceWords
+pub mod TraceFields
+pub mod TraceLines
+pub mod TraceGrammar
