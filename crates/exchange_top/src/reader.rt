@@ -28,6 +28,5 @@ pub fn read_trace(alloc: Global, bytes: &[u8]) -> Result<Trace, TraceFault>
         IsRefused bytes.now number why
         → (result ≡ Err (TraceFault.Line number why)) ⊎ (result ≡ Err TraceFault.Memory) }
 {
-    let _ = (alloc, bytes);
     Err(TraceFault::Memory)
 }
