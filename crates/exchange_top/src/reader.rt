@@ -2,7 +2,11 @@
 ghost use Rattle.std.specs.Prelude.{◌≡◌, ℕ, ◌⊎◌, IfOk, Ok, Err};
 ghost use Rattle.exchange_top.specs.TraceGrammar.{IsTrace, IsRefused};
 
+mod cut;
 mod fault;
+mod fields;
+mod line;
+mod octets;
 mod said;
 
 use crate::trace::Trace;

@@ -1,5 +1,5 @@
 ghost use Rattle.std.specs.Prelude.{◌≡◌};
-ghost use Rattle.exchange_top.specs.declared.reader.fault.LineFault.TheVariants.{Memory};
+ghost use Rattle.exchange_top.specs.declared.reader.fault.LineFault.TheVariants.{Memory, Refused};
 
 use std::alloc::{AllocError, AllocFailed};
 
@@ -60,5 +60,13 @@ impl<T: Drop> From<AllocFailed<T>> for LineFault {
 
     fn from(_error: AllocFailed<T>) -> LineFault {
         LineFault::Memory
+    }
+}
+
+impl From<Reason> for LineFault {
+    ghost from_gives = { λ reason e. e ≡ Refused reason };
+
+    fn from(reason: Reason) -> LineFault {
+        LineFault::Refused(reason)
     }
 }
