@@ -1,1 +1,2 @@
 pub mod TraceCuts
+pub mod TraceOctets

@@ -1,5 +1,5 @@
 // Octets, written as hexadecimal digits.
-ghost use Rattle.std.specs.Prelude.{◌≡◌, is_some, nat_lt, Some, None, if◌then◌else◌};
+ghost use Rattle.std.specs.Prelude.{◌≡◌, is_some, unwrap_or};
 ghost use Rattle.exchange_top.specs.TraceFields.{digit_value, octets_written, thirty};
 
 use super::fault::Reason;
@@ -29,9 +29,9 @@ static DIGITS: [u8; 256] = [
 
 // The value of a hexadecimal digit; 16 for any other octet.
 fn digit(octet: u8) -> u8
-    ensures { digit_value octet ≡ (if nat_lt result 16 then Some result else None) }
+    ensures { result ≡ unwrap_or (digit_value octet) 16 }
 {
-    DIGITS[usize::from(octet)]
+    DIGITS[octet as usize]
 }
 
 // Whether these are pairs of hexadecimal digits.
