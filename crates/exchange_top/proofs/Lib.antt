@@ -1,2 +1,3 @@
 pub mod TraceCuts
 pub mod TraceOctets
+pub mod TraceParts

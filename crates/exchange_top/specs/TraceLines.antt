@@ -1,8 +1,8 @@
 -- What a line of a trace says, or the first of its checks that fails. Source: this exchange's own.
-use Rattle.std.specs.Prelude.{◌≡◌, ℕ, Bool, not, nat_lt, ◌==◌, ◌||◌, List, [], ◌∷◌, length, codes, replicate, slice_get, slice_set, Option, Some, None, is_some, ok_or, Result, Ok, Err, if◌then◌else◌}
+use Rattle.std.specs.Prelude.{◌≡◌, ℕ, Bool, not, nat_lt, ◌==◌, ◌||◌, List, [], ◌∷◌, length, codes, replicate, slice_index_or, slice_set, Option, Some, None, is_some, ok_or, Result, Ok, Err, if◌then◌else◌}
 use Rattle.std.specs.List.{list_all}
 use Rattle.std.specs.Str.{bytes_eq}
-use Rattle.circuit_model.specs.FrameInput.{Input, line_of}
+use Rattle.circuit_model.specs.FrameInput.{Input}
 use Rattle.circuit_model.specs.Circuits.{same_slot}
 use Rattle.exchange_top.specs.declared.trace.Event.{Event}
 use Rattle.exchange_top.specs.declared.trace.Event.TheVariants.{Nail, Frame}
@@ -11,6 +11,8 @@ use Rattle.exchange_top.specs.declared.reader.fault.Reason.TheVariants as reason
 use Rattle.exchange_top.specs.declared.reader.fault.LineFault.{LineFault}
 use Rattle.exchange_top.specs.declared.reader.fault.LineFault.TheVariants as fault
 use Rattle.exchange_top.specs.declared.reader.said.Sizes.{Sizes}
+use Rattle.exchange_top.specs.declared.reader.said.Kind.{Kind}
+use Rattle.exchange_top.specs.declared.reader.said.Kind.TheVariants as kind
 use Rattle.exchange_top.specs.declared.reader.said.Said.{Said}
 use Rattle.exchange_top.specs.declared.reader.said.Said.TheVariants as said
 use Rattle.exchange_top.specs.TraceWords.{words, cut_at, is_comment, is_blank, is_printable}
@@ -31,7 +33,7 @@ abbrev pub with_part : ℕ → Input → List ℕ → Result Input Reason
 with_part external given word = do
   halves ← ok_or (cut_at colon word) reason.Slot
   line ← ok_or (external_line external halves.0) reason.Slot
-  if is_some (line_of (slice_get given line)) then Err reason.Slot else (do
+  if is_some (slice_index_or given line None) then Err reason.Slot else (do
     octets ← thirty (octets_written halves.1)
     Ok (slice_set given line (Some octets)))
 
@@ -66,18 +68,26 @@ happens count event = if nat_lt count 65535 then Ok (said.Happens event) else Er
 abbrev pub is_later : List ℕ → Bool
 is_later word = bytes_eq word (codes "number") || bytes_eq word (codes "tone") || bytes_eq word (codes "seat") || bytes_eq word (codes "free") || bytes_eq word (codes "M")
 
--- the line after the header whose first word is given, by its kind
-abbrev pub by_kind : ℕ → ℕ → List ℕ → List (List ℕ) → Result Said Reason
-by_kind external count kind others =
-    if bytes_eq kind (codes "nail") then nail external others >>= happens count
-    else if bytes_eq kind (codes "F") then frame external others >>= happens count
-    else if bytes_eq kind (codes "sync") then sync others
-    else if is_later kind then Err reason.Later
-    else Err reason.Word
+-- the kind of line that a first word names
+abbrev pub kind_of : List ℕ → Kind
+kind_of word =
+    if bytes_eq word (codes "nail") then kind.Nail
+    else if bytes_eq word (codes "F") then kind.Frame
+    else if bytes_eq word (codes "sync") then kind.Sync
+    else if is_later word then kind.Later
+    else kind.Unknown
+
+-- a line of a kind, whose further words are given, after so many events
+abbrev pub by_kind : ℕ → ℕ → Kind → List (List ℕ) → Result Said Reason
+by_kind external count kind.Nail others = nail external others >>= happens count
+by_kind external count kind.Frame others = frame external others >>= happens count
+by_kind external count kind.Sync others = sync others
+by_kind external count kind.Later others = Err reason.Later
+by_kind external count kind.Unknown others = Err reason.Word
 
 abbrev pub by_words : ℕ → ℕ → List (List ℕ) → Result Said Reason
 by_words external count [] = Ok said.Nothing
-by_words external count (kind ∷ others) = by_kind external count kind others
+by_words external count (first ∷ others) = by_kind external count (kind_of first) others
 
 -- a line after the header: all its octets are printable, and its words are those of its kind
 abbrev pub after_header : ℕ → ℕ → List ℕ → Result Said Reason

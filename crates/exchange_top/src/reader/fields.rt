@@ -1,5 +1,5 @@
 // The fields of a line: lines and slots of the exchange, octets, sizes.
-ghost use Rattle.std.specs.Prelude.{◌≡◌};
+ghost use Rattle.std.specs.Prelude.{◌≡◌, ◌<◌, IfSome};
 ghost use Rattle.exchange_top.specs.TraceWords.{words};
 ghost use Rattle.exchange_top.specs.TraceFields.{external_line, slot, numeral_in, header};
 
@@ -9,7 +9,8 @@ use circuit_model::{Slot, slot_of_channel};
 
 /// The external line that a word names, where the exchange has it.
 pub(crate) fn line_of_word(external: u8, word: &[u8]) -> Option<u8>
-    ensures { result ≡ external_line external word.now }
+    ensures named { result ≡ external_line external word.now }
+    ensures below { IfSome result (λ line. line < external) }
 {
     let line = numeral_of(word)?;
     if line < u32::from(external) { Some(line as u8) } else { None }

@@ -1,13 +1,13 @@
 // What a line says, or the first of its checks that fails.
 ghost use Rattle.std.specs.Prelude.{◌≡◌, ◌<◌, length, MatchResult, Ok, Err};
 ghost use Rattle.exchange_top.specs.TraceWords.{words};
-ghost use Rattle.exchange_top.specs.TraceLines.{with_part, frame, nail, sync, by_kind, says, Gives};
+ghost use Rattle.exchange_top.specs.TraceLines.{with_part, frame, nail, sync, is_later, kind_of, happens, by_kind, says, Gives};
 
 use super::cut::{first_word, halves_at, is_text};
 use super::fault::{LineFault, Reason};
 use super::fields::{header_of, line_of_word, slot_of_word};
 use super::octets::thirty_octets;
-use super::said::{Said, Sizes};
+use super::said::{Kind, Said, Sizes};
 use crate::trace::{Event, Input};
 use std::alloc::Global;
 
@@ -70,21 +70,62 @@ fn sync_of(line: &[u8]) -> Result<Said, Reason>
     Ok(Said::Sync)
 }
 
-// The line of a kind, whose further words are given.
-fn line_of_kind(alloc: Global, external: u8, count: usize, kind: &[u8], line: &[u8]) -> Result<Said, LineFault>
-    ensures { Gives result (by_kind external count kind.now (words line.now)) }
+// Whether a first word names a kind of line that is read later.
+fn is_later(word: &[u8]) -> bool
+    ensures { result ≡ is_later word.now }
 {
-    let event = match kind {
-        b"nail" => nail_of(external, line)?,
-        b"F" => frame_of(alloc, external, line)?,
-        b"sync" => return Ok(sync_of(line)?),
-        b"number" | b"tone" | b"seat" | b"free" | b"M" => return Err(LineFault::Refused(Reason::Later)),
-        _ => return Err(LineFault::Refused(Reason::Word)),
-    };
-    if count >= MOST_EVENTS {
-        return Err(LineFault::Refused(Reason::Limit));
+    word == b"number".as_slice()
+        || word == b"tone".as_slice()
+        || word == b"seat".as_slice()
+        || word == b"free".as_slice()
+        || word == b"M".as_slice()
+}
+
+// The kind of line that a first word names.
+fn kind_of(word: &[u8]) -> Kind
+    ensures { result ≡ kind_of word.now }
+{
+    if word == b"nail".as_slice() {
+        Kind::Nail
+    } else if word == b"F".as_slice() {
+        Kind::Frame
+    } else if word == b"sync".as_slice() {
+        Kind::Sync
+    } else if is_later(word) {
+        Kind::Later
+    } else {
+        Kind::Unknown
     }
-    Ok(Said::Happens(event))
+}
+
+// An event, where there is room for one more.
+fn counted(count: usize, event: Event) -> Result<Said, LineFault>
+    ensures { Gives result (happens count event) }
+{
+    if count < MOST_EVENTS {
+        Ok(Said::Happens(event))
+    } else {
+        Err(LineFault::Refused(Reason::Limit))
+    }
+}
+
+// A line of a kind, whose further words are given.
+fn line_of_kind(
+    alloc: Global,
+    external: u8,
+    count: usize,
+    kind: Kind,
+    line: &[u8],
+) -> Result<Said, LineFault>
+    ensures { Gives result (by_kind external count kind (words line.now)) }
+{
+    match kind {
+        Kind::Nail => counted(count, nail_of(external, line)?),
+        Kind::Frame => counted(count, frame_of(alloc, external, line)?),
+        Kind::Sync => Ok(sync_of(line)?),
+        Kind::Later => Err(LineFault::Refused(Reason::Later)),
+        Kind::Unknown => Err(LineFault::Refused(Reason::Word)),
+    }
 }
 
 /// What a line says after the header with these sizes, where there was one, and after so many events.
@@ -104,5 +145,5 @@ pub(crate) fn line_says(alloc: Global, sizes: Option<Sizes>, count: usize, line:
     if !is_text(line) {
         return Err(LineFault::Refused(Reason::Word));
     }
-    line_of_kind(alloc, sizes.external, count, kind, rest)
+    line_of_kind(alloc, sizes.external, count, kind_of(kind), rest)
 }
