@@ -1,3 +1,4 @@
 pub mod TraceCuts
 pub mod TraceOctets
 pub mod TraceParts
+pub mod TraceHolds

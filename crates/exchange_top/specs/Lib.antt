@@ -2,3 +2,4 @@ pub mod TraceWords
 pub mod TraceFields
 pub mod TraceLines
 pub mod TraceGrammar
+pub mod TraceDraft

@@ -3,6 +3,7 @@ ghost use Rattle.std.specs.Prelude.{◌≡◌, ℕ, ◌⊎◌, IfOk, Ok, Err};
 ghost use Rattle.exchange_top.specs.TraceGrammar.{IsTrace, IsRefused};
 
 mod cut;
+mod draft;
 mod fault;
 mod fields;
 mod line;

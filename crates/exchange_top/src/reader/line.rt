@@ -1,7 +1,9 @@
 // What a line says, or the first of its checks that fails.
-ghost use Rattle.std.specs.Prelude.{◌≡◌, ◌<◌, length, MatchResult, Ok, Err};
+ghost use Rattle.std.specs.Prelude.{◌≡◌, ◌<◌, length, Option, MatchResult, IfOk, Ok, Err};
 ghost use Rattle.exchange_top.specs.TraceWords.{words};
 ghost use Rattle.exchange_top.specs.TraceLines.{with_part, frame, nail, sync, is_later, kind_of, happens, by_kind, says, Gives};
+ghost use Rattle.exchange_top.specs.TraceDraft.{Suits};
+ghost use Rattle.exchange_top.specs.declared.reader.said.Sizes.{Sizes};
 
 use super::cut::{first_word, halves_at, is_text};
 use super::fault::{LineFault, Reason};
@@ -62,7 +64,8 @@ fn nail_of(external: u8, line: &[u8]) -> Result<Event, Reason>
 
 // The end of a segment, where a line has no further word.
 fn sync_of(line: &[u8]) -> Result<Said, Reason>
-    ensures { result ≡ sync (words line.now) }
+    ensures says { result ≡ sync (words line.now) }
+    ensures suits { IfOk result (λ said. said ≡ Said.Sync) }
 {
     if first_word(line).is_some() {
         return Err(Reason::Word);
@@ -100,7 +103,8 @@ fn kind_of(word: &[u8]) -> Kind
 
 // An event, where there is room for one more.
 fn counted(count: usize, event: Event) -> Result<Said, LineFault>
-    ensures { Gives result (happens count event) }
+    ensures says { Gives result (happens count event) }
+    ensures suits { IfOk result (λ said. (some : Option Sizes) → Suits some count said) }
 {
     if count < MOST_EVENTS {
         Ok(Said::Happens(event))
@@ -117,7 +121,8 @@ fn line_of_kind(
     kind: Kind,
     line: &[u8],
 ) -> Result<Said, LineFault>
-    ensures { Gives result (by_kind external count kind (words line.now)) }
+    ensures says { Gives result (by_kind external count kind (words line.now)) }
+    ensures suits { IfOk result (λ said. (some : Option Sizes) → Suits some count said) }
 {
     match kind {
         Kind::Nail => counted(count, nail_of(external, line)?),
@@ -129,8 +134,14 @@ fn line_of_kind(
 }
 
 /// What a line says after the header with these sizes, where there was one, and after so many events.
-pub(crate) fn line_says(alloc: Global, sizes: Option<Sizes>, count: usize, line: &[u8]) -> Result<Said, LineFault>
-    ensures { Gives result (says sizes count line.now) }
+pub(crate) fn line_says(
+    alloc: Global,
+    sizes: Option<Sizes>,
+    count: usize,
+    line: &[u8],
+) -> Result<Said, LineFault>
+    ensures says { Gives result (says sizes count line.now) }
+    ensures suits { IfOk result (λ said. Suits sizes count said) }
 {
     if line.first() == Some(&b'#') {
         return Ok(Said::Nothing);
