@@ -2,3 +2,5 @@ pub mod TraceCuts
 pub mod TraceOctets
 pub mod TraceParts
 pub mod TraceHolds
+pub mod TraceProgress
+pub mod TraceReadings

@@ -10,7 +10,7 @@ use Rattle.exchange_top.specs.declared.reader.fault.Reason.TheVariants as reason
 use Rattle.exchange_top.specs.declared.reader.said.Sizes.{Sizes}
 use Rattle.exchange_top.specs.declared.reader.said.Said.{Said}
 use Rattle.exchange_top.specs.declared.reader.said.Said.TheVariants.{Nothing, Header, Happens, Sync}
-use Rattle.exchange_top.specs.TraceGrammar.{sizes_in, events_in, segment_ends, ends_after}
+use Rattle.exchange_top.specs.TraceGrammar.{sizes_in, events_in, segment_ends, ends_after, IsRefused}
 
 -- a line that says this may stand behind a header with these sizes, where there was one, and so many events
 abbrev pub Suits : Option Sizes → ℕ → Said → Type 0
@@ -34,3 +34,8 @@ pub record Holds (d : Draft) (told : List Said) : Type 0 where
 abbrev pub FailsAtEnd : Option Sizes → ℕ → TraceFault → Type 0
 FailsAtEnd sizes count trace_fault.Memory = Unit {0}
 FailsAtEnd sizes count (trace_fault.Line number why) = (sizes ≡ None) × (number ≡ count + 1) × (why ≡ reason.Header)
+
+-- what is answered in place of a trace: want of memory, or the first fault of the bytes
+abbrev pub IsFault : List ℕ → TraceFault → Type 0
+IsFault bytes trace_fault.Memory = Unit {0}
+IsFault bytes (trace_fault.Line number why) = IsRefused bytes number why

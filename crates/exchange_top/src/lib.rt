@@ -4,5 +4,5 @@
 mod reader;
 mod trace;
 
-pub use reader::{Reason, TraceFault, read_trace};
+pub use reader::{Reason, TraceFault, one_reading, read_trace, some_reading};
 pub use trace::{Event, Events, Input, Segments, Trace};

@@ -19,7 +19,7 @@ pub struct Draft {
 }
 
 impl Draft {
-    ghost use Rattle.std.specs.Prelude.{◌≡◌, ◌<◌, ◌++◌, ◌∷◌, [], List, Ok, OnOk, IfOk, IfErr, vec_len};
+    ghost use Rattle.std.specs.Prelude.{◌≡◌, ◌<◌, ◌++◌, ◌∷◌, [], List, length, Ok, OnOk, IfOk, IfErr, vec_len};
     ghost use Rattle.exchange_top.specs.TraceLines.{says, Fails};
     ghost use Rattle.exchange_top.specs.TraceGrammar.{ended, IsTold};
     ghost use Rattle.exchange_top.specs.TraceDraft.{Holds, Suits, FailsAtEnd};
@@ -71,10 +71,10 @@ impl Draft {
     pub fn read_line(&mut self, alloc: Global, line: &[u8]) -> Result<(), LineFault>
         ensures read { OnOk result ((told : List Said) →
             Holds self.old told → (said : Said)
-            × (says self.old.sizes (vec_len self.old.events) line.now ≡ Ok said)
+            × (says self.old.sizes (length self.old.events.items) line.now ≡ Ok said)
             × Holds self.new (told ++ said ∷ [])) }
         ensures refused { IfErr result (λ e.
-            Fails e (says self.old.sizes (vec_len self.old.events) line.now)) }
+            Fails e (says self.old.sizes (length self.old.events.items) line.now)) }
     {
         let said = line_says(alloc, self.sizes, self.events.len(), line)?;
         self.take(said)?;

@@ -47,6 +47,21 @@ pub enum LineFault {
     Refused(Reason),
 }
 
+impl LineFault {
+    ghost use Rattle.std.specs.Prelude.{◌≡◌};
+    ghost use Rattle.exchange_top.specs.TraceDraft.{at_line};
+
+    /// The fault of the trace whose line this is.
+    pub fn at_line(self, number: u32) -> TraceFault
+        ensures { result ≡ at_line self number }
+    {
+        match self {
+            LineFault::Memory => TraceFault::Memory,
+            LineFault::Refused(reason) => TraceFault::Line { number, reason },
+        }
+    }
+}
+
 impl From<AllocError> for LineFault {
     ghost from_gives = { λ _ e. e ≡ Memory };
 
