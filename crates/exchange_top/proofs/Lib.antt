@@ -4,3 +4,4 @@ pub mod TraceParts
 pub mod TraceHolds
 pub mod TraceProgress
 pub mod TraceReadings
+pub mod TraceAnswers
