@@ -129,9 +129,9 @@ all_digits (x ∷ y ∷ rest) even =
     elim (either x) [
       | inr lost ↦ rw (lost.0, none_first x y rest lost.1) refl
       | inl found ↦ elim (either y) [
-          | inr lost ↦ rw (found.0, lost.0, none_second x y rest lost.1) refl
-          | inl both ↦ rw (found.0, both.0, pair_then x y rest (value_or x) (value_or y) found.1 both.1, some_behind ((value_or x * 16 + value_or y) ∷ []) (octets_written rest), again) refl
-        ]
+        | inr lost ↦ rw (found.0, lost.0, none_second x y rest lost.1) refl
+        | inl both ↦ rw (found.0, both.0, pair_then x y rest (value_or x) (value_or y) found.1 both.1, some_behind ((value_or x * 16 + value_or y) ∷ []) (octets_written rest), again) refl
+      ]
     ]
 
 -- an odd number of digits writes nothing
@@ -153,9 +153,9 @@ written_length (x ∷ y ∷ rest) =
     elim (either x) [
       | inr lost ↦ subst P (sym (none_first x y rest lost.1)) tt
       | inl found ↦ elim (either y) [
-          | inr lost ↦ subst P (sym (none_second x y rest lost.1)) tt
-          | inl both ↦ subst P (sym (pair_then x y rest (value_or x) (value_or y) found.1 both.1)) (behind_length (value_or x * 16 + value_or y) rest (octets_written rest) (written_length rest))
-        ]
+        | inr lost ↦ subst P (sym (none_second x y rest lost.1)) tt
+        | inl both ↦ subst P (sym (pair_then x y rest (value_or x) (value_or y) found.1 both.1)) (behind_length (value_or x * 16 + value_or y) rest (octets_written rest) (written_length rest))
+      ]
     ]
 
 wrong_length : (digits : List ℕ) (o : Option (List ℕ)) → is_some o ≡ true → length digits ≢ 60 → IfSome o (λ octets. length digits ≡ 2 * length octets) → thirty o ≡ Err Length
@@ -197,7 +197,7 @@ pub pair_read : (digits octets : List ℕ) (i h l : ℕ) → 2 * i + 1 < length 
 pair_read digits octets i h l lt room e f so_far =
     let one = pair_then (get_or digits (2 * i) 0) (get_or digits (2 * i + 1) 0) (drop (2 * (i + 1)) digits) h l e f in
     let stepped : behind (take i octets) (octets_written (drop (2 * i) digits)) ≡ behind (take i octets ++ (h * 16 + l) ∷ []) (octets_written (drop (2 * (i + 1)) digits)) =
-        ap (λ o. behind (take i octets) o) (ap octets_written (pair_at digits i lt) ∙ one) ∙ behind-behind (take i octets) (h * 16 + l) (octets_written (drop (2 * (i + 1)) digits)) in
+    ap (λ o. behind (take i octets) o) (ap octets_written (pair_at digits i lt) ∙ one) ∙ behind-behind (take i octets) (h * 16 + l) (octets_written (drop (2 * (i + 1)) digits)) in
     rw (take_more_set octets i (h * 16 + l) room) (sym stepped ∙ so_far)
 
 -- an octet of a pair is no digit

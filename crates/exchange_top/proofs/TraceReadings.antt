@@ -179,7 +179,7 @@ some_reading bytes =
     elim (cases_lt most_bytes (length bytes)) [
       | inl long ↦ inr (0, reason.Limit, Too_long long refl refl)
       | inr few ↦ elim (walk [] (lines bytes)) [
-          | inl w ↦ with_sizes bytes few w.0 w.1 (sizes_in w.0) refl
-          | inr s ↦ inr (length s.front + 1, s.why, At_line few (record { before = s.front; line = s.line; after = s.after; told = s.told; parts = s.parts; meets = s.meets; fails = s.fails; place = refl }))
-        ]
+        | inl w ↦ with_sizes bytes few w.0 w.1 (sizes_in w.0) refl
+        | inr s ↦ inr (length s.front + 1, s.why, At_line few (record { before = s.front; line = s.line; after = s.after; told = s.told; parts = s.parts; meets = s.meets; fails = s.fails; place = refl }))
+      ]
     ]

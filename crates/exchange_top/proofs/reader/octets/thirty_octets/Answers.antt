@@ -19,7 +19,7 @@ returns-then-max-gt15 c =
     let digits = c.args.digits.now in
     let i = c.loop-i.i in
     let bad : (16 ≤ value_or (get_or digits (2 * i) 0)) ⊎ (16 ≤ value_or (get_or digits (2 * i + 1) 0)) =
-        elim (cases_lt c.digit-high.result 16) [ inl lt ↦ inr (omega arith) | inr le ↦ inl (omega arith) ] in
+    elim (cases_lt c.digit-high.result 16) [ inl lt ↦ inr (omega arith) | inr le ↦ inl (omega arith) ] in
     rw (pair_lost digits c.loop-i.octets i (omega arith) bad c.loop-i.invariant.read) refl
 
 pub loop-i-preserved : goal.loop-i-preserved
