@@ -1,4 +1,4 @@
-use Rattle.std.proofs.Common.{◌≡◌, ap, sym, ◌∙◌, rules, tests, Option, Some, None, ◌+◌}
+use Rattle.std.proofs.Common.{◌≡◌, sym, ◌∙◌, rules, tests, Some, None, ◌+◌}
 use Rattle.std.specs.Prelude.{position}
 use Rattle.std.proofs.lemmas.List.{take_rest}
 use Rattle.std.proofs.lemmas.Iterator.{YieldsList-from_slice}

@@ -1,8 +1,7 @@
-use Rattle.std.proofs.Common.{rules, ◌≡◌, ◌+◌, ◌*◌, ◌<◌, ◌≤◌, ◌⊎◌, get_or, length, take, drop, ◌∙◌, inl, inr, refl, sym, arith}
+use Rattle.std.proofs.Common.{rules, ◌≡◌, ◌+◌, ◌*◌, ◌≤◌, ◌⊎◌, get_or, ◌∙◌, inl, inr, refl, sym, arith}
 use Rattle.std.proofs.lemmas.Bool.{cases_lt}
-use Rattle.std.proofs.lemmas.Bool.Decides.{nat_tests}
 use Rattle.exchange_top.specs.TraceFields.{octets_written}
-use Rattle.exchange_top.proofs.TraceOctets.{behind, behind_nothing, value_or, digit_as, refused_length, refused_digits, pair_read, pair_lost, pairs_read}
+use Rattle.exchange_top.proofs.TraceOctets.{behind_nothing, value_or, digit_as, refused_length, refused_digits, pair_read, pair_lost, pairs_read}
 use Rattle.exchange_top.proofs.reader.octets.thirty_octets.Goals as goal
 
 pub returns-then-are_pairs : goal.returns-then-are_pairs
