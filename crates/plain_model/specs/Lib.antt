@@ -1,1 +1,2 @@
 pub mod Tones
+pub mod Mixing

@@ -23,6 +23,13 @@ pub fn expand_by_search(octet: u8) -> i32
 pub fn compress_by_search(value: i32) -> u8
     ensures { result ≡ compress value }
 {
+    octet_of_value(i128::from(value))
+}
+
+/// The octet of a value of any size, as the sum over a room may be.
+pub(crate) fn octet_of_value(value: i128) -> u8
+    ensures { result ≡ compress value }
+{
     let magnitude = value.unsigned_abs().min(4095) as u16;
     let sign = if value >= 0 { INTERVALS } else { 0 };
     (find_interval(magnitude) + sign) ^ EVEN_BITS

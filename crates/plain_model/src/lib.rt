@@ -10,5 +10,5 @@ mod hearing;
 mod rows;
 
 pub use alaw::{compress_by_search, expand_by_search};
-pub use hearing::{arriving, find_heard};
+pub use hearing::{arriving, find_heard, mixed};
 pub use rows::Rows;
