@@ -1,3 +1,4 @@
 mod Intervals
 mod Arrivals
 mod Totals
+mod Membership

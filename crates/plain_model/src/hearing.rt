@@ -51,6 +51,22 @@ fn octet_of_place(octets: Option<[u8; 30]>, place: u8) -> u8
     }
 }
 
+/// The octet that slot `y` hears in frame `f`, given the octets of the two tones and, for each frame,
+/// what arrived in it and which circuits stood in it.
+pub fn heard(ringback: &[u8], busy: &[u8], inputs: &Rows<Option<[u8; 30]>>, held: &Rows<Circuit>, f: u32, y: Slot) -> u8
+    ensures { result ≡ hears (tones_of ringback.now busy.now) inputs.now held.now f y }
+{
+    let sent = f.saturating_sub(2);
+    match find_heard(held.row(f as usize), y) {
+        None => IDLE,
+        Some(Circuit::Tone { kind: Kind::Ringback, since, .. }) => tone_octet(ringback, f.saturating_sub(since)),
+        Some(Circuit::Tone { kind: Kind::Busy, since, .. }) => tone_octet(busy, f.saturating_sub(since)),
+        Some(Circuit::Pair { from, since, .. }) if is_through(since, f) => arriving(inputs, sent, from),
+        Some(Circuit::Member { room, at, since }) if is_through(since, f) => mixed(inputs, held.row(sent as usize), room, at, sent),
+        Some(Circuit::Pair { .. } | Circuit::Member { .. }) => IDLE,
+    }
+}
+
 /// What the bridge mixes for slot `y` in frame `g`: the values of the octets that the other members
 /// of the room sent two frames before are added up, and the sum is coded once.
 pub fn mixed(inputs: &Rows<Option<[u8; 30]>>, circuits: &[Circuit], room: u8, y: Slot, g: u32) -> u8

@@ -6,9 +6,12 @@
 #![tactic(auto)]
 
 mod alaw;
+mod exchange;
 mod hearing;
+mod names;
 mod rows;
 
 pub use alaw::{compress_by_search, expand_by_search};
-pub use hearing::{arriving, find_heard, mixed};
+pub use exchange::Exchange;
+pub use hearing::{arriving, find_heard, heard, mixed};
 pub use rows::Rows;
