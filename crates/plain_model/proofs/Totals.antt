@@ -29,7 +29,7 @@ pub total-next : (inputs : List Input) (room : ℕ) (y : Slot) (g : ℕ) (circui
     → total inputs room y g (drop i circuits) ≡ value_in_mix inputs room y g (get_or circuits i d) +ℤ total inputs room y g (drop (i + 1) circuits)
 total-next inputs room y g circuits i d within =
     let first : drop i circuits ≡ get_or circuits i d ∷ drop (i + 1) circuits =
-        drop-cons circuits i d within ∙ ap (λ n. get_or circuits i d ∷ drop n circuits) (sym (add-one i)) in
+    drop-cons circuits i d within ∙ ap (λ n. get_or circuits i d ∷ drop n circuits) (sym (add-one i)) in
     ap (total inputs room y g) first ∙ total-cons inputs room y g (get_or circuits i d) (drop (i + 1) circuits)
 
 -- one more circuit's value is added, and the rest is left to add

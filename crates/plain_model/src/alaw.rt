@@ -15,7 +15,11 @@ pub fn expand_by_search(octet: u8) -> i32
     let character = octet ^ EVEN_BITS;
     let interval = character % INTERVALS;
     let middle = i32::from((decision_value(interval) + decision_value(interval + 1)) / 2);
-    if character >= INTERVALS { middle } else { -middle }
+    if character >= INTERVALS {
+        middle
+    } else {
+        -middle
+    }
 }
 
 /// The octet of a value: the first interval that ends beyond its magnitude, or the last one, with
@@ -67,5 +71,9 @@ fn width(interval: u8) -> u16
     requires { interval < 128 }
     ensures { result ≡ slice_index widths interval }
 {
-    if interval < 32 { 2 } else { 1 << (interval / 16) }
+    if interval < 32 {
+        2
+    } else {
+        1 << (interval / 16)
+    }
 }

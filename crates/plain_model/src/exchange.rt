@@ -44,6 +44,13 @@ impl Exchange {
         }
     }
 
+    /// The number of the next frame.
+    pub fn next_frame(&self) -> u32
+        ensures { result ≡ self.now.holding.next }
+    {
+        self.next
+    }
+
     /// Connects two slots, both ways. Where memory runs out nothing changes.
     pub fn connect(&mut self, x: Slot, y: Slot) -> Result<(), AllocError>
         ensures ok { OnOk result (self.new ≡ commanded self.old (Connect x y)) }
@@ -51,8 +58,16 @@ impl Exchange {
     {
         let since = self.next;
         self.circuits.extend_from_slice(&[
-            Circuit::Pair { from: x, to: y, since },
-            Circuit::Pair { from: y, to: x, since },
+            Circuit::Pair {
+                from: x,
+                to: y,
+                since,
+            },
+            Circuit::Pair {
+                from: y,
+                to: x,
+                since,
+            },
         ])
     }
 
@@ -61,7 +76,11 @@ impl Exchange {
         ensures ok { OnOk result (self.new ≡ commanded self.old (Seat x room)) }
         ensures err { OnErr result (self.new ≡ self.old) }
     {
-        self.circuits.push(Circuit::Member { room, at: x, since: self.next })?;
+        self.circuits.push(Circuit::Member {
+            room,
+            at: x,
+            since: self.next,
+        })?;
         Ok(())
     }
 
@@ -70,7 +89,11 @@ impl Exchange {
         ensures ok { OnOk result (self.new ≡ commanded self.old (Give_tone x kind)) }
         ensures err { OnErr result (self.new ≡ self.old) }
     {
-        self.circuits.push(Circuit::Tone { kind, to: x, since: self.next })?;
+        self.circuits.push(Circuit::Tone {
+            kind,
+            to: x,
+            since: self.next,
+        })?;
         Ok(())
     }
 

@@ -13,7 +13,10 @@ use circuit_model::{Circuit, IDLE, Kind, Slot};
 pub fn find_heard(circuits: &[Circuit], x: Slot) -> Option<Circuit>
     ensures { result ≡ heard_by circuits.now x }
 {
-    circuits.iter().copied().find(|circuit| x == listener_of(*circuit))
+    circuits
+        .iter()
+        .copied()
+        .find(|circuit| x == listener_of(*circuit))
 }
 
 /// The slot that hears something by a circuit.
@@ -53,16 +56,43 @@ fn octet_of_place(octets: Option<[u8; 30]>, place: u8) -> u8
 
 /// The octet that slot `y` hears in frame `f`, given the octets of the two tones and, for each frame,
 /// what arrived in it and which circuits stood in it.
-pub fn heard(ringback: &[u8], busy: &[u8], inputs: &Rows<Option<[u8; 30]>>, held: &Rows<Circuit>, f: u32, y: Slot) -> u8
+pub fn heard(
+    ringback: &[u8],
+    busy: &[u8],
+    inputs: &Rows<Option<[u8; 30]>>,
+    held: &Rows<Circuit>,
+    f: u32,
+    y: Slot,
+) -> u8
     ensures { result ≡ hears (tones_of ringback.now busy.now) inputs.now held.now f y }
 {
     let sent = f.saturating_sub(2);
     match find_heard(held.row(f as usize), y) {
         None => IDLE,
-        Some(Circuit::Tone { kind: Kind::Ringback, since, .. }) => tone_octet(ringback, f.saturating_sub(since)),
-        Some(Circuit::Tone { kind: Kind::Busy, since, .. }) => tone_octet(busy, f.saturating_sub(since)),
-        Some(Circuit::Pair { from, since, .. }) if is_through(since, f) => arriving(inputs, sent, from),
-        Some(Circuit::Member { room, at, since }) if is_through(since, f) => mixed(inputs, held.row(sent as usize), room, at, sent),
+        Some(
+            Circuit::Tone {
+                kind: Kind::Ringback,
+                since,
+                ..
+            },
+        ) => tone_octet(ringback, f.saturating_sub(since)),
+        Some(
+            Circuit::Tone {
+                kind: Kind::Busy,
+                since,
+                ..
+            },
+        ) => tone_octet(busy, f.saturating_sub(since)),
+        Some(Circuit::Pair { from, since, .. }) if is_through(since, f) => arriving(
+            inputs, sent, from,
+        ),
+        Some(Circuit::Member { room, at, since }) if is_through(since, f) => mixed(
+            inputs,
+            held.row(sent as usize),
+            room,
+            at,
+            sent,
+        ),
         Some(Circuit::Pair { .. } | Circuit::Member { .. }) => IDLE,
     }
 }
@@ -97,7 +127,11 @@ fn is_other(room: u8, y: Slot, g: u32, circuit: Circuit) -> bool
     ensures { result ≡ is_other room y g circuit }
 {
     match circuit {
-        Circuit::Member { room: seated, at, since } => seated == room && at != y && is_through(since, g),
+        Circuit::Member {
+            room: seated,
+            at,
+            since,
+        } => seated == room && at != y && is_through(since, g),
         Circuit::Pair { .. } | Circuit::Tone { .. } => false,
     }
 }
@@ -113,5 +147,9 @@ fn is_through(since: u32, f: u32) -> bool
 fn tone_octet(table: &[u8], frames: u32) -> u8
     ensures { result ≡ tone_octet table.now frames }
 {
-    if table.is_empty() { IDLE } else { table[frames as usize % table.len()] }
+    if table.is_empty() {
+        IDLE
+    } else {
+        table[frames as usize % table.len()]
+    }
 }

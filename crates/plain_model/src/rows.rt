@@ -23,7 +23,9 @@ impl<T: Copy + Drop> Rows<T> {
     pub fn new(alloc: Global) -> Rows<T>
         ensures { result ≡ [] }
     {
-        Rows { rows: Vec::new(alloc) }
+        Rows {
+            rows: Vec::new(alloc),
+        }
     }
 
     /// Adds the list of the next frame. Where memory runs out nothing is added.

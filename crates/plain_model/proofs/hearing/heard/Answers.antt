@@ -13,7 +13,7 @@ returns-in-Some-Member c =
     let sent : c.saturating_sub-sent.result ≡ c.args.f - 2 = omega arith in
     let found : c.find_heard.result ≡ Some (Member m.room m.at m.since) = cc in
     let by : heard_by (circuits_of c.args.held.now c.args.f) c.args.y ≡ Some (Member m.room m.at m.since) =
-        sym (c.find_heard.ensures ∙ ap (λ circuits. heard_by circuits c.args.y) c.row.ensures) ∙ found in
+    sym (c.find_heard.ensures ∙ ap (λ circuits. heard_by circuits c.args.y) c.row.ensures) ∙ found in
     c.mixed.ensures
     ∙ ap (λ circuits. mix c.args.inputs.now circuits m.room m.at c.saturating_sub-sent.result) c.row-in-Some-Member.ensures
     ∙ ap (λ g. mix c.args.inputs.now (circuits_of c.args.held.now g) m.room m.at g) sent
