@@ -1,5 +1,5 @@
 -- What a member hears.
-use Rattle.std.proofs.Common.{◌≡◌, ℕ, ◌-◌, List, Some, true, false, ap, ◌∙◌}
+use Rattle.std.proofs.Common.{◌≡◌, ℕ, ◌-◌, List, Some, true, ap, ◌∙◌}
 use Rattle.std.proofs.lemmas.Bool.{cond-true}
 use Rattle.circuit_model.specs.declared.channel.Slot.{Slot}
 use Rattle.circuit_model.specs.declared.circuit.Kind.{Kind}

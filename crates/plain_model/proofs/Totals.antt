@@ -1,5 +1,5 @@
 -- The sum of what the others of a room sent, one circuit after another.
-use Rattle.std.proofs.Common.{◌≡◌, ℕ, suc, ◌-◌, ◌+◌, ◌<◌, ℤ, ◌+ℤ◌, pos, List, [], ◌∷◌, true, false, cond, length, drop, get_or, add-one, refl, sym, ap, ◌∙◌, arith}
+use Rattle.std.proofs.Common.{◌≡◌, ℕ, ◌-◌, ◌+◌, ◌<◌, ℤ, ◌+ℤ◌, pos, List, ◌∷◌, true, false, cond, length, drop, get_or, add-one, refl, sym, ap, ◌∙◌, arith}
 use Rattle.std.proofs.lemmas.Int.{ints}
 use Rattle.std.specs.List.{filter}
 use Rattle.std.proofs.Math.IntN.{+ℤ_idl}

@@ -1,8 +1,8 @@
-use Rattle.std.proofs.Common.{◌≡◌, ◌-◌, true, Some, sym, ap, ◌∙◌, arith}
+use Rattle.std.proofs.Common.{◌≡◌, ◌-◌, Some, sym, ap, ◌∙◌, arith}
 use Rattle.circuit_model.specs.declared.circuit.Circuit.TheVariants.{Member}
 use Rattle.circuit_model.specs.Circuits.{heard_by}
 use Rattle.circuit_model.specs.Holding.{circuits_of}
-use Rattle.circuit_model.specs.Hears.{is_through, mix}
+use Rattle.circuit_model.specs.Hears.{mix}
 use Rattle.plain_model.specs.Tones.{tones_of}
 use Rattle.plain_model.proofs.Membership.{hears-member}
 use Rattle.plain_model.proofs.hearing.heard.Goals as goal

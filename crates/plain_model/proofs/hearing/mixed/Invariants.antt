@@ -1,4 +1,4 @@
-use Rattle.std.proofs.Common.{◌≡◌, ◌≤◌, ◌*◌, ◌^◌, ℤ, ◌+ℤ◌, drop, nat_abs}
+use Rattle.std.proofs.Common.{◌≡◌, ◌≤◌, ◌*◌, ◌^◌, ◌+ℤ◌, drop, nat_abs}
 use Rattle.plain_model.proofs.Totals.{total}
 use Rattle.plain_model.proofs.hearing.mixed.Given as goal
 
