@@ -66,34 +66,29 @@ pub fn heard(
 ) -> u8
     ensures { result ≡ hears (tones_of ringback.now busy.now) inputs.now held.now f y }
 {
+    let Some(circuit) = find_heard(held.row(f as usize), y) else {
+        return IDLE;
+    };
     let sent = f.saturating_sub(2);
-    match find_heard(held.row(f as usize), y) {
-        None => IDLE,
-        Some(
-            Circuit::Tone {
-                kind: Kind::Ringback,
-                since,
-                ..
-            },
-        ) => tone_octet(ringback, f.saturating_sub(since)),
-        Some(
-            Circuit::Tone {
-                kind: Kind::Busy,
-                since,
-                ..
-            },
-        ) => tone_octet(busy, f.saturating_sub(since)),
-        Some(Circuit::Pair { from, since, .. }) if is_through(since, f) => arriving(
-            inputs, sent, from,
-        ),
-        Some(Circuit::Member { room, at, since }) if is_through(since, f) => mixed(
-            inputs,
-            held.row(sent as usize),
-            room,
-            at,
-            sent,
-        ),
-        Some(Circuit::Pair { .. } | Circuit::Member { .. }) => IDLE,
+    match circuit {
+        Circuit::Tone { kind, since, .. } => {
+            tone_octet(table_of(kind, ringback, busy), f.saturating_sub(since))
+        }
+        Circuit::Pair { from, since, .. } if is_through(since, f) => arriving(inputs, sent, from),
+        Circuit::Member { room, at, since } if is_through(since, f) => {
+            mixed(inputs, held.row(sent as usize), room, at, sent)
+        }
+        Circuit::Pair { .. } | Circuit::Member { .. } => IDLE,
+    }
+}
+
+/// The octets of a tone.
+fn table_of<'a>(kind: Kind, ringback: &'a [u8], busy: &'a [u8]) -> &'a [u8]
+    ensures { result.now ≡ tones_of ringback.now busy.now kind }
+{
+    match kind {
+        Kind::Ringback => ringback,
+        Kind::Busy => busy,
     }
 }
 
@@ -122,16 +117,12 @@ fn value_in_mix(inputs: &Rows<Option<[u8; 30]>>, circuit: Circuit, room: u8, y: 
     }
 }
 
-/// Whether a circuit seats another slot than `y` in the room and is two frames old in frame `g`.
-fn is_other(room: u8, y: Slot, g: u32, circuit: Circuit) -> bool
-    ensures { result ≡ is_other room y g circuit }
+/// Whether a circuit seats another slot than `y` in the wanted room and is two frames old in frame `g`.
+fn is_other(wanted: u8, y: Slot, g: u32, circuit: Circuit) -> bool
+    ensures { result ≡ is_other wanted y g circuit }
 {
     match circuit {
-        Circuit::Member {
-            room: seated,
-            at,
-            since,
-        } => seated == room && at != y && is_through(since, g),
+        Circuit::Member { room, at, since } => room == wanted && at != y && is_through(since, g),
         Circuit::Pair { .. } | Circuit::Tone { .. } => false,
     }
 }
