@@ -1,0 +1,4 @@
+pub mod Exchange
+pub mod Orders
+pub mod Report
+pub mod Tables
