@@ -1,6 +1,6 @@
 -- The A-law code. Source: ITU-T G.711 (11/88), table 1a/G.711: decision values, quantized values, character signals, and note 2 on
 -- the inversion of the even bits.
-use Rattle.std.specs.Prelude.{ℕ, ℤ, pos, negsuc, neg_ℤ, nat_abs, int_le, ◌+◌, ◌*◌, ◌/◌, ◌%◌, min, Bool, List, [], ◌∷◌, ◌++◌, replicate, slice_index, nat_lt, nat_le, drop, position, unwrap_or, bit_xor, if◌then◌else◌}
+use Rattle.std.specs.Prelude.{ℕ, ℤ, pos, neg_ℤ, nat_abs, int_le, ◌+◌, ◌/◌, ◌%◌, min, Bool, List, [], ◌∷◌, ◌++◌, replicate, slice_index, nat_lt, nat_le, drop, bit_xor, if◌then◌else◌}
 use Rattle.std.specs.List.{position_or_len}
 
 -- how wide the intervals are, from the lowest on: 32 of width 2, and then sixteen of each doubled width

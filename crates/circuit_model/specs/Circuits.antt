@@ -1,7 +1,6 @@
 -- What a circuit names and who hears it. Source: this exchange's own.
 use Rattle.std.specs.Prelude.{ℕ, ◌&&◌, ◌||◌, Bool, true, false, ◌==◌, List, Option, find}
 use Rattle.circuit_model.specs.declared.channel.Slot.{Slot}
-use Rattle.circuit_model.specs.declared.circuit.Kind.{Kind}
 use Rattle.circuit_model.specs.declared.circuit.Circuit.{Circuit}
 use Rattle.circuit_model.specs.declared.circuit.Circuit.TheVariants.{Pair, Member, Tone}
 

@@ -1,6 +1,6 @@
 -- The circuits that stand, and what the commands make of them. Source: this exchange's own; the terms connection, room member and tone
 -- are those of circuit switching (ITU-T Q.9).
-use Rattle.std.specs.Prelude.{◌≡◌, ℕ, ◌+◌, ◌*◌, ◌<◌, ◌≤◌, ◌⊎◌, not, Bool, List, [], ◌∷◌, ◌++◌, filter, All, Contains, count_by, slice_index_or}
+use Rattle.std.specs.Prelude.{◌≡◌, ℕ, ◌+◌, ◌*◌, ◌≤◌, ◌⊎◌, not, List, [], ◌∷◌, ◌++◌, filter, All, count_by, slice_index_or}
 use Rattle.circuit_model.specs.declared.channel.Slot.{Slot}
 use Rattle.circuit_model.specs.declared.circuit.Kind.{Kind}
 use Rattle.circuit_model.specs.declared.circuit.Circuit.{Circuit}

@@ -4,3 +4,4 @@ pub mod ALaw
 pub mod Circuits
 pub mod Holding
 pub mod Hears
+pub mod Examples

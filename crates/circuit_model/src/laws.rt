@@ -1,5 +1,42 @@
-/// The law of age.
-pub fn law_of_age() {}
+ghost use Rattle.std.specs.Prelude.{◌≡◌, ◌<◌, ◌-◌, ℕ, List, [], ◌∷◌, map, pos, negsuc, Contains};
+ghost use Rattle.circuit_model.specs.declared.circuit.Circuit.{Circuit};
+ghost use Rattle.circuit_model.specs.Circuits.{since_of};
+ghost use Rattle.circuit_model.specs.Holding.{Command, empty, frames, circuits_of};
+ghost use Rattle.circuit_model.specs.ALaw.{expand, compress};
+ghost use Rattle.circuit_model.specs.Examples.{heard, a_connection, two_lines, a_reused_slot, three_lines, a_room, loud_lines, alone, a_pair_of_members, soft_lines, a_tone};
 
-/// One circuit.
-pub fn one_circuit_is_heard() {}
+/// The law of age: after any commands, a circuit that stands in frame `f` since an earlier frame
+/// stood in frame `f - 1` too.
+///
+/// So an octet that crossed in the frame before, by a circuit that is heard now, was sent by it.
+pub fn law_of_age()
+    ensures { (commands : List Command) (f : ℕ) (c : Circuit) → Contains (circuits_of (frames empty commands) f) c → since_of c < f → Contains (circuits_of (frames empty commands) (f - 1)) c }
+{}
+
+/// The definitions of what a slot hears, evaluated on small exchanges: octets pass after exactly
+/// two frames, a slot taken anew lets nothing of the old connection through, a room is summed
+/// without the listener and coded once, and a tone begins with the frame that it stands since.
+pub fn worked_frames()
+    ensures delay { heard two_lines a_connection 1 (0 ∷ 1 ∷ 2 ∷ 3 ∷ 4 ∷ []) ≡ 0xD5 ∷ 0xD5 ∷ 0x01 ∷ 0x02 ∷ 0x03 ∷ [] }
+    ensures other_way { heard two_lines a_connection 0 (0 ∷ 1 ∷ 2 ∷ 3 ∷ 4 ∷ []) ≡ 0xD5 ∷ 0xD5 ∷ 0x81 ∷ 0x82 ∷ 0x83 ∷ [] }
+    ensures reused { heard three_lines a_reused_slot 0 (0 ∷ 1 ∷ 2 ∷ 3 ∷ 4 ∷ []) ≡ 0xD5 ∷ 0xD5 ∷ 0xD5 ∷ 0xD5 ∷ 0xC3 ∷ [] }
+    ensures left { heard three_lines a_reused_slot 1 (0 ∷ 1 ∷ 2 ∷ 3 ∷ 4 ∷ []) ≡ 0xD5 ∷ 0xD5 ∷ 0xD5 ∷ 0xD5 ∷ 0xD5 ∷ [] }
+    ensures joined { heard three_lines a_reused_slot 2 (0 ∷ 1 ∷ 2 ∷ 3 ∷ 4 ∷ []) ≡ 0xD5 ∷ 0xD5 ∷ 0xD5 ∷ 0xD5 ∷ 0x03 ∷ [] }
+    ensures room { heard loud_lines a_room 0 (0 ∷ 1 ∷ 2 ∷ 3 ∷ 4 ∷ 5 ∷ []) ≡ 0xD5 ∷ 0xD5 ∷ 0xD5 ∷ 0xD5 ∷ 0xAA ∷ 0xD5 ∷ [] }
+    ensures loudest { heard loud_lines a_room 2 (0 ∷ 1 ∷ 2 ∷ 3 ∷ 4 ∷ 5 ∷ []) ≡ 0xD5 ∷ 0xD5 ∷ 0xD5 ∷ 0xD5 ∷ 0xAA ∷ 0xAA ∷ [] }
+    ensures alone { heard soft_lines alone 0 (0 ∷ 1 ∷ 2 ∷ 3 ∷ 4 ∷ 5 ∷ []) ≡ 0xD5 ∷ 0xD5 ∷ 0xD5 ∷ 0xD5 ∷ 0xD5 ∷ 0xD5 ∷ [] }
+    ensures members { heard soft_lines a_pair_of_members 0 (0 ∷ 1 ∷ 2 ∷ 3 ∷ 4 ∷ 5 ∷ []) ≡ 0xD5 ∷ 0xD5 ∷ 0xD5 ∷ 0xD5 ∷ 0x91 ∷ 0x92 ∷ [] }
+    ensures tone { heard [] a_tone 0 (0 ∷ 1 ∷ 2 ∷ 3 ∷ 4 ∷ 5 ∷ []) ≡ 0xD5 ∷ 0x11 ∷ 0x22 ∷ 0x33 ∷ 0x11 ∷ 0xD5 ∷ [] }
+{}
+
+/// The A-law definitions, evaluated: the ends of the first interval and of the last, zero, ties,
+/// and values beyond the last decision value.
+pub fn worked_values()
+    ensures values { map expand (0xD5 ∷ 0x55 ∷ 0xAA ∷ 0x2A ∷ []) ≡ pos 1 ∷ negsuc 0 ∷ pos 4032 ∷ negsuc 4031 ∷ [] }
+    ensures zero { compress (pos 0) ≡ 0xD5 }
+    ensures below_tie { compress (pos 63) ≡ 0xCA }
+    ensures tie { compress (pos 64) ≡ 0xF5 }
+    ensures negative_tie { compress (negsuc 63) ≡ 0x75 }
+    ensures beyond { compress (pos 9000) ≡ 0xAA }
+    ensures beyond_below { compress (negsuc 8999) ≡ 0x2A }
+{}

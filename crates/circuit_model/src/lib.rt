@@ -10,4 +10,4 @@ mod laws;
 
 pub use channel::{PLACES, Slot, channel_of, slot_of_channel};
 pub use circuit::{Circuit, IDLE, Kind};
-pub use laws::{law_of_age, one_circuit_is_heard};
+pub use laws::{law_of_age, worked_frames, worked_values};

@@ -2,9 +2,10 @@
 #![tactic(auto)]
 
 mod circuit_table;
+mod reader;
 mod reply;
 mod trace;
 
-pub use circuit_table::{CircuitTable, Connection};
+pub use reader::{Reason, TraceFault, read_trace};
 pub use reply::Reply;
 pub use trace::{Event, Events, Input, Segments, Trace};

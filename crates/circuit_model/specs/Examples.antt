@@ -1,0 +1,65 @@
+-- Small worked exchanges, on which the definitions are evaluated. Each line sends on its first bearer channel alone.
+use Rattle.std.specs.Prelude.{ℕ, List, [], ◌∷◌, Some, map}
+use Rattle.circuit_model.specs.declared.channel.Slot.{Slot}
+use Rattle.circuit_model.specs.declared.circuit.Kind.{Kind}
+use Rattle.circuit_model.specs.declared.circuit.Kind.TheVariants.{Ringback, Busy}
+use Rattle.circuit_model.specs.FrameInput.{Input}
+use Rattle.circuit_model.specs.Holding.{Command, Connect, Seat, Give_tone, Clear, Frame, empty, frames}
+use Rattle.circuit_model.specs.Hears.{hears}
+
+-- the first bearer channel of a line
+abbrev pub first : ℕ → Slot
+first line = record { line = line; place = 0 }
+
+-- one frame, in which line 0, 1, .. send these octets
+abbrev pub sent : List ℕ → Input
+sent octets = map (λ octet. Some (octet ∷ [])) octets
+
+-- three octets of ringing tone, one of busy tone
+abbrev pub some_tones : Kind → List ℕ
+some_tones Ringback = 0x11 ∷ 0x22 ∷ 0x33 ∷ []
+some_tones Busy = 0x44 ∷ []
+
+-- what the first bearer channel of a line hears in frame f, after these commands over these inputs
+abbrev pub hears_on : List Input → List Command → ℕ → ℕ → ℕ
+hears_on inputs commands f line = hears some_tones inputs (frames empty commands) f (first line)
+
+-- two lines connected before the first frame
+abbrev pub a_connection : List Command
+a_connection = Connect (first 0) (first 1) ∷ Frame ∷ Frame ∷ Frame ∷ Frame ∷ Frame ∷ []
+
+abbrev pub two_lines : List Input
+two_lines = sent (0x01 ∷ 0x81 ∷ []) ∷ sent (0x02 ∷ 0x82 ∷ []) ∷ sent (0x03 ∷ 0x83 ∷ []) ∷ sent (0x04 ∷ 0x84 ∷ []) ∷ sent (0x05 ∷ 0x85 ∷ []) ∷ []
+
+-- line 0 leaves line 1 for line 2 between frames 1 and 2
+abbrev pub a_reused_slot : List Command
+a_reused_slot = Connect (first 0) (first 1) ∷ Frame ∷ Frame ∷ Clear (first 0) ∷ Connect (first 0) (first 2) ∷ Frame ∷ Frame ∷ Frame ∷ []
+
+abbrev pub three_lines : List Input
+three_lines = sent (0x01 ∷ 0x81 ∷ 0xC1 ∷ []) ∷ sent (0x02 ∷ 0x82 ∷ 0xC2 ∷ []) ∷ sent (0x03 ∷ 0x83 ∷ 0xC3 ∷ []) ∷ sent (0x04 ∷ 0x84 ∷ 0xC4 ∷ []) ∷ sent (0x05 ∷ 0x85 ∷ 0xC5 ∷ []) ∷ []
+
+-- three members of one room
+abbrev pub a_room : List Command
+a_room = Seat (first 0) 0 ∷ Seat (first 1) 0 ∷ Seat (first 2) 0 ∷ Frame ∷ Frame ∷ Frame ∷ Frame ∷ Frame ∷ Frame ∷ []
+
+-- all three send the highest value in frame 0; from frame 1 on line 2 sends the lowest
+abbrev pub loud_lines : List Input
+loud_lines = sent (0xAA ∷ 0xAA ∷ 0xAA ∷ []) ∷ sent (0xAA ∷ 0xAA ∷ 0x2A ∷ []) ∷ sent (0xAA ∷ 0xAA ∷ 0x2A ∷ []) ∷ []
+
+-- a member alone, and two members of a room
+abbrev pub alone : List Command
+alone = Seat (first 0) 5 ∷ Frame ∷ Frame ∷ Frame ∷ Frame ∷ Frame ∷ Frame ∷ []
+
+abbrev pub a_pair_of_members : List Command
+a_pair_of_members = Seat (first 0) 5 ∷ Seat (first 1) 5 ∷ Frame ∷ Frame ∷ Frame ∷ Frame ∷ Frame ∷ Frame ∷ []
+
+abbrev pub soft_lines : List Input
+soft_lines = sent (0x11 ∷ 0x91 ∷ []) ∷ sent (0x12 ∷ 0x92 ∷ []) ∷ sent (0x13 ∷ 0x93 ∷ []) ∷ []
+
+-- ringing tone from frame 1 on, and silence from frame 5 on
+abbrev pub a_tone : List Command
+a_tone = Frame ∷ Give_tone (first 0) Ringback ∷ Frame ∷ Frame ∷ Frame ∷ Frame ∷ Clear (first 0) ∷ Frame ∷ []
+
+-- what a line hears in frames 0, 1, ..
+abbrev pub heard : List Input → List Command → ℕ → List ℕ → List ℕ
+heard inputs commands line fs = map (λ f. hears_on inputs commands f line) fs
