@@ -1,2 +1,4 @@
 pub mod SlotLemmas
 pub mod TableLemmas
+pub mod HearsLemmas
+pub mod ListLemmas

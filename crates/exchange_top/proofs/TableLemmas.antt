@@ -11,7 +11,8 @@ use Rattle.circuit_model.specs.Circuits.{same_slot, heard_by, listener, names}
 use Rattle.circuit_model.specs.Holding.{Holding, Connect, after}
 use Rattle.exchange_top.specs.Exchange.{is_idle}
 use Rattle.exchange_top.specs.declared.circuit_table.Connection.{Connection}
-use Rattle.exchange_top.specs.Tables.{Table, Shows, IsSlotOf, IsSetAt, AllInside, entry, circuit_to}
+use Rattle.exchange_top.specs.Sound.{IsSlotOf}
+use Rattle.exchange_top.specs.Tables.{Table, Shows, IsSetAt, AllInside, entry, circuit_to}
 use Rattle.exchange_top.proofs.SlotLemmas.{same_slot-refl, same_slot-true, idle_is_deaf}
 
 pub bool_case : (b : Bool) → (b ≡ true) ⊎ (b ≡ false)

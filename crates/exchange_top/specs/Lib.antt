@@ -5,4 +5,6 @@ pub mod TraceGrammar
 pub mod Exchange
 pub mod Orders
 pub mod Report
+pub mod Sound
 pub mod Tables
+pub mod Switching

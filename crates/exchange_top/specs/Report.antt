@@ -20,7 +20,7 @@ abbrev pub heard : World → ℕ → Slot → ℕ
 heard w f y = hears no_tones w.inputs w.held f y
 
 -- the thirty octets of a line, in order of place
-abbrev pub line_octets : (Slot → ℕ) → ℕ → List ℕ
+unfoldable pub line_octets : (Slot → ℕ) → ℕ → List ℕ
 line_octets octet line = map (λ place. octet (record { line = line; place = place })) (range_with_len 0 30)
 
 -- the octets that each of so many lines sends in frame f

@@ -5,13 +5,10 @@ use Rattle.circuit_model.specs.declared.circuit.Circuit.{Circuit}
 use Rattle.circuit_model.specs.declared.circuit.Circuit.TheVariants.{Pair}
 use Rattle.circuit_model.specs.Circuits.{heard_by, same_slot}
 use Rattle.circuit_model.specs.Holding.{Holding}
+use Rattle.circuit_model.specs.Hears.{is_through}
 use Rattle.exchange_top.specs.Exchange.{is_idle}
+use Rattle.exchange_top.specs.Sound.{IsSlotOf}
 use Rattle.exchange_top.specs.declared.circuit_table.Connection.{Connection}
-
--- a slot of an exchange with so many external lines
-pub record IsSlotOf (external : ℕ) (at : Slot) : Type 0 where
-  pub line : at.line < external
-  pub place : at.place < 30
 
 -- where a slot's entry stands: thirty entries for each line
 abbrev pub index_of : Slot → ℕ
@@ -34,6 +31,15 @@ pub record Table : Type 0 where
   pub external : ℕ
   pub next : ℕ
   pub rows : List (Option Connection)
+
+-- the slot that an entry tells of, once it is two frames old in frame f
+abbrev pub old_enough : ℕ → Option Connection → Option Slot
+old_enough f None = None
+old_enough f (Some c) = if is_through c.since f then Some c.from else None
+
+-- whom a slot hears in the next frame
+abbrev pub source : Table → Slot → Option Slot
+source table at = old_enough table.next (entry table.rows at)
 
 -- the circuit that an entry of the slot stands for
 abbrev pub circuit_to : Slot → Option Connection → Option Circuit

@@ -1,7 +1,8 @@
 ghost use Rattle.std.specs.Prelude.{◌≡◌, ◌+◌, ◌*◌, ◌<◌, ◌^◌, true, length, IfOk, IfSome, vec_len, All, replicate, None, List, ℕ};
 ghost use Rattle.circuit_model.specs.Holding.{Holding, Connect, Frame, after, empty};
 ghost use Rattle.exchange_top.specs.Exchange.{is_idle};
-ghost use Rattle.exchange_top.specs.Tables.{IsSlotOf, Table, Shows, IsSetAt, AllInside, entry};
+ghost use Rattle.exchange_top.specs.Sound.{IsSlotOf};
+ghost use Rattle.exchange_top.specs.Tables.{Table, Shows, IsSetAt, AllInside, entry, source};
 
 use circuit_model::Slot;
 use std::alloc::{AllocError, Global};
@@ -49,11 +50,11 @@ impl CircuitTable {
         })
     }
 
-    /// The number of the next frame.
-    pub fn next(&self) -> u32
-        ensures { result ≡ self.now.next }
+    /// How many external lines there are.
+    pub fn external(&self) -> u8
+        ensures { result ≡ self.now.external }
     {
-        self.next
+        self.external
     }
 
     /// Whether no circuit names the slot.
@@ -90,8 +91,20 @@ impl CircuitTable {
         number
     }
 
-    /// Whom the slot hears, and since when.
-    pub fn connection(&self, at: Slot) -> Option<Connection>
+    /// Whom the slot hears in the next frame, once the connection is two frames old.
+    pub fn source(&self, at: Slot) -> Option<Slot>
+        requires { IsSlotOf self.now.external at }
+        ensures source { result ≡ source self.now at }
+        ensures inside { IfSome result (λ from. IsSlotOf self.now.external from) }
+    {
+        match self.connection(at) {
+            Some(connection) if self.next.saturating_sub(connection.since) >= 2 => Some(connection.from),
+            _ => None,
+        }
+    }
+
+    // Whom the slot hears, and since when.
+    fn connection(&self, at: Slot) -> Option<Connection>
         requires { IsSlotOf self.now.external at }
         ensures entry { result ≡ entry self.now.rows at }
         ensures inside { IfSome result (λ c. IsSlotOf self.now.external c.from) }

@@ -4,8 +4,10 @@
 mod circuit_table;
 mod reader;
 mod reply;
+mod switch;
 mod trace;
 
 pub use reader::{Reason, TraceFault, read_trace};
 pub use reply::Reply;
+pub use switch::Switch;
 pub use trace::{Event, Events, Input, Segments, Trace};
