@@ -4,10 +4,12 @@
 mod circuit_table;
 mod reader;
 mod reply;
+mod report;
 mod switch;
 mod trace;
 
 pub use reader::{Reason, TraceFault, read_trace};
 pub use reply::Reply;
+pub use report::append_answer;
 pub use switch::Switch;
 pub use trace::{Event, Events, Input, Segments, Trace};
