@@ -2,3 +2,4 @@ pub mod SlotLemmas
 pub mod TableLemmas
 pub mod HearsLemmas
 pub mod ListLemmas
+pub mod RunLemmas
