@@ -7,6 +7,7 @@
 #![tactic(auto)]
 
 mod ends;
+mod faults;
 mod memory;
 mod standard;
 

@@ -2,12 +2,38 @@
 ghost use Rattle.std.specs.Prelude.{◌≡◌, ◌↔◌, ◌<◌, ◌≤◌, [], ◌++◌, length, take, drop, Some, IsTrue, IfOk, OnErr, IsErr, Contains, vec_len};
 ghost use Rattle.std.specs.Vec.{vec_capacity};
 ghost use Rattle.std.specs.Io.KnownBytes.{Appends, Consumes, IsAtEnd, Keeps};
-ghost use Rattle.ex_io.specs.Ends.{Rose};
+ghost use Rattle.ex_io.specs.Ends.{counted, Rose};
 ghost use Rattle.ex_io.specs.Memory.{Supply, ReadFails, read_len, after_read, after_failed_read, Store, WriteFails, write_len, after_write, after_failed_write};
 
 use crate::ends::{Failed, Sink, Source};
+use crate::faults::Faults;
 use std::alloc::{AllocError, Global};
 use std::marker::Model;
+
+// Which calls are to fail, and how many there were.
+#[derive(Debug, Drop)]
+struct Script {
+    fails: Vec<u32>,
+    calls: u64,
+}
+
+impl Script {
+    fn new(fails: Vec<u32>) -> Script
+        ensures { result ≡ record { fails = fails; calls = 0 } }
+    {
+        Script { fails, calls: 0 }
+    }
+
+    // Counts a call, and tells whether it is to fail. A call past the last number of a list isn't.
+    fn fails_now(&mut self) -> bool
+        ensures counted { self.new ≡ record self.old { calls = counted self.old.calls } }
+        ensures listed { IsTrue result ↔ Contains self.old.fails.items (counted self.old.calls) }
+    {
+        self.calls = self.calls.saturating_add(1);
+        let call = self.calls;
+        self.fails.iter().any(|listed| u64::from(*listed) == call)
+    }
+}
 
 /// A source that holds its bytes, gives at most `piece` of them in one read, and fails at the reads
 /// that are listed.
@@ -16,9 +42,8 @@ pub struct MemSource {
     bytes: Vec<u8>,
     taken: usize,
     piece: usize,
-    fails: Vec<u32>,
-    calls: u64,
-    faults: u64,
+    script: Script,
+    faults: Faults,
 }
 
 impl Model for MemSource {
@@ -27,8 +52,8 @@ impl Model for MemSource {
     ghost view = { λ s. record {
       left = drop s.taken s.bytes.items;
       piece = s.piece;
-      fails = s.fails.items;
-      calls = s.calls;
+      fails = s.script.fails.items;
+      calls = s.script.calls;
       faults = s.faults;
     } };
 
@@ -52,9 +77,8 @@ impl MemSource {
             bytes,
             taken: 0,
             piece,
-            fails,
-            calls: 0,
-            faults: 0,
+            script: Script::new(fails),
+            faults: Faults::new(),
         }
     }
 
@@ -62,7 +86,7 @@ impl MemSource {
     pub fn faults(&self) -> u64
         ensures { result ≡ self.now.faults }
     {
-        self.faults
+        self.faults.count()
     }
 }
 
@@ -74,25 +98,18 @@ impl Source for MemSource {
     fn read(&mut self, buf: &mut [u8]) -> Result<usize, Failed>
         requires { 0 < length buf.old }
         ensures fails { IsErr result ↔ ReadFails self.old }
+        ensures later { self.old.faults ≤ self.new.faults }
+
         ensures count { IfOk result (λ n. n ≡ read_len self.old (length buf.old)) }
+        ensures end { IfOk result (λ n. (n ≡ 0) ↔ (self.old.left ≡ [])) }
         ensures bytes { IfOk result (λ n. buf.new ≡ take n self.old.left ++ drop n buf.old) }
         ensures moved { IfOk result (λ n. self.new ≡ after_read self.old n) }
+
         ensures failed { OnErr result (self.new ≡ after_failed_read self.old) }
         ensures untouched { OnErr result (buf.new ≡ buf.old) }
-
-        // What every source promises.
-        ensures bound { IfOk result (λ n. n ≤ length buf.new) }
-        ensures next { IfOk result (λ n. Consumes (Some self.old.left) (Some self.new.left) (take n buf.new)) }
-        ensures end { IfOk result (λ n. n ≡ 0 → IsAtEnd (Some self.new.left)) }
-        ensures no_more { Some self.old.left ≡ Some [] → IfOk result (λ n. n ≡ 0) }
-        ensures kept { OnErr result (Keeps (Some self.old.left) (Some self.new.left)) }
-        ensures cause { OnErr result (Rose self.old.faults self.new.faults) }
-        ensures later { self.old.faults ≤ self.new.faults }
     {
-        self.calls = self.calls.saturating_add(1);
-        if is_listed(&self.fails, self.calls) {
-            self.faults = self.faults.saturating_add(1);
-            return Err(Failed);
+        if self.script.fails_now() {
+            return Err(self.faults.rise());
         }
         let left = &self.bytes[self.taken..];
         let count = self.piece.min(buf.len()).min(left.len());
@@ -109,9 +126,8 @@ pub struct MemSink {
     bytes: Vec<u8>,
     room: usize,
     piece: usize,
-    fails: Vec<u32>,
-    calls: u64,
-    faults: u64,
+    script: Script,
+    faults: Faults,
 }
 
 impl Model for MemSink {
@@ -121,8 +137,8 @@ impl Model for MemSink {
       written = s.bytes.items;
       room = s.room;
       piece = s.piece;
-      fails = s.fails.items;
-      calls = s.calls;
+      fails = s.script.fails.items;
+      calls = s.script.calls;
       faults = s.faults;
     } };
 
@@ -157,9 +173,8 @@ impl MemSink {
             bytes: Vec::with_capacity(alloc, room)?,
             room,
             piece,
-            fails,
-            calls: 0,
-            faults: 0,
+            script: Script::new(fails),
+            faults: Faults::new(),
         })
     }
 
@@ -174,7 +189,7 @@ impl MemSink {
     pub fn faults(&self) -> u64
         ensures { result ≡ self.now.faults }
     {
-        self.faults
+        self.faults.count()
     }
 }
 
@@ -185,25 +200,19 @@ impl Sink for MemSink {
 
     fn write(&mut self, bytes: &[u8]) -> Result<usize, Failed>
         ensures fails { IsErr result ↔ WriteFails self.old bytes.now }
-        ensures count { IfOk result (λ n. n ≡ write_len self.old (length bytes.now)) }
-        ensures taken { IfOk result (λ n. self.new ≡ after_write self.old (take n bytes.now)) }
-        ensures failed { OnErr result (self.new ≡ after_failed_write self.old) }
-
-        // What every sink promises.
-        ensures bound { IfOk result (λ n. n ≤ length bytes.now) }
-        ensures some { 0 < length bytes.now → IfOk result (λ n. 0 < n) }
-        ensures appended { IfOk result (λ n. Appends (Some self.old.written) (Some self.new.written) (take n bytes.now)) }
-        ensures kept { OnErr result (Keeps (Some self.old.written) (Some self.new.written)) }
-        ensures cause { OnErr result (Rose self.old.faults self.new.faults) }
         ensures later { self.old.faults ≤ self.new.faults }
+
+        ensures count { IfOk result (λ n. n ≡ write_len self.old (length bytes.now)) }
+        ensures some { 0 < length bytes.now → IfOk result (λ n. 0 < n) }
+        ensures taken { IfOk result (λ n. self.new ≡ after_write self.old (take n bytes.now)) }
+
+        ensures failed { OnErr result (self.new ≡ after_failed_write self.old) }
     {
-        self.calls = self.calls.saturating_add(1);
-        let is_full = self.bytes.len() == self.room && !bytes.is_empty();
-        if is_full || is_listed(&self.fails, self.calls) {
-            self.faults = self.faults.saturating_add(1);
-            return Err(Failed);
-        }
         let left = self.room - self.bytes.len();
+        let is_full = left == 0 && !bytes.is_empty();
+        if self.script.fails_now() || is_full {
+            return Err(self.faults.rise());
+        }
         let count = self.piece.min(bytes.len()).min(left);
         self.bytes.extend_from_slice(&bytes[..count]).unwrap();
         Ok(count)
@@ -213,17 +222,9 @@ impl Sink for MemSink {
 // Copies the first `count` bytes of `from` over the front of `to`.
 fn copy_front(to: &mut [u8], from: &[u8], count: usize)
     requires { (count ≤ length to.old) × (count ≤ length from.now) }
-    ensures copied { to.new ≡ take count from.now ++ drop count to.old }
-    ensures front { take count to.new ≡ take count from.now }
+    ensures { to.new ≡ take count from.now ++ drop count to.old }
 {
     to[..count].copy_from_slice(&from[..count]);
-}
-
-// Whether a call is one of those listed. A call past the numbers that a list can name isn't.
-fn is_listed(calls: &[u32], call: u64) -> bool
-    ensures { IsTrue result ↔ Contains calls.now call }
-{
-    calls.iter().any(|listed| u64::from(*listed) == call)
 }
 
 #[cfg(test)]

@@ -6,6 +6,7 @@ ghost use Rattle.ex_io.specs.Ends.{Rose};
 ghost use Rattle.ex_io.specs.Standard.{faults_after};
 
 use crate::ends::{Failed, Sink, Source};
+use crate::faults::Faults;
 use std::io::{Read, Stdin, Stdout, Write};
 use std::marker::Model;
 
@@ -17,7 +18,7 @@ use std::marker::Model;
 #[derive(Debug, Drop)]
 pub struct StdSource<R = Stdin> {
     reader: R,
-    faults: u64,
+    faults: Faults,
 }
 
 impl<R> Model for StdSource<R> {
@@ -33,7 +34,10 @@ impl<R: Read> StdSource<R> {
     pub fn new(reader: R) -> StdSource<R>
         ensures { result ≡ record { inner = reader; faults = 0 } }
     {
-        StdSource { reader, faults: 0 }
+        StdSource {
+            reader,
+            faults: Faults::new(),
+        }
     }
 }
 
@@ -57,10 +61,7 @@ impl<R: Read> Source for StdSource<R> {
     {
         match self.reader.read(buf) {
             Ok(count) => Ok(count),
-            Err(_) => {
-                self.faults = self.faults.saturating_add(1);
-                Err(Failed)
-            }
+            Err(_) => Err(self.faults.rise()),
         }
     }
 }
@@ -73,7 +74,7 @@ impl<R: Read> Source for StdSource<R> {
 #[derive(Debug, Drop)]
 pub struct StdSink<W = Stdout> {
     writer: W,
-    faults: u64,
+    faults: Faults,
 }
 
 impl<W> Model for StdSink<W> {
@@ -89,7 +90,10 @@ impl<W: Write> StdSink<W> {
     pub fn new(writer: W) -> StdSink<W>
         ensures { result ≡ record { inner = writer; faults = 0 } }
     {
-        StdSink { writer, faults: 0 }
+        StdSink {
+            writer,
+            faults: Faults::new(),
+        }
     }
 }
 
@@ -111,10 +115,7 @@ impl<W: Write> Sink for StdSink<W> {
     {
         match self.writer.write(bytes) {
             Ok(count) if count > 0 || bytes.is_empty() => Ok(count),
-            _ => {
-                self.faults = self.faults.saturating_add(1);
-                Err(Failed)
-            }
+            _ => Err(self.faults.rise()),
         }
     }
 }
