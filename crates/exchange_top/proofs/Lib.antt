@@ -3,3 +3,4 @@ pub mod TableLemmas
 pub mod HearsLemmas
 pub mod ListLemmas
 pub mod RunLemmas
+pub mod Pending

@@ -8,3 +8,5 @@ pub mod Report
 pub mod Sound
 pub mod Tables
 pub mod Switching
+pub mod Streams
+pub mod Outcomes

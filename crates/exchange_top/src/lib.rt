@@ -5,6 +5,8 @@ mod circuit_table;
 mod reader;
 mod reply;
 mod report;
+mod run;
+mod streams;
 mod switch;
 mod trace;
 
