@@ -1,6 +1,13 @@
+pub mod TraceCuts
+pub mod TraceOctets
+pub mod TraceParts
+pub mod TraceHolds
+pub mod TraceProgress
+pub mod TraceReadings
+pub mod TraceAnswers
 pub mod SlotLemmas
 pub mod TableLemmas
-pub mod HearsLemmas
 pub mod ListLemmas
+pub mod HearsLemmas
 pub mod RunLemmas
 pub mod Pending

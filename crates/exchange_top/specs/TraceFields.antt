@@ -1,23 +1,28 @@
 -- The fields of a trace's lines: lines and slots of the exchange, octets as hexadecimal digits, sizes. Source: this exchange's own;
 -- the channels are those of ITU-T Q.931 (05/98), section 4.5.13.
 use Rattle.std.specs.Prelude.{ℕ, ◌+◌, ◌-◌, ◌*◌, Bool, ◌&&◌, nat_lt, ◌==◌, List, [], ◌∷◌, length, codes, Option, Some, None, option_and_then, Result, Ok, Err, if◌then◌else◌}
-use Rattle.std.specs.List.{before_first, after_first}
 use Rattle.std.specs.Str.{bytes_eq}
 use Rattle.circuit_model.specs.Channels.{between, place_of}
 use Rattle.circuit_model.specs.declared.channel.Slot.{Slot}
 use Rattle.exchange_top.specs.declared.reader.fault.Reason.{Reason}
 use Rattle.exchange_top.specs.declared.reader.fault.Reason.TheVariants.{Hex, Length}
 use Rattle.exchange_top.specs.declared.reader.said.Sizes.{Sizes}
-use Rattle.exchange_top.specs.TraceWords.{numeral}
+use Rattle.exchange_top.specs.TraceWords.{numeral, cut_at}
 
 -- the second step where the first found something
 infixl 10 ◌>>=◌
 abbrev pub ◌>>=◌ : {A B : Type 0} → Option A → (A → Option B) → Option B
 found >>= step = option_and_then step found
 
--- the number, where it lies between two others, both included
-abbrev pub within : ℕ → ℕ → ℕ → Option ℕ
-within low high number = if between low high number then Some number else None
+-- the number that a word writes, where it is a numeral and lies between two others, both included
+abbrev pub numeral_in : ℕ → ℕ → List ℕ → Option ℕ
+numeral_in low high word = do
+  number ← numeral word
+  if between low high number then Some number else None
+
+-- the octet `/`
+abbrev pub slash : ℕ
+slash = 47
 
 -- the external line that a word names: the numeral of a line of the exchange
 abbrev pub external_line : ℕ → List ℕ → Option ℕ
@@ -25,14 +30,12 @@ external_line external word = do
   line ← numeral word
   if nat_lt line external then Some line else None
 
-abbrev pub is_slash : ℕ → Bool
-is_slash octet = octet == 47
-
 -- the slot that a word names: the numeral of an external line, `/`, and the numeral of a bearer channel
 abbrev pub slot : ℕ → List ℕ → Option Slot
 slot external word = do
-  line ← external_line external (before_first is_slash word)
-  channel ← numeral (after_first is_slash word)
+  halves ← cut_at slash word
+  line ← external_line external halves.0
+  channel ← numeral halves.1
   place ← place_of channel
   Some (record { line = line; place = place })
 
@@ -63,9 +66,9 @@ thirty (Some octets) = if length octets == 30 then Ok octets else Err Length
 abbrev pub header : List (List ℕ) → Option Sizes
 header (name ∷ version ∷ external ∷ bridges ∷ processors ∷ []) =
     if bytes_eq name (codes "exchange") && bytes_eq version (codes "1") then (do
-      e ← numeral external >>= within 1 32
-      b ← numeral bridges >>= within 0 2
-      p ← numeral processors >>= within 1 8
+      e ← numeral_in 1 32 external
+      b ← numeral_in 0 2 bridges
+      p ← numeral_in 1 8 processors
       Some (record { external = e; bridges = b; processors = p }))
     else None
 header other = None

@@ -52,14 +52,18 @@ EachSays before [] (said ∷ told) = ⊥
 EachSays before (line ∷ others) [] = ⊥
 EachSays before (line ∷ others) (said ∷ told) = (says (sizes_in before) (length (events_in before)) line ≡ Ok said) × EachSays (before ++ said ∷ []) others told
 
+-- the trace is what the lines say: the sizes of the header, the events, and the ends of the segments
+pub record IsTold (t : Trace) (told : List Said) : Type 0 where
+  pub sizes : sizes_in told ≡ Some (record { external = t.external; bridges = t.bridges; processors = t.processors })
+  pub events : t.events ≡ events_in told
+  pub segments : t.segments ≡ segment_ends told
+
 -- the bytes are the trace: each line meets all of its checks, given the lines before it, and the trace is what the lines say
 pub record IsTrace (bytes : List ℕ) (t : Trace) : Type 0 where
   pub few : length bytes ≤ most_bytes
   pub told : List Said
   pub meets : EachSays [] (lines bytes) told
-  pub sizes : sizes_in told ≡ Some (record { external = t.external; bridges = t.bridges; processors = t.processors })
-  pub events : t.events ≡ events_in told
-  pub segments : t.segments ≡ segment_ends told
+  pub all : IsTold t told
 
 -- a line of the bytes is the first that fails, and a check of it is the first that does
 pub record IsFirstFault (bytes : List ℕ) (number : ℕ) (why : Reason) : Type 0 where

@@ -1,5 +1,5 @@
 -- The lines, words and numerals of a trace. Source: this exchange's own.
-use Rattle.std.specs.Prelude.{ℕ, ◌+◌, ◌-◌, ◌*◌, Bool, false, ◌&&◌, ◌||◌, not, ◌==◌, nat_le, List, [], ◌∷◌, length, filter, fold, slice_index, Option, Some, None, if◌then◌else◌}
+use Rattle.std.specs.Prelude.{ℕ, ◌+◌, ◌-◌, ◌*◌, Bool, true, false, ◌&&◌, ◌||◌, not, ◌==◌, nat_le, List, [], ◌∷◌, length, take, drop, filter, fold, position, slice_index, Option, Some, None, option_map, if◌then◌else◌}
 use Rattle.std.specs.List.{list_all, onto_first, slice_split}
 use Rattle.std.specs.Char.{is_ascii_digit}
 use Rattle.circuit_model.specs.Channels.{between}
@@ -9,12 +9,21 @@ abbrev pub lines : List ℕ → List (List ℕ)
 lines [] = []
 lines (octet ∷ octets) = if octet == 10 then [] ∷ lines octets else onto_first octet (lines octets)
 
-abbrev pub is_space : ℕ → Bool
-is_space octet = octet == 32
+-- the octet is the given one
+abbrev pub is_octet : ℕ → ℕ → Bool
+is_octet mark octet = octet == mark
+
+abbrev pub is_empty : {A : Type 0} → List A → Bool
+is_empty [] = true
+is_empty (first ∷ others) = false
 
 -- the words of a line: its longest runs of octets other than the space
 abbrev pub words : List ℕ → List (List ℕ)
-words line = filter (λ run. not (length run == 0)) (slice_split is_space line)
+words line = filter (λ run. not (is_empty run)) (slice_split (is_octet 32) line)
+
+-- what stands before and after the first octet of a word that is the mark, where it has one
+abbrev pub cut_at : ℕ → List ℕ → Option (List ℕ × List ℕ)
+cut_at mark word = option_map (λ at. (take at word, drop (at + 1) word)) (position (is_octet mark) word)
 
 -- a comment begins with `#`, which is the octet 35
 abbrev pub is_comment : List ℕ → Bool
@@ -23,7 +32,7 @@ is_comment (octet ∷ octets) = octet == 35
 
 -- a line without words
 abbrev pub is_blank : List ℕ → Bool
-is_blank line = length (words line) == 0
+is_blank line = is_empty (words line)
 
 -- an octet from the space to the tilde
 abbrev pub is_printable : ℕ → Bool

@@ -1,13 +1,52 @@
 //! Reading a trace: its lines, their words, and the fields of the words.
-ghost use Rattle.std.specs.Prelude.{◌≡◌, ℕ, ◌⊎◌, IfOk, Ok, Err};
+ghost use Rattle.std.specs.Prelude.{◌≡◌, ℕ, ◌⊎◌, IfOk, IfErr, Ok, Err};
 ghost use Rattle.exchange_top.specs.TraceGrammar.{IsTrace, IsRefused};
+ghost use Rattle.exchange_top.specs.TraceDraft.{IsFault};
 
+mod cut;
+mod draft;
 mod fault;
+mod fields;
+mod laws;
+mod line;
+mod octets;
 mod said;
 
-use crate::trace::Trace;
 pub use fault::{Reason, TraceFault};
+pub use laws::{one_reading, some_reading};
+
+use crate::trace::Trace;
+use cut::first_line;
+use draft::Draft;
 use std::alloc::Global;
+
+/// How many bytes a trace has at most: 64 MiB.
+const MOST_BYTES: usize = 67_108_864;
+
+// Reads a trace line by line.
+fn read_lines(alloc: Global, bytes: &[u8]) -> Result<Trace, TraceFault>
+    ensures read { IfOk result (λ t. IsTrace bytes.now t) }
+    ensures refused { IfErr result (λ e. IsFault bytes.now e) }
+{
+    if bytes.len() > MOST_BYTES {
+        return Err(TraceFault::Line {
+            number: 0,
+            reason: Reason::Limit,
+        });
+    }
+    let mut draft = Draft::new(alloc);
+    let mut rest = bytes;
+    let mut number = 0;
+    while !rest.is_empty() {
+        let (line, others) = first_line(rest);
+        number += 1;
+        if let Err(fault) = draft.read_line(alloc, line) {
+            return Err(fault.at_line(number));
+        }
+        rest = others;
+    }
+    draft.finish(number)
+}
 
 /// Reads a trace.
 ///
@@ -28,5 +67,5 @@ pub fn read_trace(alloc: Global, bytes: &[u8]) -> Result<Trace, TraceFault>
         IsRefused bytes.now number why
         → (result ≡ Err (TraceFault.Line number why)) ⊎ (result ≡ Err TraceFault.Memory) }
 {
-    Err(TraceFault::Memory)
+    read_lines(alloc, bytes)
 }

@@ -1,5 +1,5 @@
 ghost use Rattle.std.specs.Prelude.{◌≡◌};
-ghost use Rattle.exchange_top.specs.declared.reader.fault.LineFault.TheVariants.{Memory};
+ghost use Rattle.exchange_top.specs.declared.reader.fault.LineFault.TheVariants.{Memory, Refused};
 
 use std::alloc::{AllocError, AllocFailed};
 
@@ -47,6 +47,21 @@ pub enum LineFault {
     Refused(Reason),
 }
 
+impl LineFault {
+    ghost use Rattle.std.specs.Prelude.{◌≡◌};
+    ghost use Rattle.exchange_top.specs.TraceDraft.{at_line};
+
+    /// The fault of the trace whose line this is.
+    pub fn at_line(self, number: u32) -> TraceFault
+        ensures { result ≡ at_line self number }
+    {
+        match self {
+            LineFault::Memory => TraceFault::Memory,
+            LineFault::Refused(reason) => TraceFault::Line { number, reason },
+        }
+    }
+}
+
 impl From<AllocError> for LineFault {
     ghost from_gives = { λ _ e. e ≡ Memory };
 
@@ -60,5 +75,13 @@ impl<T: Drop> From<AllocFailed<T>> for LineFault {
 
     fn from(_error: AllocFailed<T>) -> LineFault {
         LineFault::Memory
+    }
+}
+
+impl From<Reason> for LineFault {
+    ghost from_gives = { λ reason e. e ≡ Refused reason };
+
+    fn from(reason: Reason) -> LineFault {
+        LineFault::Refused(reason)
     }
 }

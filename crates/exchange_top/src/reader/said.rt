@@ -11,6 +11,21 @@ pub struct Sizes {
     pub processors: u8,
 }
 
+/// The kinds of line after the header.
+#[derive(Clone, Copy, Debug, PartialEq, Eq)]
+pub enum Kind {
+    /// Two slots are connected.
+    Nail,
+    /// A frame arrives.
+    Frame,
+    /// The segment ends.
+    Sync,
+    /// The line is one that this exchange doesn't read yet.
+    Later,
+    /// The line is none of a trace.
+    Unknown,
+}
+
 /// What one line of a trace says.
 #[derive(Drop)]
 pub enum Said {
