@@ -11,3 +11,5 @@ pub mod ListLemmas
 pub mod HearsLemmas
 pub mod RunLemmas
 pub mod Pending
+pub mod SoundLemmas
+pub mod OrderLemmas

@@ -21,8 +21,7 @@ abbrev pub Fits : ℕ → Event → Type 0
 Fits external (Nail x y) = IsNail external x y
 Fits external (Frame input) = length input ≡ external
 
--- the sizes are within the limits, and each event is one of such an exchange
+-- the events are not too many, and each is one of an exchange with as many external lines
 pub record IsSound (trace : Trace) : Type 0 where
-  pub external : trace.external ≤ 32
   pub count : length trace.events ≤ 65535
   pub events : All (Fits trace.external) trace.events

@@ -2,6 +2,7 @@
 #![tactic(auto)]
 
 mod circuit_table;
+mod laws;
 mod reader;
 mod reply;
 mod report;
@@ -10,10 +11,7 @@ mod streams;
 mod switch;
 mod trace;
 
+pub use laws::{file_order_is_lawful, traces_are_sound};
 pub use reader::{Reason, TraceFault, one_reading, read_trace, some_reading};
 pub use reply::Reply;
-pub use report::append_answer;
-pub use run::{RunFault, run};
-pub use streams::{ReadFault, read_all, write_all};
-pub use switch::Switch;
 pub use trace::{Event, Events, Input, Segments, Trace};
