@@ -13,3 +13,4 @@ pub mod RunLemmas
 pub mod Pending
 pub mod SoundLemmas
 pub mod OrderLemmas
+pub mod CallLemmas

@@ -1,6 +1,7 @@
 //! The exchange from trace bytes to report bytes.
 #![tactic(auto)]
 
+mod call;
 mod circuit_table;
 mod laws;
 mod reader;
@@ -11,6 +12,7 @@ mod streams;
 mod switch;
 mod trace;
 
+pub use call::{Outcome, exchange};
 pub use laws::{file_order_is_lawful, traces_are_sound};
 pub use reader::{Reason, TraceFault, one_reading, read_trace, some_reading};
 pub use reply::Reply;
