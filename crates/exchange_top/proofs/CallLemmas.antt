@@ -129,11 +129,11 @@ pub command_says : (words : List (List ℕ)) (status : ℕ) (order : List ℕ) (
 command_says words status order old new (Wrong_words other s none text) run reads writes = absurd (other run)
 command_says words status order old new (Words_unwritten other s none rose text) run reads writes = absurd (other run)
 command_says words status order old new (Unread is s none rose kept) run reads writes = absurd (reads rose)
-command_says words status order old new (No_room is s none kept) run reads writes = inr s
-command_says words status order old new (Answered is bytes input (Done s done)) run reads writes = inl (inl s)
-command_says words status order old new (Answered is bytes input (Turned_down s down)) run reads writes = inl (inr s)
+command_says words status order old new (No_room is s none kept) run reads writes = inr (inr s)
+command_says words status order old new (Answered is bytes input (Done s done)) run reads writes = inl s
+command_says words status order old new (Answered is bytes input (Turned_down s down)) run reads writes = inr (inl s)
 command_says words status order old new (Answered is bytes input (Unwritten s rose cut)) run reads writes = absurd (writes rose)
-command_says words status order old new (Answered is bytes input (No_memory s cut)) run reads writes = inr s
+command_says words status order old new (Answered is bytes input (No_memory s cut)) run reads writes = inr (inr s)
 
 -- a source that tells its bytes tells those that are read
 

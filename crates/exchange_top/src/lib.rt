@@ -12,6 +12,9 @@ mod streams;
 mod switch;
 mod trace;
 
+#[cfg(test)]
+mod tests;
+
 pub use call::{Outcome, exchange};
 pub use laws::{file_order_is_lawful, traces_are_sound};
 pub use reader::{Reason, TraceFault, one_reading, read_trace, some_reading};

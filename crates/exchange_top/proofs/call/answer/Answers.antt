@@ -14,6 +14,7 @@ returns-in-Ok g c =
 
 pub returns-in-Ok-refusal : goal.returns-in-Ok-refusal
 returns-in-Ok-refusal g c =
-    let refused : IsRefused c.args.bytes.items c.in-Err-Line.number c.in-Err-Line.reason = ? in
+    let told = c.in-Err-Line.ensures.refused c.in-Err-Line.number c.in-Err-Line.reason (ap Err c.in-Err-Line.field-0-is) in
+    let refused = rw c.as_slice.ensures.value at told in
     answers_refused c.args.bytes.items c.in-Err-Line.number c.in-Err-Line.reason c.refuse.result.status c.refuse.result.order.items c.as_slice-in-Ok-refusal.result.now _ _ _ _
     refused c.refuse.ensures.none (c.as_slice-in-Ok-refusal.ensures.value ∙ c.in-Ok-refusal.ensures) c.refuse.ensures.answer
