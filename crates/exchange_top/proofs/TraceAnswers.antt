@@ -1,5 +1,5 @@
 -- The one answer that a row of bytes can have, but for want of memory.
-use Rattle.std.proofs.Common.{◌≡◌, ℕ, ◌⊎◌, inl, inr, List, Result, Ok, Err, refl, sym, ap, ◌∙◌}
+use Rattle.std.proofs.Common.{◌≡◌, ℕ, ◌⊎◌, inl, inr, List, Result, Ok, Err, refl, ap}
 use Rattle.std.specs.Prelude.{IfOk, IfErr}
 use Rattle.exchange_top.specs.declared.reader.fault.Reason.{Reason}
 use Rattle.exchange_top.specs.declared.reader.fault.TraceFault.{TraceFault}

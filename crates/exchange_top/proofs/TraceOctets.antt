@@ -1,12 +1,11 @@
 -- Hexadecimal digits in pairs.
-use Rattle.std.proofs.Common.{◌≡◌, ◌≢◌, ℕ, zero, suc, ◌+◌, ◌*◌, ◌%◌, ◌<◌, ◌≤◌, Bool, true, false, ◌&&◌, cond, leb, ltb, eqb, List, [], ◌∷◌, ◌++◌, length, get_or, set, take, drop, Option, Some, None, is_some, option_map, unwrap_or, Result, Ok, Err, refl, sym, ap, subst, ◌∙◌, arith, ◌⊎◌, inl, inr, append_assoc}
+use Rattle.std.proofs.Common.{◌≡◌, ◌≢◌, ℕ, zero, suc, ◌+◌, ◌*◌, ◌%◌, ◌<◌, ◌≤◌, Bool, true, false, cond, ltb, eqb, List, [], ◌∷◌, ◌++◌, length, get_or, set, take, drop, Option, Some, None, is_some, option_map, unwrap_or, Ok, Err, refl, sym, ap, subst, ◌∙◌, arith, ◌⊎◌, inl, inr, append_assoc}
 use Rattle.std.specs.Prelude.{option_and_then, IfSome}
 use Rattle.std.specs.List.{list_all}
 use Rattle.std.proofs.lemmas.Bool.{cases_eq, cases_lt, eqb-true, eq-eqb, ne_eqb, lt-ltb, le-ltb}
 use Rattle.std.proofs.lemmas.List.{append-nil, take_more_set, drop_more, drop_all, take_all}
 use Rattle.std.proofs.lemmas.Bool.Decides.{nat_tests}
 use Rattle.circuit_model.specs.Channels.{between}
-use Rattle.exchange_top.specs.declared.reader.fault.Reason.{Reason}
 use Rattle.exchange_top.specs.declared.reader.fault.Reason.TheVariants.{Hex, Length}
 use Rattle.exchange_top.specs.TraceFields.{digit_value, octets_written, thirty}
 
@@ -129,9 +128,9 @@ all_digits (x ∷ y ∷ rest) even =
     elim (either x) [
       | inr lost ↦ rw (lost.0, none_first x y rest lost.1) refl
       | inl found ↦ elim (either y) [
-          | inr lost ↦ rw (found.0, lost.0, none_second x y rest lost.1) refl
-          | inl both ↦ rw (found.0, both.0, pair_then x y rest (value_or x) (value_or y) found.1 both.1, some_behind ((value_or x * 16 + value_or y) ∷ []) (octets_written rest), again) refl
-        ]
+        | inr lost ↦ rw (found.0, lost.0, none_second x y rest lost.1) refl
+        | inl both ↦ rw (found.0, both.0, pair_then x y rest (value_or x) (value_or y) found.1 both.1, some_behind ((value_or x * 16 + value_or y) ∷ []) (octets_written rest), again) refl
+      ]
     ]
 
 -- an odd number of digits writes nothing
@@ -153,9 +152,9 @@ written_length (x ∷ y ∷ rest) =
     elim (either x) [
       | inr lost ↦ subst P (sym (none_first x y rest lost.1)) tt
       | inl found ↦ elim (either y) [
-          | inr lost ↦ subst P (sym (none_second x y rest lost.1)) tt
-          | inl both ↦ subst P (sym (pair_then x y rest (value_or x) (value_or y) found.1 both.1)) (behind_length (value_or x * 16 + value_or y) rest (octets_written rest) (written_length rest))
-        ]
+        | inr lost ↦ subst P (sym (none_second x y rest lost.1)) tt
+        | inl both ↦ subst P (sym (pair_then x y rest (value_or x) (value_or y) found.1 both.1)) (behind_length (value_or x * 16 + value_or y) rest (octets_written rest) (written_length rest))
+      ]
     ]
 
 wrong_length : (digits : List ℕ) (o : Option (List ℕ)) → is_some o ≡ true → length digits ≢ 60 → IfSome o (λ octets. length digits ≡ 2 * length octets) → thirty o ≡ Err Length
@@ -197,7 +196,7 @@ pub pair_read : (digits octets : List ℕ) (i h l : ℕ) → 2 * i + 1 < length 
 pair_read digits octets i h l lt room e f so_far =
     let one = pair_then (get_or digits (2 * i) 0) (get_or digits (2 * i + 1) 0) (drop (2 * (i + 1)) digits) h l e f in
     let stepped : behind (take i octets) (octets_written (drop (2 * i) digits)) ≡ behind (take i octets ++ (h * 16 + l) ∷ []) (octets_written (drop (2 * (i + 1)) digits)) =
-        ap (λ o. behind (take i octets) o) (ap octets_written (pair_at digits i lt) ∙ one) ∙ behind-behind (take i octets) (h * 16 + l) (octets_written (drop (2 * (i + 1)) digits)) in
+    ap (λ o. behind (take i octets) o) (ap octets_written (pair_at digits i lt) ∙ one) ∙ behind-behind (take i octets) (h * 16 + l) (octets_written (drop (2 * (i + 1)) digits)) in
     rw (take_more_set octets i (h * 16 + l) room) (sym stepped ∙ so_far)
 
 -- an octet of a pair is no digit

@@ -1,12 +1,9 @@
 -- The parts of a frame, one after the other.
-use Rattle.std.proofs.Common.{◌≡◌, ℕ, ◌<◌, Bool, true, false, List, [], ◌∷◌, length, get_or, set, replicate, Option, Some, None, is_some, Result, Ok, Err, refl, sym, ap, ◌∙◌, arith}
-use Rattle.std.specs.Prelude.{ok_or}
+use Rattle.std.proofs.Common.{◌≡◌, ℕ, false, List, get_or, set, Some, None, is_some, Ok, refl}
 use Rattle.circuit_model.specs.FrameInput.{Input}
-use Rattle.exchange_top.specs.declared.reader.fault.Reason.{Reason}
-use Rattle.exchange_top.specs.declared.reader.fault.Reason.TheVariants as reason
 use Rattle.exchange_top.specs.TraceWords.{cut_at}
 use Rattle.exchange_top.specs.TraceFields.{external_line, octets_written, thirty}
-use Rattle.exchange_top.specs.TraceLines.{colon, with_part, with_parts}
+use Rattle.exchange_top.specs.TraceLines.{colon, with_part}
 
 -- a part whose checks all pass
 pub part_given : (external : ℕ) (given : Input) (word : List ℕ) (halves : List ℕ × List ℕ) (line : ℕ) (octets : List ℕ)

@@ -1,5 +1,5 @@
 -- Reading line by line, up to the first line that fails.
-use Rattle.std.proofs.Common.{◌≡◌, ℕ, ◌+◌, ◌<◌, ◌≤◌, List, [], ◌∷◌, ◌++◌, length, Option, Some, None, Result, Ok, Err, refl, sym, ap, ◌∙◌, subst, append_assoc, arith}
+use Rattle.std.proofs.Common.{◌≡◌, ℕ, ◌+◌, ◌<◌, ◌≤◌, List, [], ◌∷◌, ◌++◌, length, None, Ok, Err, refl, sym, ap, ◌∙◌, subst, append_assoc, arith}
 use Rattle.std.proofs.lemmas.List.{append-nil, length_push, nil_from_length}
 use Rattle.exchange_top.specs.declared.reader.draft.Draft.{Draft}
 use Rattle.exchange_top.specs.declared.reader.fault.Reason.{Reason}
@@ -8,7 +8,7 @@ use Rattle.exchange_top.specs.declared.reader.said.Said.{Said}
 use Rattle.exchange_top.specs.declared.trace.Trace.{Trace}
 use Rattle.exchange_top.specs.TraceWords.{lines}
 use Rattle.exchange_top.specs.TraceLines.{says}
-use Rattle.exchange_top.specs.TraceGrammar.{most_bytes, sizes_in, events_in, EachSays, IsTold, IsTrace, IsFirstFault, LacksHeader, IsRefused, Too_long, At_line, At_end}
+use Rattle.exchange_top.specs.TraceGrammar.{most_bytes, sizes_in, events_in, EachSays, IsTold, IsTrace, IsRefused, At_line, At_end}
 use Rattle.exchange_top.specs.TraceDraft.{Holds}
 
 -- the lines before the rest were read, each met its checks, and the draft holds what they said

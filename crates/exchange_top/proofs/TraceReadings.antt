@@ -1,5 +1,5 @@
 -- Bytes have one reading: what the lines say, up to the first that fails.
-use Rattle.std.proofs.Common.{◌≡◌, ℕ, zero, suc, ◌+◌, ◌<◌, ◌≤◌, ◌⊎◌, inl, inr, List, [], ◌∷◌, ◌++◌, length, Option, Some, None, Result, Ok, Err, refl, sym, ap, ◌∙◌, subst, append_assoc, arith}
+use Rattle.std.proofs.Common.{◌≡◌, ℕ, suc, ◌+◌, ◌≤◌, ◌⊎◌, inl, inr, List, [], ◌∷◌, ◌++◌, length, Option, Some, None, Result, Ok, Err, refl, sym, ap, ◌∙◌, subst, append_assoc, arith}
 use Rattle.std.proofs.lemmas.Bool.{cases_lt}
 use Rattle.std.proofs.lemmas.List.{append-nil}
 use Rattle.exchange_top.specs.declared.reader.fault.Reason.{Reason}
@@ -10,7 +10,7 @@ use Rattle.exchange_top.specs.declared.trace.Event.{Event}
 use Rattle.exchange_top.specs.declared.trace.Trace.{Trace}
 use Rattle.exchange_top.specs.TraceWords.{lines}
 use Rattle.exchange_top.specs.TraceLines.{says}
-use Rattle.exchange_top.specs.TraceGrammar.{most_bytes, sizes_in, events_in, segment_ends, EachSays, IsTold, IsTrace, IsFirstFault, LacksHeader, IsRefused, Too_long, At_line, At_end}
+use Rattle.exchange_top.specs.TraceGrammar.{most_bytes, sizes_in, events_in, segment_ends, EachSays, IsTold, IsTrace, IsFirstFault, IsRefused, Too_long, At_line, At_end}
 
 -- what became of a row of lines: what each says, or the place of the first that fails and why
 pub data Outcome : Type 0 where
@@ -179,7 +179,7 @@ some_reading bytes =
     elim (cases_lt most_bytes (length bytes)) [
       | inl long ↦ inr (0, reason.Limit, Too_long long refl refl)
       | inr few ↦ elim (walk [] (lines bytes)) [
-          | inl w ↦ with_sizes bytes few w.0 w.1 (sizes_in w.0) refl
-          | inr s ↦ inr (length s.front + 1, s.why, At_line few (record { before = s.front; line = s.line; after = s.after; told = s.told; parts = s.parts; meets = s.meets; fails = s.fails; place = refl }))
-        ]
+        | inl w ↦ with_sizes bytes few w.0 w.1 (sizes_in w.0) refl
+        | inr s ↦ inr (length s.front + 1, s.why, At_line few (record { before = s.front; line = s.line; after = s.after; told = s.told; parts = s.parts; meets = s.meets; fails = s.fails; place = refl }))
+      ]
     ]

@@ -1,6 +1,5 @@
 -- What a reader holds of the lines that it has read. Source: this exchange's own.
-use Rattle.std.specs.Prelude.{◌≡◌, ℕ, ◌+◌, ◌<◌, List, ◌++◌, length, Option, None, Result, Ok, Err}
-use Rattle.exchange_top.specs.declared.trace.Event.{Event}
+use Rattle.std.specs.Prelude.{◌≡◌, ℕ, ◌+◌, ◌<◌, List, ◌++◌, length, Option, None}
 use Rattle.exchange_top.specs.declared.reader.draft.Draft.{Draft}
 use Rattle.exchange_top.specs.declared.reader.fault.LineFault.{LineFault}
 use Rattle.exchange_top.specs.declared.reader.fault.LineFault.TheVariants as line_fault

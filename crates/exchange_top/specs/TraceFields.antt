@@ -1,6 +1,6 @@
 -- The fields of a trace's lines: lines and slots of the exchange, octets as hexadecimal digits, sizes. Source: this exchange's own;
 -- the channels are those of ITU-T Q.931 (05/98), section 4.5.13.
-use Rattle.std.specs.Prelude.{ℕ, ◌+◌, ◌-◌, ◌*◌, Bool, ◌&&◌, nat_lt, ◌==◌, List, [], ◌∷◌, length, codes, Option, Some, None, option_and_then, Result, Ok, Err, if◌then◌else◌}
+use Rattle.std.specs.Prelude.{ℕ, ◌+◌, ◌-◌, ◌*◌, ◌&&◌, nat_lt, ◌==◌, List, [], ◌∷◌, length, codes, Option, Some, None, option_and_then, Result, Ok, Err, if◌then◌else◌}
 use Rattle.std.specs.Str.{bytes_eq}
 use Rattle.circuit_model.specs.Channels.{between, place_of}
 use Rattle.circuit_model.specs.declared.channel.Slot.{Slot}

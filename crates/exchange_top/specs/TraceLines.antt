@@ -1,5 +1,5 @@
 -- What a line of a trace says, or the first of its checks that fails. Source: this exchange's own.
-use Rattle.std.specs.Prelude.{◌≡◌, ℕ, Bool, not, nat_lt, ◌==◌, ◌||◌, List, [], ◌∷◌, length, codes, replicate, slice_index_or, slice_set, Option, Some, None, is_some, ok_or, Result, Ok, Err, if◌then◌else◌}
+use Rattle.std.specs.Prelude.{◌≡◌, ℕ, Bool, nat_lt, ◌||◌, List, [], ◌∷◌, codes, replicate, slice_index_or, slice_set, Option, Some, None, is_some, ok_or, Result, Ok, Err, if◌then◌else◌}
 use Rattle.std.specs.List.{list_all}
 use Rattle.std.specs.Str.{bytes_eq}
 use Rattle.circuit_model.specs.FrameInput.{Input}

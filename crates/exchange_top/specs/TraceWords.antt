@@ -1,5 +1,5 @@
 -- The lines, words and numerals of a trace. Source: this exchange's own.
-use Rattle.std.specs.Prelude.{ℕ, ◌+◌, ◌-◌, ◌*◌, Bool, true, false, ◌&&◌, ◌||◌, not, ◌==◌, nat_le, List, [], ◌∷◌, length, take, drop, filter, fold, position, slice_index, Option, Some, None, option_map, if◌then◌else◌}
+use Rattle.std.specs.Prelude.{ℕ, ◌+◌, ◌-◌, ◌*◌, Bool, true, false, ◌&&◌, ◌||◌, not, ◌==◌, List, [], ◌∷◌, length, take, drop, filter, fold, position, slice_index, Option, Some, None, option_map, if◌then◌else◌}
 use Rattle.std.specs.List.{list_all, onto_first, slice_split}
 use Rattle.std.specs.Char.{is_ascii_digit}
 use Rattle.circuit_model.specs.Channels.{between}

@@ -11,13 +11,14 @@ mod laws;
 mod line;
 mod octets;
 mod said;
-
-pub use fault::{Reason, TraceFault};
-pub use laws::{one_reading, some_reading};
+#[cfg(test)]
+mod tests;
 
 use crate::trace::Trace;
 use cut::first_line;
 use draft::Draft;
+pub use fault::{Reason, TraceFault};
+pub use laws::{one_reading, some_reading};
 use std::alloc::Global;
 
 /// How many bytes a trace has at most: 64 MiB.

@@ -13,7 +13,11 @@ pub(crate) fn line_of_word(external: u8, word: &[u8]) -> Option<u8>
     ensures below { IfSome result (λ line. line < external) }
 {
     let line = numeral_of(word)?;
-    if line < u32::from(external) { Some(line as u8) } else { None }
+    if line < u32::from(external) {
+        Some(line as u8)
+    } else {
+        None
+    }
 }
 
 /// The slot that a word names, where the exchange has it.

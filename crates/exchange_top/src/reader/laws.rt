@@ -11,13 +11,11 @@ pub fn one_reading()
         IsTrace bytes t → IsRefused bytes number why → ⊥ }
     ensures one_fault { (bytes : List ℕ) (m n : ℕ) (why other : Reason) →
         IsRefused bytes m why → IsRefused bytes n other → (m ≡ n) × (why ≡ other) }
-{
-}
+{}
 
 /// Bytes have a reading: they are a trace, or they are refused.
 pub fn some_reading()
     ensures { (bytes : List ℕ) →
         ((t : Trace) × IsTrace bytes t)
         ⊎ ((number : ℕ) × (why : Reason) × IsRefused bytes number why) }
-{
-}
+{}

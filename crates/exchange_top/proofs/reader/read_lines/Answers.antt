@@ -1,6 +1,4 @@
-use Rattle.std.proofs.Common.{◌≡◌, ◌∷◌, [], ◌++◌, ◌≤◌, ◌<◌, length, refl, sym, ◌∙◌, rules, arith}
-use Rattle.std.proofs.lemmas.Bool.Decides.{nat_tests}
-use Rattle.exchange_top.proofs.TraceProgress.{begun, goes_on, fails_at, is_read, lacks_header}
+use Rattle.exchange_top.proofs.TraceProgress.{begun, goes_on}
 use Rattle.exchange_top.proofs.reader.read_lines.Goals as goal
 
 pub loop-rest-init : goal.loop-rest-init

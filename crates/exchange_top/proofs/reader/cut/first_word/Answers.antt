@@ -1,6 +1,5 @@
-use Rattle.std.proofs.Common.{◌≡◌, ◌∷◌, ◌<◌, List, length, unwrap_or, take, drop, arith}
+use Rattle.std.proofs.Common.{◌<◌, length, arith}
 use Rattle.std.proofs.lemmas.Bool.Decides.{nat_tests}
-use Rattle.exchange_top.specs.TraceWords.{words}
 use Rattle.exchange_top.proofs.TraceCuts.{words_end, end_above}
 use Rattle.exchange_top.proofs.reader.cut.first_word.Goals as goal
 

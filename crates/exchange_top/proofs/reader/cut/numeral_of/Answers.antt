@@ -1,4 +1,4 @@
-use Rattle.std.proofs.Common.{◌≡◌, ◌+◌, ◌*◌, ◌^◌, ◌≤◌, ◌<◌, ℕ, arith}
+use Rattle.std.proofs.Common.{◌^◌, ◌≤◌, ◌<◌, ℕ, arith}
 use Rattle.std.proofs.Math.Nat.{pow-le-pow_right}
 use Rattle.exchange_top.proofs.reader.cut.numeral_of.Goals as goal
 

@@ -1,4 +1,4 @@
-use Rattle.std.proofs.Common.{◌≡◌, length, replicate, Option, None, List, ℕ}
+use Rattle.std.proofs.Common.{◌≡◌, length, replicate, None}
 use Rattle.exchange_top.specs.TraceWords.{words}
 use Rattle.exchange_top.specs.TraceLines.{with_parts}
 use Rattle.exchange_top.proofs.reader.line.frame_of.Given as goal

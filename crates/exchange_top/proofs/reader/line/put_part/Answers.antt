@@ -1,7 +1,7 @@
-use Rattle.std.proofs.Common.{◌≡◌, length, set, false, get_or, Some, None, is_some, Ok, sym, ◌∙◌, ap, arith}
+use Rattle.std.proofs.Common.{◌≡◌, length, false, get_or, Some, None, is_some, Ok, sym, ◌∙◌, arith}
 use Rattle.exchange_top.specs.TraceWords.{cut_at}
 use Rattle.exchange_top.specs.TraceFields.{external_line, octets_written, thirty}
-use Rattle.exchange_top.specs.TraceLines.{colon, with_part}
+use Rattle.exchange_top.specs.TraceLines.{colon}
 use Rattle.exchange_top.proofs.TraceParts.{part_given}
 use Rattle.exchange_top.proofs.reader.line.put_part.Goals as goal
 

@@ -1,8 +1,7 @@
-use Rattle.std.proofs.Common.{rules, ◌≡◌, ◌+◌, ◌*◌, ◌<◌, ◌≤◌, ◌⊎◌, get_or, length, take, drop, ◌∙◌, inl, inr, refl, sym, arith}
+use Rattle.std.proofs.Common.{rules, ◌≡◌, ◌+◌, ◌*◌, ◌≤◌, ◌⊎◌, get_or, ◌∙◌, inl, inr, refl, sym, arith}
 use Rattle.std.proofs.lemmas.Bool.{cases_lt}
-use Rattle.std.proofs.lemmas.Bool.Decides.{nat_tests}
 use Rattle.exchange_top.specs.TraceFields.{octets_written}
-use Rattle.exchange_top.proofs.TraceOctets.{behind, behind_nothing, value_or, digit_as, refused_length, refused_digits, pair_read, pair_lost, pairs_read}
+use Rattle.exchange_top.proofs.TraceOctets.{behind_nothing, value_or, digit_as, refused_length, refused_digits, pair_read, pair_lost, pairs_read}
 use Rattle.exchange_top.proofs.reader.octets.thirty_octets.Goals as goal
 
 pub returns-then-are_pairs : goal.returns-then-are_pairs
@@ -19,7 +18,7 @@ returns-then-max-gt15 c =
     let digits = c.args.digits.now in
     let i = c.loop-i.i in
     let bad : (16 ≤ value_or (get_or digits (2 * i) 0)) ⊎ (16 ≤ value_or (get_or digits (2 * i + 1) 0)) =
-        elim (cases_lt c.digit-high.result 16) [ inl lt ↦ inr (omega arith) | inr le ↦ inl (omega arith) ] in
+    elim (cases_lt c.digit-high.result 16) [ inl lt ↦ inr (omega arith) | inr le ↦ inl (omega arith) ] in
     rw (pair_lost digits c.loop-i.octets i (omega arith) bad c.loop-i.invariant.read) refl
 
 pub loop-i-preserved : goal.loop-i-preserved

@@ -1,4 +1,4 @@
-use Rattle.std.proofs.Common.{◌≡◌, ◌≢◌, ◌∷◌, [], ◌++◌, List, ℕ, length, refl, ap, ◌∙◌, rules, arith}
+use Rattle.std.proofs.Common.{◌≡◌, ◌∷◌, [], ◌++◌, ℕ, length, refl, ap, ◌∙◌, arith}
 use Rattle.exchange_top.proofs.TraceHolds.{holds_end, holds_empty_end}
 use Rattle.exchange_top.proofs.reader.draft.Draft.end_segment.Goals as goal
 

@@ -1,5 +1,5 @@
-use Rattle.std.proofs.Common.{◌≡◌, ◌++◌, Some, length, refl, ap, sym, ◌∙◌, rules, arith}
-use Rattle.exchange_top.specs.TraceGrammar.{ended, segment_ends}
+use Rattle.std.proofs.Common.{◌≡◌, ◌++◌, length, sym, ◌∙◌, arith}
+use Rattle.exchange_top.specs.TraceGrammar.{ended}
 use Rattle.exchange_top.proofs.TraceHolds.{segments_all}
 use Rattle.exchange_top.proofs.reader.draft.Draft.finish.Goals as goal
 

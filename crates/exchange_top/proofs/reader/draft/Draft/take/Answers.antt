@@ -1,4 +1,4 @@
-use Rattle.std.proofs.Common.{◌≡◌, ◌∷◌, [], ◌++◌, List, refl, sym, arith}
+use Rattle.std.proofs.Common.{◌≡◌, ◌∷◌, [], ◌++◌, refl, arith}
 use Rattle.exchange_top.proofs.TraceHolds.{holds_nothing, holds_header, holds_event}
 use Rattle.exchange_top.proofs.reader.draft.Draft.take.Goals as goal
 
