@@ -11,7 +11,7 @@ use Rattle.exchange_top.specs.TraceGrammar.{sizes_in, events_in, ended, ends_aft
 use Rattle.exchange_top.specs.TraceDraft.{Holds}
 
 -- the header is the first
-sizes_first : (told more : List Said) (sizes : Sizes) → sizes_in told ≡ Some sizes → sizes_in (told ++ more) ≡ Some sizes
+pub sizes_first : (told more : List Said) (sizes : Sizes) → sizes_in told ≡ Some sizes → sizes_in (told ++ more) ≡ Some sizes
 sizes_first [] more sizes e = absurd cc
 sizes_first (Nothing ∷ told) more sizes e = sizes_first told more sizes e
 sizes_first (Header first ∷ told) more sizes e = e
