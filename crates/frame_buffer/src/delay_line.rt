@@ -11,7 +11,8 @@ const IDLE_ROW: [u8; 30] = [IDLE; 30];
 
 /// A delay line of two frames: what arrives in frame f leaves in frame f+2.
 ///
-/// In frame f read first, by `back_two`, and then `push` what arrives in f.
+/// In frame f read first, by `back_two`, and then `push` what arrives in f. Read after that push,
+/// it would give the octets of frame f-1.
 #[derive(Drop)]
 pub struct DelayLine {
     external: u8,
