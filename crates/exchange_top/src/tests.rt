@@ -94,7 +94,10 @@ fn thirty_channels_are_granted_and_no_more(rt: HostRuntime) -> Result<(), Fail> 
 #[test]
 fn what_is_no_trace_is_refused_at_its_first_fault(rt: HostRuntime) -> Result<(), Fail> {
     let alloc = rt.alloc();
-    let too_many = [b"exchange 1 1 0 1".as_slice(), &[b"\nF".as_slice(); 65_536].concat(alloc)?].concat(alloc)?;
+    let mut too_many = b"exchange 1 1 0 1".to_vec(alloc)?;
+    for _ in 0..65_536 {
+        too_many.extend_from_slice(b"\nF")?;
+    }
     for (input, refusal) in [
         (b"".as_slice(), "refused 1 header\n"),
         (b"exchange 1 1 0 1\nF 0:D", "refused 2 hex\n"),
