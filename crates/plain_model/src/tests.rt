@@ -4,75 +4,104 @@ use std::alloc::{AllocError, Global};
 use std::process::Abort;
 use std::test::Fail;
 
-const RINGBACK: [u8; 3] = [0x11, 0x22, 0x33];
+/// One step of a worked example, on the first bearer channels of lines.
+#[derive(Clone, Copy)]
+enum Step<'a> {
+    Connect(u8, u8),
+    /// The line takes a seat in the room.
+    Seat(u8, u8),
+    Tone(u8, Kind),
+    Clear(u8),
+    /// A frame in which lines 0, 1, .. send these octets.
+    Frame(&'a [u8]),
+}
 
-const BUSY: [u8; 1] = [0x44];
+use Step::{Clear, Connect, Frame, Seat, Tone};
 
-/// The first bearer channel of a line.
 fn first(line: u8) -> Slot {
     Slot { line, place: 0 }
 }
 
-/// Passes a frame in which lines 0, 1, .. send these octets on their first bearer channel.
-fn pass(
+fn take(
     rt: &impl Abort,
     alloc: Global,
     exchange: &mut Exchange,
-    octets: &[u8],
+    step: Step,
 ) -> Result<(), AllocError> {
-    assert!(rt; exchange.next_frame() < 1000);
-    let mut input = Vec::new(alloc);
-    for octet in octets {
-        let mut line = [IDLE; 30];
-        line[0] = *octet;
-        input.push(Some(line))?;
+    match step {
+        Connect(x, y) => exchange.connect(first(x), first(y)),
+        Seat(x, room) => exchange.seat(first(x), room),
+        Tone(x, kind) => exchange.give_tone(first(x), kind),
+        Clear(x) => {
+            exchange.clear(first(x));
+            Ok(())
+        }
+        Frame(octets) => {
+            assert!(rt; exchange.next_frame() < 1000);
+            let mut input = Vec::new(alloc);
+            for octet in octets {
+                let mut line = [IDLE; 30];
+                line[0] = *octet;
+                input.push(Some(line))?;
+            }
+            exchange.frame(alloc, input.as_slice())
+        }
     }
-    exchange.frame(alloc, input.as_slice())
 }
 
-/// Compares what first bearer channels hear with a table of frames, lines and octets.
-fn check(rt: &impl Abort, exchange: &Exchange, table: &[(u32, u8, u8)]) {
+/// Takes the steps, and compares what lines hear with a table of frames, lines and octets.
+fn check(
+    rt: &impl Abort,
+    alloc: Global,
+    steps: &[Step],
+    table: &[(u32, u8, u8)],
+) -> Result<(), AllocError> {
+    let mut exchange = Exchange::new(alloc);
+    for step in steps {
+        take(rt, alloc, &mut exchange, *step)?;
+    }
     for (frame, line, octet) in table {
-        let heard = exchange.heard(&RINGBACK, &BUSY, *frame, first(*line));
+        let heard = exchange.heard(&[0x11, 0x22, 0x33], &[0x44], *frame, first(*line));
         assert_eq!(rt; heard, *octet, "line {line} in frame {frame}");
     }
+    Ok(())
 }
 
 #[test]
 fn octets_pass_after_two_frames(rt: HostRuntime) -> Result<(), Fail> {
-    let mut exchange = Exchange::new(rt.alloc());
-    exchange.connect(first(0), first(1))?;
-    for k in 1..6 {
-        pass(&rt, rt.alloc(), &mut exchange, &[k, 0x80 + k])?;
-    }
+    let steps = [
+        Connect(0, 1),
+        Frame(&[0x01, 0x81]),
+        Frame(&[0x02, 0x82]),
+        Frame(&[0x03, 0x83]),
+        Frame(&[0x04, 0x84]),
+    ];
     let table = [
         (0, 0, IDLE),
         (1, 0, IDLE),
         (2, 0, 0x81),
         (3, 0, 0x82),
-        (4, 0, 0x83),
         (0, 1, IDLE),
         (1, 1, IDLE),
         (2, 1, 0x01),
         (3, 1, 0x02),
-        (4, 1, 0x03),
     ];
-    check(&rt, &exchange, &table);
+    check(&rt, rt.alloc(), &steps, &table)?;
     Ok(())
 }
 
 #[test]
 fn a_slot_used_again_starts_anew(rt: HostRuntime) -> Result<(), Fail> {
-    let mut exchange = Exchange::new(rt.alloc());
-    exchange.connect(first(0), first(1))?;
-    for k in 1..3 {
-        pass(&rt, rt.alloc(), &mut exchange, &[k, 0x80 + k, 0xC0 + k])?;
-    }
-    exchange.clear(first(0));
-    exchange.connect(first(0), first(2))?;
-    for k in 3..6 {
-        pass(&rt, rt.alloc(), &mut exchange, &[k, 0x80 + k, 0xC0 + k])?;
-    }
+    let steps = [
+        Connect(0, 1),
+        Frame(&[0x01, 0x81, 0xC1]),
+        Frame(&[0x02, 0x82, 0xC2]),
+        Clear(0),
+        Connect(0, 2),
+        Frame(&[0x03, 0x83, 0xC3]),
+        Frame(&[0x04, 0x84, 0xC4]),
+        Frame(&[0x05, 0x85, 0xC5]),
+    ];
     let table = [
         (2, 0, IDLE),
         (3, 0, IDLE),
@@ -84,24 +113,26 @@ fn a_slot_used_again_starts_anew(rt: HostRuntime) -> Result<(), Fail> {
         (3, 2, IDLE),
         (4, 2, 0x03),
     ];
-    check(&rt, &exchange, &table);
+    check(&rt, rt.alloc(), &steps, &table)?;
     Ok(())
 }
 
 #[test]
 fn a_room_saturates_once(rt: HostRuntime) -> Result<(), Fail> {
-    let mut exchange = Exchange::new(rt.alloc());
-    for line in 0..3 {
-        exchange.seat(first(line), 0)?;
-    }
-    pass(&rt, rt.alloc(), &mut exchange, &[0xAA, 0xAA, 0xAA])?;
-    for _ in 1..6 {
-        pass(&rt, rt.alloc(), &mut exchange, &[0xAA, 0xAA, 0x2A])?;
-    }
+    let later = Frame(&[0xAA, 0xAA, 0x2A]);
+    let steps = [
+        Seat(0, 0),
+        Seat(1, 0),
+        Seat(2, 0),
+        Frame(&[0xAA, 0xAA, 0xAA]),
+        later,
+        later,
+        later,
+        later,
+        later,
+    ];
     let table = [
         (0, 0, IDLE),
-        (1, 0, IDLE),
-        (2, 0, IDLE),
         (3, 0, IDLE),
         (4, 0, 0xAA),
         (4, 1, 0xAA),
@@ -110,48 +141,56 @@ fn a_room_saturates_once(rt: HostRuntime) -> Result<(), Fail> {
         (5, 1, IDLE),
         (5, 2, 0xAA),
     ];
-    check(&rt, &exchange, &table);
+    check(&rt, rt.alloc(), &steps, &table)?;
     Ok(())
 }
 
 #[test]
 fn small_rooms(rt: HostRuntime) -> Result<(), Fail> {
-    let mut alone = Exchange::new(rt.alloc());
-    let mut paired = Exchange::new(rt.alloc());
-    alone.seat(first(0), 5)?;
-    paired.seat(first(0), 5)?;
-    paired.seat(first(1), 5)?;
-    for k in 0..6 {
-        pass(&rt, rt.alloc(), &mut alone, &[0x11])?;
-        pass(&rt, rt.alloc(), &mut paired, &[0x11 + k, 0x91 + k])?;
-    }
-    check(&rt, &alone, &[(3, 0, IDLE), (4, 0, IDLE), (5, 0, IDLE)]);
+    let rest = Frame(&[0x12, 0x92]);
+    let alone = [Seat(0, 5), Frame(&[0x11]), rest, rest, rest, rest, rest];
     check(
         &rt,
-        &paired,
-        &[
-            (3, 0, IDLE),
-            (3, 1, IDLE),
-            (4, 0, 0x91),
-            (4, 1, 0x11),
-            (5, 0, 0x92),
-            (5, 1, 0x12),
-        ],
-    );
+        rt.alloc(),
+        &alone,
+        &[(3, 0, IDLE), (4, 0, IDLE), (5, 0, IDLE)],
+    )?;
+    let paired = [
+        Seat(0, 5),
+        Seat(1, 5),
+        Frame(&[0x11, 0x91]),
+        rest,
+        rest,
+        rest,
+        rest,
+        rest,
+    ];
+    let table = [
+        (3, 0, IDLE),
+        (3, 1, IDLE),
+        (4, 0, 0x91),
+        (4, 1, 0x11),
+        (5, 0, 0x92),
+        (5, 1, 0x12),
+    ];
+    check(&rt, rt.alloc(), &paired, &table)?;
     Ok(())
 }
 
 #[test]
 fn a_tone_sounds_at_once(rt: HostRuntime) -> Result<(), Fail> {
-    let mut exchange = Exchange::new(rt.alloc());
-    pass(&rt, rt.alloc(), &mut exchange, &[])?;
-    exchange.give_tone(first(0), Kind::Ringback)?;
-    exchange.give_tone(first(1), Kind::Busy)?;
-    for _ in 1..5 {
-        pass(&rt, rt.alloc(), &mut exchange, &[])?;
-    }
-    exchange.clear(first(0));
-    pass(&rt, rt.alloc(), &mut exchange, &[])?;
+    let idle = Frame(&[]);
+    let steps = [
+        idle,
+        Tone(0, Kind::Ringback),
+        Tone(1, Kind::Busy),
+        idle,
+        idle,
+        idle,
+        idle,
+        Clear(0),
+        idle,
+    ];
     let table = [
         (0, 0, IDLE),
         (1, 0, 0x11),
@@ -162,7 +201,7 @@ fn a_tone_sounds_at_once(rt: HostRuntime) -> Result<(), Fail> {
         (1, 1, 0x44),
         (5, 1, 0x44),
     ];
-    check(&rt, &exchange, &table);
+    check(&rt, rt.alloc(), &steps, &table)?;
     Ok(())
 }
 
