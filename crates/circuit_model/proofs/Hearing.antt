@@ -1,5 +1,6 @@
 -- Whom each slot hears after a command.
-use Rattle.std.proofs.Common.{◌≡◌, ℕ, true, List, [], ◌∷◌, ◌++◌, Some, None, sym, ◌∙◌, ap, inl, inr, arith, if◌then◌else◌}
+use Rattle.std.proofs.Common.{◌≡◌, ℕ, true, List, [], ◌∷◌, ◌++◌, Some, None, sym, ◌∙◌, ap, inl, inr, arith, if◌then◌else◌, subst}
+use Rattle.std.specs.List.{Contains}
 use Rattle.std.specs.Option.{option_or}
 use Rattle.std.proofs.lemmas.Grind.{common_steps}
 use Rattle.std.proofs.lemmas.List.Folds.{find-append}
@@ -7,6 +8,7 @@ use Rattle.circuit_model.specs.declared.channel.Slot.{Slot}
 use Rattle.circuit_model.specs.declared.circuit.Circuit.{Circuit}
 use Rattle.circuit_model.specs.declared.circuit.Circuit.TheVariants.{Pair}
 use Rattle.circuit_model.specs.Circuits.{same_slot, listener, is_idle, heard_by}
+use Rattle.circuit_model.proofs.Age.{at_head, in_tail}
 use Rattle.circuit_model.proofs.Slots.{true_or_false, same_slot-refl, same_slot-true, same_slot_cases, idle_is_deaf}
 
 -- a slot hears the first of what stood and of what came, in that order
@@ -42,4 +44,13 @@ heard_by-two circuits x y z n idle_x idle_y =
         | inl at_y ↦ let deaf : heard_by circuits z ≡ None = rw at_y (idle_is_deaf circuits y idle_y) in grind (arith, common_steps)
         | inr off_y ↦ grind (arith, common_steps)
       ]
+    ]
+
+-- what a slot hears by stands, and is for it
+pub heard_by-stands : (circuits : List Circuit) (x : Slot) (c : Circuit) → heard_by circuits x ≡ Some c → Contains circuits c × (same_slot x (listener c) ≡ true)
+heard_by-stands [] x c hears = absurd (grind (arith, common_steps))
+heard_by-stands (d ∷ ds) x c hears =
+    elim (true_or_false (same_slot x (listener d))) [
+      | inl here ↦ let same : d ≡ c = grind (arith, common_steps) in (at_head d ds c same, subst (λ e. same_slot x (listener e) ≡ true) same here)
+      | inr away ↦ let rest = heard_by-stands ds x c (grind (arith, common_steps)) in (in_tail d ds c rest.0, rest.1)
     ]

@@ -1,10 +1,10 @@
-ghost use Rattle.std.specs.Prelude.{◌≡◌, ◌<◌, ◌↔◌, ℕ, IsTrue, List, [], ◌∷◌, ◌++◌, Some, None, Contains, length, if◌then◌else◌};
+ghost use Rattle.std.specs.Prelude.{◌≡◌, ◌+◌, ◌<◌, ◌↔◌, ℕ, IsTrue, List, [], ◌∷◌, ◌++◌, Some, None, Contains, count_by, length, if◌then◌else◌};
 ghost use Rattle.circuit_model.specs.declared.channel.Slot.{Slot};
 ghost use Rattle.circuit_model.specs.declared.circuit.Kind.{Kind};
 ghost use Rattle.circuit_model.specs.declared.circuit.Circuit.{Circuit};
 ghost use Rattle.circuit_model.specs.declared.circuit.Kind.TheVariants.{Busy};
 ghost use Rattle.circuit_model.specs.declared.circuit.Circuit.TheVariants.{Pair, Member, Tone};
-ghost use Rattle.circuit_model.specs.Circuits.{same_slot, listener, is_idle, heard_by, unless_naming};
+ghost use Rattle.circuit_model.specs.Circuits.{same_slot, listener, is_idle, is_member, heard_by, unless_naming};
 ghost use Rattle.circuit_model.specs.Holding.{Holding, empty, Command, Connect, Seat, Give_tone, Clear, Frame, after, after_all, frames, circuits_of, naming, Valid, IsAllowed, AreAllowed};
 ghost use Rattle.circuit_model.specs.Examples.{first};
 
@@ -36,9 +36,10 @@ pub fn law_of_idle_slots()
     ensures deaf { (bridges : ℕ) (h : Holding) (x : Slot) → Valid bridges h → IsTrue (is_idle h.circuits x) ↔ (heard_by h.circuits x ≡ None) }
 {}
 
-/// In a valid holding a slot hears by one circuit at most, whatever the order in which they are
+/// What a slot hears by stands and is for it. In a valid holding a slot hears by one circuit at most, whatever the order in which they are
 /// listed, and where a slot hears another one, that one hears it, since the same frame.
 pub fn law_of_one_circuit()
+    ensures stands { (circuits : List Circuit) (x : Slot) (c : Circuit) → heard_by circuits x ≡ Some c → Contains circuits c × (listener c ≡ x) }
     ensures alone { (bridges : ℕ) (h : Holding) (c : Circuit) → Valid bridges h → Contains h.circuits c → heard_by h.circuits (listener c) ≡ Some c }
     ensures mutual { (bridges : ℕ) (h : Holding) (x y : Slot) (since : ℕ) → Valid bridges h → heard_by h.circuits x ≡ Some (Pair y x since) → heard_by h.circuits y ≡ Some (Pair x y since) }
 {}
@@ -59,4 +60,14 @@ pub fn law_of_frames()
     ensures boundary { (h : Holding) (cs : List Command) → frames h (cs ++ Frame ∷ []) ≡ frames h cs ++ (after_all h cs).circuits ∷ [] }
     ensures command { (h : Holding) (cs : List Command) (c : Command) → ¬ (c ≡ Frame) → frames h (cs ++ c ∷ []) ≡ frames h cs }
     ensures count { (cs : List Command) → length (frames empty cs) ≡ (after_all empty cs).next }
+{}
+
+/// How many members there are after a command: a seat is one more, clearing a member one fewer, and
+/// nothing else changes their number.
+pub fn law_of_seats()
+    ensures connect { (h : Holding) (x y : Slot) → count_by is_member (after h (Connect x y)).circuits ≡ count_by is_member h.circuits }
+    ensures seat { (h : Holding) (x : Slot) (room : ℕ) → count_by is_member (after h (Seat x room)).circuits ≡ count_by is_member h.circuits + 1 }
+    ensures tone { (h : Holding) (x : Slot) (kind : Kind) → count_by is_member (after h (Give_tone x kind)).circuits ≡ count_by is_member h.circuits }
+    ensures clear_member { (bridges : ℕ) (h : Holding) (x : Slot) (room since : ℕ) → Valid bridges h → heard_by h.circuits x ≡ Some (Member room x since) → count_by is_member (after h (Clear x)).circuits + 1 ≡ count_by is_member h.circuits }
+    ensures clear_other { (bridges : ℕ) (h : Holding) (x : Slot) → Valid bridges h → ((room since : ℕ) → ¬ (heard_by h.circuits x ≡ Some (Member room x since))) → count_by is_member (after h (Clear x)).circuits ≡ count_by is_member h.circuits }
 {}

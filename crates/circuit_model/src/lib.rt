@@ -12,7 +12,7 @@ mod laws;
 pub use channel::{PLACES, Slot, channel_of, slot_of_channel};
 pub use circuit::{Circuit, IDLE, Kind};
 pub use holding_laws::{
-    law_of_commands, law_of_frames, law_of_idle_slots, law_of_one_circuit, law_of_validity,
-    worked_holdings,
+    law_of_commands, law_of_frames, law_of_idle_slots, law_of_one_circuit, law_of_seats,
+    law_of_validity, worked_holdings,
 };
 pub use laws::{law_of_age, worked_edges, worked_frames, worked_values};
