@@ -1,14 +1,16 @@
 ghost use Rattle.std.specs.Prelude.{◌≡◌, ◌<◌};
 
-use std::alloc::{AllocError, Global};
-
 use circuit_model::{IDLE, PLACES, Slot};
 use control_memory::Image;
 use frame_buffer::{Crossed, FrameBuffer, Highway};
+use std::alloc::{AllocError, Global};
 
 const EXTERNAL: u8 = 30;
+
 const BRIDGES: u8 = 4;
+
 const LINES: u8 = 34;
+
 const SLOTS: u8 = 59;
 
 /// Carries so many pairs of frames to and fro between two buffers, over a fabric in which every

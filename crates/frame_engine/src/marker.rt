@@ -38,13 +38,7 @@ impl Carrier for Marker {
         })
     }
 
-    fn frame(
-        &mut self,
-        _: &mut Image,
-        _: &Tones,
-        _: &[Option<[u8; 30]>],
-        out: &mut [[u8; 30]],
-    ) {
+    fn frame(&mut self, _: &mut Image, _: &Tones, _: &[Option<[u8; 30]>], out: &mut [[u8; 30]]) {
         fill(out, (self.next % 256) as u8);
         self.next += 1;
     }
