@@ -21,9 +21,12 @@ pub record World : Type 0 where
 abbrev pub start : World
 start = record { holding = empty; inputs = []; held = [] }
 
--- a slot is idle where no circuit names it
+-- a slot is nailed where a circuit names it, and else it is idle
+abbrev pub is_nailed : List Circuit → Slot → Bool
+is_nailed circuits x = list_any (names x) circuits
+
 abbrev pub is_idle : List Circuit → Slot → Bool
-is_idle circuits x = not (list_any (names x) circuits)
+is_idle circuits x = not (is_nailed circuits x)
 
 -- two slots can be nailed together where both are idle
 abbrev pub can_nail : World → Slot → Slot → Bool

@@ -46,7 +46,7 @@ returns-in_err-report_event-clause-begun g c =
     let found : slice_get c.args.trace.now.events c.loop-index.index ≡ Some c.event-item.result =
       rw (← c.as_slice-event-items.ensures) (slice_get_read _ _ _ _ refl c.loop-index-test.true c.event-item.is) in
     on_err c.from_residual-in_err-report_event.result
-    (begun_event c.args.trace.now c.loop-index.index c.event-item.result _ _ c.loop-index.text.items _ _ found inv.order c.push_reserved.ensures.items inv.text)
+    (begun_event c.args.trace.now c.loop-index.index c.event-item.result (g.K.Sink.written c.args.sink.now) (g.K.Sink.written c.loop-index.sink) c.loop-index.text.items c.loop-index.order.items c.push_reserved.new.self.items found inv.order c.push_reserved.ensures.items inv.text)
 
 pub returns-in_err-flush_full-clause-begun : goal.returns-in_err-flush_full-clause-begun
 returns-in_err-flush_full-clause-begun g c =
