@@ -1,5 +1,6 @@
 -- What a circuit names and who hears it. Source: this exchange's own.
-use Rattle.std.specs.Prelude.{ℕ, ◌&&◌, ◌||◌, Bool, true, false, ◌==◌, List, Option, find}
+use Rattle.std.specs.Prelude.{ℕ, ◌&&◌, ◌||◌, not, Bool, true, false, ◌==◌, List, Option, Some, None, find, if◌then◌else◌}
+use Rattle.std.specs.List.{list_any}
 use Rattle.circuit_model.specs.declared.channel.Slot.{Slot}
 use Rattle.circuit_model.specs.declared.circuit.Circuit.{Circuit}
 use Rattle.circuit_model.specs.declared.circuit.Circuit.TheVariants.{Pair, Member, Tone}
@@ -25,6 +26,10 @@ names x (Pair from to since) = same_slot x from || same_slot x to
 names x (Member room at since) = same_slot x at
 names x (Tone kind to since) = same_slot x to
 
+-- no circuit names the slot
+abbrev pub is_idle : List Circuit → Slot → Bool
+is_idle circuits x = not (list_any (names x) circuits)
+
 abbrev pub is_member : Circuit → Bool
 is_member (Pair from to since) = false
 is_member (Member room at since) = true
@@ -33,3 +38,8 @@ is_member (Tone kind to since) = false
 -- the circuit by which a slot hears
 abbrev pub heard_by : List Circuit → Slot → Option Circuit
 heard_by circuits x = find (λ c. same_slot x (listener c)) circuits
+
+-- a circuit, unless it names the slot
+abbrev pub unless_naming : Slot → Option Circuit → Option Circuit
+unless_naming x None = None
+unless_naming x (Some c) = if names x c then None else Some c

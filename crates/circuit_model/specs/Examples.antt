@@ -1,5 +1,5 @@
 -- Small worked exchanges, on which the definitions are evaluated. Each line sends on its first bearer channel alone.
-use Rattle.std.specs.Prelude.{ℕ, List, [], ◌∷◌, Some, map}
+use Rattle.std.specs.Prelude.{ℕ, List, [], ◌∷◌, Some, None, map}
 use Rattle.circuit_model.specs.declared.channel.Slot.{Slot}
 use Rattle.circuit_model.specs.declared.circuit.Kind.{Kind}
 use Rattle.circuit_model.specs.declared.circuit.Kind.TheVariants.{Ringback, Busy}
@@ -59,6 +59,41 @@ soft_lines = sent (0x11 ∷ 0x91 ∷ []) ∷ sent (0x12 ∷ 0x92 ∷ []) ∷ sen
 -- ringing tone from frame 1 on, and silence from frame 5 on
 abbrev pub a_tone : List Command
 a_tone = Frame ∷ Give_tone (first 0) Ringback ∷ Frame ∷ Frame ∷ Frame ∷ Frame ∷ Clear (first 0) ∷ Frame ∷ []
+
+-- a connection made when two frames have passed
+abbrev pub a_late_connection : List Command
+a_late_connection = Frame ∷ Frame ∷ Connect (first 0) (first 1) ∷ Frame ∷ Frame ∷ Frame ∷ []
+
+-- a connection taken down and made anew between frames 1 and 2
+abbrev pub a_renewed_connection : List Command
+a_renewed_connection = Connect (first 0) (first 1) ∷ Frame ∷ Frame ∷ Clear (first 1) ∷ Connect (first 0) (first 1) ∷ Frame ∷ Frame ∷ Frame ∷ []
+
+-- line 0 sends nothing in frame 1, line 1 nothing at all
+abbrev pub quiet_lines : List Input
+quiet_lines = sent (0x01 ∷ []) ∷ (None ∷ None ∷ []) ∷ sent (0x03 ∷ []) ∷ []
+
+-- two members from the first frame on, and a third who joins before frame 3 and leaves before frame 8
+abbrev pub a_changing_room : List Command
+a_changing_room = Seat (first 0) 0 ∷ Seat (first 1) 0 ∷ Frame ∷ Frame ∷ Frame ∷ Seat (first 2) 0 ∷ Frame ∷ Frame ∷ Frame ∷ Frame ∷ Frame ∷ Clear (first 2) ∷ Frame ∷ Frame ∷ Frame ∷ []
+
+-- line 0 sends the value 3 and line 1 the value -1 all the time, line 2 in turn 1, 3, 5, 7, 9, 11, ..
+abbrev pub counting_lines : List Input
+counting_lines = map (λ octet. sent (0xD4 ∷ 0x55 ∷ octet ∷ [])) (0xD5 ∷ 0xD4 ∷ 0xD7 ∷ 0xD6 ∷ 0xD1 ∷ 0xD0 ∷ 0xD3 ∷ 0xD2 ∷ 0xDD ∷ [])
+
+-- members of two rooms
+abbrev pub two_rooms : List Command
+two_rooms = Seat (first 0) 5 ∷ Seat (first 1) 6 ∷ Frame ∷ Frame ∷ Frame ∷ Frame ∷ Frame ∷ Frame ∷ []
+
+-- four members of one room, of whom two send the highest value and one the lowest
+abbrev pub a_full_room : List Command
+a_full_room = Seat (first 0) 0 ∷ Seat (first 1) 0 ∷ Seat (first 2) 0 ∷ Seat (first 3) 0 ∷ Frame ∷ Frame ∷ Frame ∷ Frame ∷ Frame ∷ []
+
+abbrev pub loud_and_low : List Input
+loud_and_low = sent (0xD5 ∷ 0xAA ∷ 0xAA ∷ 0x2A ∷ []) ∷ []
+
+-- a tone of one octet, and another one given in its place between frames 1 and 2
+abbrev pub two_tones : List Command
+two_tones = Give_tone (first 0) Busy ∷ Frame ∷ Frame ∷ Clear (first 0) ∷ Give_tone (first 0) Ringback ∷ Frame ∷ Frame ∷ Clear (first 0) ∷ Give_tone (first 0) Ringback ∷ Frame ∷ Frame ∷ []
 
 -- what a line hears in frames 0, 1, ..
 abbrev pub heard : List Input → List Command → ℕ → List ℕ → List ℕ

@@ -1,11 +1,11 @@
 -- The circuits that stand, and what the commands make of them. Source: this exchange's own; the terms connection, room member and tone
 -- are those of circuit switching (ITU-T Q.9).
-use Rattle.std.specs.Prelude.{◌≡◌, ℕ, ◌+◌, ◌*◌, ◌≤◌, ◌⊎◌, not, List, [], ◌∷◌, ◌++◌, filter, All, count_by, slice_index_or}
+use Rattle.std.specs.Prelude.{◌≡◌, ℕ, ◌+◌, ◌*◌, ◌≤◌, ◌<◌, ◌⊎◌, IsTrue, not, List, [], ◌∷◌, ◌++◌, filter, All, count_by, slice_index_or}
 use Rattle.circuit_model.specs.declared.channel.Slot.{Slot}
 use Rattle.circuit_model.specs.declared.circuit.Kind.{Kind}
 use Rattle.circuit_model.specs.declared.circuit.Circuit.{Circuit}
 use Rattle.circuit_model.specs.declared.circuit.Circuit.TheVariants.{Pair, Member, Tone}
-use Rattle.circuit_model.specs.Circuits.{names, is_member, since_of}
+use Rattle.circuit_model.specs.Circuits.{names, is_idle, is_member, since_of}
 
 -- the circuits that stand, a list that is read as a set, and the number of the next frame
 pub record Holding : Type 0 where
@@ -64,3 +64,16 @@ pub record Valid (bridges : ℕ) (h : Holding) : Type 0 where
   pub young : All (λ c. since_of c ≤ h.next) h.circuits
   pub seated : count_by is_member h.circuits ≤ 30 * bridges
   pub standing : (x : Slot) → Stands h.circuits x
+
+-- what a command asks of the holding that it acts on: idle slots, two different ones for a connection, and a free port for a member
+abbrev pub IsAllowed : ℕ → Holding → Command → Type 0
+IsAllowed bridges h (Connect x y) = ¬ (x ≡ y) × IsTrue (is_idle h.circuits x) × IsTrue (is_idle h.circuits y)
+IsAllowed bridges h (Seat x room) = IsTrue (is_idle h.circuits x) × (count_by is_member h.circuits < 30 * bridges)
+IsAllowed bridges h (Give_tone x kind) = IsTrue (is_idle h.circuits x)
+IsAllowed bridges h (Clear x) = Unit {0}
+IsAllowed bridges h Frame = Unit {0}
+
+-- each of the commands is allowed where its turn comes
+abbrev pub AreAllowed : ℕ → Holding → List Command → Type 0
+AreAllowed bridges h [] = Unit {0}
+AreAllowed bridges h (c ∷ cs) = IsAllowed bridges h c × AreAllowed bridges (after h c) cs

@@ -5,3 +5,4 @@ pub mod Circuits
 pub mod Holding
 pub mod Hears
 pub mod Examples
+pub mod Ports

@@ -1,9 +1,10 @@
-ghost use Rattle.std.specs.Prelude.{◌≡◌, ◌<◌, ◌-◌, ℕ, List, [], ◌∷◌, map, pos, negsuc, Contains};
+ghost use Rattle.std.specs.Prelude.{◌≡◌, ◌<◌, ◌-◌, ℕ, List, [], ◌∷◌, length, map, pos, negsuc, slice_index, Contains};
 ghost use Rattle.circuit_model.specs.declared.circuit.Circuit.{Circuit};
 ghost use Rattle.circuit_model.specs.Circuits.{since_of};
 ghost use Rattle.circuit_model.specs.Holding.{Command, empty, frames, circuits_of};
-ghost use Rattle.circuit_model.specs.ALaw.{expand, compress};
-ghost use Rattle.circuit_model.specs.Examples.{heard, a_connection, two_lines, a_reused_slot, three_lines, a_room, loud_lines, alone, a_pair_of_members, soft_lines, a_tone};
+ghost use Rattle.circuit_model.specs.ALaw.{decision_values, expand, compress};
+ghost use Rattle.circuit_model.specs.Hears.{hears};
+ghost use Rattle.circuit_model.specs.Examples.{first, heard, a_connection, two_lines, a_reused_slot, three_lines, a_room, loud_lines, alone, a_pair_of_members, soft_lines, a_tone, a_late_connection, a_renewed_connection, quiet_lines, a_changing_room, counting_lines, two_rooms, a_full_room, loud_and_low, two_tones};
 
 /// The law of age: after any commands, a circuit that stands in frame `f` since an earlier frame
 /// stood in frame `f - 1` too.
@@ -29,9 +30,31 @@ pub fn worked_frames()
     ensures tone { heard [] a_tone 0 (0 ∷ 1 ∷ 2 ∷ 3 ∷ 4 ∷ 5 ∷ []) ≡ 0xD5 ∷ 0x11 ∷ 0x22 ∷ 0x33 ∷ 0x11 ∷ 0xD5 ∷ [] }
 {}
 
-/// The A-law definitions, evaluated: the ends of the first interval and of the last, zero, ties,
-/// and values beyond the last decision value.
+/// Edges of the definitions of what a slot hears: connections made late or anew, lines that send
+/// nothing, members who come and go while the others stay, and sums whose parts pass the highest
+/// value though the whole does not.
+///
+/// A newcomer hears the room two frames after taking the seat, and is heard four frames after it;
+/// what a member sent before leaving is still heard for two frames, since it is mixed already. A
+/// member whose line sends nothing counts as the idle octet, whose value is 1.
+pub fn worked_edges()
+    ensures late { heard two_lines a_late_connection 1 (0 ∷ 1 ∷ 2 ∷ 3 ∷ 4 ∷ []) ≡ 0xD5 ∷ 0xD5 ∷ 0xD5 ∷ 0xD5 ∷ 0x03 ∷ [] }
+    ensures renewed { heard two_lines a_renewed_connection 1 (0 ∷ 1 ∷ 2 ∷ 3 ∷ 4 ∷ []) ≡ 0xD5 ∷ 0xD5 ∷ 0xD5 ∷ 0xD5 ∷ 0x03 ∷ [] }
+    ensures quiet { heard quiet_lines a_connection 1 (0 ∷ 1 ∷ 2 ∷ 3 ∷ 4 ∷ []) ≡ 0xD5 ∷ 0xD5 ∷ 0x01 ∷ 0xD5 ∷ 0x03 ∷ [] }
+    ensures quiet_members { heard quiet_lines a_room 2 (4 ∷ 5 ∷ []) ≡ 0x01 ∷ 0xD4 ∷ [] }
+    ensures stayed { heard counting_lines a_changing_room 0 (6 ∷ 7 ∷ 8 ∷ 9 ∷ 10 ∷ []) ≡ 0x55 ∷ 0xD6 ∷ 0xD1 ∷ 0xD0 ∷ 0x55 ∷ [] }
+    ensures newcomer { heard counting_lines a_changing_room 2 (4 ∷ 5 ∷ 6 ∷ 7 ∷ 8 ∷ []) ≡ 0xD5 ∷ 0xD4 ∷ 0xD4 ∷ 0xD4 ∷ 0xD5 ∷ [] }
+    ensures apart { heard soft_lines two_rooms 0 (3 ∷ 4 ∷ 5 ∷ []) ≡ 0xD5 ∷ 0xD5 ∷ 0xD5 ∷ [] }
+    ensures once { heard loud_and_low a_full_room 0 (4 ∷ []) ≡ 0xAA ∷ [] }
+    ensures no_octets { hears (λ kind. []) [] (frames empty a_tone) 1 (first 0) ≡ 0xD5 }
+    ensures tones { heard [] two_tones 0 (0 ∷ 1 ∷ 2 ∷ 3 ∷ 4 ∷ 5 ∷ []) ≡ 0x44 ∷ 0x44 ∷ 0x11 ∷ 0x22 ∷ 0x11 ∷ 0x22 ∷ [] }
+{}
+
+/// The A-law definitions, evaluated: how many decision values there are and the last of them, the
+/// ends of the first interval and of the last, zero, ties, and values beyond the last decision value.
 pub fn worked_values()
+    ensures count { length decision_values ≡ 129 }
+    ensures last { slice_index decision_values 128 ≡ 4096 }
     ensures values { map expand (0xD5 ∷ 0x55 ∷ 0xAA ∷ 0x2A ∷ []) ≡ pos 1 ∷ negsuc 0 ∷ pos 4032 ∷ negsuc 4031 ∷ [] }
     ensures zero { compress (pos 0) ≡ 0xD5 }
     ensures below_tie { compress (pos 63) ≡ 0xCA }

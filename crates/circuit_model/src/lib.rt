@@ -6,8 +6,13 @@
 
 mod channel;
 mod circuit;
+mod holding_laws;
 mod laws;
 
 pub use channel::{PLACES, Slot, channel_of, slot_of_channel};
 pub use circuit::{Circuit, IDLE, Kind};
-pub use laws::{law_of_age, worked_frames, worked_values};
+pub use holding_laws::{
+    law_of_commands, law_of_frames, law_of_idle_slots, law_of_one_circuit, law_of_seats,
+    law_of_validity, worked_holdings,
+};
+pub use laws::{law_of_age, worked_edges, worked_frames, worked_values};

@@ -1,1 +1,3 @@
 pub mod Delay
+pub mod Speech
+pub mod Highways

@@ -1,6 +1,13 @@
 //! The speech memories of the exchange: where the octets of a frame stand between two steps.
 #![tactic(auto)]
 
+mod crossed;
 mod delay_line;
+mod grid;
+mod highway;
+mod memory;
 
+pub use crossed::Crossed;
 pub use delay_line::DelayLine;
+pub use highway::Highway;
+pub use memory::FrameBuffer;

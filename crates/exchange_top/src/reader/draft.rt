@@ -24,7 +24,7 @@ impl Draft {
     ghost use Rattle.exchange_top.specs.TraceGrammar.{ended, IsTold};
     ghost use Rattle.exchange_top.specs.TraceDraft.{Holds, Suits, FailsAtEnd};
 
-    /// Of no lines.
+    /// The draft of no lines.
     pub fn new(alloc: Global) -> Draft
         ensures { Holds result [] }
     {

@@ -29,3 +29,11 @@ returns-clause-beyond c = refl
 pub returns-clause-beyond_below : goal.returns-clause-beyond_below
 unfolding decision_values
 returns-clause-beyond_below c = refl
+
+pub returns-clause-count : goal.returns-clause-count
+unfolding decision_values
+returns-clause-count c = refl
+
+pub returns-clause-last : goal.returns-clause-last
+unfolding decision_values
+returns-clause-last c = refl

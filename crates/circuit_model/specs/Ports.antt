@@ -1,0 +1,52 @@
+-- The ports of the conference bridges, and which member has which. Source: this exchange's own.
+use Rattle.std.specs.Prelude.{ℕ, ◌+◌, ◌*◌, ◌/◌, ◌%◌, Bool, false, List, [], ◌∷◌, map, replicate, Option, Some, None, option_map, position, if◌then◌else◌}
+use Rattle.circuit_model.specs.declared.channel.Slot.{Slot}
+use Rattle.circuit_model.specs.Circuits.{same_slot}
+use Rattle.circuit_model.specs.Holding.{Command, Connect, Seat, Give_tone, Clear, Frame}
+
+-- for each port, by line and then by place, the member that has it
+abbrev pub Ports : Type 0
+Ports = List (Option Slot)
+
+-- thirty ports to a bridge line, all free
+abbrev pub free_ports : ℕ → Ports
+free_ports bridges = replicate (30 * bridges) None
+
+-- the lowest free port is given to the member
+abbrev pub given : Slot → Ports → Ports
+given x [] = []
+given x (None ∷ ports) = Some x ∷ ports
+given x (Some member ∷ ports) = Some member ∷ given x ports
+
+abbrev pub has : Slot → Option Slot → Bool
+has x None = false
+has x (Some member) = same_slot x member
+
+-- the member's port is free again
+abbrev pub returned : Slot → Ports → Ports
+returned x ports = map (λ port. if has x port then None else port) ports
+
+-- what a command makes of the ports
+abbrev pub ports_after : Ports → Command → Ports
+ports_after ports (Connect x y) = ports
+ports_after ports (Seat x room) = given x ports
+ports_after ports (Give_tone x kind) = ports
+ports_after ports (Clear x) = returned x ports
+ports_after ports Frame = ports
+
+-- the ports of each frame: as they were at its boundary
+abbrev pub port_frames : Ports → List Command → List Ports
+port_frames ports [] = []
+port_frames ports (Connect x y ∷ cs) = port_frames ports cs
+port_frames ports (Seat x room ∷ cs) = port_frames (given x ports) cs
+port_frames ports (Give_tone x kind ∷ cs) = port_frames ports cs
+port_frames ports (Clear x ∷ cs) = port_frames (returned x ports) cs
+port_frames ports (Frame ∷ cs) = ports ∷ port_frames ports cs
+
+-- bridge lines are numbered behind the external ones
+abbrev pub port_numbered : ℕ → ℕ → Slot
+port_numbered external n = record { line = external + n / 30; place = n % 30 }
+
+-- the port that a member has
+abbrev pub port_of : ℕ → Ports → Slot → Option Slot
+port_of external ports x = option_map (port_numbered external) (position (has x) ports)

@@ -1,0 +1,41 @@
+-- Who has which port of the conference bridges. Source: this exchange's own.
+use Rattle.std.specs.Prelude.{ℕ, ◌+◌, ◌-◌, ◌*◌, ◌<◌, ◌≤◌, List, [], ◌∷◌, map, Option, Some, None, if◌then◌else◌}
+use Rattle.circuit_model.specs.declared.channel.Slot.{Slot}
+use Rattle.circuit_model.specs.Ports.{Ports, has}
+use Rattle.conference_ports.specs.declared.owner.Owner.{Owner}
+
+-- the ports of so many bridge lines, which are numbered behind the external lines: for each port, by line and then by place, its owner
+pub record Bridges : Type 0 where
+  pub external : ℕ
+  pub lines : ℕ
+  pub owners : List (Option Owner)
+
+-- the member of an owned port
+abbrev pub member_of : Option Owner → Option Slot
+member_of None = None
+member_of (Some owner) = Some owner.member
+
+-- which member has which port
+abbrev pub members : List (Option Owner) → Ports
+members owners = map member_of owners
+
+-- the number of a port among all ports
+abbrev pub port_number : ℕ → Slot → ℕ
+port_number external port = 30 * (port.line - external) + port.place
+
+-- a member has the slot of an external line, a port that of a bridge line
+abbrev pub IsMember : Bridges → Slot → Type 0
+IsMember b at = (at.line < b.external) × (at.place < 30)
+
+abbrev pub IsPort : Bridges → Slot → Type 0
+IsPort b at = (b.external ≤ at.line) × (at.line < b.external + b.lines) × (at.place < 30)
+
+-- the lowest free port gets an owner
+abbrev pub owned : Owner → List (Option Owner) → List (Option Owner)
+owned owner [] = []
+owned owner (None ∷ owners) = Some owner ∷ owners
+owned owner (Some other ∷ owners) = Some other ∷ owned owner owners
+
+-- the ports of a member have no owner any more
+abbrev pub disowned : Slot → List (Option Owner) → List (Option Owner)
+disowned x owners = map (λ port. if has x (member_of port) then None else port) owners

@@ -1,0 +1,151 @@
+ghost use Rattle.std.specs.Prelude.{◌≡◌, ◌≢◌, ◌+◌, ◌*◌, ◌<◌, ◌≤◌, ℕ, None, Some, IfOk, is_none, position, replicate, option_map, slice_index_or};
+ghost use Rattle.circuit_model.specs.Ports.{port_numbered, port_of as port_of_member, given, returned};
+ghost use Rattle.conference_ports.specs.Owners.{Bridges, IsMember, IsPort, members, owned, disowned, port_number};
+ghost use Rattle.conference_ports.specs.declared.owner.Owner.{Owner};
+
+use crate::owner::Owner;
+use circuit_model::Slot;
+use std::alloc::{AllocError, Global};
+use std::marker::Model;
+
+/// The ports of all bridge lines, and which member has which.
+///
+/// Contracts see the list of owners, port by port. Finding a member's port and a port's owner is
+/// one look into a table.
+#[derive(Drop)]
+pub struct Ports {
+    external: u8,
+    lines: u8,
+    // Each port's owner.
+    owners: Vec<Option<Owner>>,
+    // Each external slot's port.
+    ports: Vec<Option<u16>>,
+}
+
+impl Model for Ports {
+    ghost use Rattle.conference_ports.specs.Owners.{Bridges};
+    ghost use Rattle.conference_ports.specs.Indexed.{IsIndexed};
+
+    ghost Value = { Bridges };
+
+    ghost view = { λ p. record { external = p.external; lines = p.lines; owners = p.owners.items } };
+
+    ghost invariant = { λ p. IsIndexed p.external p.lines p.owners.items p.ports.items };
+}
+
+impl Ports {
+    /// All ports free: thirty on each of so many bridge lines, which are numbered from
+    /// `first_line` on, behind the external lines.
+    pub fn new(alloc: Global, first_line: u8, lines: u8) -> Result<Ports, AllocError>
+        requires { first_line + lines ≤ 34 }
+        ensures external { IfOk result (λ p. p.external ≡ first_line) }
+        ensures lines { IfOk result (λ p. p.lines ≡ lines) }
+        ensures free { IfOk result (λ p. p.owners ≡ replicate (30 * lines) None) }
+    {
+        Ok(Ports {
+            external: first_line,
+            lines,
+            owners: vec![in alloc; None; usize::from(lines) * 30]?,
+            ports: vec![in alloc; None; usize::from(first_line) * 30]?,
+        })
+    }
+
+    /// Gives the member the lowest free port by line, then place. `None` exactly where every port
+    /// is taken; then nothing changes.
+    pub fn take(&mut self, room: u8, member: Slot) -> Option<Slot>
+        requires external { IsMember self.old member }
+        requires portless { port_of_member self.old.external (members self.old.owners) member ≡ None }
+        ensures lowest { result ≡ option_map (port_numbered self.old.external) (position is_none self.old.owners) }
+        ensures owners { self.new.owners ≡ owned (record { room = room; member = member }) self.old.owners }
+        ensures members { members self.new.owners ≡ given member (members self.old.owners) }
+        ensures sizes { (self.new.external ≡ self.old.external) × (self.new.lines ≡ self.old.lines) }
+    {
+        let Some(port) = lowest_free(&self.owners) else {
+            return None;
+        };
+        self.owners[port] = Some(Owner { room, member });
+        self.ports[member_index(member)] = Some(port as u16);
+        Some(port_at(self.external, port))
+    }
+
+    /// Takes the member's port back.
+    pub fn give(&mut self, member: Slot)
+        requires external { IsMember self.old member }
+        requires ported { port_of_member self.old.external (members self.old.owners) member ≢ None }
+        ensures owners { self.new.owners ≡ disowned member self.old.owners }
+        ensures members { members self.new.owners ≡ returned member (members self.old.owners) }
+        ensures sizes { (self.new.external ≡ self.old.external) × (self.new.lines ≡ self.old.lines) }
+    {
+        let index = member_index(member);
+        if let Some(port) = self.ports[index] {
+            self.owners[usize::from(port)] = None;
+            self.ports[index] = None;
+        }
+    }
+
+    /// The member's port. `None` exactly where the member has none.
+    pub fn port_of(&self, member: Slot) -> Option<Slot>
+        requires { IsMember self.now member }
+        ensures { result ≡ port_of_member self.now.external (members self.now.owners) member }
+    {
+        let port = self.ports[member_index(member)]?;
+        Some(port_at(self.external, usize::from(port)))
+    }
+
+    /// The port's room and member. `None` exactly where the port is free.
+    pub fn room_of(&self, port: Slot) -> Option<(u8, Slot)>
+        requires { IsPort self.now port }
+        ensures { result ≡ option_map (λ owner. (owner.room, owner.member)) (slice_index_or self.now.owners (port_number self.now.external port) None) }
+    {
+        let number = usize::from(port.line - self.external) * 30 + usize::from(port.place);
+        let owner = self.owners[number]?;
+        Some((owner.room, owner.member))
+    }
+}
+
+// The number of the lowest free port.
+fn lowest_free(owners: &[Option<Owner>]) -> Option<usize>
+    ensures { result ≡ position is_none owners.now }
+{
+    owners.iter().position(|owner| owner.is_none())
+}
+
+// Where an external slot's port stands in the index.
+fn member_index(member: Slot) -> usize
+    ensures { result ≡ 30 * member.line + member.place }
+{
+    30 * usize::from(member.line) + usize::from(member.place)
+}
+
+// The slot of a port with this number among all ports.
+fn port_at(external: u8, number: usize) -> Slot
+    requires lines { external ≤ 34 }
+    requires number { number < 1020 }
+    ensures { result ≡ port_numbered external number }
+{
+    Slot {
+        line: external + (number / 30) as u8,
+        place: (number % 30) as u8,
+    }
+}
+
+#[cfg(test)]
+mod tests {
+    use super::Ports;
+    use circuit_model::Slot;
+    use std::alloc::AllocError;
+
+    #[test]
+    fn a_port_given_back_is_given_again(rt: HostRuntime) -> Result<(), AllocError> {
+        let member = Slot { line: 0, place: 7 };
+        let other = Slot { line: 2, place: 29 };
+        let mut ports = Ports::new(rt.alloc(), 3, 2)?;
+        assert_eq!(rt; ports.take(5, member), Some(Slot { line: 3, place: 0 }));
+        assert_eq!(rt; ports.port_of(member), Some(Slot { line: 3, place: 0 }));
+        assert!(rt; ports.room_of(Slot { line: 3, place: 0 }) == Some((5, member)));
+        ports.give(member);
+        assert!(rt; ports.port_of(member).is_none());
+        assert_eq!(rt; ports.take(63, other), Some(Slot { line: 3, place: 0 }));
+        Ok(())
+    }
+}

@@ -1,0 +1,31 @@
+-- What a time-space-time fabric does to the octets of one frame. Source: this exchange's own.
+use Rattle.std.specs.Prelude.{◌≡◌, ℕ, ◌<◌, Option, Some, None}
+use Rattle.circuit_model.specs.declared.channel.Slot.{Slot}
+use Rattle.circuit_model.specs.FrameInput.{idle_octet}
+use Rattle.control_memory.specs.Layout.{Path, Layout, path_out, path_to}
+
+-- the octet of the place, line or slot that a control table names, and the idle octet where it names none
+abbrev pub fetched : Option ℕ → (ℕ → ℕ) → ℕ
+fetched None octet = idle_octet
+fetched (Some n) octet = octet n
+
+-- the octet of the inlet of a path, and the idle octet where there is no path
+abbrev pub from_inlet : Option Path → (Slot → ℕ) → ℕ
+from_inlet None octet = idle_octet
+from_inlet (Some p) octet = octet p.from
+
+-- the octet that an outgoing line gets in an internal slot: that of the inlet of its path there
+abbrev pub crossing : Layout → (Slot → ℕ) → ℕ → ℕ → ℕ
+crossing layout octet line slot = from_inlet (path_out layout line slot) octet
+
+-- the octet that an outlet gets: that of the inlet of its path
+abbrev pub carried : Layout → (Slot → ℕ) → Slot → ℕ
+carried layout octet at = from_inlet (path_to layout at) octet
+
+-- so many lines send in so many internal slots what their table names of the octets in their places
+abbrev pub SendsBy : ℕ → ℕ → (ℕ → ℕ → Option ℕ) → (Slot → ℕ) → (ℕ → ℕ → ℕ) → Type 0
+SendsBy lines slots places octet highway = (line slot : ℕ) → line < lines → slot < slots → highway line slot ≡ fetched (places line slot) (λ place. octet (record { line = line; place = place }))
+
+-- so many lines hold in so many internal slots what the layout brings them
+abbrev pub HoldsCrossing : ℕ → ℕ → Layout → (Slot → ℕ) → (ℕ → ℕ → ℕ) → Type 0
+HoldsCrossing lines slots layout octet crossed = (line slot : ℕ) → line < lines → slot < slots → crossed line slot ≡ crossing layout octet line slot

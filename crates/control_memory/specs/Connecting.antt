@@ -1,0 +1,91 @@
+-- How a path joins a layout: in the lowest common slot, or after live paths are moved along an alternating chain of two slots. Source:
+-- M. C. Paull, "Reswitching of connection networks", Bell System Technical Journal 41 (1962); the Slepian-Duguid theorem says that as many
+-- internal slots as a line has places are enough. In graph terms the chain is Kempe's.
+use Rattle.std.specs.Prelude.{ℕ, zero, suc, ◌+◌, ◌*◌, ◌&&◌, not, Bool, ◌==◌, is_none, List, [], ◌∷◌, Option, Some, None, unwrap_or, slice_set, find, if◌then◌else◌}
+use Rattle.std.specs.List.{range_with_len}
+use Rattle.circuit_model.specs.declared.channel.Slot.{Slot}
+use Rattle.circuit_model.specs.Circuits.{same_slot}
+use Rattle.control_memory.specs.Layout.{Hop, Path, Layout, number_of, path_in, path_out}
+
+-- the layout with a path from an inlet, in place of any that began there, and the layout with none
+abbrev pub with_path : Layout → Slot → Slot → ℕ → Layout
+with_path layout from to slot = slice_set layout (number_of from) (Some (record { to = to; slot = slot }))
+
+abbrev pub without_path : Layout → Slot → Layout
+without_path layout from = slice_set layout (number_of from) None
+
+-- an incoming line sends no path in the slot, an outgoing line gets none in it
+abbrev pub is_unsent : Layout → ℕ → ℕ → Bool
+is_unsent layout line slot = is_none (path_in layout line slot)
+
+abbrev pub is_unreceived : Layout → ℕ → ℕ → Bool
+is_unreceived layout line slot = is_none (path_out layout line slot)
+
+-- the lowest of so many slots that passes
+abbrev pub lowest : (ℕ → Bool) → ℕ → Option ℕ
+lowest test slots = find test (range_with_len 0 slots)
+
+-- the two ends of a path
+pub data Side : Type 0 where
+  Incoming : Side
+  Outgoing : Side
+
+abbrev pub across : Side → Side
+across Incoming = Outgoing
+across Outgoing = Incoming
+
+-- a line's path in a slot, seen from one side; and the line at the path's other end
+abbrev pub path_at : Layout → Side → ℕ → ℕ → Option Path
+path_at layout Incoming line slot = path_in layout line slot
+path_at layout Outgoing line slot = path_out layout line slot
+
+abbrev pub far_line : Side → Path → ℕ
+far_line Incoming p = p.to.line
+far_line Outgoing p = p.from.line
+
+-- the alternating chain of slots a and b: the line's path in a, then the path in b at its other end, then one in a again, and so on, for at
+-- most n paths
+abbrev pub chain : ℕ → Layout → Side → ℕ → ℕ → ℕ → List Path
+chain zero layout side line a b = []
+chain (suc n) layout side line a b = elim (path_at layout side line a) [ None ↦ [] | Some p ↦ p ∷ chain n layout (across side) (far_line side p) b a ]
+
+-- each path of the chain takes the other of the two slots
+abbrev pub exchanged : Layout → ℕ → ℕ → List Path → Layout
+exchanged layout a b [] = layout
+exchanged layout a b (p ∷ ps) = exchanged (with_path layout p.from p.to (if p.slot == a then b else a)) a b ps
+
+-- room is made for a path from incoming line i to outgoing line j where no slot is free in both: a is the lowest slot that line i leaves
+-- free, b the lowest that line j does, and the chain that starts at line j with a exchanges them. Then a is free in both
+abbrev pub exchange_for : ℕ → Layout → ℕ → ℕ → ℕ → Layout
+exchange_for lines layout j a b = exchanged layout a b (chain (2 * lines) layout Outgoing j a b)
+
+abbrev pub first_unsent : ℕ → Layout → ℕ → ℕ
+first_unsent slots layout i = unwrap_or (lowest (is_unsent layout i) slots) 0
+
+abbrev pub first_unreceived : ℕ → Layout → ℕ → ℕ
+first_unreceived slots layout j = unwrap_or (lowest (is_unreceived layout j) slots) 0
+
+abbrev pub connect_in : ℕ → ℕ → Layout → Slot → Slot → Option ℕ → Layout
+connect_in lines slots layout from to (Some slot) = with_path layout from to slot
+connect_in lines slots layout from to None =
+    let a = first_unsent slots layout from.line in
+    with_path (exchange_for lines layout to.line a (first_unreceived slots layout to.line)) from to a
+
+-- the lowest slot that is free in both lines
+abbrev pub common_slot : ℕ → Layout → ℕ → ℕ → Option ℕ
+common_slot slots layout i j = lowest (λ s. is_unsent layout i s && is_unreceived layout j s) slots
+
+-- the layout with a new path, on so many lines and internal slots
+abbrev pub connect : ℕ → ℕ → Layout → Slot → Slot → Layout
+connect lines slots layout from to = connect_in lines slots layout from to (common_slot slots layout from.line to.line)
+
+-- how many paths stand in both layouts in different slots
+abbrev pub is_moved : Option Hop → Option Hop → ℕ
+is_moved None other = 0
+is_moved (Some hop) None = 0
+is_moved (Some hop) (Some other) = if same_slot hop.to other.to && not (hop.slot == other.slot) then 1 else 0
+
+abbrev pub moved : Layout → Layout → ℕ
+moved [] after = 0
+moved (hop ∷ hops) [] = 0
+moved (hop ∷ hops) (other ∷ others) = is_moved hop other + moved hops others

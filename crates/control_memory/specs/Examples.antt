@@ -1,0 +1,24 @@
+-- Small fabrics, on which the definitions are evaluated.
+use Rattle.std.specs.Prelude.{ℕ, ◌+◌, ◌*◌, None, replicate, zero, suc}
+use Rattle.circuit_model.specs.declared.channel.Slot.{Slot}
+use Rattle.control_memory.specs.Layout.{Layout}
+use Rattle.control_memory.specs.Connecting.{connect}
+
+abbrev pub at : ℕ → ℕ → Slot
+at line place = record { line = line; place = place }
+
+abbrev pub bare : ℕ → Layout
+bare lines = replicate (30 * lines) None
+
+-- both ways between two slots, on thirty internal slots
+abbrev pub nailed : ℕ → Layout → Slot → Slot → Layout
+nailed lines layout x y = connect lines 30 (connect lines 30 layout x y) y x
+
+-- line 0 to the first half of line 2, line 1 to its second half, fifteen connections each
+abbrev pub halves : ℕ → Layout
+halves zero = bare 3
+halves (suc p) = nailed 3 (halves p) (at 0 p) (at 2 p)
+
+abbrev pub both_halves : ℕ → Layout
+both_halves zero = halves 15
+both_halves (suc p) = nailed 3 (both_halves p) (at 1 p) (at 2 (p + 15))

@@ -1,0 +1,77 @@
+-- The control memory of one frame. Source: this exchange's own.
+use Rattle.std.specs.Prelude.{◌≡◌, ℕ, ◌+◌, ◌*◌, ◌<◌, List, Option, None, slice_index_or}
+use Rattle.circuit_model.specs.declared.channel.Slot.{Slot}
+use Rattle.control_memory.specs.declared.heard.Heard.{Heard}
+use Rattle.control_memory.specs.declared.heard.Heard.TheVariants.{Silent}
+use Rattle.control_memory.specs.Layout.{Layout}
+use Rattle.control_memory.specs.Tables.{Table, HasSize, entry_in, HasTables, HasNoPaths}
+
+-- the tables of a frame's three stages, what each slot hears, and who sits in each conference port: line after line
+pub record Control : Type 0 where
+  pub frame : ℕ
+  pub external : ℕ
+  pub bridges : ℕ
+  pub slots : ℕ
+  pub incoming : List (Option ℕ)
+  pub space : List (Option ℕ)
+  pub outgoing : List (Option ℕ)
+  pub heard : List Heard
+  pub rooms : List (Option (ℕ × ℕ))
+
+-- all lines: the external ones, and behind them the bridge lines
+abbrev pub lines_of : Control → ℕ
+lines_of m = m.external + m.bridges
+
+-- the place that an incoming line sends in an internal slot
+abbrev pub sent : Control → ℕ → ℕ → Option ℕ
+sent m line slot = entry_in m.slots m.incoming line slot
+
+-- the incoming line that an outgoing line gets in an internal slot
+abbrev pub received : Control → ℕ → ℕ → Option ℕ
+received m line slot = entry_in m.slots m.space line slot
+
+-- the internal slot that a place of an outgoing line reads
+abbrev pub read : Control → ℕ → ℕ → Option ℕ
+read m line place = entry_in 30 m.outgoing line place
+
+-- the three tables are those of the layout, and hold nothing else
+abbrev pub HasLayout : Control → Layout → Type 0
+HasLayout m layout = HasTables (lines_of m) m.slots layout (sent m) (received m) (read m)
+
+abbrev pub IsCleared : Control → Type 0
+IsCleared m = HasNoPaths (lines_of m) m.slots (sent m) (received m) (read m)
+
+abbrev pub heard_at : Control → Slot → Heard
+heard_at m at = slice_index_or m.heard (at.line * 30 + at.place) Silent
+
+-- the room of a port's member, and since when it sits there
+abbrev pub room_at : Control → Slot → Option (ℕ × ℕ)
+room_at m at = slice_index_or m.rooms (at.line * 30 + at.place) None
+
+pub record SameSizes (a b : Control) : Type 0 where
+  pub external : a.external ≡ b.external
+  pub bridges : a.bridges ≡ b.bridges
+  pub slots : a.slots ≡ b.slots
+
+-- the three tables are as before
+pub record SameTables (a b : Control) : Type 0 where
+  pub incoming : a.incoming ≡ b.incoming
+  pub space : a.space ≡ b.space
+  pub outgoing : a.outgoing ≡ b.outgoing
+
+-- what is said of each slot of so many lines
+abbrev pub EachSlot : ℕ → (Slot → Type 0) → Type 0
+EachSlot lines Says = (at : Slot) → at.line < lines → at.place < 30 → Says at
+
+-- no slot hears anything, and no port is taken
+pub record IsQuiet (m : Control) : Type 0 where
+  pub heard : EachSlot (lines_of m) (λ at. heard_at m at ≡ Silent)
+  pub rooms : EachSlot (lines_of m) (λ at. room_at m at ≡ None)
+
+-- how large the parts of a control memory are: each table has a row for every line, and its numbers are places, lines and internal slots
+pub record IsSized (lines slots : ℕ) (places crossed read_slots : Table) (heard rooms : ℕ) : Type 0 where
+  pub incoming : HasSize places lines slots 30
+  pub space : HasSize crossed lines slots lines
+  pub outgoing : HasSize read_slots lines 30 slots
+  pub listeners : heard ≡ lines * 30
+  pub ports : rooms ≡ lines * 30

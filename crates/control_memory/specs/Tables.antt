@@ -1,0 +1,54 @@
+-- The control tables of a time-space-time fabric: which place, line or slot an octet is fetched from. Source: this exchange's own; each
+-- stage of a digital switch has its control memory.
+use Rattle.std.specs.Prelude.{◌≡◌, ℕ, ◌+◌, ◌*◌, ◌<◌, ◌&&◌, ◌==◌, List, Option, Some, None, slice_index_or, if◌then◌else◌}
+use Rattle.control_memory.specs.Layout.{Layout, place_sent, line_received, slot_read}
+
+-- a table: rows of entries, each a number below the limit or none
+pub record Table : Type 0 where
+  pub rows : ℕ
+  pub columns : ℕ
+  pub limit : ℕ
+  pub entries : List (Option ℕ)
+
+-- an entry of a table whose rows have so many columns
+abbrev pub entry_in : ℕ → List (Option ℕ) → ℕ → ℕ → Option ℕ
+entry_in columns entries row column = slice_index_or entries (row * columns + column) None
+
+abbrev pub entry : Table → ℕ → ℕ → Option ℕ
+entry t row column = entry_in t.columns t.entries row column
+
+pub record HasSize (t : Table) (height width below : ℕ) : Type 0 where
+  pub rows : t.rows ≡ height
+  pub columns : t.columns ≡ width
+  pub limit : t.limit ≡ below
+
+abbrev pub SameSize : Table → Table → Type 0
+SameSize a b = HasSize b a.rows a.columns a.limit
+
+-- two lookups agree on so many rows and columns
+abbrev pub Agree : ℕ → ℕ → (ℕ → ℕ → Option ℕ) → (ℕ → ℕ → Option ℕ) → Type 0
+Agree rows columns a b = (row column : ℕ) → row < rows → column < columns → a row column ≡ b row column
+
+-- a lookup with one entry written
+abbrev pub written : ℕ → ℕ → Option ℕ → (ℕ → ℕ → Option ℕ) → (ℕ → ℕ → Option ℕ)
+written row column value old r c = if (r == row) && (c == column) then value else old r c
+
+-- a lookup that finds nothing
+abbrev pub nothing : ℕ → ℕ → Option ℕ
+nothing row column = None
+
+-- three tables are those of a layout on so many lines and internal slots, and hold nothing else
+pub record HasTables (lines slots : ℕ) (layout : Layout) (places crossed read : ℕ → ℕ → Option ℕ) : Type 0 where
+  pub incoming : Agree lines slots places (place_sent layout)
+  pub space : Agree lines slots crossed (line_received layout)
+  pub outgoing : Agree lines 30 read (λ line place. slot_read layout (record { line = line; place = place }))
+
+-- three tables without a path
+pub record HasNoPaths (lines slots : ℕ) (places crossed read : ℕ → ℕ → Option ℕ) : Type 0 where
+  pub incoming : Agree lines slots places nothing
+  pub space : Agree lines slots crossed nothing
+  pub outgoing : Agree lines 30 read nothing
+
+-- how a byte of a table is read: 255 is no number
+abbrev pub number_in : ℕ → Option ℕ
+number_in byte = if byte == 255 then None else Some byte

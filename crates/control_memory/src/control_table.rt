@@ -1,0 +1,98 @@
+ghost use Rattle.std.specs.Prelude.{◌≡◌, ◌<◌, Some, None, IfOk, IfSome};
+ghost use Rattle.control_memory.specs.Tables.{entry, HasSize, SameSize, Agree, written, nothing};
+
+use std::alloc::{AllocError, Global};
+use std::marker::Model;
+
+// The byte of an entry that is not there.
+const NONE: u8 = 0xFF;
+
+/// A control table of a switching stage: rows of numbers below a limit, some of them missing.
+///
+/// A row is one piece of memory, one byte for each entry.
+#[derive(Drop)]
+pub struct ControlTable {
+    rows: u8,
+    columns: u8,
+    limit: u8,
+    bytes: Vec<u8>,
+}
+
+impl Model for ControlTable {
+    ghost use Rattle.std.specs.Prelude.{◌≡◌, ℕ, ◌*◌, ◌<◌, ◌≢◌, map, length, slice_index};
+    ghost use Rattle.control_memory.specs.Tables.{Table, number_in};
+
+    ghost Value = { Table };
+
+    ghost view = { λ t. record { rows = t.rows; columns = t.columns; limit = t.limit; entries = map number_in t.bytes.items } };
+
+    ghost invariant = { λ t. (length t.bytes.items ≡ t.rows * t.columns) × ((i : ℕ) → i < length t.bytes.items → slice_index t.bytes.items i ≢ 255 → slice_index t.bytes.items i < t.limit) };
+}
+
+impl ControlTable {
+    /// A table of so many rows and columns for numbers below `limit`, without any.
+    pub fn new(alloc: Global, rows: u8, columns: u8, limit: u8) -> Result<ControlTable, AllocError>
+        ensures size { IfOk result (λ t. HasSize t rows columns limit) }
+        ensures empty { IfOk result (λ t. Agree rows columns (entry t) nothing) }
+    {
+        let entries = usize::from(rows) * usize::from(columns);
+        Ok(ControlTable {
+            rows,
+            columns,
+            limit,
+            bytes: vec![in alloc; NONE; entries]?,
+        })
+    }
+
+    /// The number in a column of a row, if there is one.
+    pub fn get(&self, row: u8, column: u8) -> Option<u8>
+        requires row { row < self.now.rows }
+        requires column { column < self.now.columns }
+        ensures entry { result ≡ entry self.now row column }
+        ensures within { IfSome result (λ number. number < self.now.limit) }
+    {
+        match self.bytes[usize::from(row) * usize::from(self.columns) + usize::from(column)] {
+            NONE => None,
+            number => Some(number),
+        }
+    }
+
+    /// Writes a number into a column of a row.
+    pub fn set(&mut self, row: u8, column: u8, number: u8)
+        requires row { row < self.old.rows }
+        requires column { column < self.old.columns }
+        requires number { number < self.old.limit }
+        ensures size { SameSize self.old self.new }
+        ensures entries { Agree self.old.rows self.old.columns (entry self.new) (written row column (Some number) (entry self.old)) }
+    {
+        let at = usize::from(row) * usize::from(self.columns) + usize::from(column);
+        self.bytes[at] = number;
+    }
+
+    /// Takes the number out of a column of a row.
+    pub fn unset(&mut self, row: u8, column: u8)
+        requires row { row < self.old.rows }
+        requires column { column < self.old.columns }
+        ensures size { SameSize self.old self.new }
+        ensures entries { Agree self.old.rows self.old.columns (entry self.new) (written row column None (entry self.old)) }
+    {
+        let at = usize::from(row) * usize::from(self.columns) + usize::from(column);
+        self.bytes[at] = NONE;
+    }
+
+    /// Takes out every number.
+    pub fn clear(&mut self)
+        ensures size { SameSize self.old self.new }
+        ensures empty { Agree self.old.rows self.old.columns (entry self.new) nothing }
+    {
+        self.bytes.fill(NONE);
+    }
+
+    /// Takes over the entries of a table of the same size, in one copy.
+    pub fn copy_from(&mut self, other: &ControlTable)
+        requires { SameSize self.old other.now }
+        ensures { self.new ≡ other.now }
+    {
+        self.bytes.copy_from_slice(&other.bytes);
+    }
+}

@@ -1,0 +1,12 @@
+use circuit_model::Kind;
+
+/// What a slot hears in a frame.
+#[derive(Clone, Copy, Debug, PartialEq, Eq)]
+pub enum Heard {
+    /// Nothing: the idle octet.
+    Silent,
+    /// The octets of a path through the network. `since` is the first frame that it stands in.
+    Path { since: u32 },
+    /// A tone. `since` is the first frame that it sounds in.
+    Tone { kind: Kind, since: u32 },
+}

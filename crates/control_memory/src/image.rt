@@ -1,0 +1,331 @@
+ghost use Rattle.std.specs.Prelude.{◌≡◌, ◌+◌, ◌<◌, ◌≤◌, ◌*◌, All, Some, None, IfOk, IfSome, if◌then◌else◌};
+ghost use Rattle.circuit_model.specs.Circuits.{same_slot};
+ghost use Rattle.control_memory.specs.Tables.{HasSize, entry, Agree, written};
+ghost use Rattle.control_memory.specs.Image.{lines_of, sent, received, read, heard_at, room_at, IsCleared, IsQuiet, SameSizes, SameTables, EachSlot};
+
+use crate::control_table::ControlTable;
+use crate::heard::Heard;
+use circuit_model::{PLACES, Slot};
+use std::alloc::{AllocError, Global};
+use std::marker::Model;
+
+/// The control memory of one frame: its number, the tables of its three stages, what each slot
+/// hears, and who sits in each conference port.
+///
+/// Lines are counted from 0, external lines first and bridge lines after them.
+#[derive(Drop)]
+pub struct Image {
+    frame: u32,
+    external: u8,
+    bridges: u8,
+    slots: u8,
+    incoming: ControlTable,
+    space: ControlTable,
+    outgoing: ControlTable,
+    heard: Vec<Heard>,
+    rooms: Vec<Option<(u8, u32)>>,
+}
+
+impl Model for Image {
+    ghost use Rattle.std.specs.Prelude.{◌+◌, length};
+    ghost use Rattle.control_memory.specs.Image.{Control, IsSized};
+
+    ghost Value = { Control };
+
+    ghost view = { λ m. record {
+      frame = m.frame;
+      external = m.external;
+      bridges = m.bridges;
+      slots = m.slots;
+      incoming = m.incoming.entries;
+      space = m.space.entries;
+      outgoing = m.outgoing.entries;
+      heard = m.heard.items;
+      rooms = m.rooms.items;
+    } };
+
+    ghost invariant = { λ m. IsSized (m.external + m.bridges) m.slots m.incoming m.space m.outgoing (length m.heard.items) (length m.rooms.items) };
+}
+
+impl Image {
+    /// The control memory of frame 0 for so many external lines, bridge lines and internal slots:
+    /// no path, every slot silent, and every port free.
+    pub fn new(alloc: Global, external: u8, bridges: u8, slots: u8) -> Result<Image, AllocError>
+        requires lines { 1 ≤ external + bridges × (external + bridges ≤ 34) }
+        requires slots { 1 ≤ slots × (slots ≤ 59) }
+        ensures external { IfOk result (λ m. m.external ≡ external) }
+        ensures bridges { IfOk result (λ m. m.bridges ≡ bridges) }
+        ensures slots { IfOk result (λ m. m.slots ≡ slots) }
+        ensures frame { IfOk result (λ m. m.frame ≡ 0) }
+        ensures paths { IfOk result IsCleared }
+        ensures quiet { IfOk result IsQuiet }
+    {
+        let lines = external + bridges;
+        let places = usize::from(lines) * usize::from(PLACES);
+        Ok(Image {
+            frame: 0,
+            external,
+            bridges,
+            slots,
+            incoming: ControlTable::new(alloc, lines, slots, PLACES)?,
+            space: ControlTable::new(alloc, lines, slots, lines)?,
+            outgoing: ControlTable::new(alloc, lines, PLACES, slots)?,
+            heard: vec![in alloc; Heard::Silent; places]?,
+            rooms: vec![in alloc; None; places]?,
+        })
+    }
+
+    /// The number of the frame.
+    pub fn frame(&self) -> u32
+        ensures { result ≡ self.now.frame }
+    {
+        self.frame
+    }
+
+    /// How many external lines it has.
+    pub fn external(&self) -> u8
+        ensures { result ≡ self.now.external }
+    {
+        self.external
+    }
+
+    /// How many bridge lines it has, which stand behind the external ones.
+    pub fn bridges(&self) -> u8
+        ensures { result ≡ self.now.bridges }
+    {
+        self.bridges
+    }
+
+    /// How many internal slots a frame of a line has.
+    pub fn slots(&self) -> u8
+        ensures { result ≡ self.now.slots }
+    {
+        self.slots
+    }
+
+    /// The place that an incoming line sends in an internal slot, if any.
+    pub fn incoming(&self, line: u8, slot: u8) -> Option<u8>
+        requires line { line < lines_of self.now }
+        requires slot { slot < self.now.slots }
+        ensures place { result ≡ sent self.now line slot }
+        ensures within { IfSome result (λ place. place < 30) }
+    {
+        self.incoming.get(line, slot)
+    }
+
+    /// The incoming line whose octet an outgoing line gets in an internal slot, if any.
+    pub fn space(&self, line: u8, slot: u8) -> Option<u8>
+        requires line { line < lines_of self.now }
+        requires slot { slot < self.now.slots }
+        ensures line { result ≡ received self.now line slot }
+        ensures within { IfSome result (λ from. from < lines_of self.now) }
+    {
+        self.space.get(line, slot)
+    }
+
+    /// The internal slot that a place of an outgoing line reads, if any.
+    pub fn outgoing(&self, line: u8, place: u8) -> Option<u8>
+        requires line { line < lines_of self.now }
+        requires place { place < 30 }
+        ensures slot { result ≡ read self.now line place }
+        ensures within { IfSome result (λ slot. slot < self.now.slots) }
+    {
+        self.outgoing.get(line, place)
+    }
+
+    /// What a slot hears.
+    pub fn heard(&self, at: Slot) -> Heard
+        requires line { at.line < lines_of self.now }
+        requires place { at.place < 30 }
+        ensures { result ≡ heard_at self.now at }
+    {
+        self.heard[number_of(at)]
+    }
+
+    /// The room of the member that sits in a conference port, and the frame since which it sits
+    /// there; none where the port is free.
+    pub fn room(&self, port: Slot) -> Option<(u8, u32)>
+        requires line { port.line < lines_of self.now }
+        requires place { port.place < 30 }
+        ensures { result ≡ room_at self.now port }
+    {
+        self.rooms[number_of(port)]
+    }
+
+    /// Begins the control memory of another frame: no path, every slot silent, every port free.
+    pub fn clear_all(&mut self, frame: u32)
+        ensures frame { self.new.frame ≡ frame }
+        ensures sizes { SameSizes self.old self.new }
+        ensures paths { IsCleared self.new }
+        ensures quiet { IsQuiet self.new }
+    {
+        self.frame = frame;
+        self.incoming.clear();
+        self.space.clear();
+        self.outgoing.clear();
+        silence(&mut self.heard);
+        vacate(&mut self.rooms);
+    }
+
+    /// Writes the path from an inlet to an outlet in an internal slot into the three tables.
+    pub fn set_path(&mut self, from: Slot, to: Slot, slot: u8)
+        requires from_line { from.line < lines_of self.old }
+        requires from_place { from.place < 30 }
+        requires to_line { to.line < lines_of self.old }
+        requires to_place { to.place < 30 }
+        requires slot { slot < self.old.slots }
+        ensures incoming { Agree (lines_of self.old) self.old.slots (sent self.new) (written from.line slot (Some from.place) (sent self.old)) }
+        ensures space { Agree (lines_of self.old) self.old.slots (received self.new) (written to.line slot (Some from.line) (received self.old)) }
+        ensures outgoing { Agree (lines_of self.old) 30 (read self.new) (written to.line to.place (Some slot) (read self.old)) }
+        ensures sizes { SameSizes self.old self.new }
+        ensures frame { self.new.frame ≡ self.old.frame }
+        ensures heard { self.new.heard ≡ self.old.heard }
+        ensures rooms { self.new.rooms ≡ self.old.rooms }
+    {
+        self.incoming.set(from.line, slot, from.place);
+        self.space.set(to.line, slot, from.line);
+        self.outgoing.set(to.line, to.place, slot);
+    }
+
+    /// Takes over the three tables of a layout whole, one copy for each.
+    pub fn set_tables(
+        &mut self,
+        incoming: &ControlTable,
+        space: &ControlTable,
+        outgoing: &ControlTable,
+    )
+        requires incoming { HasSize incoming.now (lines_of self.old) self.old.slots 30 }
+        requires space { HasSize space.now (lines_of self.old) self.old.slots (lines_of self.old) }
+        requires outgoing { HasSize outgoing.now (lines_of self.old) 30 self.old.slots }
+        ensures incoming { Agree (lines_of self.old) self.old.slots (sent self.new) (entry incoming.now) }
+        ensures space { Agree (lines_of self.old) self.old.slots (received self.new) (entry space.now) }
+        ensures outgoing { Agree (lines_of self.old) 30 (read self.new) (entry outgoing.now) }
+        ensures sizes { SameSizes self.old self.new }
+        ensures frame { self.new.frame ≡ self.old.frame }
+        ensures heard { self.new.heard ≡ self.old.heard }
+        ensures rooms { self.new.rooms ≡ self.old.rooms }
+    {
+        self.incoming.copy_from(incoming);
+        self.space.copy_from(space);
+        self.outgoing.copy_from(outgoing);
+    }
+
+    /// Writes what a slot hears.
+    pub fn set_heard(&mut self, at: Slot, heard: Heard)
+        requires line { at.line < lines_of self.old }
+        requires place { at.place < 30 }
+        ensures heard { EachSlot (lines_of self.old) (λ x. heard_at self.new x ≡ (if same_slot x at then heard else heard_at self.old x)) }
+        ensures sizes { SameSizes self.old self.new }
+        ensures frame { self.new.frame ≡ self.old.frame }
+        ensures tables { SameTables self.old self.new }
+        ensures rooms { self.new.rooms ≡ self.old.rooms }
+    {
+        self.heard[number_of(at)] = heard;
+    }
+
+    /// Writes that a member of a room sits in a conference port since a frame.
+    pub fn set_room(&mut self, port: Slot, room: u8, since: u32)
+        requires line { port.line < lines_of self.old }
+        requires place { port.place < 30 }
+        ensures rooms { EachSlot (lines_of self.old) (λ x. room_at self.new x ≡ (if same_slot x port then Some (room, since) else room_at self.old x)) }
+        ensures sizes { SameSizes self.old self.new }
+        ensures frame { self.new.frame ≡ self.old.frame }
+        ensures tables { SameTables self.old self.new }
+        ensures heard { self.new.heard ≡ self.old.heard }
+    {
+        self.rooms[number_of(port)] = Some((room, since));
+    }
+}
+
+// Slots are numbered line by line.
+fn number_of(at: Slot) -> usize
+    ensures { result ≡ at.line * 30 + at.place }
+{
+    usize::from(at.line) * usize::from(PLACES) + usize::from(at.place)
+}
+
+fn silence(heard: &mut [Heard])
+    ensures { All (λ h. h ≡ Heard.Silent) heard.new }
+{
+    for slot in heard.iter_mut() {
+        *slot = Heard::Silent;
+    }
+}
+
+fn vacate(rooms: &mut [Option<(u8, u32)>])
+    ensures { All (λ room. room ≡ None) rooms.new }
+{
+    for port in rooms.iter_mut() {
+        *port = None;
+    }
+}
+
+#[cfg(test)]
+mod tests {
+    use super::Image;
+    use crate::control_table::ControlTable;
+    use crate::heard::Heard;
+    use circuit_model::{Kind, Slot};
+    use std::alloc::AllocError;
+
+    #[test]
+    fn one_path_is_written_into_three_tables(rt: HostRuntime) -> Result<(), AllocError> {
+        let port = Slot { line: 2, place: 4 };
+        let mut image = Image::new(rt.alloc(), 2, 1, 5)?;
+        image.clear_all(7);
+        image.set_path(Slot { line: 0, place: 9 }, Slot { line: 1, place: 29 }, 3);
+        image.set_heard(port, Heard::Path { since: 6 });
+        image.set_room(port, 40, 6);
+        assert_eq!(&rt; image.frame(), 7);
+        assert_eq!(&rt;
+            [image.incoming(0, 3), image.incoming(1, 3)],
+            [Some(9), None]
+        );
+        assert_eq!(&rt; [image.space(1, 3), image.space(0, 3)], [Some(0), None]);
+        assert_eq!(&rt;
+            [image.outgoing(1, 29), image.outgoing(0, 9)],
+            [Some(3), None]
+        );
+        assert!(&rt; image.heard(port) == Heard::Path { since: 6 });
+        assert!(&rt; image.room(port) == Some((40, 6)));
+        image.clear_all(8);
+        assert_eq!(&rt;
+            [
+                image.incoming(0, 3),
+                image.space(1, 3),
+                image.outgoing(1, 29)
+            ],
+            [None; 3]
+        );
+        assert!(&rt; image.heard(port) == Heard::Silent);
+        assert!(&rt; image.room(port).is_none());
+        Ok(())
+    }
+
+    #[test]
+    fn tables_are_taken_over_whole(rt: HostRuntime) -> Result<(), AllocError> {
+        let mut incoming = ControlTable::new(rt.alloc(), 1, 2, 30)?;
+        let mut space = ControlTable::new(rt.alloc(), 1, 2, 1)?;
+        let outgoing = ControlTable::new(rt.alloc(), 1, 30, 2)?;
+        let mut image = Image::new(rt.alloc(), 1, 0, 2)?;
+        incoming.set(0, 1, 17);
+        incoming.set(0, 0, 16);
+        incoming.unset(0, 0);
+        space.set(0, 1, 0);
+        image.set_heard(
+            Slot { line: 0, place: 0 },
+            Heard::Tone {
+                kind: Kind::Busy,
+                since: 1,
+            },
+        );
+        image.set_tables(&incoming, &space, &outgoing);
+        assert_eq!(&rt;
+            [image.incoming(0, 0), image.incoming(0, 1)],
+            [None, Some(17)]
+        );
+        assert_eq!(&rt; [image.space(0, 0), image.space(0, 1)], [None, Some(0)]);
+        assert_eq!(&rt; image.outgoing(0, 17), None);
+        Ok(())
+    }
+}

@@ -1,0 +1,32 @@
+-- Two places of a list that is cut into rows.
+use Rattle.std.proofs.Common.{◌≡◌, ℕ, ◌+◌, ◌-◌, ◌*◌, ◌<◌, ◌≤◌, List, length, length-take-le, get_or, set, take, get_or-set_other, get_or-take, get_or-drop, sym, ap, ◌∙◌, inl, inr, arith}
+use Rattle.std.proofs.lemmas.Nat.{same_from_place}
+use Rattle.std.proofs.lemmas.List.{get_or_append_left}
+use Rattle.std.proofs.lemmas.Bool.{cases_lt}
+use Rattle.std.proofs.lemmas.Slice.{drop-put_mid}
+use borrow.Rule.Slice.PartMut.{put_mid}
+
+-- a write at one place leaves the others
+pub other_place : (octets : List ℕ) (slots line slot l s octet : ℕ) → slot < slots → s < slots → (l ≡ line → s ≡ slot → ⊥) → get_or (set octets (line * slots + slot) octet) (l * slots + s) 0 ≡ get_or octets (l * slots + s) 0
+other_place octets slots line slot l s octet a b apart = get_or-set_other octets (line * slots + slot) (l * slots + s) octet 0 (λ e. let p = same_from_place l s line slot slots b a e in apart p.0 p.1)
+
+module _ (a k : ℕ) (xs ys : List ℕ) (room : a + k ≤ length xs) (fits : length ys ≡ k) where
+  -- a row written from a on leaves what is before it
+  put_row-below : (j : ℕ) → j < a → get_or (put_mid a k xs ys) j 0 ≡ get_or xs j 0
+  put_row-below j below =
+      let inside : j < length (take a xs) = omega (arith, length-take-le a xs (omega arith)) in
+      get_or_append_left _ _ 0 j inside ∙ get_or-take a xs j 0 below
+
+  -- and what is behind it
+  put_row-beyond : (j : ℕ) → a + k ≤ j → get_or (put_mid a k xs ys) j 0 ≡ get_or xs j 0
+  put_row-beyond j beyond =
+      let rest = drop-put_mid a k xs ys (a + k) (omega arith) (omega arith) fits in
+      let at : a + k + (j - (a + k)) ≡ j = omega arith in
+      ap (λ i. get_or (put_mid a k xs ys) i 0) (sym at) ∙ sym (get_or-drop (a + k) (put_mid a k xs ys) (j - (a + k)) 0) ∙ ap (λ (zs : List ℕ). get_or zs (j - (a + k)) 0) rest ∙ get_or-drop (a + k) xs (j - (a + k)) 0 ∙ ap (λ i. get_or xs i 0) at
+
+-- a row of thirty leaves the rows of the other lines
+pub other_row : (line a k : ℕ) (xs ys : List ℕ) (l place : ℕ) → a ≡ line * 30 → k ≡ 30 → a + k ≤ length xs → length ys ≡ k → (l ≡ line → ⊥) → place < 30 → get_or (put_mid a k xs ys) (l * 30 + place) 0 ≡ get_or xs (l * 30 + place) 0
+other_row line a k xs ys l place at wide room fits apart near = elim (cases_lt l line) [
+  | inl below ↦ put_row-below a k xs ys room fits (l * 30 + place) (omega arith)
+  | inr beyond ↦ put_row-beyond a k xs ys room fits (l * 30 + place) (omega (arith, apart))
+]

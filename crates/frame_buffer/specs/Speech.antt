@@ -1,0 +1,24 @@
+-- A speech memory of two halves: the octets of one frame are read while those of the next are written, as in a time slot
+-- interchanger with a double-buffered store. Source: this exchange's own.
+use Rattle.std.specs.Prelude.{◌≡◌, ℕ, ◌+◌, ◌*◌, ◌<◌, List, slice_index}
+use Rattle.circuit_model.specs.declared.channel.Slot.{Slot}
+use Rattle.circuit_model.specs.FrameInput.{idle_octet}
+
+-- the octets of the half that is filled and of the one that is read: line after line, thirty for each
+pub record Speech : Type 0 where
+  pub lines : ℕ
+  pub filled : List ℕ
+  pub readable : List ℕ
+
+-- the octet of a slot in a half
+abbrev pub octet_of : List ℕ → Slot → ℕ
+octet_of octets at = slice_index octets (at.line * 30 + at.place)
+
+-- each slot of so many lines holds the idle octet
+abbrev pub IsIdle : ℕ → List ℕ → Type 0
+IsIdle lines octets = (at : Slot) → at.line < lines → at.place < 30 → octet_of octets at ≡ idle_octet
+
+-- the octets of one line are these, by place, and those of the other lines are as before
+pub record PutsLine (line : ℕ) (row old new : List ℕ) : Type 0 where
+  pub written : (at : Slot) → at.line ≡ line → at.place < 30 → octet_of new at ≡ slice_index row at.place
+  pub others : (at : Slot) → ¬ (at.line ≡ line) → at.place < 30 → octet_of new at ≡ octet_of old at

@@ -1,0 +1,119 @@
+ghost use Rattle.std.specs.Prelude.{◌≡◌, ◌+◌, ◌*◌, ◌<◌, ◌≤◌, length, IfOk};
+ghost use Rattle.frame_buffer.specs.Speech.{Speech, octet_of, IsIdle, PutsLine};
+
+use circuit_model::{IDLE, PLACES, Slot};
+use std::alloc::{AllocError, Global};
+use std::marker::Model;
+use std::mem;
+
+/// The speech memory of a frame, in two halves: one is filled while the other is read.
+#[derive(Drop)]
+pub struct FrameBuffer {
+    lines: u8,
+    filled: Vec<u8>,
+    readable: Vec<u8>,
+}
+
+impl Model for FrameBuffer {
+    ghost use Rattle.std.specs.Prelude.{◌≡◌, ◌*◌, length};
+    ghost use Rattle.frame_buffer.specs.Speech.{Speech};
+
+    ghost Value = { Speech };
+
+    ghost view = { λ b. record { lines = b.lines; filled = b.filled.items; readable = b.readable.items } };
+
+    ghost invariant = { λ b. (length b.filled.items ≡ b.lines * 30) × (length b.readable.items ≡ b.lines * 30) };
+}
+
+impl FrameBuffer {
+    /// A speech memory for so many lines, with the idle octet in every slot of both halves.
+    pub fn new(alloc: Global, lines: u8) -> Result<FrameBuffer, AllocError>
+        ensures lines { IfOk result (λ b. b.lines ≡ lines) }
+        ensures filled { IfOk result (λ b. IsIdle lines b.filled) }
+        ensures readable { IfOk result (λ b. IsIdle lines b.readable) }
+    {
+        let octets = usize::from(lines) * usize::from(PLACES);
+        Ok(FrameBuffer {
+            lines,
+            filled: vec![in alloc; IDLE; octets]?,
+            readable: vec![in alloc; IDLE; octets]?,
+        })
+    }
+
+    /// How many lines it has.
+    pub fn lines(&self) -> u8
+        ensures { result ≡ self.now.lines }
+    {
+        self.lines
+    }
+
+    /// Writes the thirty octets of a line, by place, into the half that is filled.
+    pub fn put_line(&mut self, line: u8, octets: &[u8; 30])
+        requires { line < self.old.lines }
+        ensures lines { self.new.lines ≡ self.old.lines }
+        ensures filled { PutsLine line octets.now self.old.filled self.new.filled }
+        ensures readable { self.new.readable ≡ self.old.readable }
+    {
+        put_row(&mut self.filled, line, octets);
+    }
+
+    /// The octet of a slot in the half that is read.
+    pub fn get(&self, at: Slot) -> u8
+        requires line { at.line < self.now.lines }
+        requires place { at.place < 30 }
+        ensures { result ≡ octet_of self.now.readable at }
+    {
+        self.readable[usize::from(at.line) * usize::from(PLACES) + usize::from(at.place)]
+    }
+
+    /// Exchanges the halves: what was filled is read from now on, and what was read is filled.
+    pub fn swap(&mut self)
+        ensures { self.new ≡ record { lines = self.old.lines; filled = self.old.readable; readable = self.old.filled } }
+    {
+        mem::swap(&mut self.filled, &mut self.readable);
+    }
+}
+
+// Writes the row of a line.
+fn put_row(octets: &mut [u8], line: u8, row: &[u8; 30])
+    requires { line * 30 + 30 ≤ length octets.old }
+    ensures { PutsLine line row.now octets.old octets.new }
+{
+    let start = usize::from(line) * usize::from(PLACES);
+    octets[start..start + usize::from(PLACES)].copy_from_slice(row);
+}
+
+#[cfg(test)]
+mod tests {
+    use super::FrameBuffer;
+    use crate::{Crossed, Highway};
+    use circuit_model::{IDLE, Slot};
+    use std::alloc::AllocError;
+
+    #[test]
+    fn halves_change_places(rt: HostRuntime) -> Result<(), AllocError> {
+        let at = Slot { line: 1, place: 0 };
+        let mut buffer = FrameBuffer::new(rt.alloc(), 2)?;
+        buffer.put_line(1, &[0x11; 30]);
+        let unread = buffer.get(at);
+        buffer.swap();
+        buffer.put_line(1, &[0x22; 30]);
+        let first = buffer.get(at);
+        buffer.swap();
+        assert_eq!(&rt; [unread, first, buffer.get(at)], [IDLE, 0x11, 0x22]);
+        Ok(())
+    }
+
+    #[test]
+    fn highways_hold_octets(rt: HostRuntime) -> Result<(), AllocError> {
+        let mut highway = Highway::new(rt.alloc(), 2, 3)?;
+        let mut crossed = Crossed::new(rt.alloc(), 2, 3)?;
+        highway.set(1, 2, 0x11);
+        crossed.set(0, 1, highway.get(1, 2));
+        assert_eq!(&rt;
+            [crossed.get(0, 1), crossed.get(1, 0), highway.get(0, 0)],
+            [0x11, IDLE, IDLE]
+        );
+        Ok(())
+    }
+}

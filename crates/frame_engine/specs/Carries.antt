@@ -1,0 +1,54 @@
+-- What an engine of three stages holds of the frames that it has carried. Source: this exchange's own.
+use Rattle.std.specs.Prelude.{◌≡◌, ℕ, zero, suc, List, length}
+use Rattle.circuit_model.specs.declared.channel.Slot.{Slot}
+use Rattle.circuit_model.specs.declared.circuit.Circuit.{Circuit}
+use Rattle.circuit_model.specs.FrameInput.{Input, idle_octet}
+use Rattle.circuit_model.specs.Holding.{circuits_of}
+use Rattle.circuit_model.specs.Ports.{Ports}
+use Rattle.frame_buffer.specs.Speech.{octet_of}
+use Rattle.frame_buffer.specs.Highways.{Highways, octet_on}
+use Rattle.control_memory.specs.Layout.{Layout}
+use Rattle.control_memory.specs.Image.{Control, lines_of, EachSlot}
+use Rattle.control_memory.specs.Carrying.{HoldsCrossing}
+use Rattle.control_memory.specs.Shown.{ShowsBy}
+use Rattle.frame_engine.specs.Frames.{ports_of, brought}
+
+-- an engine: its sizes, the number of its next frame, the control memory of the frame before that, what the frame before brought to each slot,
+-- and the octets that crossed in it
+pub record Stages : Type 0 where
+  pub external : ℕ
+  pub bridges : ℕ
+  pub slots : ℕ
+  pub next : ℕ
+  pub kept : Control
+  pub taken : List ℕ
+  pub crossed : Highways
+
+-- what the frame before frame f brought; before the first frame everything is idle
+abbrev pub brought_before : ℕ → List Input → List (List Circuit) → List Ports → ℕ → Slot → ℕ
+brought_before external inputs held ports zero at = idle_octet
+brought_before external inputs held ports (suc f) at = brought external inputs held ports f at
+
+-- after frame f the kept control memory shows that frame's circuits and ports, by a layout; each slot has what frame f brought; and each
+-- outgoing line has, in each internal slot, the octet that the frame before brought to the inlet of the layout's path there
+pub record CarriesLast (e : Stages) (inputs : List Input) (held : List (List Circuit)) (ports : List Ports) (f : ℕ) : Type 0 where
+  pub layout : Layout
+  pub shows : ShowsBy layout e.kept (circuits_of held f) (ports_of ports f) f
+  pub taken : EachSlot (lines_of e.kept) (λ at. octet_of e.taken at ≡ brought e.external inputs held ports f at)
+  pub crossed : HoldsCrossing (lines_of e.kept) e.slots layout (brought_before e.external inputs held ports f) (octet_on e.crossed)
+
+-- before the first frame everything is idle
+pub record IsFresh (e : Stages) : Type 0 where
+  pub taken : EachSlot (lines_of e.kept) (λ at. octet_of e.taken at ≡ idle_octet)
+  pub crossed : (line slot : ℕ) → octet_on e.crossed line slot ≡ idle_octet
+
+abbrev pub CarriesAt : Stages → List Input → List (List Circuit) → List Ports → ℕ → Type 0
+CarriesAt e inputs held ports zero = IsFresh e
+CarriesAt e inputs held ports (suc f) = CarriesLast e inputs held ports f
+
+-- the engine carries the frames with these inputs, circuits and ports
+pub record Carries (e : Stages) (inputs : List Input) (held : List (List Circuit)) (ports : List Ports) : Type 0 where
+  pub inputs_counted : length inputs ≡ e.next
+  pub held_counted : length held ≡ e.next
+  pub ports_counted : length ports ≡ e.next
+  pub last : CarriesAt e inputs held ports e.next

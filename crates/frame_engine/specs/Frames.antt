@@ -1,0 +1,51 @@
+-- The frames that an engine has carried, and what it plays. Source: this exchange's own.
+use Rattle.std.specs.Prelude.{◌≡◌, ℕ, ◌<◌, List, [], ◌∷◌, length, Option, Some, None, slice_index, slice_index_or, if◌then◌else◌, nat_lt}
+use Rattle.circuit_model.specs.declared.channel.Slot.{Slot}
+use Rattle.circuit_model.specs.declared.circuit.Kind.{Kind}
+use Rattle.circuit_model.specs.declared.circuit.Circuit.{Circuit}
+use Rattle.circuit_model.specs.declared.circuit.Circuit.TheVariants.{Pair, Member, Tone}
+use Rattle.circuit_model.specs.FrameInput.{Input, idle_octet, arrives}
+use Rattle.circuit_model.specs.Circuits.{heard_by}
+use Rattle.circuit_model.specs.Holding.{Command, empty, frames, circuits_of, AreAllowed}
+use Rattle.circuit_model.specs.Ports.{Ports, free_ports, port_frames}
+use Rattle.circuit_model.specs.Hears.{mix}
+use Rattle.control_memory.specs.declared.heard.Heard.TheVariants.{Tone as Sounds}
+use Rattle.control_memory.specs.Image.{Control, lines_of, EachSlot, heard_at}
+use Rattle.control_memory.specs.Shown.{member_at}
+use Rattle.tone_rules.specs.declared.tones.Tones.{Tones}
+use Rattle.tone_rules.specs.Tables.{IsGiven}
+
+-- the circuits and ports of each frame are those of one list of allowed commands and boundaries
+pub record Come (bridges : ℕ) (held : List (List Circuit)) (ports : List Ports) : Type 0 where
+  pub commands : List Command
+  pub allowed : AreAllowed bridges empty commands
+  pub circuits : held ≡ frames empty commands
+  pub seats : ports ≡ port_frames (free_ports bridges) commands
+
+-- the ports of frame f of those listed; none where there is no such frame
+abbrev pub ports_of : List Ports → ℕ → Ports
+ports_of ports f = slice_index_or ports f []
+
+-- what the bridge mixes for a member by the circuit by which it hears
+abbrev pub mixed_for : List Input → List Circuit → ℕ → Option Circuit → ℕ
+mixed_for inputs circuits f None = idle_octet
+mixed_for inputs circuits f (Some (Pair x y since)) = idle_octet
+mixed_for inputs circuits f (Some (Member room y since)) = mix inputs circuits room y f
+mixed_for inputs circuits f (Some (Tone kind y since)) = idle_octet
+
+abbrev pub mixed_at : List Input → List Circuit → ℕ → Option Slot → ℕ
+mixed_at inputs circuits f None = idle_octet
+mixed_at inputs circuits f (Some member) = mixed_for inputs circuits f (heard_by circuits member)
+
+-- what frame f brings to a slot: an external one the octet that arrives, a port the mix for the member that has it, every other port the idle octet
+abbrev pub brought : ℕ → List Input → List (List Circuit) → List Ports → ℕ → Slot → ℕ
+brought external inputs held ports f at =
+    if nat_lt at.line external then arrives inputs f at else mixed_at inputs (circuits_of held f) f (member_at external (ports_of ports f) at)
+
+-- out has, for each external line and place, the octet of the slot
+abbrev pub PlaysOut : ℕ → (Slot → ℕ) → List (List ℕ) → Type 0
+PlaysOut external octet out = (at : Slot) → at.line < external → at.place < 30 → slice_index (slice_index_or out at.line []) at.place ≡ octet at
+
+-- each tone that a slot hears is given
+abbrev pub TonesGiven : Tones → Control → Type 0
+TonesGiven tones image = EachSlot (lines_of image) (λ at. (kind : Kind) (since : ℕ) → heard_at image at ≡ Sounds kind since → IsGiven tones kind)

@@ -1,0 +1,77 @@
+ghost use Rattle.std.specs.Prelude.{◌≡◌, ℕ, ◌+◌, ◌<◌, ◌≤◌, ◌++◌, [], ◌∷◌, List, length, IfOk};
+ghost use Rattle.circuit_model.specs.declared.channel.Slot.{Slot};
+ghost use Rattle.circuit_model.specs.declared.circuit.Kind.{Kind};
+ghost use Rattle.circuit_model.specs.declared.circuit.Circuit.{Circuit};
+ghost use Rattle.circuit_model.specs.FrameInput.{Input};
+ghost use Rattle.circuit_model.specs.Ports.{Ports};
+ghost use Rattle.control_memory.specs.Image.{SameSizes};
+ghost use Rattle.control_memory.specs.Shown.{Shows};
+ghost use Rattle.tone_rules.specs.Tables.{table_of};
+ghost use Rattle.frame_engine.specs.Frames.{Come, PlaysOut, TonesGiven};
+
+use control_memory::Image;
+use std::alloc::{AllocError, Global};
+use tone_rules::Tones;
+
+/// An engine: it takes the octets of each frame in, and plays what each external slot hears.
+pub trait Carrier: Sized + Send + Drop {
+    /// How many external lines it has.
+    ghost external_lines: { Self → ℕ };
+
+    /// How many bridge lines it has.
+    ghost bridge_lines: { Self → ℕ };
+
+    /// How many internal slots it has.
+    ghost depth: { Self → ℕ };
+
+    /// The number of its next frame.
+    ghost next: { Self → ℕ };
+
+    /// It carries the frames with these inputs, circuits and conference ports.
+    ghost carries: { Self → List Input → List (List Circuit) → List Ports → Type 0 };
+
+    /// The octet that it plays on an external slot in a frame, given the tones and each frame's
+    /// input and circuits.
+    ghost plays: { (Kind → List ℕ) → List Input → List (List Circuit) → ℕ → Slot → ℕ };
+
+    /// An engine for so many external lines, bridge lines and internal slots, which has carried no
+    /// frame.
+    fn new(alloc: Global, external: u8, bridges: u8, slots: u8) -> Result<Self, AllocError>
+        requires external { 1 ≤ external × (external ≤ 32) }
+        requires bridges { bridges ≤ 2 }
+        requires slots { 1 ≤ slots × (slots ≤ 59) }
+        ensures external { IfOk result (λ e. external_lines e ≡ external) }
+        ensures bridges { IfOk result (λ e. bridge_lines e ≡ bridges) }
+        ensures slots { IfOk result (λ e. depth e ≡ slots) }
+        ensures next { IfOk result (λ e. next e ≡ 0) }
+        ensures carries { IfOk result (λ e. carries e [] [] []) };
+
+    /// Carries one frame: it takes `input` in, thirty octets for each external line or none for an
+    /// idle one, and writes what each external slot sends into `out`. The control memory is that
+    /// of this frame; the engine keeps it, and hands another of the same sizes back.
+    fn frame(
+        &mut self,
+        image: &mut Image,
+        tones: &Tones,
+        input: &[Option<[u8; 30]>],
+        out: &mut [[u8; 30]],
+    )
+        requires external { image.old.external ≡ external_lines self.old }
+        requires bridges { image.old.bridges ≡ bridge_lines self.old }
+        requires slots { image.old.slots ≡ depth self.old }
+        requires frame { image.old.frame ≡ next self.old }
+        requires last { next self.old < 4294967295 }
+        requires input { length input.now ≡ external_lines self.old }
+        requires out { length out.old ≡ external_lines self.old }
+        requires tones { TonesGiven tones.now image.old }
+        ensures plays { (inputs : List Input) (held : List (List Circuit)) (ports : List Ports) (circuits : List Circuit) (seats : Ports) → carries self.old inputs held ports → Shows image.old circuits seats (next self.old) → Come (bridge_lines self.old) (held ++ circuits ∷ []) (ports ++ seats ∷ []) → PlaysOut (external_lines self.old) (plays (table_of tones.now) (inputs ++ input.now ∷ []) (held ++ circuits ∷ []) (next self.old)) out.new }
+        ensures carries { (inputs : List Input) (held : List (List Circuit)) (ports : List Ports) (circuits : List Circuit) (seats : Ports) → carries self.old inputs held ports → Shows image.old circuits seats (next self.old) → Come (bridge_lines self.old) (held ++ circuits ∷ []) (ports ++ seats ∷ []) → carries self.new (inputs ++ input.now ∷ []) (held ++ circuits ∷ []) (ports ++ seats ∷ []) }
+        ensures next { next self.new ≡ next self.old + 1 }
+        ensures external { external_lines self.new ≡ external_lines self.old }
+        ensures bridges { bridge_lines self.new ≡ bridge_lines self.old }
+        ensures slots { depth self.new ≡ depth self.old }
+        ensures image { SameSizes image.old image.new };
+
+    /// An engine that carries frames is at the frame after them.
+    ghost counted: { (e : Self) (inputs : List Input) (held : List (List Circuit)) (ports : List Ports) → carries e inputs held ports → length inputs ≡ next e };
+}

@@ -1,0 +1,185 @@
+-- What a matrix has after a path more and a path less.
+use Rattle.std.proofs.Common.{◌≡◌, ◌⊎◌, ℕ, ◌<◌, ◌≤◌, eq-eqb, true, false, Option, Some, None, arith, refl, sym, ap, subst, ◌∙◌}
+use Rattle.std.specs.Prelude.{nat_eq, is_none, is_some, ◌&&◌, ◌+◌, if◌then◌else◌}
+use Rattle.std.specs.Cmp.{IsTotalOrder, nat_cmp_total, tied_itself, Equal-is}
+use Rattle.std.proofs.lemmas.Option.{same_Some}
+use Rattle.std.proofs.lemmas.Map.Views.{exact_unsigned_eq}
+use mathlib.Core.Logic.{inl, inr}
+use Rattle.std.specs.Ordering.{eq_by_cmp, is_eq, nat_cmp}
+use Rattle.std.specs.FinMap.{get-empty, get-insert, get-remove, IsAntisymmetric}
+use Rattle.std.proofs.lemmas.Cmp.{on_total, then_total}
+use Rattle.std.proofs.lemmas.Map.Lookups.{exact_pairs, exact_unsigned}
+use Rattle.std.proofs.lemmas.Bool.{cases_eq}
+use Rattle.paull_matrix.specs.Numbers.{lowest}
+use Rattle.paull_matrix.specs.Matrix.{by_row_and_slot, Matrix, row_slot, column_slot, names, has_path, no_paths, with_path, without_path, is_free_in_row, is_free_in_column, paths_of_row, paths_of_column, paths_of_cell, IsLegal}
+use Rattle.paull_matrix.proofs.Bools.{false_unless, both_true}
+use Rattle.paull_matrix.proofs.Numbers.{lowest_passes, lowest_only, lowest_of_none, count_full, count_more, count_same, count_short}
+
+pub places_total : IsTotalOrder by_row_and_slot
+places_total = then_total (on_total (λ (p : ℕ × ℕ). p.0) nat_cmp_total) (on_total (λ (p : ℕ × ℕ). p.1) nat_cmp_total)
+
+pub places_exact : IsAntisymmetric by_row_and_slot
+places_exact p q e = exact_pairs nat_cmp nat_cmp exact_unsigned exact_unsigned p q e
+
+-- a row and a slot tie with themselves alone
+pub tied_here : (p : ℕ × ℕ) → eq_by_cmp by_row_and_slot p p ≡ true
+tied_here p = ap is_eq (tied_itself places_total p)
+
+pub tied_apart : (i s k t : ℕ) → (k ≡ i → t ≡ s → ⊥) → eq_by_cmp by_row_and_slot (k, t) (i, s) ≡ false
+tied_apart i s k t apart = false_unless _ (λ tied.
+    let same = places_exact (k, t) (i, s) ((Equal-is (by_row_and_slot (k, t) (i, s))).0 tied) in
+    apart (ap (λ (p : ℕ × ℕ). p.0) same) (ap (λ (p : ℕ × ℕ). p.1) same))
+
+-- what a name says
+pub named : (o : Option ℕ) (j : ℕ) → names o j ≡ true → o ≡ Some j
+named None j e = absurd (cc)
+named (Some k) j e = ap Some (exact_unsigned_eq k j e)
+
+pub names_it : (o : Option ℕ) (j : ℕ) → o ≡ Some j → names o j ≡ true
+names_it None j e = absurd (cc)
+names_it (Some k) j e = eq-eqb k j (same_Some k j e)
+
+-- a column has in a slot the row that has the column there
+pub row_of_column : (m : Matrix) (i s j : ℕ) → column_slot m j s ≡ Some i → row_slot m i s ≡ Some j
+row_of_column m i s j e = named (row_slot m i s) j (lowest_passes (λ k. has_path m k j s) m.lines i e).0
+
+pub row_inside : (m : Matrix) (i s j : ℕ) → column_slot m j s ≡ Some i → i < m.lines
+row_inside m i s j e = (lowest_passes (λ k. has_path m k j s) m.lines i e).1
+
+pub column_of_row : (m : Matrix) (i s j : ℕ) → IsLegal m → row_slot m i s ≡ Some j → column_slot m j s ≡ Some i
+column_of_row m i s j legal e =
+    lowest_only (λ k. has_path m k j s) m.lines i (names_it (row_slot m i s) j e) (legal.row_within i s j e)
+    (λ k t. legal.column_once k i s j (named (row_slot m k s) j t) e)
+
+-- where a column lacks a slot, no row has the column there
+pub no_row : (m : Matrix) (i s j : ℕ) → IsLegal m → column_slot m j s ≡ None → row_slot m i s ≡ Some j → ⊥
+no_row m i s j legal none e = let f = column_of_row m i s j legal e in cc
+
+pub no_column : (m : Matrix) (j s : ℕ) → ((i : ℕ) → row_slot m i s ≡ Some j → ⊥) → column_slot m j s ≡ None
+no_column m j s none = lowest_of_none (λ k. has_path m k j s) m.lines (λ k below t. none k (named (row_slot m k s) j t))
+
+-- the row and the slot of a new path, and the others
+pub with_path_here : (m : Matrix) (i j s : ℕ) → row_slot (with_path m i j s) i s ≡ Some j
+with_path_here m i j s = get-insert places_total m.columns (i, s) j (i, s) ∙ rw (tied_here (i, s)) refl
+
+pub with_path_other : (m : Matrix) (i j s k t : ℕ) → (k ≡ i → t ≡ s → ⊥) → row_slot (with_path m i j s) k t ≡ row_slot m k t
+with_path_other m i j s k t apart = get-insert places_total m.columns (i, s) j (k, t) ∙ rw (tied_apart i s k t apart) refl
+
+pub without_path_here : (m : Matrix) (i s : ℕ) → row_slot (without_path m i s) i s ≡ None
+without_path_here m i s = get-remove places_total m.columns (i, s) (i, s) ∙ rw (tied_here (i, s)) refl
+
+pub without_path_other : (m : Matrix) (i s k t : ℕ) → (k ≡ i → t ≡ s → ⊥) → row_slot (without_path m i s) k t ≡ row_slot m k t
+without_path_other m i s k t apart = get-remove places_total m.columns (i, s) (k, t) ∙ rw (tied_apart i s k t apart) refl
+
+-- a place is the one or another
+pub here_or_other : (i s k t : ℕ) → ((k ≡ i) × (t ≡ s)) ⊎ (k ≡ i → t ≡ s → ⊥)
+here_or_other i s k t = elim (cases_eq k i) [
+  | inl row ↦ elim (cases_eq t s) [ inl slot ↦ inl (row, slot) | inr other ↦ inr (λ _ slot. other slot) ]
+  | inr other ↦ inr (λ row _. other row)
+]
+
+-- a path of the new matrix is the new one or one of the old
+pub new_or_old : (m : Matrix) (i j s k t l : ℕ) → row_slot (with_path m i j s) k t ≡ Some l → ((k ≡ i) × (t ≡ s) × (l ≡ j)) ⊎ (row_slot m k t ≡ Some l)
+new_or_old m i j s k t l e = elim (here_or_other i s k t) [
+  | inl here ↦ inl (here.0, here.1, same_Some l j (sym e ∙ rw (here.0, here.1) (with_path_here m i j s)))
+  | inr other ↦ inr (sym (with_path_other m i j s k t other) ∙ e)
+]
+
+pub stood_before : (m : Matrix) (i s k t l : ℕ) → row_slot (without_path m i s) k t ≡ Some l → row_slot m k t ≡ Some l
+stood_before m i s k t l e = elim (here_or_other i s k t) [
+  | inl here ↦ let lifted : row_slot (without_path m i s) k t ≡ None = rw (here.0, here.1) (without_path_here m i s) in absurd (cc)
+  | inr other ↦ sym (without_path_other m i s k t other) ∙ e
+]
+
+pub legal_without : (m : Matrix) (i s : ℕ) → IsLegal m → IsLegal (without_path m i s)
+legal_without m i s legal = record {
+  column_once = λ k l t j e f. legal.column_once k l t j (stood_before m i s k t j e) (stood_before m i s l t j f);
+  row_within = λ k t j e. legal.row_within k t j (stood_before m i s k t j e);
+  column_within = λ k t j e. legal.column_within k t j (stood_before m i s k t j e);
+  slot_within = λ k t j e. legal.slot_within k t j (stood_before m i s k t j e);
+  lines_within = legal.lines_within;
+  slots_within = legal.slots_within;
+}
+
+pub legal_with : (m : Matrix) (i j s : ℕ) → IsLegal m → i < m.lines → j < m.lines → s < m.slots → column_slot m j s ≡ None → IsLegal (with_path m i j s)
+legal_with m i j s legal row column slot missing = record {
+  column_once = λ k l t c e f. elim (new_or_old m i j s k t c e) [
+    | inl new ↦ elim (new_or_old m i j s l t c f) [
+      | inl also ↦ new.0 ∙ sym also.0
+      | inr old ↦ absurd (no_row m l s j legal missing (rw (new.1, new.2) at old))
+    ]
+    | inr old ↦ elim (new_or_old m i j s l t c f) [
+      | inl new ↦ absurd (no_row m k s j legal missing (rw (new.1, new.2) at old))
+      | inr also ↦ legal.column_once k l t c old also
+    ]
+  ];
+  row_within = λ k t c e. elim (new_or_old m i j s k t c e) [ inl new ↦ omega arith | inr old ↦ legal.row_within k t c old ];
+  column_within = λ k t c e. elim (new_or_old m i j s k t c e) [ inl new ↦ omega arith | inr old ↦ legal.column_within k t c old ];
+  slot_within = λ k t c e. elim (new_or_old m i j s k t c e) [ inl new ↦ omega arith | inr old ↦ legal.slot_within k t c old ];
+  lines_within = legal.lines_within;
+  slots_within = legal.slots_within;
+}
+
+pub legal_empty : (lines slots : ℕ) → (0 < lines) × (lines ≤ 34) → (0 < slots) × (slots ≤ 59) → IsLegal (no_paths lines slots)
+legal_empty lines slots few_lines few_slots = record {
+  column_once = λ i k s j e f. absurd (nothing i s j e);
+  row_within = λ i s j e. absurd (nothing i s j e);
+  column_within = λ i s j e. absurd (nothing i s j e);
+  slot_within = λ i s j e. absurd (nothing i s j e);
+  lines_within = few_lines;
+  slots_within = few_slots;
+}
+  where
+    nothing : (i s j : ℕ) → row_slot (no_paths lines slots) i s ≡ Some j → ⊥
+    nothing i s j e = let none : row_slot (no_paths lines slots) i s ≡ None = get-empty by_row_and_slot (i, s) in cc
+
+some_unless_none : (o : Option ℕ) → is_none o ≡ false → is_some o ≡ true
+some_unless_none None e = absurd (cc)
+some_unless_none (Some k) e = refl
+
+-- a row with fewer paths than slots lacks one, and so does a column
+pub row_lacks_one : (m : Matrix) (i n : ℕ) → n ≡ m.slots → paths_of_row m i < m.slots → lowest (is_free_in_row m i) n ≡ None → ⊥
+row_lacks_one m i n all room none =
+    let here : lowest (is_free_in_row m i) m.slots ≡ None = subst (λ k. lowest (is_free_in_row m i) k ≡ None) all none in
+    let full = count_full (λ s. is_some (row_slot m i s)) (is_free_in_row m i) m.slots (λ s. some_unless_none (row_slot m i s)) here in
+    omega arith
+
+pub column_lacks_one : (m : Matrix) (j n : ℕ) → n ≡ m.slots → paths_of_column m j < m.slots → lowest (is_free_in_column m j) n ≡ None → ⊥
+column_lacks_one m j n all room none =
+    let here : lowest (is_free_in_column m j) m.slots ≡ None = subst (λ k. lowest (is_free_in_column m j) k ≡ None) all none in
+    let full = count_full (λ s. is_some (column_slot m j s)) (is_free_in_column m j) m.slots (λ s. some_unless_none (column_slot m j s)) here in
+    omega arith
+
+-- how the paths of a cell differ between two matrices that differ in one path
+pub cell_differs : (m n : Matrix) (r s c : ℕ) → n.slots ≡ m.slots → s < m.slots → row_slot m r s ≡ Some c → row_slot n r s ≡ None
+    → ((k t : ℕ) → (k ≡ r → t ≡ s → ⊥) → row_slot n k t ≡ row_slot m k t)
+    → (i j : ℕ) → paths_of_cell m i j ≡ paths_of_cell n i j + (if nat_eq r i && nat_eq c j then 1 else 0)
+cell_differs m n r s c sizes inside stands gone same i j = elim (here_or_other r c i j) [
+  | inl here ↦
+      let at : row_slot m i s ≡ Some j = rw (here.0, here.1) stands in
+      let off : row_slot n i s ≡ None = rw here.0 gone in
+      let one : (nat_eq r i && nat_eq c j) ≡ true = rw (eq-eqb r i (sym here.0), eq-eqb c j (sym here.1)) refl in
+      rw (one, sizes) (count_more (has_path n i j) (has_path m i j) m.slots s inside (rw off refl) (names_it (row_slot m i s) j at)
+      (λ t other. ap (λ o. names o j) (same i t (λ _ slot. other slot))))
+  | inr away ↦
+      rw (neither away, sizes) (count_same (has_path m i j) (has_path n i j) m.slots (λ t _. alike away t) ∙ omega arith)
+]
+  where
+    neither : (i ≡ r → j ≡ c → ⊥) → (nat_eq r i && nat_eq c j) ≡ false
+    neither away = false_unless _ (λ both. let parts = both_true (nat_eq r i) (nat_eq c j) both in away (sym (exact_unsigned_eq r i parts.0)) (sym (exact_unsigned_eq c j parts.1)))
+
+    alike : (i ≡ r → j ≡ c → ⊥) → (t : ℕ) → has_path m i j t ≡ has_path n i j t
+    alike away t = elim (here_or_other r s i t) [
+      | inl here ↦
+          let at : row_slot m i t ≡ Some c = rw (here.0, here.1) stands in
+          let off : row_slot n i t ≡ None = rw (here.0, here.1) gone in
+          rw (at, off) (false_unless (nat_eq c j) (λ one. away here.0 (sym (exact_unsigned_eq c j one))))
+      | inr other ↦ ap (λ o. names o j) (sym (same i t other))
+    ]
+
+-- a row or a column that lacks a slot has fewer paths than there are slots
+pub row_has_room : (m : Matrix) (i s : ℕ) → s < m.slots → row_slot m i s ≡ None → paths_of_row m i < m.slots
+row_has_room m i s inside none = count_short (λ t. is_some (row_slot m i t)) m.slots s inside (rw none refl)
+
+pub column_has_room : (m : Matrix) (j s : ℕ) → s < m.slots → column_slot m j s ≡ None → paths_of_column m j < m.slots
+column_has_room m j s inside none = count_short (λ t. is_some (column_slot m j t)) m.slots s inside (ap is_some none)

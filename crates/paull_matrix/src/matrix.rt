@@ -1,0 +1,184 @@
+//! The matrix, kept as the plain list of its paths. Each look scans the list.
+
+ghost use Rattle.std.specs.Prelude.{◌≡◌, ◌<◌, ◌≤◌, ◌&&◌, nat_eq, find, Some, None, IfOk};
+ghost use Rattle.paull_matrix.specs.Matrix.{
+  no_paths,
+  row_slot as row_slot_of,
+  column_slot as column_slot_of,
+  lowest_in_both,
+  lowest_in_row,
+  lowest_in_column,
+  paths_of_row,
+  paths_of_column,
+  with_path,
+  without_path,
+  IsLegal,
+};
+ghost use Rattle.std.specs.Option.{option_map};
+
+use std::alloc::{AllocError, Global};
+use std::marker::Model;
+
+/// A path from an incoming line to an outgoing line in an internal slot.
+#[derive(Clone, Copy)]
+struct Path {
+    row: u8,
+    column: u8,
+    slot: u8,
+}
+
+/// The paths of a three-stage switch: each has a row (its incoming line), a column (its outgoing
+/// line) and an internal slot. There are as many rows as columns, 1 to 34, and 1 to 59 slots.
+///
+/// No slot stands twice in a row or in a column. No call but `new` takes memory. Contracts see the
+/// matrix as its sizes and the map from a row and a slot to the column.
+#[derive(Drop)]
+pub struct PaullMatrix {
+    lines: u8,
+    slots: u8,
+    paths: Vec<Path>,
+}
+
+impl Model for PaullMatrix {
+    ghost use Rattle.std.specs.Vec.{vec_capacity};
+    ghost use Rattle.paull_matrix.specs.Matrix.{Matrix, matrix_code};
+    ghost use Rattle.paull_matrix.specs.Listed.{listed, IsKept};
+
+    ghost Value = { Matrix };
+
+    ghost coded = { matrix_code };
+
+    ghost view = { λ a. listed a.lines a.slots a.paths.items };
+
+    ghost invariant = { λ a. IsKept a.lines a.slots (vec_capacity a.paths) a.paths.items };
+}
+
+impl PaullMatrix {
+    /// An empty matrix of `lines` rows and columns and `slots` slots. It reserves the room for all
+    /// the paths that it can hold. The only error is want of memory.
+    pub fn new(alloc: Global, lines: u8, slots: u8) -> Result<PaullMatrix, AllocError>
+        requires lines { (0 < lines) × (lines ≤ 34) }
+        requires slots { (0 < slots) × (slots ≤ 59) }
+        ensures empty { IfOk result (λ matrix. matrix ≡ no_paths lines slots) }
+        ensures legal { IfOk result IsLegal }
+    {
+        let paths = Vec::with_capacity(alloc, usize::from(lines) * usize::from(slots))?;
+        Ok(PaullMatrix {
+            lines,
+            slots,
+            paths,
+        })
+    }
+
+    /// The column of the path of row `i` in slot `s`, `None` exactly where there is no such path.
+    pub fn row_slot(&self, i: u8, s: u8) -> Option<u8>
+        requires row { i < self.now.lines }
+        requires slot { s < self.now.slots }
+        ensures column { result ≡ row_slot_of self.now i s }
+        ensures legal { IsLegal self.now }
+    {
+        column_of(&self.paths, i, s)
+    }
+
+    /// The row of the path of column `j` in slot `s`, `None` exactly where there is no such path.
+    pub fn column_slot(&self, j: u8, s: u8) -> Option<u8>
+        requires column { j < self.now.lines }
+        requires slot { s < self.now.slots }
+        ensures row { result ≡ column_slot_of self.now j s }
+        ensures legal { IsLegal self.now }
+    {
+        row_of(&self.paths, j, s)
+    }
+
+    /// The lowest slot that is missing both in row `i` and in column `j`, `None` exactly where every
+    /// slot stands in one of them.
+    pub fn common_free(&self, i: u8, j: u8) -> Option<u8>
+        requires row { i < self.now.lines }
+        requires column { j < self.now.lines }
+        ensures lowest { result ≡ lowest_in_both self.now i j }
+        ensures legal { IsLegal self.now }
+    {
+        for s in 0..self.slots {
+            if self.row_slot(i, s).is_none() && self.column_slot(j, s).is_none() {
+                return Some(s);
+            }
+        }
+        None
+    }
+
+    /// The lowest slot that is missing in row `i`, which has fewer paths than there are slots.
+    pub fn free_in_row(&self, i: u8) -> u8
+        requires row { i < self.now.lines }
+        requires room { paths_of_row self.now i < self.now.slots }
+        ensures lowest { lowest_in_row self.now i ≡ Some result }
+        ensures legal { IsLegal self.now }
+    {
+        for s in 0..self.slots {
+            if self.row_slot(i, s).is_none() {
+                return s;
+            }
+        }
+        unreachable!()
+    }
+
+    /// The lowest slot that is missing in column `j`, which has fewer paths than there are slots.
+    pub fn free_in_column(&self, j: u8) -> u8
+        requires column { j < self.now.lines }
+        requires room { paths_of_column self.now j < self.now.slots }
+        ensures lowest { lowest_in_column self.now j ≡ Some result }
+        ensures legal { IsLegal self.now }
+    {
+        for s in 0..self.slots {
+            if self.column_slot(j, s).is_none() {
+                return s;
+            }
+        }
+        unreachable!()
+    }
+
+    /// Puts a path of row `i` and column `j` into slot `s`, which is missing in both.
+    pub fn place(&mut self, i: u8, j: u8, s: u8)
+        requires row { i < self.old.lines }
+        requires column { j < self.old.lines }
+        requires slot { s < self.old.slots }
+        requires missing_in_row { row_slot_of self.old i s ≡ None }
+        requires missing_in_column { column_slot_of self.old j s ≡ None }
+        ensures placed { self.new ≡ with_path self.old i j s }
+        ensures legal { IsLegal self.new }
+    {
+        self.paths.push_reserved(Path {
+            row: i,
+            column: j,
+            slot: s,
+        });
+    }
+
+    /// Takes out the path of row `i` and column `j` that stands in slot `s`.
+    pub fn lift(&mut self, i: u8, j: u8, s: u8)
+        requires stands { row_slot_of self.old i s ≡ Some j }
+        ensures lifted { self.new ≡ without_path self.old i s }
+        ensures legal { IsLegal self.new }
+    {
+        self.paths.retain(|path| !(path.row == i && path.column == j && path.slot == s));
+    }
+}
+
+/// The column of the listed path of row `i` in slot `s`.
+fn column_of(paths: &[Path], i: u8, s: u8) -> Option<u8>
+    ensures { result ≡ option_map (λ path. path.column) (find (λ path. nat_eq path.row i && nat_eq path.slot s) paths.now) }
+{
+    paths
+        .iter()
+        .find(|path| path.row == i && path.slot == s)
+        .map(|path| path.column)
+}
+
+/// The row of the listed path of column `j` in slot `s`.
+fn row_of(paths: &[Path], j: u8, s: u8) -> Option<u8>
+    ensures { result ≡ option_map (λ path. path.row) (find (λ path. nat_eq path.column j && nat_eq path.slot s) paths.now) }
+{
+    paths
+        .iter()
+        .find(|path| path.column == j && path.slot == s)
+        .map(|path| path.row)
+}

@@ -1,0 +1,64 @@
+use std::alloc::{AllocError, Global};
+use std::marker::Model;
+
+/// A list for each frame, of what arrived in it or of the circuits that stood at its boundary.
+/// Contracts see the list of these lists.
+#[derive(Drop)]
+pub struct Rows<T> {
+    rows: Vec<Vec<T>>,
+}
+
+impl<T> Model for Rows<T> {
+    ghost use Rattle.std.specs.Prelude.{List, map};
+
+    ghost Value = { List (List T) };
+
+    ghost view = { λ a. map (λ row. row.items) a.rows.items };
+}
+
+impl<T: Copy + Drop> Rows<T> {
+    ghost use Rattle.std.specs.Prelude.{◌≡◌, [], ◌∷◌, ◌++◌, OnOk, OnErr, length, take, slice_index_or};
+
+    /// No frame yet.
+    pub fn new(alloc: Global) -> Rows<T>
+        ensures { result ≡ [] }
+    {
+        Rows {
+            rows: Vec::new(alloc),
+        }
+    }
+
+    /// Adds the list of the next frame. Where memory runs out nothing is added.
+    pub fn push(&mut self, alloc: Global, row: &[T]) -> Result<(), AllocError>
+        ensures ok { OnOk result (self.new ≡ self.old ++ row.now ∷ []) }
+        ensures err { OnErr result (self.new ≡ self.old) }
+    {
+        let row = Vec::from_slice(alloc, row)?;
+        self.rows.push(row)?;
+        Ok(())
+    }
+
+    /// How many frames there are.
+    pub fn len(&self) -> usize
+        ensures { result ≡ length self.now }
+    {
+        self.rows.len()
+    }
+
+    /// Keeps the first `count` frames alone.
+    pub fn truncate(&mut self, count: usize)
+        ensures { self.new ≡ take count self.old }
+    {
+        self.rows.truncate(count);
+    }
+
+    /// The list of frame `f`, counted from 0; an empty one where there is no such frame.
+    pub fn row(&self, f: usize) -> &[T]
+        ensures { result.now ≡ slice_index_or self.now f [] }
+    {
+        match self.rows.get(f) {
+            Some(row) => row.as_slice(),
+            None => &[],
+        }
+    }
+}

@@ -1,0 +1,137 @@
+-- Outgoing messages and how they are encoded (ITU-T Q.931 (05/98), 4.5).
+use Rattle.std.specs.Prelude.{ℕ, ◌+◌, ◌^◌, ◌<◌, ◌≤◌, Bool, true, false, IsTrue, List, [], ◌∷◌, ◌++◌, length, map, Option, Some, None, IfSome}
+use Rattle.std.specs.List.{flat_map}
+use Rattle.q931_elements.specs.Grammar.{Item, SingleOctet, VariableLength, element_of, octets_of_all}
+use Rattle.q931_codec.specs.declared.codes.TheConstants.{SENDING_COMPLETE, BEARER_CAPABILITY, CAUSE, CALL_STATE, CHANNEL_IDENTIFICATION, PROGRESS_INDICATOR, CALLING_PARTY_NUMBER, CALLED_PARTY_NUMBER, RESTART_INDICATOR, LOW_LAYER_COMPATIBILITY, HIGH_LAYER_COMPATIBILITY}
+use Rattle.q931_codec.specs.declared.kind.MessageKind.{MessageKind}
+use Rattle.q931_codec.specs.declared.message.Message.{Message}
+use Rattle.q931_codec.specs.declared.outgoing.Outgoing.{Outgoing}
+use Rattle.q931_codec.specs.MessageType.{IsNamed}
+use Rattle.q931_codec.specs.Contents.{is_bearer_channel}
+use Rattle.q931_codec.specs.Grammar.{header}
+
+-- an outgoing message without where its octets lie in memory
+pub record OutgoingMessage : Type 0 where
+  pub flag : Bool
+  pub reference : ℕ
+  pub kind : MessageKind
+  pub complete : Bool
+  pub bearer : List ℕ
+  pub cause : Option ℕ
+  pub state : Option ℕ
+  pub channel : Option ℕ
+  pub progress : Bool
+  pub calling : List ℕ
+  pub called : List ℕ
+  pub restart : Option ℕ
+  pub low : List ℕ
+  pub high : List ℕ
+
+abbrev pub outgoing_of : Outgoing → OutgoingMessage
+outgoing_of m = record {
+  flag = m.flag;
+  reference = m.reference;
+  kind = m.kind;
+  complete = m.complete;
+  bearer = m.bearer.now;
+  cause = m.cause;
+  state = m.state;
+  channel = m.channel;
+  progress = m.progress;
+  calling = m.calling.now;
+  called = m.called.now;
+  restart = m.restart;
+  low = m.low.now;
+  high = m.high.now;
+}
+
+-- a message without elements
+abbrev pub bare : Bool → ℕ → MessageKind → OutgoingMessage
+bare flag reference kind = record {
+  flag = flag;
+  reference = reference;
+  kind = kind;
+  complete = false;
+  bearer = [];
+  cause = None;
+  state = None;
+  channel = None;
+  progress = false;
+  calling = [];
+  called = [];
+  restart = None;
+  low = [];
+  high = [];
+}
+
+-- what can be encoded
+pub record IsWritable (m : OutgoingMessage) : Type 0 where
+  pub reference : m.reference < 2 ^ 15
+  pub kind : IsNamed m.kind
+  pub bearer : length m.bearer ≤ 10
+  pub cause : IfSome m.cause (λ value. value < 128)
+  pub state : IfSome m.state (λ state. state < 64)
+  pub channel : IfSome m.channel (λ channel. IsTrue (is_bearer_channel channel))
+  pub calling : length m.calling ≤ 22
+  pub called : length m.called ≤ 21
+  pub low : length m.low ≤ 16
+  pub high : length m.high ≤ 3
+
+-- ---- contents
+
+-- ITU-T coding, location "public network serving the local user", and the value (4.5.12)
+abbrev pub cause_contents : Option ℕ → List ℕ
+cause_contents None = []
+cause_contents (Some value) = 0x82 ∷ (0x80 + value) ∷ []
+
+-- ITU-T coding and the state (4.5.7); and the class of what is restarted (4.5.25)
+abbrev pub one_octet : Option ℕ → List ℕ
+one_octet None = []
+one_octet (Some octet) = octet ∷ []
+
+-- primary rate interface, this channel alone; a B-channel by its number; the number (4.5.13)
+abbrev pub channel_contents : Option ℕ → List ℕ
+channel_contents None = []
+channel_contents (Some channel) = 0xA9 ∷ 0x83 ∷ (0x80 + channel) ∷ []
+
+-- the location as above, and "in-band information or an appropriate pattern is now available" (4.5.23)
+abbrev pub progress_contents : Bool → List ℕ
+progress_contents true = 0x82 ∷ 0x88 ∷ []
+progress_contents false = []
+
+-- ---- the elements in the order in which they are written
+
+abbrev pub completed : Bool → List Item
+completed true = SingleOctet SENDING_COMPLETE ∷ []
+completed false = []
+
+-- empty contents stand for no element
+abbrev pub given : ℕ × List ℕ → List Item
+given (code, []) = []
+given (code, octet ∷ octets) = VariableLength code (octet ∷ octets) ∷ []
+
+-- the variable length elements in ascending order of their identifiers (4.5.1)
+abbrev pub rows : OutgoingMessage → List (ℕ × List ℕ)
+rows m =
+    (BEARER_CAPABILITY, m.bearer)
+    ∷ (CAUSE, cause_contents m.cause)
+    ∷ (CALL_STATE, one_octet m.state)
+    ∷ (CHANNEL_IDENTIFICATION, channel_contents m.channel)
+    ∷ (PROGRESS_INDICATOR, progress_contents m.progress)
+    ∷ (CALLING_PARTY_NUMBER, m.calling)
+    ∷ (CALLED_PARTY_NUMBER, m.called)
+    ∷ (RESTART_INDICATOR, one_octet m.restart)
+    ∷ (LOW_LAYER_COMPATIBILITY, m.low)
+    ∷ (HIGH_LAYER_COMPATIBILITY, m.high)
+    ∷ []
+
+abbrev pub sent : OutgoingMessage → List Item
+sent m = completed m.complete ++ flat_map given (rows m)
+
+-- the octets of an outgoing message
+abbrev pub encoding : OutgoingMessage → List ℕ
+encoding m = header m.flag m.reference m.kind ++ octets_of_all (sent m)
+
+-- the message that its receiver reads
+abbrev pub received : OutgoingMessage → Message
+received m = record { flag = m.flag; reference = m.reference; kind = m.kind; elements = map element_of (sent m) }

@@ -1,0 +1,21 @@
+//! Messages of ITU-T Q.931 (05/98) as octets: [`read`] takes a received message apart without copying
+//! it, and [`write`] encodes an outgoing one, always in the same way. Nothing here takes memory.
+#![tactic(auto)]
+
+pub mod codes;
+mod contents;
+mod encoding;
+mod kind;
+mod laws;
+mod message;
+mod outgoing;
+
+pub use contents::ChannelIdentification;
+pub use encoding::write;
+pub use kind::MessageKind;
+pub use laws::{one_message, written_fields_are_read};
+pub use message::{Discard, Message, read};
+pub use outgoing::Outgoing;
+
+#[cfg(test)]
+mod tests;

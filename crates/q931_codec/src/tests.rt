@@ -1,0 +1,265 @@
+use super::*;
+use crate::codes::*;
+use std::test::*;
+
+// A message, and the parts that it has.
+struct Row {
+    octets: &'static [u8],
+    flag: bool,
+    reference: u16,
+    kind: MessageKind,
+    elements: &'static [(u8, &'static [u8])],
+}
+
+// Messages as primary rate interfaces carry them, coded by Q.931's figures for each element.
+const MESSAGES: [Row; 6] = [
+    // Speech over A-law, channel 1 alone, from a national number to a subscriber number, telephony.
+    Row {
+        octets: b"\x08\x02\x00\x03\x05\xA1\x04\x03\x80\x90\xA3\x18\x03\xA9\x83\x81\x6C\x09\x21\x835551234\x70\x08\xC15559876\x7D\x02\x91\x81",
+        flag: false,
+        reference: 3,
+        kind: MessageKind::Setup,
+        elements: &[
+            (SENDING_COMPLETE, b""),
+            (BEARER_CAPABILITY, b"\x80\x90\xA3"),
+            (CHANNEL_IDENTIFICATION, b"\xA9\x83\x81"),
+            (CALLING_PARTY_NUMBER, b"\x21\x835551234"),
+            (CALLED_PARTY_NUMBER, b"\xC15559876"),
+            (HIGH_LAYER_COMPATIBILITY, b"\x91\x81"),
+        ],
+    },
+    Row {
+        octets: b"\x08\x02\x80\x03\x02\x18\x03\xA9\x83\x9F",
+        flag: true,
+        reference: 3,
+        kind: MessageKind::CallProceeding,
+        elements: &[(CHANNEL_IDENTIFICATION, b"\xA9\x83\x9F")],
+    },
+    // The greatest call reference value, and cause 96 with the identifier that is missing.
+    Row {
+        octets: b"\x08\x02\xFF\xFF\x5A\x08\x03\x82\xE0\x18",
+        flag: true,
+        reference: 32_767,
+        kind: MessageKind::ReleaseComplete,
+        elements: &[(CAUSE, b"\x82\xE0\x18")],
+    },
+    Row {
+        octets: b"\x08\x02\x00\x00\x46\x18\x03\xA9\x83\x81\x79\x01\x80",
+        flag: false,
+        reference: 0,
+        kind: MessageKind::Restart,
+        elements: &[
+            (CHANNEL_IDENTIFICATION, b"\xA9\x83\x81"),
+            (RESTART_INDICATOR, b"\x80"),
+        ],
+    },
+    Row {
+        octets: b"\x08\x02\x80\x01\x07",
+        flag: true,
+        reference: 1,
+        kind: MessageKind::Connect,
+        elements: &[],
+    },
+    // SUSPEND, which this exchange doesn't have.
+    Row {
+        octets: b"\x08\x02\x12\x34\x25\x10\x01\x00",
+        flag: false,
+        reference: 0x1234,
+        kind: MessageKind::Unknown(0x25),
+        elements: &[(0x10, b"\x00")],
+    },
+];
+
+// Whether the row's octets are read as the row's parts.
+fn is_read(row: &Row) -> bool {
+    let Ok(message) = read(row.octets) else {
+        return false;
+    };
+    let mut elements = message.elements;
+    for (code, contents) in row.elements {
+        match elements.next() {
+            Some(element) if element.code == *code && element.contents == *contents => {}
+            _ => return false,
+        }
+    }
+    elements.next().is_none()
+        && message.flag == row.flag
+        && message.reference == row.reference
+        && message.kind == row.kind
+}
+
+#[test]
+fn reads_messages(rt: HostRuntime) {
+    for row in &MESSAGES {
+        assert!(rt; is_read(row), "at {:?}", row.octets);
+    }
+}
+
+fn is_discarded(octets: &[u8], wanted: Discard) -> bool {
+    matches!(read(octets), Err(discard) if discard == wanted)
+}
+
+#[test]
+fn discards(rt: HostRuntime) {
+    assert!(rt; is_discarded(b"\x08\x02\x80", Discard::Short));
+    assert!(rt; is_discarded(b"\x08\x02\x00\x01", Discard::Short));
+    assert!(rt; is_discarded(b"\x08\x01\x01\x05\x00", Discard::ReferenceLength));
+    assert!(rt; is_discarded(b"\x08\x00\x05", Discard::ReferenceLength));
+    assert!(rt; is_discarded(b"\x09\x02\x00\x01\x05", Discard::Discriminator));
+    assert!(rt; is_discarded(b"\x41", Discard::Discriminator));
+
+    // Every message of no octet, of one, and of two.
+    assert!(rt; is_discarded(b"", Discard::Short));
+    for (wanted, of_one, of_two) in [
+        (Discard::Short, 1, 1),
+        (Discard::Discriminator, 255, 65_280),
+        (Discard::ReferenceLength, 0, 255),
+    ] {
+        let ones = (0..256u16).filter(|n| is_discarded(&[(n % 256) as u8], wanted));
+        assert_eq!(rt; ones.count(), of_one, "{wanted}");
+        let twos = (0..65_536u32).filter(|n| is_discarded(
+            &((n % 65_536) as u16).to_be_bytes(),
+            wanted,
+        ));
+        assert_eq!(rt; twos.count(), of_two, "{wanted}");
+    }
+}
+
+#[test]
+fn names_discards(rt: HostRuntime) -> Result<(), Fail> {
+    for (discard, number, text) in [
+        (Discard::Discriminator, 1, "another protocol discriminator"),
+        (Discard::Short, 2, "the message is too short"),
+        (
+            Discard::ReferenceLength,
+            3,
+            "a call reference of another length",
+        ),
+    ] {
+        assert_eq!(rt; discard as u8, number);
+        assert_eq!(rt; format!(in rt.alloc(); "{discard}")?.as_str(), text);
+    }
+    Ok(())
+}
+
+// The first cause of these elements, behind a header.
+fn cause_in(octets: &[u8]) -> Option<u8> {
+    read(octets).ok()?.cause()
+}
+
+#[test]
+fn reads_causes(rt: HostRuntime) {
+    // A location and a value, a diagnostic behind it, and a recommendation before it.
+    assert_eq!(rt; cause_in(b"\x08\x02\x00\x01\x45\x08\x02\x80\x90"), Some(16));
+    assert_eq!(rt;
+        cause_in(b"\x08\x02\x00\x01\x45\x08\x03\x82\xE0\x18"),
+        Some(96)
+    );
+    assert_eq!(rt;
+        cause_in(b"\x08\x02\x00\x01\x45\x08\x03\x02\x80\x91"),
+        Some(17)
+    );
+    // No value, in the first cause though not in the second, and a cause of another codeset.
+    assert_eq!(rt; cause_in(b"\x08\x02\x00\x01\x45"), None);
+    assert_eq!(rt; cause_in(b"\x08\x02\x00\x01\x45\x08\x02\x02\x80"), None);
+    assert_eq!(rt;
+        cause_in(b"\x08\x02\x00\x01\x45\x08\x00\x08\x02\x80\x90"),
+        None
+    );
+    assert_eq!(rt;
+        cause_in(b"\x08\x02\x00\x01\x45\x98\x08\x02\x80\x91\x08\x02\x80\x90"),
+        Some(16)
+    );
+}
+
+// What the one channel identification of a message asks for.
+fn channel_in(octets: &[u8]) -> Option<ChannelIdentification> {
+    read(octets).ok()?.channel()
+}
+
+#[test]
+fn reads_channels(rt: HostRuntime) {
+    let asked = [
+        channel_in(b"\x08\x02\x00\x01\x05\x18\x03\xA9\x83\x1F"),
+        channel_in(b"\x08\x02\x00\x01\x05\x18\x03\xA1\x83\x8F"),
+        channel_in(b"\x08\x02\x00\x01\x05\x18\x02\xA3\x00"),
+        channel_in(b"\x08\x02\x00\x01\x05\x18\x03\xA9\x83\x90"),
+        channel_in(b"\x08\x02\x00\x01\x05\x18\x03\xA9\x93\x81"),
+        channel_in(b"\x08\x02\x00\x01\x05\x18\x01\x89"),
+        channel_in(b"\x08\x02\x00\x01\x05"),
+    ];
+    let wanted = [
+        Some(ChannelIdentification::Exclusive(31)),
+        Some(ChannelIdentification::Preferred(15)),
+        Some(ChannelIdentification::Any),
+        Some(ChannelIdentification::Invalid),
+        Some(ChannelIdentification::Invalid),
+        Some(ChannelIdentification::Invalid),
+        None,
+    ];
+    assert_eq!(rt; asked, wanted);
+}
+
+#[test]
+fn writes(rt: HostRuntime) -> Result<(), Fail> {
+    let released = write(&Outgoing {
+        cause: Some(44),
+        ..Outgoing::new(true, 1, MessageKind::ReleaseComplete)
+    });
+    assert_eq!(rt;
+        released.as_slice(),
+        b"\x08\x02\x80\x01\x5A\x08\x02\x82\xAC".as_slice()
+    );
+
+    let status = write(&Outgoing {
+        cause: Some(30),
+        state: Some(0),
+        ..Outgoing::new(true, 1, MessageKind::Status)
+    });
+    assert_eq!(rt;
+        status.as_slice(),
+        b"\x08\x02\x80\x01\x7D\x08\x02\x82\x9E\x14\x01\x00".as_slice()
+    );
+    let status = read(status.as_slice())?;
+    assert_eq!(rt; status.call_state(), Some(0));
+    assert!(rt; status.restart_indicator().is_none());
+
+    let setup = write(&Outgoing {
+        complete: true,
+        bearer: b"\x80\x90\xA3",
+        channel: Some(1),
+        called: b"\x80101",
+        ..Outgoing::new(false, 1, MessageKind::Setup)
+    });
+    assert_eq!(rt;
+        setup.as_slice(),
+        b"\x08\x02\x00\x01\x05\xA1\x04\x03\x80\x90\xA3\x18\x03\xA9\x83\x81\x70\x04\x80101".as_slice()
+    );
+    Ok(())
+}
+
+#[test]
+fn writes_the_longest(rt: HostRuntime) -> Result<(), Fail> {
+    let octets = write(&Outgoing {
+        flag: true,
+        reference: 32_767,
+        kind: MessageKind::Setup,
+        complete: true,
+        bearer: &[1; 10],
+        cause: Some(127),
+        state: Some(63),
+        channel: Some(31),
+        progress: true,
+        calling: &[2; 22],
+        called: &[3; 21],
+        restart: Some(0x87),
+        low: &[4; 16],
+        high: &[5; 3],
+    });
+    assert_eq!(rt; octets.len(), 107);
+    let message = read(octets.as_slice())?;
+    assert_eq!(rt; message.restart_indicator(), Some(0x87));
+    let last = message.elements.last().map(|element| element.code);
+    assert_eq!(rt; last, Some(HIGH_LAYER_COMPATIBILITY));
+    Ok(())
+}

@@ -1,0 +1,4 @@
+pub mod InformationElement
+pub mod Grammar
+pub mod Reading
+pub mod Front

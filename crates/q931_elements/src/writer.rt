@@ -1,0 +1,60 @@
+use arrayvec::ArrayVec;
+use std::marker::Model;
+
+/// The greatest number of octets that this exchange writes into one message.
+pub const LONGEST_MESSAGE: usize = 112;
+
+/// Writes a message from its first octet on. Contracts see it as the octets that it has written.
+#[derive(Debug, Drop)]
+pub struct Writer {
+    octets: ArrayVec<u8, LONGEST_MESSAGE>,
+}
+
+impl Model for Writer {
+    ghost use Rattle.std.specs.Prelude.{ℕ, List};
+
+    ghost Value = { List ℕ };
+
+    ghost view = { λ w. w.octets.items };
+}
+
+impl Writer {
+    ghost use Rattle.std.specs.Prelude.{◌≡◌, ◌+◌, ◌≤◌, List, [], ◌∷◌, ◌++◌, length};
+
+    /// A writer that has written nothing.
+    pub fn new() -> Writer
+        ensures { result ≡ [] }
+    {
+        Writer {
+            octets: ArrayVec::new(),
+        }
+    }
+
+    /// Writes one octet: one of the header, or a single octet information element (Q.931, 4.5.1).
+    pub fn single(&mut self, code: u8)
+        requires { length self.old + 1 ≤ LONGEST_MESSAGE }
+        ensures { self.new ≡ self.old ++ code ∷ [] }
+    {
+        self.octets.push(code);
+    }
+
+    /// Writes a variable length information element: its identifier, the length of its contents, and
+    /// the contents (Q.931, 4.5.1).
+    pub fn element(&mut self, code: u8, contents: &[u8])
+        requires { length self.old + 2 + length contents.now ≤ LONGEST_MESSAGE }
+        ensures { self.new ≡ self.old ++ code ∷ length contents.now ∷ contents.now }
+    {
+        self.octets.push(code);
+        self.octets.push(contents.len() as u8);
+        if self.octets.try_extend_from_slice(contents).is_err() {
+            unreachable!();
+        }
+    }
+
+    /// The octets that were written.
+    pub fn finish(self) -> ArrayVec<u8, LONGEST_MESSAGE>
+        ensures { result.items ≡ self }
+    {
+        self.octets
+    }
+}

@@ -1,0 +1,200 @@
+-- The chain from a column makes room in a row and that column.
+use Rattle.std.proofs.Common.{◌≡◌, ◌≢◌, ℕ, zero, ◌+◌, ◌*◌, ◌-◌, ◌<◌, ◌≤◌, Bool, true, false, Option, Some, None, List, length, arith, refl, sym, ap, subst, ◌∙◌}
+use Rattle.std.specs.Prelude.{slice_get, ◌&&◌, is_none}
+use mathlib.Core.Logic.{inl, inr}
+use Rattle.paull_matrix.specs.Matrix.{Matrix, row_slot, column_slot, is_free_in_row, is_free_in_column, lowest_in_row, lowest_in_column, lowest_in_both, paths_of_cell, SameSizes, IsLegal}
+use Rattle.paull_matrix.proofs.Numbers.{lowest_passes, lowest_none}
+use Rattle.paull_matrix.proofs.Laws.{column_of_row, row_of_column, row_inside, no_column}
+use Rattle.paull_matrix.proofs.Bools.{both_true}
+use Rattle.rearrange_chain.specs.declared.moves.Move.{Move}
+use Rattle.rearrange_chain.specs.declared.moves.End.{End}
+use Rattle.rearrange_chain.specs.declared.moves.End.TheVariants.{Row, Column}
+use Rattle.rearrange_chain.specs.Chain.{far_line, far_end, move_of, chain, lifted, exchanged, ChangesBy}
+use Rattle.rearrange_chain.proofs.Walk.{leave, enter, IsMirrored, IsWithin, own_chain, is_step, has_step, rows_leave_once, rows_take_once, columns_take_once, not_entered, new_of, old_of}
+use Rattle.rearrange_chain.proofs.Closed.{IsOpen, chain_bound, takes_neighbour, other_untouched}
+use Rattle.rearrange_chain.proofs.Exchange.{IsExchange, lifted_keeps, lifted_from, lifted_takes, placed_keeps, placed_from, exchange_changes, exchange_cells, exchange_legal, exchange_sizes}
+
+-- in a legal matrix a path is found from both of its ends
+pub mirrored : (m : Matrix) → IsLegal m → IsMirrored (far_line m)
+mirrored m legal (Row i) s line h = column_of_row m i s line legal h
+mirrored m legal (Column j) s line h = row_of_column m line s j h
+
+pub lines_within : (m : Matrix) → IsLegal m → IsWithin m.lines (far_line m)
+lines_within m legal (Row i) s line h = legal.column_within i s line h
+lines_within m legal (Column j) s line h = row_inside m line s j h
+
+-- The chain from column j, which lacks b, where row i lacks a: it never comes to the row
+pub column_open : (m : Matrix) (i j a b : ℕ) → IsLegal m → i < m.lines → j < m.lines → row_slot m i a ≡ None → column_slot m j b ≡ None → a ≢ b
+    → IsOpen (far_line m) a b m.lines (Column j) (Row i)
+column_open m i j a b legal row column row_free column_free apart = record {
+  mirror = mirrored m legal;
+  within = lines_within m legal;
+  free = column_free;
+  other_free = row_free;
+  apart = λ e. cc;
+  inside = column;
+  other_inside = row;
+  two_slots = apart;
+}
+
+-- a move's path is found where the move says
+stands_at : (m : Matrix) (e : End) (line old new : ℕ) → IsLegal m → far_line m e old ≡ Some line → row_slot m (move_of e line old new).row old ≡ Some (move_of e line old new).column
+stands_at m (Row i) line old new legal h = h
+stands_at m (Column j) line old new legal h = row_of_column m line old j h
+
+-- an end is left in another slot than it is entered in
+two_ways : (a b : ℕ) (e : End) → a ≢ b → leave a b e ≡ enter a b e → ⊥
+two_ways a b (Row i) apart same = apart (sym same)
+two_ways a b (Column j) apart same = apart same
+
+-- a chain's moves are an exchange
+pub chain_exchanges : (m : Matrix) (a b : ℕ) (start other : End) → IsLegal m → a < m.slots → b < m.slots → IsOpen (far_line m) a b m.lines start other
+    → IsExchange m (own_chain (far_line m) a b (2 * m.lines) start)
+chain_exchanges m a b start other legal a_inside b_inside opened = record {
+  stands = λ k v h.
+      let at = is_step (far_line m) a b start (2 * m.lines) k v h in
+      subst (λ (w : Move). row_slot m w.row w.old ≡ Some w.column) (sym at.is)
+      (ap (row_slot m (move_of at.near at.line (leave a b at.near) (enter a b at.near)).row) (old_of at.near at.line (leave a b at.near) (enter a b at.near))
+      ∙ stands_at m at.near at.line (leave a b at.near) (enter a b at.near) legal at.goes);
+  turns = λ k v h same.
+      let at = is_step (far_line m) a b start (2 * m.lines) k v h in
+      two_ways a b at.near opened.two_slots
+      (sym (old_of at.near at.line (leave a b at.near) (enter a b at.near)) ∙ ap (λ (w : Move). w.old) (sym at.is) ∙ same ∙ ap (λ (w : Move). w.new) at.is ∙ new_of at.near at.line (leave a b at.near) (enter a b at.near));
+  within = λ k v h.
+      let at = is_step (far_line m) a b start (2 * m.lines) k v h in
+      subst (λ (w : Move). w.new < m.slots) (sym at.is) (subst (λ s. s < m.slots) (sym (new_of at.near at.line (leave a b at.near) (enter a b at.near))) (enter_inside at.near));
+  leave_once = λ k n u v g h row old. rows_leave_once (far_line m) a b start (2 * m.lines) k n u v opened.mirror opened.free opened.two_slots g h row old;
+  take_once = λ k n u v g h row new. rows_take_once (far_line m) a b start (2 * m.lines) k n u v opened.mirror opened.free opened.two_slots g h row new;
+  columns_once = λ k n u v g h column new. columns_take_once (far_line m) a b start (2 * m.lines) k n u v opened.mirror opened.free opened.two_slots g h column new;
+  row_moves = λ k v j h e.
+      let taken = takes_neighbour (far_line m) a b m.lines start other opened k v (Row v.row) j h (inl refl) e in
+      (taken.0, move_of (Row v.row) j v.new v.old, taken.1, refl, refl);
+  column_moves = λ k v i h e.
+      let taken = takes_neighbour (far_line m) a b m.lines start other opened k v (Column v.column) i h (inr refl) (column_of_row m i v.new v.column legal e) in
+      (taken.0, move_of (Column v.column) i v.new v.old, taken.1, refl, refl);
+}
+  where
+    enter_inside : (e : End) → enter a b e < m.slots
+    enter_inside (Row i) = a_inside
+    enter_inside (Column j) = b_inside
+
+-- afterwards the row has a free still
+pub row_free_after : (m : Matrix) (i j a b : ℕ) → IsOpen (far_line m) a b m.lines (Column j) (Row i) → row_slot (exchanged m (own_chain (far_line m) a b (2 * m.lines) (Column j))) i a ≡ None
+row_free_after m i j a b opened =
+    placed_keeps moves (lifted m moves) i a (λ k v h row _. untouched k v h row)
+    ∙ lifted_keeps moves m i a (λ k v h row _. untouched k v h row)
+    ∙ opened.other_free
+  where
+    moves : List Move
+    moves = own_chain (far_line m) a b (2 * m.lines) (Column j)
+
+    untouched : (k : ℕ) (v : Move) → slice_get (own_chain (far_line m) a b (2 * m.lines) (Column j)) k ≡ Some v → v.row ≡ i → ⊥
+    untouched k v h row = other_untouched (far_line m) a b m.lines (2 * m.lines) (Column j) (Row i) opened k v h (inl (ap Row (sym row)))
+
+-- what walks into a column over a path in slot a leaves a row
+left_a_row : (a b : ℕ) (e : End) (line : ℕ) → a ≢ b → enter a b e ≡ a → Column (move_of e line (leave a b e) (enter a b e)).column ≡ far_end e line
+left_a_row a b (Row i) line apart e = refl
+left_a_row a b (Column j) line apart e = absurd (apart (sym e))
+
+-- and so has the column
+pub column_free_after : (m : Matrix) (i j a b : ℕ) → IsLegal m → IsOpen (far_line m) a b m.lines (Column j) (Row i)
+    → (x : ℕ) → row_slot (exchanged m (own_chain (far_line m) a b (2 * m.lines) (Column j))) x a ≡ Some j → ⊥
+column_free_after m i j a b legal opened x e = elim (placed_from moves (lifted m moves) x a j e) [
+  | inl before ↦
+      let stood = lifted_from moves m x a j before in
+      let first = has_step (far_line m) a b (Column j) (2 * m.lines) zero (Column j) x some_lines refl (column_of_row m x a j legal stood) in
+      let gone = lifted_takes moves m zero (record { row = x; column = j; old = a; new = b }) first in
+      clash before gone
+  | inr moved ↦
+      let at = is_step (far_line m) a b (Column j) (2 * m.lines) moved.0 moved.1 moved.2 in
+      let entered : enter a b at.near ≡ a = sym (new_of at.near at.line (leave a b at.near) (enter a b at.near)) ∙ ap (λ (w : Move). w.new) (sym at.is) ∙ moved.4 in
+      let comes : far_end at.near at.line ≡ Column j = sym (left_a_row a b at.near at.line opened.two_slots entered) ∙ ap (λ (w : Move). Column w.column) (sym at.is) ∙ ap Column moved.5 in
+      not_entered (far_line m) a b at.near (Column j) opened.mirror opened.free (rw at.goes (ap Some comes))
+]
+  where
+    moves : List Move
+    moves = own_chain (far_line m) a b (2 * m.lines) (Column j)
+
+    some_lines : zero < 2 * m.lines
+    some_lines = let few = legal.lines_within in omega arith
+
+    clash : row_slot (lifted m (own_chain (far_line m) a b (2 * m.lines) (Column j))) x a ≡ Some j → row_slot (lifted m (own_chain (far_line m) a b (2 * m.lines) (Column j))) x a ≡ None → ⊥
+    clash g h = cc
+
+-- where no slot is missing in both, those that are missing in one differ
+both_free : (c d : Bool) → (c && d) ≡ false → c ≡ true → d ≡ true → ⊥
+both_free true true e f g = cc
+both_free true false e f g = cc
+both_free false d e f g = cc
+
+is_none_of : (o : Option ℕ) → is_none o ≡ true → o ≡ None
+is_none_of None e = refl
+is_none_of (Some k) e = absurd (cc)
+
+pub two_slots : (m : Matrix) (i j a b : ℕ) → lowest_in_both m i j ≡ None → lowest_in_row m i ≡ Some a → lowest_in_column m j ≡ Some b → a ≢ b
+two_slots m i j a b none row column same =
+    let in_row = lowest_passes (is_free_in_row m i) m.slots a row in
+    let in_column = lowest_passes (is_free_in_column m j) m.slots b column in
+    let at = lowest_none (λ s. is_free_in_row m i s && is_free_in_column m j s) m.slots a none in_row.1 in
+    both_free (is_free_in_row m i a) (is_free_in_column m j a) at in_row.0 (subst (λ s. is_free_in_column m j s ≡ true) (sym same) in_column.0)
+
+pub lowest_in_row_is : (m : Matrix) (i a : ℕ) → lowest_in_row m i ≡ Some a → (row_slot m i a ≡ None) × (a < m.slots)
+lowest_in_row_is m i a e = let is = lowest_passes (is_free_in_row m i) m.slots a e in (is_none_of (row_slot m i a) is.0, is.1)
+
+pub lowest_in_column_is : (m : Matrix) (j b : ℕ) → lowest_in_column m j ≡ Some b → (column_slot m j b ≡ None) × (b < m.slots)
+lowest_in_column_is m j b e = let is = lowest_passes (is_free_in_column m j) m.slots b e in (is_none_of (column_slot m j b) is.0, is.1)
+
+pub lowest_in_both_is : (m : Matrix) (i j s : ℕ) → lowest_in_both m i j ≡ Some s → (row_slot m i s ≡ None) × (column_slot m j s ≡ None) × (s < m.slots)
+lowest_in_both_is m i j s e =
+    let is = lowest_passes (λ t. is_free_in_row m i t && is_free_in_column m j t) m.slots s e in
+    let both = both_true (is_free_in_row m i s) (is_free_in_column m j s) is.0 in
+    (is_none_of (row_slot m i s) both.0, is_none_of (column_slot m j s) both.1, is.1)
+
+-- All that the rule promises of a row and a column without a common slot
+pub record MakesRoom (m : Matrix) (i j a : ℕ) (moves : List Move) : Type 0 where
+  pub exchange : IsExchange m moves
+  pub row_free : row_slot (exchanged m moves) i a ≡ None
+  pub column_free : column_slot (exchanged m moves) j a ≡ None
+  pub bound : length moves + 2 ≤ 2 * m.lines
+
+pub column_chain_makes_room : (m : Matrix) (i j a b : ℕ) → IsLegal m → i < m.lines → j < m.lines → lowest_in_both m i j ≡ None → lowest_in_row m i ≡ Some a → lowest_in_column m j ≡ Some b
+    → MakesRoom m i j a (chain (far_line m) (2 * m.lines) (Column j) a b)
+column_chain_makes_room m i j a b legal row column none row_lowest column_lowest =
+    let in_row = lowest_in_row_is m i a row_lowest in
+    let in_column = lowest_in_column_is m j b column_lowest in
+    let opened = column_open m i j a b legal row column in_row.0 in_column.0 (two_slots m i j a b none row_lowest column_lowest) in
+    record {
+      exchange = chain_exchanges m a b (Column j) (Row i) legal in_row.1 in_column.1 opened;
+      row_free = row_free_after m i j a b opened;
+      column_free = no_column (exchanged m (chain (far_line m) (2 * m.lines) (Column j) a b)) j a (column_free_after m i j a b legal opened);
+      bound = chain_bound (far_line m) a b m.lines (2 * m.lines) (Column j) (Row i) opened;
+    }
+
+-- what stands after the moves of the chain
+pub record Rearranged (m after : Matrix) (i j a : ℕ) (moves : List Move) : Type 0 where
+  pub changes : ChangesBy m after moves
+  pub cells : (k l : ℕ) → paths_of_cell after k l ≡ paths_of_cell m k l
+  pub row_free : row_slot after i a ≡ None
+  pub column_free : column_slot after j a ≡ None
+  pub within : a < after.slots
+  pub bound : length moves ≤ 2 * m.lines - 2
+  pub legal : IsLegal after
+  pub sizes : SameSizes m after
+
+pub rearranges : (m : Matrix) (i j a b : ℕ) (moves : List Move) → IsLegal m → i < m.lines → j < m.lines → lowest_in_both m i j ≡ None → lowest_in_row m i ≡ Some a → lowest_in_column m j ≡ Some b
+    → moves ≡ chain (far_line m) (2 * m.lines) (Column j) a b → Rearranged m (exchanged m moves) i j a moves
+rearranges m i j a b moves legal row column none row_lowest column_lowest are =
+    subst (λ ms. Rearranged m (exchanged m ms) i j a ms) (sym are)
+    (let made = column_chain_makes_room m i j a b legal row column none row_lowest column_lowest in
+    let few = made.bound in
+    let ms : List Move = chain (far_line m) (2 * m.lines) (Column j) a b in
+    record {
+      changes = exchange_changes m ms made.exchange;
+      cells = exchange_cells m ms legal made.exchange;
+      row_free = made.row_free;
+      column_free = made.column_free;
+      within = subst (λ s. a < s) (sym (exchange_sizes m ms).1) (lowest_in_row_is m i a row_lowest).1;
+      bound = omega arith;
+      legal = exchange_legal m ms legal made.exchange;
+      sizes = exchange_sizes m ms;
+    })

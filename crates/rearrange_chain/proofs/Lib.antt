@@ -1,0 +1,5 @@
+pub mod Walk
+pub mod Closed
+pub mod Exchange
+pub mod Freed
+pub mod Listing

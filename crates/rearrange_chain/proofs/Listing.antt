@@ -1,0 +1,56 @@
+-- Listing a chain move by move.
+use Rattle.std.proofs.Common.{◌≡◌, ℕ, zero, suc, ◌+◌, ◌-◌, ◌*◌, ◌<◌, ◌≤◌, Option, Some, None, List, [], ◌∷◌, ◌++◌, length, length-append, append_assoc, append-nil, arith, refl, sym, ap, ◌∙◌}
+use Rattle.paull_matrix.specs.Matrix.{Matrix, IsLegal}
+use Rattle.rearrange_chain.specs.declared.moves.Move.{Move}
+use Rattle.rearrange_chain.specs.declared.moves.End.{End}
+use Rattle.rearrange_chain.specs.declared.moves.End.TheVariants.{Row, Column}
+use Rattle.rearrange_chain.specs.Chain.{far_line, far_end, move_of, chain}
+use Rattle.rearrange_chain.specs.Steps.{IsEndIn}
+use Rattle.rearrange_chain.proofs.Freed.{lines_within}
+
+chain_some : (look : End → ℕ → Option ℕ) (n : ℕ) (e : End) (a b line : ℕ) → 0 < n → look e a ≡ Some line → chain look n e a b ≡ move_of e line a b ∷ chain look (n - 1) (far_end e line) b a
+chain_some look zero e a b line more goes = absurd (omega arith)
+chain_some look (suc n) e a b line more goes =
+    ap (λ (o : Option ℕ). elim o as (λ _. List Move) [ None ↦ [] | Some l ↦ move_of e l a b ∷ chain look n (far_end e l) b a ]) goes
+    ∙ ap (λ k. move_of e line a b ∷ chain look k (far_end e line) b a) (omega arith)
+
+chain_none : (look : End → ℕ → Option ℕ) (n : ℕ) (e : End) (a b : ℕ) → look e a ≡ None → chain look n e a b ≡ []
+chain_none look zero e a b ends = refl
+chain_none look (suc n) e a b ends = ap (λ (o : Option ℕ). elim o as (λ _. List Move) [ None ↦ [] | Some l ↦ move_of e l a b ∷ chain look n (far_end e l) b a ]) ends
+
+-- while the chain goes on, the list is shorter than the bound
+pub room_for_move : (look : End → ℕ → Option ℕ) (lines : ℕ) (whole moves : List Move) (e : End) (a b line : ℕ)
+    → moves ++ chain look (2 * lines - length moves) e a b ≡ whole → length whole + 2 ≤ 2 * lines → look e a ≡ Some line → length moves + 3 ≤ 2 * lines
+room_for_move look lines whole moves e a b line rest bound goes =
+    let size = ap length rest in
+    let parts = length-append moves (chain look (2 * lines - length moves) e a b) in
+    let more : 0 < 2 * lines - length moves = omega arith in
+    let next = ap length (chain_some look (2 * lines - length moves) e a b line more goes) in
+    omega arith
+
+-- one move more
+pub next_rest : (look : End → ℕ → Option ℕ) (lines : ℕ) (whole moves : List Move) (e : End) (a b line : ℕ)
+    → moves ++ chain look (2 * lines - length moves) e a b ≡ whole → length whole + 2 ≤ 2 * lines → look e a ≡ Some line
+    → (moves ++ move_of e line a b ∷ []) ++ chain look (2 * lines - length (moves ++ move_of e line a b ∷ [])) (far_end e line) b a ≡ whole
+next_rest look lines whole moves e a b line rest bound goes =
+    let few = room_for_move look lines whole moves e a b line rest bound goes in
+    let more : 0 < 2 * lines - length moves = omega arith in
+    let size = length-append moves (move_of e line a b ∷ []) in
+    let left : 2 * lines - length (moves ++ move_of e line a b ∷ []) ≡ 2 * lines - length moves - 1 = omega arith in
+    append_assoc moves (move_of e line a b ∷ []) (chain look (2 * lines - length (moves ++ move_of e line a b ∷ [])) (far_end e line) b a)
+    ∙ ap (λ k. moves ++ move_of e line a b ∷ chain look k (far_end e line) b a) left
+    ∙ ap (λ ms. moves ++ ms) (sym (chain_some look (2 * lines - length moves) e a b line more goes))
+    ∙ rest
+
+-- where the chain ends, the list is whole
+pub rest_done : (look : End → ℕ → Option ℕ) (lines : ℕ) (whole moves : List Move) (e : End) (a b : ℕ)
+    → moves ++ chain look (2 * lines - length moves) e a b ≡ whole → look e a ≡ None → moves ≡ whole
+rest_done look lines whole moves e a b rest ends = sym (append-nil moves) ∙ ap (λ ms. moves ++ ms) (sym (chain_none look (2 * lines - length moves) e a b ends)) ∙ rest
+
+end_in : (m : Matrix) (e : End) (line : ℕ) → line < m.lines → IsEndIn m (far_end e line)
+end_in m (Row i) line inside = inside
+end_in m (Column j) line inside = inside
+
+-- the next end lies within the matrix
+pub next_end_in : (m : Matrix) (e : End) (s line : ℕ) → IsLegal m → far_line m e s ≡ Some line → IsEndIn m (far_end e line)
+next_end_in m e s line legal goes = end_in m e line (lines_within m legal e s line goes)

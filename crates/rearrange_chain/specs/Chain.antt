@@ -1,0 +1,80 @@
+-- How room is made in Paull's matrix for one path more, by moving paths that stand along an alternating chain of two slots.
+-- The rule and its chain are those of M. C. Paull, "Reswitching of connection networks", Bell System Technical Journal 41 (1962); in terms
+-- of graphs the chain is Kempe's. That the chain never comes back to the row that it makes room in is what proves the Slepian-Duguid
+-- theorem: as many slots are enough as a line has places.
+use Rattle.std.specs.Prelude.{◌≡◌, ℕ, zero, suc, ◌*◌, Option, Some, None, unwrap_or, List, [], ◌∷◌, ◌≢◌, All, AllPairs}
+use Rattle.paull_matrix.specs.Matrix.{Matrix, row_slot, column_slot, lowest_in_row, lowest_in_column, lowest_in_both, with_path, without_path}
+use Rattle.rearrange_chain.specs.declared.moves.Move.{Move}
+use Rattle.rearrange_chain.specs.declared.moves.End.{End}
+use Rattle.rearrange_chain.specs.declared.moves.End.TheVariants.{Row, Column}
+
+-- the line at the other end of the path that a row or a column has in a slot
+abbrev pub far_line : Matrix → End → ℕ → Option ℕ
+far_line m (Row i) s = row_slot m i s
+far_line m (Column j) s = column_slot m j s
+
+-- the other end of a path, from one end and the line at the other
+abbrev pub far_end : End → ℕ → End
+far_end (Row i) line = Column line
+far_end (Column j) line = Row line
+
+-- the path between an end and a line moves to another slot
+abbrev pub move_of : End → ℕ → ℕ → ℕ → Move
+move_of (Row i) line old new = record { row = i; column = line; old = old; new = new }
+move_of (Column j) line old new = record { row = line; column = j; old = old; new = new }
+
+-- The alternating chain from a row or a column: its path in slot a, then the path in b at that path's other end, then one in a again, and
+-- so on, for at most n paths. Each path of the chain takes the other slot. What stands at the other end of a path is looked up.
+abbrev pub chain : (End → ℕ → Option ℕ) → ℕ → End → ℕ → ℕ → List Move
+chain look zero end a b = []
+chain look (suc n) end a b = elim (look end a) [ None ↦ [] | Some line ↦ move_of end line a b ∷ chain look n (far_end end line) b a ]
+
+-- the matrix without the paths that move, and with them in their new slots
+abbrev pub lifted : Matrix → List Move → Matrix
+lifted m [] = m
+lifted m (v ∷ moves) = lifted (without_path m v.row v.old) moves
+
+abbrev pub placed : Matrix → List Move → Matrix
+placed m [] = m
+placed m (v ∷ moves) = placed (with_path m v.row v.column v.new) moves
+
+-- the matrix after moves that are made at once
+abbrev pub exchanged : Matrix → List Move → Matrix
+exchanged m moves = placed (lifted m moves) moves
+
+-- slot a of the rule is the lowest that is missing in the row, slot b the lowest that is missing in the column
+abbrev pub slot_a : Matrix → ℕ → ℕ
+slot_a m i = unwrap_or (lowest_in_row m i) 0
+
+abbrev pub slot_b : Matrix → ℕ → ℕ
+slot_b m j = unwrap_or (lowest_in_column m j) 0
+
+-- the chain from the column
+abbrev pub column_chain : Matrix → ℕ → ℕ → List Move
+column_chain m i j = chain (far_line m) (2 * m.lines) (Column j) (slot_a m i) (slot_b m j)
+
+-- The rule: a slot that is missing in both is taken, the lowest, and nothing moves. Where there is none, a is taken and the paths of the
+-- chain exchange a and b
+abbrev pub slot_by : Matrix → ℕ → Option ℕ → ℕ
+slot_by m i (Some common) = common
+slot_by m i None = slot_a m i
+
+abbrev pub moves_by : Matrix → ℕ → ℕ → Option ℕ → List Move
+moves_by m i j (Some common) = []
+moves_by m i j None = column_chain m i j
+
+abbrev pub slot_for : Matrix → ℕ → ℕ → ℕ
+slot_for m i j = slot_by m i (lowest_in_both m i j)
+
+abbrev pub moves_for : Matrix → ℕ → ℕ → List Move
+moves_for m i j = moves_by m i j (lowest_in_both m i j)
+
+-- The moves are what differs between two matrices: no path moves twice, each stands in its old slot before and in its new one after, a path
+-- that does not move stays, and nothing else stands after
+pub record ChangesBy (before after : Matrix) (moves : List Move) : Type 0 where
+  pub once : AllPairs (λ u v. ¬ ((u.row ≡ v.row) × (u.old ≡ v.old))) moves
+  pub turned : All (λ v. v.old ≢ v.new) moves
+  pub stood : All (λ v. row_slot before v.row v.old ≡ Some v.column) moves
+  pub stands : All (λ v. row_slot after v.row v.new ≡ Some v.column) moves
+  pub kept : (i s j : ℕ) → All (λ v. ¬ ((v.row ≡ i) × (v.old ≡ s))) moves → row_slot before i s ≡ Some j → row_slot after i s ≡ Some j
+  pub none_else : (i s j : ℕ) → All (λ v. ¬ ((v.row ≡ i) × (v.new ≡ s))) moves → row_slot after i s ≡ Some j → row_slot before i s ≡ Some j

@@ -1,0 +1,121 @@
+//! The rule of rearrangement on a matrix.
+
+ghost use Rattle.std.specs.Prelude.{◌≡◌, ℕ, ◌+◌, ◌-◌, ◌*◌, ◌<◌, ◌≤◌, [], length, Some, None, IfSome};
+ghost use Rattle.paull_matrix.specs.Matrix.{
+  row_slot,
+  column_slot,
+  lowest_in_both,
+  paths_of_row,
+  paths_of_column,
+  paths_of_cell,
+  SameSizes,
+  IsLegal,
+};
+ghost use Rattle.rearrange_chain.specs.Chain.{
+  far_line,
+  chain,
+  lifted,
+  placed,
+  exchanged,
+  slot_for,
+  moves_for,
+  ChangesBy,
+};
+ghost use Rattle.rearrange_chain.specs.Steps.{CanLift, CanPlace, IsEndIn};
+
+use crate::moves::{End, Move};
+use arrayvec::ArrayVec;
+use paull_matrix::PaullMatrix;
+
+/// Makes room for a path of row `i` and column `j`, which each have fewer paths than slots, and
+/// answers a slot that is free in both afterwards. `moves` comes empty, and lists the moves made.
+///
+/// Where a slot is free in both already, the lowest one is answered and nothing moves. Else let `a`
+/// be the lowest slot that is free in the row, and `b` the lowest that is free in the column. The
+/// path of the column in `a`, the path in `b` of the row where that one ends, the next one in `a`
+/// and so on form a chain. It never comes to row `i`, so with r lines it has at most 2r - 2 paths.
+/// They exchange `a` and `b`, they are listed in the order of the chain, and `a` is answered.
+///
+/// Source: M. C. Paull, "Reswitching of connection networks", Bell System Technical Journal 41
+/// (1962), for the chain and the exchange; the Slepian-Duguid theorem, that a row and a column with
+/// room each can always be given a slot, is what is proved of it. That the lowest slots are taken,
+/// and that the chain starts in the column, are this exchange's own rules.
+pub fn make_room(matrix: &mut PaullMatrix, i: u8, j: u8, moves: &mut ArrayVec<Move, 66>) -> u8
+    requires row { i < matrix.old.lines }
+    requires column { j < matrix.old.lines }
+    requires row_room { paths_of_row matrix.old i < matrix.old.slots }
+    requires column_room { paths_of_column matrix.old j < matrix.old.slots }
+    requires empty { moves.old.items ≡ [] }
+    ensures slot { result ≡ slot_for matrix.old i j }
+    ensures moves { moves.new.items ≡ moves_for matrix.old i j }
+    ensures exchanged { matrix.new ≡ exchanged matrix.old moves.new.items }
+    ensures changes { ChangesBy matrix.old matrix.new moves.new.items }
+    ensures cells { (k l : ℕ) → paths_of_cell matrix.new k l ≡ paths_of_cell matrix.old k l }
+    ensures row_free { row_slot matrix.new i result ≡ None }
+    ensures column_free { column_slot matrix.new j result ≡ None }
+    ensures within { result < matrix.new.slots }
+    ensures bound { length moves.new.items ≤ 2 * matrix.old.lines - 2 }
+    ensures common { IfSome (lowest_in_both matrix.old i j) (λ s. (result ≡ s) × (moves.new.items ≡ []) × (matrix.new ≡ matrix.old)) }
+    ensures legal { IsLegal matrix.new }
+    ensures sizes { SameSizes matrix.old matrix.new }
+{
+    if let Some(common) = matrix.common_free(i, j) {
+        return common;
+    }
+    let a = matrix.free_in_row(i);
+    let b = matrix.free_in_column(j);
+    walk(matrix, End::Column(j), a, b, moves);
+    lift_all(matrix, moves);
+    place_all(matrix, moves);
+    a
+}
+
+/// Lists the moves of the chain from `start`, whose paths leave the slots `a` and `b` in turn.
+fn walk(matrix: &PaullMatrix, start: End, a: u8, b: u8, moves: &mut ArrayVec<Move, 66>)
+    requires start { IsEndIn matrix.now start }
+    requires slots { (a < matrix.now.slots) × (b < matrix.now.slots) }
+    requires empty { moves.old.items ≡ [] }
+    requires bound { length (chain (far_line matrix.now) (2 * matrix.now.lines) start a b) + 2 ≤ 2 * matrix.now.lines }
+    requires few { matrix.now.lines ≤ 34 }
+    ensures chain { moves.new.items ≡ chain (far_line matrix.now) (2 * matrix.now.lines) start a b }
+{
+    let (mut end, mut old, mut new) = (start, a, b);
+    while let Some(line) = far_line(matrix, end, old) {
+        moves.push(end.moved(line, old, new));
+        end = end.far(line);
+        (old, new) = (new, old);
+    }
+}
+
+/// The line at the other end of the path that a row or a column has in slot `s`.
+fn far_line(matrix: &PaullMatrix, end: End, s: u8) -> Option<u8>
+    requires end { IsEndIn matrix.now end }
+    requires slot { s < matrix.now.slots }
+    ensures line { result ≡ far_line matrix.now end s }
+    ensures legal { IsLegal matrix.now }
+{
+    match end {
+        End::Row(row) => matrix.row_slot(row, s),
+        End::Column(column) => matrix.column_slot(column, s),
+    }
+}
+
+/// Takes every path that moves out of its old slot.
+fn lift_all(matrix: &mut PaullMatrix, moves: &[Move])
+    requires stand { CanLift matrix.old moves.now }
+    ensures lifted { matrix.new ≡ lifted matrix.old moves.now }
+{
+    for moved in moves {
+        matrix.lift(moved.row, moved.column, moved.old);
+    }
+}
+
+/// Puts every path that moves into its new slot.
+fn place_all(matrix: &mut PaullMatrix, moves: &[Move])
+    requires room { CanPlace matrix.old moves.now }
+    ensures placed { matrix.new ≡ placed matrix.old moves.now }
+{
+    for moved in moves {
+        matrix.place(moved.row, moved.column, moved.new);
+    }
+}

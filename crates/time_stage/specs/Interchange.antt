@@ -1,0 +1,32 @@
+-- What the time stages of a time-space-time fabric do. Source: this exchange's own; each is a time slot interchanger, which reads its
+-- speech memory at random, in the order that its control memory gives.
+use Rattle.std.specs.Prelude.{◌≡◌, ℕ, ◌<◌}
+use Rattle.circuit_model.specs.declared.channel.Slot.{Slot}
+use Rattle.frame_buffer.specs.Speech.{Speech, octet_of}
+use Rattle.frame_buffer.specs.Highways.{Highways, octet_on}
+use Rattle.control_memory.specs.Image.{Control, sent, read}
+use Rattle.control_memory.specs.Carrying.{fetched}
+
+-- an incoming line sends in an internal slot the octet of the place that its table names, and the idle octet where it names none
+abbrev pub sends : Control → Speech → ℕ → ℕ → ℕ
+sends control speech line slot = fetched (sent control line slot) (λ place. octet_of speech.readable (record { line = line; place = place }))
+
+-- a place of an outgoing line reads the octet of the internal slot that its table names, and the idle octet where it names none
+abbrev pub reads : Control → Highways → ℕ → ℕ → ℕ
+reads control crossed line place = fetched (read control line place) (octet_on crossed line)
+
+-- each of the first `lines` incoming lines sends by its table in every internal slot
+abbrev pub IsSentBelow : ℕ → Control → Speech → Highways → Type 0
+IsSentBelow lines control speech highway = (line slot : ℕ) → line < lines → slot < highway.slots → octet_on highway line slot ≡ sends control speech line slot
+
+-- so does every incoming line
+abbrev pub IsSent : Control → Speech → Highways → Type 0
+IsSent control speech highway = IsSentBelow highway.lines control speech highway
+
+-- each of the first `lines` outgoing lines has in every place of the half that is filled what its table reads
+abbrev pub IsReadBelow : ℕ → Control → Highways → Speech → Type 0
+IsReadBelow lines control crossed out = (at : Slot) → at.line < lines → at.place < 30 → octet_of out.filled at ≡ reads control crossed at.line at.place
+
+-- so has every outgoing line
+abbrev pub IsRead : Control → Highways → Speech → Type 0
+IsRead control crossed out = IsReadBelow out.lines control crossed out

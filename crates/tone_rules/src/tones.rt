@@ -1,0 +1,67 @@
+ghost use Rattle.std.specs.Prelude.{◌≡◌, ◌%◌, ◌<◌, ℕ, [], length, slice_index_or};
+ghost use Rattle.circuit_model.specs.FrameInput.{idle_octet};
+ghost use Rattle.circuit_model.specs.Hears.{tone_octet};
+
+use std::alloc::Global;
+use std::marker::Model;
+
+/// The octets of a tone, one for each frame, played over and over. Contracts see their list.
+#[derive(Drop)]
+pub struct ToneOctets {
+    octets: Vec<u8>,
+}
+
+impl Model for ToneOctets {
+    ghost use Rattle.std.specs.Prelude.{List, ℕ};
+
+    ghost Value = { List ℕ };
+
+    ghost view = { λ t. t.octets.items };
+}
+
+impl ToneOctets {
+    /// These octets.
+    pub fn of(items: Vec<u8>) -> ToneOctets
+        ensures { result ≡ items.items }
+    {
+        ToneOctets { octets: items }
+    }
+
+    /// The octets in order.
+    pub fn as_slice(&self) -> &[u8]
+        ensures { result.now ≡ self.now }
+    {
+        self.octets.as_slice()
+    }
+
+    /// The octet of the tone after it has sounded for so many frames.
+    pub fn octet(&self, frames: u32) -> u8
+        requires { 0 < length self.now }
+        ensures { result ≡ tone_octet self.now frames }
+    {
+        let octets = self.octets.as_slice();
+        octets[frames as usize % octets.len()]
+    }
+}
+
+/// The tones that a trace gives; one that isn't given has no octets.
+#[derive(Drop)]
+pub struct Tones {
+    /// Ringing tone: the called party is being alerted.
+    pub ringback: ToneOctets,
+    /// Busy tone: the called party cannot be reached.
+    pub busy: ToneOctets,
+}
+
+impl Tones {
+    /// No tone is given.
+    pub fn none(alloc: Global) -> Tones
+        ensures ringback { result.ringback ≡ [] }
+        ensures busy { result.busy ≡ [] }
+    {
+        Tones {
+            ringback: ToneOctets::of(Vec::new(alloc)),
+            busy: ToneOctets::of(Vec::new(alloc)),
+        }
+    }
+}
