@@ -6,8 +6,7 @@ use Rattle.std.proofs.lemmas.Grind.{common_steps}
 use Rattle.circuit_model.specs.declared.channel.Slot.{Slot}
 use Rattle.circuit_model.specs.declared.circuit.Circuit.{Circuit}
 use Rattle.circuit_model.specs.declared.circuit.Circuit.TheVariants.{Pair, Member, Tone}
-use Rattle.circuit_model.specs.Circuits.{same_slot, listener, names, heard_by}
-use Rattle.exchange_top.specs.Exchange.{is_idle}
+use Rattle.circuit_model.specs.Circuits.{same_slot, listener, names, is_idle, heard_by}
 
 pub same_slot-refl : (x : Slot) → same_slot x x ≡ true
 same_slot-refl x = grind (arith, common_steps)

@@ -7,9 +7,8 @@ use Rattle.std.specs.List.{find}
 use Rattle.circuit_model.specs.declared.channel.Slot.{Slot}
 use Rattle.circuit_model.specs.declared.circuit.Circuit.{Circuit}
 use Rattle.circuit_model.specs.declared.circuit.Circuit.TheVariants.{Pair}
-use Rattle.circuit_model.specs.Circuits.{same_slot, heard_by, listener, names}
+use Rattle.circuit_model.specs.Circuits.{same_slot, heard_by, is_idle, listener, names}
 use Rattle.circuit_model.specs.Holding.{Holding, Connect, after}
-use Rattle.exchange_top.specs.Exchange.{is_idle}
 use Rattle.exchange_top.specs.declared.circuit_table.Connection.{Connection}
 use Rattle.exchange_top.specs.Sound.{IsSlotOf}
 use Rattle.exchange_top.specs.Tables.{Table, Shows, IsSetAt, AllInside, entry, circuit_to}
