@@ -143,9 +143,9 @@ read_known known bytes None input = absurd input.front
 read_known known bytes (Some rest) input =
     let len : length known ≡ length bytes + length rest = ap (λ (xs : List ℕ). length xs) input.front ∙ length-append bytes rest in
     elim (cases_lt most_bytes (length bytes)) [
-        inl more ↦ inr (more, omega (arith, more, len))
+      | inl more ↦ inr (more, omega (arith, more, len))
       | inr few ↦ inl (few, sym (input.front ∙ ap (λ xs. bytes ++ xs) (input.whole few) ∙ append-nil bytes))
-      ]
+    ]
 
 pub trace_says : (words : List (List ℕ)) (status : ℕ) (order : List ℕ) (old new : Told) (known : List ℕ) (t : Trace) → Ends words status order old new → old.left ≡ Some known → IsTrace known t
     → IsRun words → ¬ Rose old.reads new.reads → ¬ Rose old.writes new.writes → (status ≡ 0) ⊎ (status ≡ 5)
@@ -156,9 +156,9 @@ trace_says words status order old new known t (No_room run' s none kept) left is
 trace_says words status order old new known t (Answered run' bytes input (Done s done)) left is run reads writes = inl s
 trace_says words status order old new known t (Answered run' bytes input (Turned_down s down)) left is run reads writes =
     elim (read_known known bytes new.left (rw left at input)) [
-        inl whole ↦ absurd (never_both known t down.number down.why is (rw whole.1 at down.refused))
+      | inl whole ↦ absurd (never_both known t down.number down.why is (rw whole.1 at down.refused))
       | inr long ↦ let few = is.few in absurd (omega (arith, few, long.1))
-      ]
+    ]
 trace_says words status order old new known t (Answered run' bytes input (Unwritten s rose cut)) left is run reads writes = absurd (writes rose)
 trace_says words status order old new known t (Answered run' bytes input (No_memory s cut)) left is run reads writes = inr s
 
@@ -170,9 +170,9 @@ no_trace_says words status order old new known number why (Unread run' s none ro
 no_trace_says words status order old new known number why (No_room run' s none kept) left refused run reads writes = inr s
 no_trace_says words status order old new known number why (Answered run' bytes input (Done s done)) left refused run reads writes =
     elim (read_known known bytes new.left (rw left at input)) [
-        inl whole ↦ absurd (never_both known done.trace number why (rw whole.1 at done.is_trace) refused)
+      | inl whole ↦ absurd (never_both known done.trace number why (rw whole.1 at done.is_trace) refused)
       | inr long ↦ let few = done.is_trace.few in absurd (omega (arith, few, long.0))
-      ]
+    ]
 no_trace_says words status order old new known number why (Answered run' bytes input (Turned_down s down)) left refused run reads writes = inl s
 no_trace_says words status order old new known number why (Answered run' bytes input (Unwritten s rose cut)) left refused run reads writes = absurd (writes rose)
 no_trace_says words status order old new known number why (Answered run' bytes input (No_memory s cut)) left refused run reads writes = inr s

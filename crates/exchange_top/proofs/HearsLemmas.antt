@@ -63,7 +63,7 @@ heard_entry : (inputs : List Input) (input : Input) (held : List (List Circuit))
 heard_entry inputs input held n at from None same old = grind (arith, old)
 heard_entry inputs input held n at from (Some c) same old =
     elim (bool_case (is_through c.since n)) [
-        inl through ↦
+      | inl through ↦
           let known = rw through at old in
           let from_is : c.from ≡ from = grind (arith, known) in
           let two : 2 ≤ n = grind (arith, common_steps, leb-true (c.since + 2) n through) in
@@ -71,7 +71,7 @@ heard_entry inputs input held n at from (Some c) same old =
           let enough : nat_le 2 n ≡ true = le-leb 2 n two in
           rw (through, from_is, arrives_kept inputs (input ∷ []) (n - 2) from early, same, enough) refl
       | inr young ↦ absurd (grind (arith, common_steps, young, old))
-      ]
+    ]
 
 -- whom a slot hears in the next frame is heard two frames late
 pub heard_source : (state : State) (w : World) (input : Input) (at from : Slot) → Stands state w → IsSlotOf state.table.external at → source state.table at ≡ Some from

@@ -15,12 +15,12 @@ ended_before n last = if nat_lt last n then 1 else 0
 ended_rises : (m n last : ℕ) → n ≤ m → ended_before n last ≤ ended_before m last
 ended_rises m n last below =
     elim (bool_case (nat_lt last n)) [
-        inl before ↦
+      | inl before ↦
           let first : last < n = ltb-true last n before in
           let later : nat_lt last m ≡ true = le-leb (suc last) m (omega (arith, first, below)) in
           rw (before, later) (omega arith)
       | inr after ↦ rw after (omega arith)
-      ]
+    ]
 
 -- fewer segments end before an earlier event
 segment_rises : (ends : List ℕ) (m n : ℕ) → n ≤ m → segment_of ends n ≤ segment_of ends m
@@ -34,9 +34,9 @@ segment_rises (last ∷ ends) m n below =
 precedes_below : (t : Trace) (m n : ℕ) → Precedes t m n → m < n
 precedes_below t m n (inl earlier) =
     elim (cases_lt m n) [
-        inl below ↦ below
+      | inl below ↦ below
       | inr above ↦ let rises = segment_rises t.segments m n above in absurd (omega (arith, rises, earlier))
-      ]
+    ]
 precedes_below t m n (inr same) = same.1
 
 take_range : (a n k : ℕ) → k ≤ n → take k (range_with_len a n) ≡ range_with_len a k
@@ -57,18 +57,18 @@ holds_number count m low high =
 
 pub lawful_begun : (t : Trace) (count : ℕ) → count ≤ length t.events → IsLawfulPrefix t (file_order count)
 lawful_begun t count within = record {
-    known = λ k d inside. let at = number_at count k d inside in rw at.0 (omega arith, let below = at.1 in omega (arith, below, within));
-    distinct = λ i j d below inside same.
+  known = λ k d inside. let at = number_at count k d inside in rw at.0 (omega arith, let below = at.1 in omega (arith, below, within));
+  distinct = λ i j d below inside same.
       let first : i < length (file_order count) = omega (arith, below, inside) in
       let at_i = number_at count i d first in
       let at_j = number_at count j d inside in
       omega (arith, at_i.0, at_j.0, same, below);
-    waits = λ k inside m is precedes.
+  waits = λ k inside m is precedes.
       let at = number_at count k 0 inside in
       let below = rw at.0 at (precedes_below t m (slice_index (file_order count) k) precedes) in
       let early : m ≤ k = omega (arith, below) in
       rw (take_range 1 count k (let lt = at.1 in omega (arith, lt))) (holds_number k m is.0 early);
-  }
+}
 
 pub lawful_whole : (t : Trace) → IsLawful t (file_order (length t.events))
 lawful_whole t = record { begun = lawful_begun t (length t.events) (omega arith); whole = λ n is. holds_number (length t.events) n is.0 is.1 }

@@ -59,10 +59,10 @@ pending_none known = record { done = []; written = Appends-nil known; rest = ref
 -- once all that was pending is written, nothing is
 pub pending_written : (known mid new : Option (List ℕ)) (pending left text : List ℕ) → IsPending known mid pending text → Appends mid new pending → left ≡ [] → IsPending known new left text
 pending_written known mid new pending left text p more none = record {
-    done = p.done ++ pending;
-    written = Appends-trans known mid new p.done pending p.written more;
-    rest = p.rest ∙ rw none (sym (append-nil (p.done ++ pending)));
-  }
+  done = p.done ++ pending;
+  written = Appends-trans known mid new p.done pending p.written more;
+  rest = p.rest ∙ rw none (sym (append-nil (p.done ++ pending)));
+}
 
 -- the order and the world after one more event of the file
 
@@ -96,7 +96,7 @@ begun_event trace i e old now pending before after found first more p =
     let within : i < length trace.events = slice_get_within trace.events i e found in
     let order = order_more i before after first more in
     let rest : report trace (file_order (i + 1)) ≡ p.done ++ (pending ++ line_at trace i e) =
-      text_more trace i e found ∙ ap (λ xs. xs ++ line_at trace i e) p.rest ∙ append_assoc p.done pending (line_at trace i e) in
+    text_more trace i e found ∙ ap (λ xs. xs ++ line_at trace i e) p.rest ∙ append_assoc p.done pending (line_at trace i e) in
     record { count = i + 1; within = omega (arith, within); first = order; text = rw order (front_of old now p.done (pending ++ line_at trace i e) (report trace (file_order (i + 1))) p.written rest) }
 
 -- so many events were done, and writing what was pending failed

@@ -124,13 +124,13 @@ pub record IsRecorded (w : World) : Type 0 where
 
 pub recorded_next : (w : World) (e : Event) → IsRecorded w → IsRecorded (next w e)
 recorded_next w (Nail x y) r = elim (bool_case (can_nail w x y)) [
-    inl can ↦ rw can (record { arrived = r.arrived; recorded = r.recorded })
+  | inl can ↦ rw can (record { arrived = r.arrived; recorded = r.recorded })
   | inr not_can ↦ rw not_can (record { arrived = r.arrived; recorded = r.recorded })
-  ]
+]
 recorded_next w (Frame_event input) r = record {
-    arrived = length-append w.inputs (input ∷ []) ∙ ap (λ n. n + 1) r.arrived;
-    recorded = length-append w.held (w.holding.circuits ∷ []) ∙ ap (λ n. n + 1) r.recorded;
-  }
+  arrived = length-append w.inputs (input ∷ []) ∙ ap (λ n. n + 1) r.arrived;
+  recorded = length-append w.held (w.holding.circuits ∷ []) ∙ ap (λ n. n + 1) r.recorded;
+}
 
 pub recorded_world : (w : World) (es : List Event) → IsRecorded w → IsRecorded (world w es)
 recorded_world w [] r = r
@@ -163,6 +163,6 @@ report_more trace i e found =
     let lines : length (file_order i) ≡ length (run start es) = length-range_with_len 1 i ∙ sym (length-run start es ∙ length-take-le i trace.events (omega (arith, within))) in
     rw (now, before, world-snoc start es e, run-snoc start es e, range_more 1 i, report_lines-snoc (sent (next w e) trace.external) (file_order i) (run start es) (1 + i) (reply w e) lines)
     (ap (λ front. front ++ report_line (sent (next w e) trace.external) (1 + i) (reply w e))
-      (report_lines_same (sent (next w e) trace.external) (sent w trace.external) w.holding.next (file_order i) (run start es)
-        (λ k over. sent_kept w e trace.external k (recorded_world start es (record { arrived = refl; recorded = refl })) over)
-        (run_below start es)))
+    (report_lines_same (sent (next w e) trace.external) (sent w trace.external) w.holding.next (file_order i) (run start es)
+    (λ k over. sent_kept w e trace.external k (recorded_world start es (record { arrived = refl; recorded = refl })) over)
+    (run_below start es)))

@@ -41,12 +41,12 @@ passed false x v h = absurd (grind (arith, h))
 pub place_inside : (channel place : ℕ) → place_of channel ≡ Some place → place < 30
 place_inside channel place h =
     elim (bool_case (between 1 15 channel)) [
-        inl low ↦ let is = rw low at h in grind (arith, common_steps, low, is)
+      | inl low ↦ let is = rw low at h in grind (arith, common_steps, low, is)
       | inr not_low ↦ elim (bool_case (between 17 31 channel)) [
-          inl high ↦ let is = rw (not_low, high) at h in grind (arith, common_steps, high, is)
+        | inl high ↦ let is = rw (not_low, high) at h in grind (arith, common_steps, high, is)
         | inr not_high ↦ absurd (grind (arith, common_steps, not_low, not_high, h))
-        ]
       ]
+    ]
 
 pub line_inside : (external : ℕ) (word : List ℕ) (line : ℕ) → external_line external word ≡ Some line → line < external
 line_inside external word line h =
@@ -88,12 +88,12 @@ nail_step external None y e in_x in_y h = absurd (grind (arith, h))
 nail_step external (Some one) None e in_x in_y h = absurd (grind (arith, h))
 nail_step external (Some one) (Some other) e in_x in_y h =
     elim (bool_case (same_slot one other)) [
-        inl same ↦ let failed = rw same at h in absurd (grind (arith, failed))
+      | inl same ↦ let failed = rw same at h in absurd (grind (arith, failed))
       | inr apart ↦
-        let ok = rw apart at h in
-        let is : Nail one other ≡ e = grind (arith, ok) in
-        rw (← is) (record { first = in_x one refl; second = in_y other refl; distinct = same_slot-false one other apart })
-      ]
+          let ok = rw apart at h in
+          let is : Nail one other ≡ e = grind (arith, ok) in
+          rw (← is) (record { first = in_x one refl; second = in_y other refl; distinct = same_slot-false one other apart })
+    ]
 
 pub nail_fits : (external : ℕ) (words : List (List ℕ)) (e : Event) → nail external words ≡ Ok e → Fits external e
 nail_fits external [] e h = absurd (grind (arith, h))
@@ -121,13 +121,13 @@ part_keeps_length external given more word h =
     let halves = passed_first (ok_or (cut_at colon word) reason.Slot) (part_by_halves external given) more h in
     let line = passed_first (ok_or (external_line external halves.0.0) reason.Slot) (once_given given halves.0.1) more halves.2 in
     elim (bool_case (is_some (slice_index_or given line.0 None))) [
-        inl twice ↦ let failed = rw twice at line.2 in absurd (grind (arith, failed))
+      | inl twice ↦ let failed = rw twice at line.2 in absurd (grind (arith, failed))
       | inr once ↦
-        let rest = rw once at line.2 in
-        let octets = passed_first (thirty (octets_written halves.0.1)) (put given line.0) more rest in
-        let is : slice_set given line.0 (Some octets.0) ≡ more = grind (arith, octets.2) in
-        rw (← is) (length-set given line.0 (Some octets.0))
-      ]
+          let rest = rw once at line.2 in
+          let octets = passed_first (thirty (octets_written halves.0.1)) (put given line.0) more rest in
+          let is : slice_set given line.0 (Some octets.0) ≡ more = grind (arith, octets.2) in
+          rw (← is) (length-set given line.0 (Some octets.0))
+    ]
 
 pub parts_keep_length : (external : ℕ) (given input : Input) (words : List (List ℕ)) → with_parts external given words ≡ Ok input → length input ≡ length given
 parts_keep_length external given input [] h = let is : given ≡ input = grind (arith, h) in rw is refl
@@ -153,12 +153,12 @@ happens_step : (external count : ℕ) (r : Result Event Reason) (e : Event) → 
 happens_step external count (Err why) e fits h = absurd (grind (arith, h))
 happens_step external count (Ok event) e fits h =
     elim (bool_case (nat_lt count 65535)) [
-        inl room ↦
+      | inl room ↦
           let ok = rw room at h in
           let is : event ≡ e = grind (arith, ok) in
           (ltb-true count 65535 room, rw (← is) (fits event refl))
       | inr full ↦ let failed = rw full at h in absurd (grind (arith, failed))
-      ]
+    ]
 
 by_kind_step : (external count : ℕ) (k : Kind) (others : List (List ℕ)) (e : Event) → by_kind external count k others ≡ Ok (Happens e) → (count < 65535) × Fits external e
 by_kind_step external count kind.Nail others e h = happens_step external count (nail external others) e (nail_fits external others) h
@@ -180,18 +180,18 @@ by_place_step : (sizes : Option Sizes) (count : ℕ) (line : List ℕ) (e : Even
 by_place_step None count line e h = absurd (header_step (header (words line)) e h)
 by_place_step (Some sizes) count line e h =
     elim (bool_case (list_all is_printable line)) [
-        inl printable ↦
+      | inl printable ↦
           let told = by_words_step sizes.external count (words line) e (rw printable at h) in
           record { found = sizes; known = refl; room = told.0; fits = told.1 }
       | inr not_printable ↦ let failed = rw not_printable at h in absurd (grind (arith, failed))
-      ]
+    ]
 
 pub says_allowed : (sizes : Option Sizes) (count : ℕ) (line : List ℕ) (e : Event) → says sizes count line ≡ Ok (Happens e) → Allowed sizes count e
 says_allowed sizes count line e h =
     elim (bool_case (is_comment line || is_blank line)) [
-        inl passed_over ↦ let nothing = rw passed_over at h in absurd (grind (arith, nothing))
+      | inl passed_over ↦ let nothing = rw passed_over at h in absurd (grind (arith, nothing))
       | inr read ↦ by_place_step sizes count line e (rw read at h)
-      ]
+    ]
 
 -- all that a row of lines says, behind those before it, is sound
 pub record IsSoundBehind (external : ℕ) (before told : List Said) : Type 0 where

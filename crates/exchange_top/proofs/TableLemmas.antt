@@ -25,8 +25,8 @@ shows_idle t h at s inside none = s.silent at (rw none at (s.entries at inside))
 pub shows_busy : (t : Table) (h : Holding) (at : Slot) (c : Connection) → Shows t h → IsSlotOf t.external at → entry t.rows at ≡ Some c → is_idle h.circuits at ≡ false
 shows_busy t h at c s inside some =
     elim (bool_case (is_idle h.circuits at)) [
-      inl idle ↦ absurd (grind (arith, common_steps, idle_is_deaf h.circuits at idle, s.entries at inside, some))
-    | inr busy ↦ busy
+      | inl idle ↦ absurd (grind (arith, common_steps, idle_is_deaf h.circuits at idle, s.entries at inside, some))
+      | inr busy ↦ busy
     ]
 
 pub option_or-none : {X : Type 0} (o : Option X) → option_or o None ≡ o
@@ -47,18 +47,18 @@ pub heard_after : (circuits : List Circuit) (x y at : Slot) (n : ℕ) → is_idl
 heard_after circuits x y at n idle_x idle_y =
     rw (find-append (λ c. same_slot at (listener c)) circuits (Pair x y n ∷ Pair y x n ∷ []))
     (elim (bool_case (same_slot at x)) [
-        inl is_x ↦
+      | inl is_x ↦
           let at_x = same_slot-true at x is_x in
           let quiet : heard_by circuits at ≡ None = rw at_x (idle_is_deaf circuits x idle_x) in
           rw (quiet, is_x) (elim (bool_case (same_slot at y)) [ inl is_y ↦ let at_y = same_slot-true at y is_y in rw is_y cc | inr not_y ↦ rw not_y cc ])
       | inr not_x ↦ rw not_x (elim (bool_case (same_slot at y)) [
-          inl is_y ↦
+        | inl is_y ↦
             let at_y = same_slot-true at y is_y in
             let quiet : heard_by circuits at ≡ None = rw at_y (idle_is_deaf circuits y idle_y) in
             rw (quiet, is_y) cc
         | inr not_y ↦ rw not_y (option_or-none (heard_by circuits at))
-        ])
       ])
+    ])
 
 pub silent_after : (circuits : List Circuit) (x y at : Slot) (n : ℕ) → (heard_by circuits at ≡ None → is_idle circuits at ≡ true)
     → heard_by (circuits ++ Pair x y n ∷ Pair y x n ∷ []) at ≡ None → is_idle (circuits ++ Pair x y n ∷ Pair y x n ∷ []) at ≡ true
@@ -73,18 +73,18 @@ pub shows_connect : (t u : Table) (h : Holding) (x y : Slot) (mid : List (Option
     → u.external ≡ t.external → u.next ≡ t.next → IsSetAt t.rows mid y (record { from = x; since = t.next }) → IsSetAt mid u.rows x (record { from = y; since = t.next })
     → Shows u (after h (Connect x y))
 shows_connect t u h x y mid s idle_x idle_y same_external same_next first second = record {
-    next = same_next ∙ s.next;
-    entries = λ at inside.
+  next = same_next ∙ s.next;
+  entries = λ at inside.
       let written : entry u.rows at ≡ (if same_slot at x then Some (record { from = y; since = t.next }) else if same_slot at y then Some (record { from = x; since = t.next }) else entry t.rows at) =
-        rw (second at inside.place, first at inside.place) refl in
+      rw (second at inside.place, first at inside.place) refl in
       let before = s.entries at (record { line = rw (← same_external) inside.line; place = inside.place }) in
       rw (heard_after h.circuits x y at h.next idle_x idle_y, written, ← s.next)
       (elim (bool_case (same_slot at x)) [
-          inl is_x ↦ rw is_x refl
+        | inl is_x ↦ rw is_x refl
         | inr not_x ↦ rw not_x (elim (bool_case (same_slot at y)) [ inl is_y ↦ rw is_y refl | inr not_y ↦ rw not_y before ])
-        ]);
-    silent = λ at. silent_after h.circuits x y at h.next (s.silent at);
-  }
+      ]);
+  silent = λ at. silent_after h.circuits x y at h.next (s.silent at);
+}
 
 pub entry_inside : (external : ℕ) (rows : List (Option Connection)) (k : ℕ) (o : Option Connection) → AllInside external rows → o ≡ slice_index_or rows k None → IfSome o (λ c. IsSlotOf external c.from)
 entry_inside external rows k None inside same = tt

@@ -37,10 +37,10 @@ reply w (Frame_event input) = Frame_reply w.holding.next
 abbrev pub next : World → Event → World
 next w (Nail x y) = if can_nail w x y then record w { holding = after w.holding (Connect x y) } else w
 next w (Frame_event input) = record {
-    holding = after w.holding Boundary;
-    inputs = w.inputs ++ input ∷ [];
-    held = w.held ++ w.holding.circuits ∷ [];
-  }
+  holding = after w.holding Boundary;
+  inputs = w.inputs ++ input ∷ [];
+  held = w.held ++ w.holding.circuits ∷ [];
+}
 
 -- the world after a list of events
 abbrev pub world : World → List Event → World

@@ -98,7 +98,9 @@ impl CircuitTable {
         ensures inside { IfSome result (λ from. IsSlotOf self.now.external from) }
     {
         match self.connection(at) {
-            Some(connection) if self.next.saturating_sub(connection.since) >= 2 => Some(connection.from),
+            Some(connection) if self.next.saturating_sub(connection.since) >= 2 => Some(
+                connection.from,
+            ),
             _ => None,
         }
     }

@@ -9,12 +9,10 @@ ghost use Rattle.exchange_top.specs.TraceGrammar.{IsTrace};
 /// header gives, and there are not too many of them.
 pub fn traces_are_sound()
     ensures { (bytes : List ℕ) (t : Trace) → IsTrace bytes t → IsSound t }
-{
-}
+{}
 
 /// The order of the file is lawful, and so is each of its beginnings.
 pub fn file_order_is_lawful()
     ensures whole { (t : Trace) → IsLawful t (file_order (length t.events)) }
     ensures begun { (t : Trace) (count : ℕ) → count ≤ length t.events → IsLawfulPrefix t (file_order count) }
-{
-}
+{}

@@ -10,10 +10,9 @@ mod report;
 mod run;
 mod streams;
 mod switch;
-mod trace;
-
 #[cfg(test)]
 mod tests;
+mod trace;
 
 pub use call::{Outcome, exchange};
 pub use laws::{file_order_is_lawful, traces_are_sound};

@@ -19,7 +19,12 @@ const DIGITS: &[u8; 16] = b"0123456789ABCDEF";
 /// # Errors
 ///
 /// [`AllocError`] for want of memory, and then `out` is as it was.
-pub fn append_answer(out: &mut Vec<u8>, event: u32, reply: Reply, octets: &[[u8; 30]]) -> Result<(), AllocError>
+pub fn append_answer(
+    out: &mut Vec<u8>,
+    event: u32,
+    reply: Reply,
+    octets: &[[u8; 30]],
+) -> Result<(), AllocError>
     ensures line { OnOk result (out.new.items ≡ out.old.items ++ report_line (λ frame. octets.now) event reply) }
     ensures kept { OnErr result (out.new.items ≡ out.old.items) }
 {
@@ -32,7 +37,12 @@ pub fn append_answer(out: &mut Vec<u8>, event: u32, reply: Reply, octets: &[[u8;
 }
 
 // The same, and a refusal leaves a front of the line.
-fn put_answer(out: &mut Vec<u8>, event: u32, reply: Reply, octets: &[[u8; 30]]) -> Result<(), AllocError>
+fn put_answer(
+    out: &mut Vec<u8>,
+    event: u32,
+    reply: Reply,
+    octets: &[[u8; 30]],
+) -> Result<(), AllocError>
     ensures line { OnOk result (out.new.items ≡ out.old.items ++ report_line (λ frame. octets.now) event reply) }
     ensures front { take (length out.old.items) out.new.items ≡ out.old.items }
 {
@@ -63,7 +73,12 @@ fn put_busy(out: &mut Vec<u8>, event: u32) -> Result<(), AllocError>
     out.extend_from_slice(b" busy\n")
 }
 
-fn put_frame(out: &mut Vec<u8>, event: u32, number: u32, octets: &[[u8; 30]]) -> Result<(), AllocError>
+fn put_frame(
+    out: &mut Vec<u8>,
+    event: u32,
+    number: u32,
+    octets: &[[u8; 30]],
+) -> Result<(), AllocError>
     ensures line { OnOk result (out.new.items ≡ out.old.items ++ report_line (λ frame. octets.now) event (Frame number)) }
     ensures front { take (length out.old.items) out.new.items ≡ out.old.items }
 {

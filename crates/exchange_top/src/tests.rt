@@ -101,7 +101,10 @@ fn what_is_no_trace_is_refused_at_its_first_fault(rt: HostRuntime) -> Result<(),
     for (input, refusal) in [
         (b"".as_slice(), "refused 1 header\n"),
         (b"exchange 1 1 0 1\nF 0:D", "refused 2 hex\n"),
-        (b"exchange 1 1 0 1\nF 0:11111111111111111111111111111111111111111111111111111111111111\n", "refused 2 length\n"),
+        (
+            b"exchange 1 1 0 1\nF 0:11111111111111111111111111111111111111111111111111111111111111\n",
+            "refused 2 length\n",
+        ),
         (b"exchange 1 1 0 1\nnail 0/1 0/16\n", "refused 2 slot\n"),
         (b"exchange 1 1 0 1\n\nhold\n", "refused 3 word\n"),
         (b"exchange 1 1 1 1\nseat 0/1 0\n", "refused 2 later\n"),

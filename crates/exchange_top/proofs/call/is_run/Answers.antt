@@ -15,6 +15,7 @@ pub returns-in-len1 : goal.returns-in-len1
 returns-in-len1 c =
     let alone = one_word string_bytes c.args.words.now c.word-item.result c.in-len1.len_at_least c.in-len1.len_below c.word-item.is in
     let text = c.as_str.ensures.value in
-    let tells = bytes_eq-Decides c.as_str.result.now (codes "run") in
-    ( λ yes. alone ∙ ap (λ w. w ∷ []) (sym text ∙ tells.0 (sym c.eq.ensures ∙ yes))
-    , λ is. c.eq.ensures ∙ tells.1 (text ∙ same_head _ _ (sym alone ∙ is)) )
+    let tells = bytes_eq-Decides c.as_str.result.now (codes "run") in (
+      λ yes. alone ∙ ap (λ w. w ∷ []) (sym text ∙ tells.0 (sym c.eq.ensures ∙ yes)),
+      λ is. c.eq.ensures ∙ tells.1 (text ∙ same_head _ _ (sym alone ∙ is)),
+    )

@@ -16,14 +16,14 @@ returns-in_err-text-clause-begun g c = on_err c.from_residual-in_err-text.result
 
 pub loop-index-init : goal.loop-index-init
 loop-index-init g c = record {
-    order = c.requires.empty;
-    room = c.requires.room;
-    external = c.in_ok-switch.ensures.external;
-    lines = c.in_ok-octets.ensures.len ∙ c.from.ensures;
-    stands = c.in_ok-switch.ensures.start;
-    later = omega arith;
-    text = rw c.in_ok-text.ensures.items (pending_none (g.K.Sink.written c.args.sink.now));
-  }
+  order = c.requires.empty;
+  room = c.requires.room;
+  external = c.in_ok-switch.ensures.external;
+  lines = c.in_ok-octets.ensures.len ∙ c.from.ensures;
+  stands = c.in_ok-switch.ensures.start;
+  later = omega arith;
+  text = rw c.in_ok-text.ensures.items (pending_none (g.K.Sink.written c.args.sink.now));
+}
 
 pub push_reserved-requires : goal.push_reserved-requires
 push_reserved-requires g c =
@@ -44,7 +44,7 @@ pub returns-in_err-report_event-clause-begun : goal.returns-in_err-report_event-
 returns-in_err-report_event-clause-begun g c =
     let inv = c.loop-index.invariant in
     let found : slice_get c.args.trace.now.events c.loop-index.index ≡ Some c.event-item.result =
-      rw (← c.as_slice-event-items.ensures) (slice_get_read _ _ _ _ refl c.loop-index-test.true c.event-item.is) in
+    rw (← c.as_slice-event-items.ensures) (slice_get_read _ _ _ _ refl c.loop-index-test.true c.event-item.is) in
     on_err c.from_residual-in_err-report_event.result
     (begun_event c.args.trace.now c.loop-index.index c.event-item.result (g.K.Sink.written c.args.sink.now) (g.K.Sink.written c.loop-index.sink) c.loop-index.text.items c.loop-index.order.items c.push_reserved.new.self.items found inv.order c.push_reserved.ensures.items inv.text)
 
@@ -53,7 +53,7 @@ returns-in_err-flush_full-clause-begun g c =
     let inv = c.loop-index.invariant in
     let within : c.loop-index.index < length c.args.trace.now.events = rw (← c.as_slice-event-items.ensures) c.loop-index-test.true in
     let found : slice_get c.args.trace.now.events c.loop-index.index ≡ Some c.event-item.result =
-      rw (← c.as_slice-event-items.ensures) (slice_get_read _ _ _ _ refl c.loop-index-test.true c.event-item.is) in
+    rw (← c.as_slice-event-items.ensures) (slice_get_read _ _ _ _ refl c.loop-index-test.true c.event-item.is) in
     let said = c.in_ok-report_event.ensures.line (world start (take c.loop-index.index c.args.trace.now.events)) inv.stands in
     let line = rw inv.external at said in
     let pending = pending_event c.args.trace.now c.loop-index.index c.event-item.result _ _ _ _ found inv.text line in
@@ -64,7 +64,7 @@ pub loop-index-preserved : goal.loop-index-preserved
 loop-index-preserved g c =
     let inv = c.loop-index.invariant in
     let found : slice_get c.args.trace.now.events c.loop-index.index ≡ Some c.event-item.result =
-      rw (← c.as_slice-event-items.ensures) (slice_get_read _ _ _ _ refl c.loop-index-test.true c.event-item.is) in
+    rw (← c.as_slice-event-items.ensures) (slice_get_read _ _ _ _ refl c.loop-index-test.true c.event-item.is) in
     let w = world start (take c.loop-index.index c.args.trace.now.events) in
     let said = c.in_ok-report_event.ensures.line w inv.stands in
     let line = rw inv.external at said in

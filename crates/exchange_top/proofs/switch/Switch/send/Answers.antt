@@ -12,5 +12,5 @@ returns c w input s =
     map_range [] (line_octets (heard (next w (Frame input)) w.holding.next)) c.args.self.now.table.external c.loop-line.octets
     (omega (arith, c.loop-line.auto.octets, c.requires))
     (λ k within.
-      let below : k < c.loop-line.line = omega (arith, within, lines, c.external-line-end.ensures, c.loop-line-test.false) in
-      c.loop-line.invariant w input s k below)
+    let below : k < c.loop-line.line = omega (arith, within, lines, c.external-line-end.ensures, c.loop-line-test.false) in
+    c.loop-line.invariant w input s k below)
