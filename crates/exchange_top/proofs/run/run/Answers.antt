@@ -1,12 +1,10 @@
-use Rattle.std.proofs.Common.{◌≡◌, ℕ, ◌+◌, ◌<◌, ◌≤◌, List, length, take, Some, slice_get, refl, arith, sym, ◌∙◌, ap}
+use Rattle.std.proofs.Common.{◌≡◌, ℕ, ◌+◌, ◌<◌, ◌≤◌, List, length, take, Some, slice_get, refl, arith, ◌∙◌, ap}
 use Rattle.std.proofs.lemmas.List.{length-take-le}
 use Rattle.std.proofs.lemmas.List.FromFn.{length-range_with_len}
 use Rattle.std.proofs.lemmas.Option.{slice_get_read}
-use Rattle.exchange_top.specs.declared.trace.Event.{Event}
-use Rattle.exchange_top.specs.Exchange.{start, world, next}
+use Rattle.exchange_top.specs.Exchange.{start, world}
 use Rattle.exchange_top.specs.Orders.{file_order}
 use Rattle.exchange_top.specs.Report.{report}
-use Rattle.exchange_top.specs.Switching.{Stands}
 use Rattle.exchange_top.proofs.Pending.{on_err, begun_none, pending_none, order_more, world_more, pending_event, begun_event, begun_flush, reported}
 use Rattle.exchange_top.proofs.RunLemmas.{world_grows}
 use Rattle.exchange_top.proofs.run.run.Goals as goal

@@ -1,4 +1,4 @@
-use Rattle.std.proofs.Common.{arith, ◌≡◌, true, false}
+use Rattle.std.proofs.Common.{arith, ◌≡◌, true}
 use Rattle.std.proofs.lemmas.Grind.{common_steps}
 use Rattle.circuit_model.specs.Circuits.{is_idle}
 use Rattle.exchange_top.specs.Exchange.{can_nail}
