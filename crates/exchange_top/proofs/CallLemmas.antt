@@ -1,17 +1,16 @@
 -- How a call ends, and what each status says.
-use Rattle.std.proofs.Common.{◌≡◌, ◌⊎◌, ℕ, ◌+◌, ◌<◌, ◌≤◌, List, [], ◌∷◌, ◌++◌, length, Option, Some, None, refl, arith, sym, ◌∙◌, ap, inl, inr, length-append}
+use Rattle.std.proofs.Common.{◌≡◌, ◌⊎◌, ℕ, ◌+◌, ◌<◌, ◌≤◌, List, [], ◌++◌, length, Option, Some, None, arith, sym, ◌∙◌, ap, inl, inr, length-append}
 use Rattle.std.proofs.lemmas.Bool.{cases_lt}
 use Rattle.std.proofs.lemmas.List.{append-nil}
-use Rattle.std.specs.Io.KnownBytes.{Appends, Consumes, IsAtEnd, Keeps}
+use Rattle.std.specs.Io.KnownBytes.{Appends, Keeps}
 use Rattle.ex_io.specs.Ends.{Rose}
 use Rattle.exchange_top.specs.declared.reader.fault.Reason.{Reason}
-use Rattle.exchange_top.specs.declared.reader.fault.Reason.TheVariants as reason
 use Rattle.exchange_top.specs.declared.trace.Trace.{Trace}
-use Rattle.exchange_top.specs.TraceGrammar.{IsTrace, IsRefused, Too_long, At_line, At_end, most_bytes}
+use Rattle.exchange_top.specs.TraceGrammar.{IsTrace, IsRefused, most_bytes}
 use Rattle.exchange_top.specs.Orders.{IsLawfulPrefix}
-use Rattle.exchange_top.specs.Outcomes.{IsReported, IsBegun}
+use Rattle.exchange_top.specs.Outcomes.{IsBegun}
 use Rattle.exchange_top.specs.Streams.{AppendsFront}
-use Rattle.exchange_top.specs.Commands.{IsRun, IsInput, IsWholeInput, IsDone, IsTurnedDown, IsCutShort, At_once, In_refusal, In_report, IsUndone, In_words, In_input, In_answer, Runs, Whole, Unwritten_from, No_memory_from, Answers, Done, Turned_down, Unwritten, No_memory, Told, Ends, Wrong_words, Words_unwritten, Unread, No_room, Answered, refusal, words_refusal}
+use Rattle.exchange_top.specs.Commands.{IsRun, IsInput, IsWholeInput, IsDone, IsTurnedDown, In_refusal, In_report, IsUndone, In_words, In_input, In_answer, Runs, Whole, Unwritten_from, No_memory_from, Answers, Done, Turned_down, Unwritten, No_memory, Told, Ends, Wrong_words, Words_unwritten, Unread, No_room, Answered, refusal, words_refusal}
 use Rattle.exchange_top.proofs.OrderLemmas.{lawful_whole, lawful_begun}
 use Rattle.exchange_top.proofs.TraceReadings.{never_both}
 

@@ -1,12 +1,12 @@
 -- What is heard in a frame doesn't change with later frames.
-use Rattle.std.proofs.Common.{◌≡◌, ℕ, zero, suc, ◌+◌, ◌-◌, ◌<◌, ◌≤◌, Bool, true, false, List, [], ◌∷◌, ◌++◌, length, Option, Some, None, slice_get, get_or, refl, arith, sym, ◌∙◌, ap, inl, inr, nat_le}
+use Rattle.std.proofs.Common.{◌≡◌, ℕ, zero, suc, ◌+◌, ◌-◌, ◌<◌, ◌≤◌, true, List, [], ◌∷◌, ◌++◌, length, Option, Some, None, slice_get, refl, arith, ap, inl, inr, nat_le}
 use Rattle.std.proofs.lemmas.Grind.{common_steps}
 use Rattle.std.proofs.lemmas.List.{get_or_append_left, get_or_push}
 use Rattle.circuit_model.specs.declared.channel.Slot.{Slot}
 use Rattle.circuit_model.specs.declared.circuit.Kind.{Kind}
 use Rattle.circuit_model.specs.declared.circuit.Circuit.{Circuit}
 use Rattle.circuit_model.specs.declared.circuit.Circuit.TheVariants.{Pair, Member, Tone}
-use Rattle.circuit_model.specs.FrameInput.{Input, idle_octet, frame_of, arrives}
+use Rattle.circuit_model.specs.FrameInput.{Input, frame_of, arrives}
 use Rattle.circuit_model.specs.Circuits.{listener, heard_by}
 use Rattle.circuit_model.specs.Holding.{circuits_of}
 use Rattle.circuit_model.specs.Hears.{is_through, octets_of, mix, heard_through, hears}
@@ -16,7 +16,7 @@ use Rattle.exchange_top.specs.declared.circuit_table.Connection.{Connection}
 use Rattle.exchange_top.specs.Exchange.{World, next}
 use Rattle.exchange_top.specs.Report.{heard, no_tones}
 use Rattle.exchange_top.specs.Sound.{IsSlotOf}
-use Rattle.exchange_top.specs.Tables.{Table, entry, source, old_enough, circuit_to}
+use Rattle.exchange_top.specs.Tables.{entry, source, old_enough, circuit_to}
 use Rattle.exchange_top.specs.Switching.{State, Stands}
 use Rattle.std.proofs.lemmas.Bool.{leb-true, le-leb}
 use Rattle.exchange_top.proofs.TableLemmas.{bool_case}

@@ -1,13 +1,10 @@
 -- Facts on slots and on the circuits that name them.
-use Rattle.std.proofs.Common.{◌≡◌, ℕ, Bool, true, false, not, ◌&&◌, ◌||◌, List, [], ◌∷◌, Option, Some, None, refl, arith, cond, sym, ◌∙◌, ap}
-use Rattle.std.specs.List.{list_any, find}
-use Rattle.std.proofs.lemmas.Bool.{eqb-true, eq-eqb}
+use Rattle.std.proofs.Common.{◌≡◌, true, false, List, [], ◌∷◌, None, refl, arith}
 use Rattle.std.proofs.lemmas.Grind.{common_steps}
 use Rattle.circuit_model.specs.declared.channel.Slot.{Slot}
 use Rattle.circuit_model.specs.declared.circuit.Circuit.{Circuit}
 use Rattle.circuit_model.specs.declared.circuit.Circuit.TheVariants.{Pair, Member, Tone}
-use Rattle.circuit_model.specs.Circuits.{same_slot, listener, names, heard_by}
-use Rattle.exchange_top.specs.Exchange.{is_idle}
+use Rattle.circuit_model.specs.Circuits.{same_slot, listener, names, is_idle, heard_by}
 
 pub same_slot-refl : (x : Slot) → same_slot x x ≡ true
 same_slot-refl x = grind (arith, common_steps)

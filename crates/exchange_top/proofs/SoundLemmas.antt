@@ -1,8 +1,8 @@
 -- The events of a trace are those of an exchange of its size.
-use Rattle.std.proofs.Common.{◌≡◌, ◌≢◌, ◌⊎◌, ℕ, zero, suc, ◌+◌, ◌-◌, ◌<◌, ◌≤◌, Bool, true, false, nat_lt, List, [], ◌∷◌, ◌++◌, length, Option, Some, None, option_and_then, ok_or, Result, Ok, Err, All, replicate, slice_set, refl, arith, sym, ◌∙◌, ap, inl, inr, is_some, slice_index_or, if◌then◌else◌, ◌||◌, length-append}
+use Rattle.std.proofs.Common.{◌≡◌, ◌≢◌, ℕ, ◌<◌, ◌≤◌, Bool, true, false, nat_lt, List, [], ◌∷◌, ◌++◌, length, Option, Some, None, option_and_then, ok_or, Result, Ok, Err, All, replicate, slice_set, refl, arith, sym, ◌∙◌, inl, inr, is_some, slice_index_or, if◌then◌else◌, ◌||◌, length-append}
 use Rattle.std.specs.List.{list_all}
 use Rattle.std.proofs.lemmas.Grind.{common_steps}
-use Rattle.std.proofs.lemmas.Bool.{ltb-true, leb-true}
+use Rattle.std.proofs.lemmas.Bool.{ltb-true}
 use Rattle.std.proofs.lemmas.List.{append_assoc, append-nil, length-set, length-replicate}
 use Rattle.std.proofs.lemmas.List.Elements.{All-nil, All-cons}
 use Rattle.circuit_model.specs.declared.channel.Slot.{Slot}
@@ -23,7 +23,7 @@ use Rattle.exchange_top.specs.TraceFields.{slash, external_line, slot, octets_wr
 use Rattle.exchange_top.specs.TraceWords.{cut_at, numeral, lines, words, is_comment, is_blank, is_printable}
 use Rattle.exchange_top.specs.TraceLines.{◌>>=◌, colon, with_part, with_parts, frame, nail, happens, by_kind, kind_of, by_words, by_place, says}
 use Rattle.exchange_top.specs.TraceGrammar.{sizes_in, events_in, EachSays, IsTrace}
-use Rattle.exchange_top.specs.Sound.{IsSlotOf, IsNail, Fits, IsSound}
+use Rattle.exchange_top.specs.Sound.{IsSlotOf, Fits, IsSound}
 use Rattle.exchange_top.proofs.SlotLemmas.{same_slot-refl}
 use Rattle.exchange_top.proofs.TableLemmas.{bool_case}
 use Rattle.exchange_top.proofs.TraceHolds.{sizes_first, events-append}

@@ -1,5 +1,5 @@
 -- What a table of circuits shows, after each change.
-use Rattle.std.proofs.Common.{◌≡◌, ◌⊎◌, ℕ, ◌+◌, ◌<◌, Bool, true, false, List, [], ◌∷◌, ◌++◌, Option, Some, None, refl, arith, sym, ◌∙◌, ap, subst, inl, inr, slice_index_or, is_some, not, if◌then◌else◌}
+use Rattle.std.proofs.Common.{◌≡◌, ◌⊎◌, ℕ, Bool, true, false, List, [], ◌∷◌, ◌++◌, Option, Some, None, refl, arith, sym, ◌∙◌, inl, inr, slice_index_or, is_some, not, if◌then◌else◌}
 use Rattle.std.proofs.lemmas.Grind.{common_steps}
 use Rattle.std.proofs.lemmas.List.Folds.{find-append, list_any-append}
 use Rattle.std.specs.Option.{option_or, IfSome}
@@ -7,13 +7,12 @@ use Rattle.std.specs.List.{find}
 use Rattle.circuit_model.specs.declared.channel.Slot.{Slot}
 use Rattle.circuit_model.specs.declared.circuit.Circuit.{Circuit}
 use Rattle.circuit_model.specs.declared.circuit.Circuit.TheVariants.{Pair}
-use Rattle.circuit_model.specs.Circuits.{same_slot, heard_by, listener, names}
+use Rattle.circuit_model.specs.Circuits.{same_slot, heard_by, is_idle, listener, names}
 use Rattle.circuit_model.specs.Holding.{Holding, Connect, after}
-use Rattle.exchange_top.specs.Exchange.{is_idle}
 use Rattle.exchange_top.specs.declared.circuit_table.Connection.{Connection}
 use Rattle.exchange_top.specs.Sound.{IsSlotOf}
-use Rattle.exchange_top.specs.Tables.{Table, Shows, IsSetAt, AllInside, entry, circuit_to}
-use Rattle.exchange_top.proofs.SlotLemmas.{same_slot-refl, same_slot-true, idle_is_deaf}
+use Rattle.exchange_top.specs.Tables.{Table, Shows, IsSetAt, AllInside, entry}
+use Rattle.exchange_top.proofs.SlotLemmas.{same_slot-true, idle_is_deaf}
 
 pub bool_case : (b : Bool) → (b ≡ true) ⊎ (b ≡ false)
 bool_case true = inl refl

@@ -1,10 +1,9 @@
 -- The exchange as a machine: what it holds, what each event makes of that, and what it replies. Source: this exchange's own.
-use Rattle.std.specs.Prelude.{ℕ, ◌+◌, ◌-◌, ◌&&◌, not, Bool, List, [], ◌∷◌, ◌++◌, filter_map, slice_get, if◌then◌else◌}
-use Rattle.std.specs.List.{list_any}
+use Rattle.std.specs.Prelude.{ℕ, ◌-◌, ◌&&◌, not, Bool, List, [], ◌∷◌, ◌++◌, filter_map, slice_get, if◌then◌else◌}
 use Rattle.circuit_model.specs.declared.channel.Slot.{Slot}
 use Rattle.circuit_model.specs.declared.circuit.Circuit.{Circuit}
 use Rattle.circuit_model.specs.FrameInput.{Input}
-use Rattle.circuit_model.specs.Circuits.{names}
+use Rattle.circuit_model.specs.Circuits.{is_idle}
 use Rattle.circuit_model.specs.Holding.{Holding, empty, after, Connect, Frame as Boundary}
 use Rattle.exchange_top.specs.declared.trace.Event.{Event}
 use Rattle.exchange_top.specs.declared.trace.Event.TheVariants.{Nail, Frame as Frame_event}
@@ -21,9 +20,9 @@ pub record World : Type 0 where
 abbrev pub start : World
 start = record { holding = empty; inputs = []; held = [] }
 
--- a slot is idle where no circuit names it
-abbrev pub is_idle : List Circuit → Slot → Bool
-is_idle circuits x = not (list_any (names x) circuits)
+-- a slot that isn't idle is nailed
+abbrev pub is_nailed : List Circuit → Slot → Bool
+is_nailed circuits x = not (is_idle circuits x)
 
 -- two slots can be nailed together where both are idle
 abbrev pub can_nail : World → Slot → Slot → Bool

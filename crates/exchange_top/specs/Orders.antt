@@ -1,5 +1,5 @@
 -- The orders in which the events of a trace may happen. Source: this exchange's own.
-use Rattle.std.specs.Prelude.{◌≡◌, ◌≢◌, ℕ, ◌+◌, ◌-◌, ◌%◌, ◌<◌, ◌≤◌, ◌⊎◌, List, length, take, nat_lt, count_by, slice_get, slice_index, All, AllPairs, Contains, EachIndex, Some}
+use Rattle.std.specs.Prelude.{◌≡◌, ◌≢◌, ℕ, ◌-◌, ◌%◌, ◌<◌, ◌≤◌, ◌⊎◌, List, length, take, nat_lt, count_by, slice_get, slice_index, All, AllPairs, Contains, EachIndex, Some}
 use Rattle.std.specs.List.{range_with_len}
 use Rattle.exchange_top.specs.declared.trace.Event.{Event}
 use Rattle.exchange_top.specs.declared.trace.Event.TheVariants.{Nail, Frame}

@@ -1,5 +1,5 @@
 -- The exchange's tables and speech memory, and the world that they stand for. Source: this exchange's own.
-use Rattle.std.specs.Prelude.{◌≡◌, ℕ, length}
+use Rattle.std.specs.Prelude.{◌≡◌, length}
 use Rattle.frame_buffer.specs.Delay.{Delay, Carries}
 use Rattle.exchange_top.specs.Exchange.{World}
 use Rattle.exchange_top.specs.Tables.{Table, Shows}

@@ -3,10 +3,9 @@ use Rattle.std.specs.Prelude.{◌≡◌, ℕ, ◌+◌, ◌*◌, ◌<◌, List, O
 use Rattle.circuit_model.specs.declared.channel.Slot.{Slot}
 use Rattle.circuit_model.specs.declared.circuit.Circuit.{Circuit}
 use Rattle.circuit_model.specs.declared.circuit.Circuit.TheVariants.{Pair}
-use Rattle.circuit_model.specs.Circuits.{heard_by, same_slot}
+use Rattle.circuit_model.specs.Circuits.{heard_by, is_idle, same_slot}
 use Rattle.circuit_model.specs.Holding.{Holding}
 use Rattle.circuit_model.specs.Hears.{is_through}
-use Rattle.exchange_top.specs.Exchange.{is_idle}
 use Rattle.exchange_top.specs.Sound.{IsSlotOf}
 use Rattle.exchange_top.specs.declared.circuit_table.Connection.{Connection}
 

@@ -1,6 +1,6 @@
 ghost use Rattle.std.specs.Prelude.{◌≡◌, ◌+◌, ◌*◌, ◌<◌, ◌^◌, true, length, IfOk, IfSome, vec_len, All, replicate, None, List, ℕ};
 ghost use Rattle.circuit_model.specs.Holding.{Holding, Connect, Frame, after, empty};
-ghost use Rattle.exchange_top.specs.Exchange.{is_idle};
+ghost use Rattle.circuit_model.specs.Circuits.{is_idle};
 ghost use Rattle.exchange_top.specs.Sound.{IsSlotOf};
 ghost use Rattle.exchange_top.specs.Tables.{Table, Shows, IsSetAt, AllInside, entry, source};
 

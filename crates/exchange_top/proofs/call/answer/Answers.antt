@@ -1,5 +1,4 @@
-use Rattle.std.proofs.Common.{◌≡◌, ◌∙◌, refl, ap, Err}
-use Rattle.exchange_top.specs.TraceGrammar.{IsTrace, IsRefused}
+use Rattle.std.proofs.Common.{◌∙◌, ap, Err}
 use Rattle.exchange_top.proofs.CallLemmas.{answers_run, answers_refused}
 use Rattle.exchange_top.proofs.SoundLemmas.{sound_trace}
 use Rattle.exchange_top.proofs.call.answer.Goals as goal

@@ -1,4 +1,4 @@
-use Rattle.std.proofs.Common.{◌≡◌, ℕ, ◌<◌, ◌∙◌, arith, ap, length, slice_index, refl}
+use Rattle.std.proofs.Common.{◌≡◌, ℕ, ◌∙◌, arith, ap, length, slice_index}
 use Rattle.std.proofs.lemmas.List.{length-set}
 use Rattle.std.proofs.lemmas.Nat.{and_mask}
 use Rattle.hex.proofs.Pairs.{encode_step, encode_done}

@@ -1,12 +1,10 @@
-use Rattle.std.proofs.Common.{◌≡◌, ℕ, ◌+◌, ◌<◌, ◌≤◌, List, length, take, Some, slice_get, refl, arith, sym, ◌∙◌, ap}
+use Rattle.std.proofs.Common.{◌≡◌, ℕ, ◌+◌, ◌<◌, ◌≤◌, List, length, take, Some, slice_get, refl, arith, ◌∙◌, ap}
 use Rattle.std.proofs.lemmas.List.{length-take-le}
 use Rattle.std.proofs.lemmas.List.FromFn.{length-range_with_len}
 use Rattle.std.proofs.lemmas.Option.{slice_get_read}
-use Rattle.exchange_top.specs.declared.trace.Event.{Event}
-use Rattle.exchange_top.specs.Exchange.{start, world, next}
+use Rattle.exchange_top.specs.Exchange.{start, world}
 use Rattle.exchange_top.specs.Orders.{file_order}
 use Rattle.exchange_top.specs.Report.{report}
-use Rattle.exchange_top.specs.Switching.{Stands}
 use Rattle.exchange_top.proofs.Pending.{on_err, begun_none, pending_none, order_more, world_more, pending_event, begun_event, begun_flush, reported}
 use Rattle.exchange_top.proofs.RunLemmas.{world_grows}
 use Rattle.exchange_top.proofs.run.run.Goals as goal
@@ -46,7 +44,7 @@ returns-in_err-report_event-clause-begun g c =
     let found : slice_get c.args.trace.now.events c.loop-index.index ≡ Some c.event-item.result =
     rw (← c.as_slice-event-items.ensures) (slice_get_read _ _ _ _ refl c.loop-index-test.true c.event-item.is) in
     on_err c.from_residual-in_err-report_event.result
-    (begun_event c.args.trace.now c.loop-index.index c.event-item.result _ _ c.loop-index.text.items _ _ found inv.order c.push_reserved.ensures.items inv.text)
+    (begun_event c.args.trace.now c.loop-index.index c.event-item.result (g.K.Sink.written c.args.sink.now) (g.K.Sink.written c.loop-index.sink) c.loop-index.text.items c.loop-index.order.items c.push_reserved.new.self.items found inv.order c.push_reserved.ensures.items inv.text)
 
 pub returns-in_err-flush_full-clause-begun : goal.returns-in_err-flush_full-clause-begun
 returns-in_err-flush_full-clause-begun g c =

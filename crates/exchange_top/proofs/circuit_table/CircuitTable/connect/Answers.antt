@@ -1,4 +1,4 @@
-use Rattle.std.proofs.Common.{◌≡◌, ap, refl, ◌∙◌}
+use Rattle.std.proofs.Common.{ap, refl, ◌∙◌}
 use Rattle.exchange_top.specs.Tables.{Table}
 use Rattle.exchange_top.proofs.TableLemmas.{shows_connect}
 use Rattle.exchange_top.proofs.circuit_table.CircuitTable.connect.Goals as goal

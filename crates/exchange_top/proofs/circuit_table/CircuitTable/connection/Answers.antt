@@ -1,4 +1,4 @@
-use Rattle.std.proofs.Common.{◌≡◌, ap, ◌<◌, length, None, arith}
+use Rattle.std.proofs.Common.{ap, ◌<◌, length, None, arith}
 use Rattle.std.proofs.lemmas.List.{get_or_read}
 use Rattle.exchange_top.specs.Tables.{Table}
 use Rattle.exchange_top.proofs.TableLemmas.{entry_inside}

@@ -1,5 +1,3 @@
-use Rattle.std.proofs.Common.{◌≡◌, Some, None, refl, true, false, arith}
-use Rattle.std.proofs.lemmas.Grind.{common_steps}
 use Rattle.exchange_top.proofs.TableLemmas.{tells_idle}
 use Rattle.exchange_top.proofs.circuit_table.CircuitTable.is_idle.Goals as goal
 

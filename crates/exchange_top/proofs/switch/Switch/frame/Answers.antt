@@ -1,4 +1,4 @@
-use Rattle.std.proofs.Common.{◌≡◌, ◌∙◌, ◌+◌, [], ◌∷◌, ap, length-append}
+use Rattle.std.proofs.Common.{◌∙◌, ◌+◌, [], ◌∷◌, ap, length-append}
 use Rattle.exchange_top.proofs.switch.Switch.frame.Goals as goal
 
 pub returns-clause-world : goal.returns-clause-world

@@ -1,6 +1,7 @@
-use Rattle.std.proofs.Common.{arith, ◌≡◌, true, false}
+use Rattle.std.proofs.Common.{arith, ◌≡◌, true}
 use Rattle.std.proofs.lemmas.Grind.{common_steps}
-use Rattle.exchange_top.specs.Exchange.{can_nail, is_idle}
+use Rattle.circuit_model.specs.Circuits.{is_idle}
+use Rattle.exchange_top.specs.Exchange.{can_nail}
 use Rattle.exchange_top.proofs.switch.Switch.nail.Goals as goal
 
 pub returns-then-can_nail-clause-world : goal.returns-then-can_nail-clause-world

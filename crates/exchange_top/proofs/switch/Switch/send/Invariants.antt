@@ -1,4 +1,4 @@
-use Rattle.std.proofs.Common.{◌≡◌, ℕ, ◌<◌, length, get_or, List, []}
+use Rattle.std.proofs.Common.{◌≡◌, ℕ, ◌<◌, get_or, []}
 use Rattle.circuit_model.specs.FrameInput.{Input}
 use Rattle.exchange_top.specs.declared.trace.Event.TheVariants.{Frame}
 use Rattle.exchange_top.specs.Exchange.{World, next}
