@@ -12,7 +12,7 @@ use Rattle.std.proofs.lemmas.Map.Lookups.{exact_pairs, exact_unsigned}
 use Rattle.std.proofs.lemmas.Bool.{cases_eq}
 use Rattle.paull_matrix.specs.Numbers.{lowest}
 use Rattle.paull_matrix.specs.Matrix.{by_row_and_slot, Matrix, row_slot, column_slot, names, has_path, no_paths, with_path, without_path, is_free_in_row, is_free_in_column, paths_of_row, paths_of_column, paths_of_cell, IsLegal}
-use Rattle.paull_matrix.proofs.Numbers.{lowest_passes, lowest_only, lowest_of_none, count_full, count_more, count_same}
+use Rattle.paull_matrix.proofs.Numbers.{lowest_passes, lowest_only, lowest_of_none, count_full, count_more, count_same, count_short}
 
 pub places_total : IsTotalOrder by_row_and_slot
 places_total = then_total (on_total (λ (p : ℕ × ℕ). p.0) nat_cmp_total) (on_total (λ (p : ℕ × ℕ). p.1) nat_cmp_total)
@@ -184,3 +184,10 @@ cell_differs m n r s c sizes inside stands gone same i j = elim (here_or_other r
           rw (at, off) (false_unless (nat_eq c j) (λ one. away here.0 (sym (exact_unsigned_eq c j one))))
       | inr other ↦ ap (λ o. names o j) (sym (same i t other))
     ]
+
+-- a row or a column that lacks a slot has fewer paths than there are slots
+pub row_has_room : (m : Matrix) (i s : ℕ) → s < m.slots → row_slot m i s ≡ None → paths_of_row m i < m.slots
+row_has_room m i s inside none = count_short (λ t. is_some (row_slot m i t)) m.slots s inside (rw none refl)
+
+pub column_has_room : (m : Matrix) (j s : ℕ) → s < m.slots → column_slot m j s ≡ None → paths_of_column m j < m.slots
+column_has_room m j s inside none = count_short (λ t. is_some (column_slot m j t)) m.slots s inside (ap is_some none)

@@ -1,5 +1,5 @@
 -- What the lowest number that passes is, and how a count changes.
-use Rattle.std.proofs.Common.{◌≡◌, ◌≢◌, ℕ, zero, suc, ◌+◌, ◌<◌, Bool, true, false, Option, Some, None, arith, add-one, refl, sym, ap, subst, ◌∙◌}
+use Rattle.std.proofs.Common.{◌≡◌, ◌≢◌, ℕ, zero, suc, ◌+◌, ◌<◌, ◌≤◌, Bool, true, false, Option, Some, None, arith, add-one, refl, sym, ap, subst, ◌∙◌}
 use Rattle.std.proofs.lemmas.Bool.{cases_lt}
 use Rattle.std.specs.Prelude.{◌⊎◌}
 use mathlib.Core.Logic.{inl, inr}
@@ -156,3 +156,23 @@ count_more p q (suc n) k below off on same = elim (to_last k n below) [
   | inl less ↦ let here : n ≢ k = omega arith in rw (count_step p n, count_step q n, count_more p q n k less off on same, same n here) (omega arith)
   | inr last ↦ rw (count_step p n, count_step q n, sym last, off, on, count_same q p k (λ m less. sym (same m (omega arith)))) (omega arith)
 ]
+
+count_most : (p : ℕ → Bool) (n : ℕ) → count_below p n ≤ n
+count_most p zero = omega arith
+count_most p (suc n) = cases (p n) refl (count_most p n)
+  where
+    cases : (c : Bool) → p n ≡ c → count_below p n ≤ n → count_below p (suc n) ≤ suc n
+    cases true here most = rw (count_step p n, here) (omega arith)
+    cases false here most = rw (count_step p n, here) (omega arith)
+
+-- where one does not pass, not all count
+pub count_short : (p : ℕ → Bool) (n k : ℕ) → k < n → p k ≡ false → count_below p n < n
+count_short p zero k below off = absurd (omega arith)
+count_short p (suc n) k below off = elim (to_last k n below) [
+  | inl less ↦ earlier (p n) refl (count_short p n k less off)
+  | inr last ↦ let most = count_most p n in let at : p n ≡ false = ap p (sym last) ∙ off in rw (count_step p n, at) (omega arith)
+]
+  where
+    earlier : (c : Bool) → p n ≡ c → count_below p n < n → count_below p (suc n) < suc n
+    earlier true here short = rw (count_step p n, here) (omega arith)
+    earlier false here short = rw (count_step p n, here) (omega arith)

@@ -1,4 +1,4 @@
-//! The matrix, kept as the list of its paths.
+//! The matrix, kept as the plain list of its paths. Each look scans the list.
 
 ghost use Rattle.std.specs.Prelude.{◌≡◌, ◌<◌, ◌≤◌, ◌&&◌, nat_eq, find, Some, None, IfOk};
 ghost use Rattle.paull_matrix.specs.Matrix.{
@@ -19,7 +19,7 @@ ghost use Rattle.std.specs.Option.{option_map};
 use std::alloc::{AllocError, Global};
 use std::marker::Model;
 
-/// One path of the matrix.
+/// A path from an incoming line to an outgoing line in an internal slot.
 #[derive(Clone, Copy)]
 struct Path {
     row: u8,
@@ -27,7 +27,11 @@ struct Path {
     slot: u8,
 }
 
-/// The paths of a three-stage switch by incoming line (row), outgoing line (column) and internal slot.
+/// The paths of a three-stage switch: each has a row (its incoming line), a column (its outgoing
+/// line) and an internal slot. There are as many rows as columns, 1 to 34, and 1 to 59 slots.
+///
+/// No slot stands twice in a row or in a column. No call but `new` takes memory. Contracts see the
+/// matrix as its sizes and the map from a row and a slot to the column.
 #[derive(Drop)]
 pub struct PaullMatrix {
     lines: u8,
@@ -50,7 +54,8 @@ impl Model for PaullMatrix {
 }
 
 impl PaullMatrix {
-    /// An empty matrix. The room for all of its paths is reserved, so that no later call takes memory.
+    /// An empty matrix of `lines` rows and columns and `slots` slots. It reserves the room for all
+    /// the paths that it can hold. The only error is want of memory.
     pub fn new(alloc: Global, lines: u8, slots: u8) -> Result<PaullMatrix, AllocError>
         requires lines { (0 < lines) × (lines ≤ 34) }
         requires slots { (0 < slots) × (slots ≤ 59) }
@@ -65,7 +70,7 @@ impl PaullMatrix {
         })
     }
 
-    /// The column of the path of row `i` in slot `s`.
+    /// The column of the path of row `i` in slot `s`, `None` exactly where there is no such path.
     pub fn row_slot(&self, i: u8, s: u8) -> Option<u8>
         requires row { i < self.now.lines }
         requires slot { s < self.now.slots }
@@ -75,7 +80,7 @@ impl PaullMatrix {
         column_of(&self.paths, i, s)
     }
 
-    /// The row of the path of column `j` in slot `s`.
+    /// The row of the path of column `j` in slot `s`, `None` exactly where there is no such path.
     pub fn column_slot(&self, j: u8, s: u8) -> Option<u8>
         requires column { j < self.now.lines }
         requires slot { s < self.now.slots }
@@ -85,7 +90,8 @@ impl PaullMatrix {
         row_of(&self.paths, j, s)
     }
 
-    /// The lowest slot that is missing in row `i` and in column `j`.
+    /// The lowest slot that is missing both in row `i` and in column `j`, `None` exactly where every
+    /// slot stands in one of them.
     pub fn common_free(&self, i: u8, j: u8) -> Option<u8>
         requires row { i < self.now.lines }
         requires column { j < self.now.lines }
@@ -100,7 +106,7 @@ impl PaullMatrix {
         None
     }
 
-    /// The lowest slot that is missing in row `i`.
+    /// The lowest slot that is missing in row `i`, which has fewer paths than there are slots.
     pub fn free_in_row(&self, i: u8) -> u8
         requires row { i < self.now.lines }
         requires room { paths_of_row self.now i < self.now.slots }
@@ -115,7 +121,7 @@ impl PaullMatrix {
         unreachable!()
     }
 
-    /// The lowest slot that is missing in column `j`.
+    /// The lowest slot that is missing in column `j`, which has fewer paths than there are slots.
     pub fn free_in_column(&self, j: u8) -> u8
         requires column { j < self.now.lines }
         requires room { paths_of_column self.now j < self.now.slots }
@@ -130,7 +136,7 @@ impl PaullMatrix {
         unreachable!()
     }
 
-    /// Puts a path of row `i` and column `j` into slot `s`.
+    /// Puts a path of row `i` and column `j` into slot `s`, which is missing in both.
     pub fn place(&mut self, i: u8, j: u8, s: u8)
         requires row { i < self.old.lines }
         requires column { j < self.old.lines }
@@ -147,7 +153,7 @@ impl PaullMatrix {
         });
     }
 
-    /// Takes the path of row `i` and column `j` out of slot `s`.
+    /// Takes out the path of row `i` and column `j` that stands in slot `s`.
     pub fn lift(&mut self, i: u8, j: u8, s: u8)
         requires stands { row_slot_of self.old i s ≡ Some j }
         ensures lifted { self.new ≡ without_path self.old i s }

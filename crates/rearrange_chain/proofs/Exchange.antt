@@ -2,7 +2,9 @@
 use Rattle.std.proofs.Common.{◌≡◌, ◌⊎◌, ℕ, zero, suc, ◌+◌, ◌<◌, Bool, Option, Some, None, List, [], ◌∷◌, arith, refl, sym, ap, subst, ◌∙◌}
 use Rattle.std.proofs.lemmas.List.Sums.{sum_by-cons}
 use Rattle.std.specs.Prelude.{slice_get, cond, nat_eq, ◌&&◌, count_by, if◌then◌else◌}
-use Rattle.std.proofs.lemmas.Option.{same_Some}
+use Rattle.std.specs.Prelude.{All, length, ◌≢◌}
+use Rattle.std.proofs.Common.{get_or}
+use Rattle.std.proofs.lemmas.Option.{same_Some, slice_get-get_or, get_or_from_slice_get, slice_get_within}
 use mathlib.Core.Logic.{inl, inr}
 use Rattle.paull_matrix.specs.Matrix.{Matrix, row_slot, with_path, without_path, paths_of_cell, SameSizes, IsLegal}
 use Rattle.paull_matrix.proofs.Laws.{with_path_here, with_path_other, without_path_here, without_path_other, here_or_other, new_or_old, stood_before, legal_with, legal_without, no_column, cell_differs}
@@ -66,10 +68,11 @@ placed_from (v ∷ moves) m i s j e = elim (placed_from moves (with_path m v.row
   | inr later ↦ inr (suc later.0, later.1, later.2, later.3, later.4, later.5)
 ]
 
--- Moves that make one exchange: each path stands, no two leave one row's slot or take one row's or one column's, and where the row or the
+-- Moves that make one exchange: each path stands and gets another slot, no two leave one row's slot or take one row's or one column's, and where the row or the
 -- column of a path has another in the slot that it takes, that other moves too
 pub record IsExchange (m : Matrix) (moves : List Move) : Type 0 where
   pub stands : (k : ℕ) (v : Move) → slice_get moves k ≡ Some v → row_slot m v.row v.old ≡ Some v.column
+  pub turns : (k : ℕ) (v : Move) → slice_get moves k ≡ Some v → v.old ≢ v.new
   pub within : (k : ℕ) (v : Move) → slice_get moves k ≡ Some v → v.new < m.slots
   pub leave_once : (k n : ℕ) (u v : Move) → slice_get moves k ≡ Some u → slice_get moves n ≡ Some v → u.row ≡ v.row → u.old ≡ v.old → k ≡ n
   pub take_once : (k n : ℕ) (u v : Move) → slice_get moves k ≡ Some u → slice_get moves n ≡ Some v → u.row ≡ v.row → u.new ≡ v.new → k ≡ n
@@ -168,19 +171,31 @@ placed_has (u ∷ moves) m once zero v h =
 placed_has (u ∷ moves) m once (suc k) v h =
     placed_has moves (with_path m u.row u.column u.new) (λ k n w x g e row slot. let one = once (suc k) (suc n) w x g e row slot in omega arith) k v h
 
+all_from_get : {X : Type 0} (P : X → Type 0) (xs : List X) → ((k : ℕ) (x : X) → slice_get xs k ≡ Some x → P x) → All P xs
+all_from_get P xs each k d below = each k (get_or xs k d) (slice_get-get_or xs k d below)
+
+get_from_all : {X : Type 0} (P : X → Type 0) (xs : List X) → All P xs → (k : ℕ) (x : X) → slice_get xs k ≡ Some x → P x
+get_from_all P xs all k x h = subst P (get_or_from_slice_get xs k x x h) (all k x (slice_get_within xs k x h))
+
 pub exchange_changes : (m : Matrix) (moves : List Move) → IsExchange m moves → ChangesBy m (exchanged m moves) moves
 exchange_changes m moves is = record {
-  stood = is.stands;
-  stands = placed_has moves (lifted m moves) is.take_once;
+  once = λ k n d less below both.
+      let early : k < length moves = omega arith in
+      let same = is.leave_once k n (get_or moves k d) (get_or moves n d) (slice_get-get_or moves k d early) (slice_get-get_or moves n d below) both.0 both.1 in
+      omega arith;
+  turned = all_from_get (λ (v : Move). v.old ≢ v.new) moves is.turns;
+  stood = all_from_get (λ (v : Move). row_slot m v.row v.old ≡ Some v.column) moves is.stands;
+  stands = all_from_get (λ (v : Move). row_slot (exchanged m moves) v.row v.new ≡ Some v.column) moves (placed_has moves (lifted m moves) is.take_once);
   kept = λ i s j none e.
+      let leaves = get_from_all (λ (v : Move). ¬ ((v.row ≡ i) × (v.old ≡ s))) moves none in
       placed_keeps moves (lifted m moves) i s (λ k v h row slot.
       let at : row_slot m v.row v.new ≡ Some j = ap (λ x. row_slot m x v.new) row ∙ ap (λ x. row_slot m i x) slot ∙ e in
       let other = is.row_moves k v j h at in
-      none other.0 other.1 other.2 (other.3 ∙ row) (other.4 ∙ slot))
-      ∙ lifted_keeps moves m i s none ∙ e;
+      leaves other.0 other.1 other.2 (other.3 ∙ row, other.4 ∙ slot))
+      ∙ lifted_keeps moves m i s (λ k v h row slot. leaves k v h (row, slot)) ∙ e;
   none_else = λ i s j none e. elim (placed_from moves (lifted m moves) i s j e) [
     | inl before ↦ lifted_from moves m i s j before
-    | inr moved ↦ absurd (none moved.0 moved.1 moved.2 moved.3 moved.4)
+    | inr moved ↦ absurd (get_from_all (λ (v : Move). ¬ ((v.row ≡ i) × (v.new ≡ s))) moves none moved.0 moved.1 moved.2 (moved.3, moved.4))
   ];
 }
 

@@ -41,6 +41,11 @@ stands_at : (look : End → ℕ → Option ℕ) (m : Matrix) (e : End) (line old
 stands_at look m (Row i) line old new legal h = h
 stands_at look m (Column j) line old new legal h = row_of_column m line old j h
 
+-- an end is left in another slot than it is entered in
+two_ways : (a b : ℕ) (e : End) → a ≢ b → leave a b e ≡ enter a b e → ⊥
+two_ways a b (Row i) apart same = apart (sym same)
+two_ways a b (Column j) apart same = apart same
+
 -- a chain's moves are an exchange
 pub chain_exchanges : (m : Matrix) (a b : ℕ) (start other : End) → IsLegal m → a < m.slots → b < m.slots → IsOpen (far_line m) a b m.lines start other
     → IsExchange m (own_chain (far_line m) a b (2 * m.lines) start)
@@ -50,6 +55,10 @@ chain_exchanges m a b start other legal a_inside b_inside opened = record {
       subst (λ (w : Move). row_slot m w.row w.old ≡ Some w.column) (sym at.is)
       (ap (row_slot m (move_of at.near at.line (leave a b at.near) (enter a b at.near)).row) (old_of at.near at.line (leave a b at.near) (enter a b at.near))
       ∙ stands_at (far_line m) m at.near at.line (leave a b at.near) (enter a b at.near) legal at.goes);
+  turns = λ k v h same.
+      let at = is_step (far_line m) a b start (2 * m.lines) k v h in
+      two_ways a b at.near opened.two_slots
+      (sym (old_of at.near at.line (leave a b at.near) (enter a b at.near)) ∙ ap (λ (w : Move). w.old) (sym at.is) ∙ same ∙ ap (λ (w : Move). w.new) at.is ∙ new_of at.near at.line (leave a b at.near) (enter a b at.near));
   within = λ k v h.
       let at = is_step (far_line m) a b start (2 * m.lines) k v h in
       subst (λ (w : Move). w.new < m.slots) (sym at.is) (subst (λ s. s < m.slots) (sym (new_of at.near at.line (leave a b at.near) (enter a b at.near))) (enter_inside at.near));

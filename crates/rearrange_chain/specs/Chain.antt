@@ -2,7 +2,7 @@
 -- The rule and its chain are those of M. C. Paull, "Reswitching of connection networks", Bell System Technical Journal 41 (1962); in terms
 -- of graphs the chain is Kempe's. That the chain never comes back to the row that it makes room in is what proves the Slepian-Duguid
 -- theorem: as many slots are enough as a line has places.
-use Rattle.std.specs.Prelude.{◌≡◌, ℕ, zero, suc, ◌*◌, Option, Some, None, unwrap_or, List, [], ◌∷◌, slice_get}
+use Rattle.std.specs.Prelude.{◌≡◌, ℕ, zero, suc, ◌*◌, Option, Some, None, unwrap_or, List, [], ◌∷◌, ◌≢◌, All, AllPairs}
 use Rattle.paull_matrix.specs.Matrix.{Matrix, row_slot, column_slot, lowest_in_row, lowest_in_column, lowest_in_both, with_path, without_path}
 use Rattle.rearrange_chain.specs.declared.moves.Move.{Move}
 use Rattle.rearrange_chain.specs.declared.moves.End.{End}
@@ -69,9 +69,12 @@ slot_for m i j = slot_by m i (lowest_in_both m i j)
 abbrev pub moves_for : Matrix → ℕ → ℕ → List Move
 moves_for m i j = moves_by m i j (lowest_in_both m i j)
 
--- what differs between two matrices is what the moves say
+-- The moves are what differs between two matrices: no path moves twice, each stands in its old slot before and in its new one after, a path
+-- that does not move stays, and nothing else stands after
 pub record ChangesBy (before after : Matrix) (moves : List Move) : Type 0 where
-  pub stood : (k : ℕ) (v : Move) → slice_get moves k ≡ Some v → row_slot before v.row v.old ≡ Some v.column
-  pub stands : (k : ℕ) (v : Move) → slice_get moves k ≡ Some v → row_slot after v.row v.new ≡ Some v.column
-  pub kept : (i s j : ℕ) → ((k : ℕ) (v : Move) → slice_get moves k ≡ Some v → v.row ≡ i → v.old ≡ s → ⊥) → row_slot before i s ≡ Some j → row_slot after i s ≡ Some j
-  pub none_else : (i s j : ℕ) → ((k : ℕ) (v : Move) → slice_get moves k ≡ Some v → v.row ≡ i → v.new ≡ s → ⊥) → row_slot after i s ≡ Some j → row_slot before i s ≡ Some j
+  pub once : AllPairs (λ u v. ¬ ((u.row ≡ v.row) × (u.old ≡ v.old))) moves
+  pub turned : All (λ v. v.old ≢ v.new) moves
+  pub stood : All (λ v. row_slot before v.row v.old ≡ Some v.column) moves
+  pub stands : All (λ v. row_slot after v.row v.new ≡ Some v.column) moves
+  pub kept : (i s j : ℕ) → All (λ v. ¬ ((v.row ≡ i) × (v.old ≡ s))) moves → row_slot before i s ≡ Some j → row_slot after i s ≡ Some j
+  pub none_else : (i s j : ℕ) → All (λ v. ¬ ((v.row ≡ i) × (v.new ≡ s))) moves → row_slot after i s ≡ Some j → row_slot before i s ≡ Some j

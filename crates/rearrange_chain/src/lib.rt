@@ -7,6 +7,8 @@
 
 mod moves;
 mod room;
+#[cfg(test)]
+mod tests;
 
-pub use moves::{End, Move};
+pub use moves::Move;
 pub use room::make_room;

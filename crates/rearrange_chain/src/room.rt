@@ -27,7 +27,19 @@ use crate::moves::{End, Move};
 use arrayvec::ArrayVec;
 use paull_matrix::PaullMatrix;
 
-/// Makes room for a path of row `i` and column `j`, and answers a slot that is then free in both.
+/// Makes room for a path of row `i` and column `j`, which each have fewer paths than slots, and
+/// answers a slot that is free in both afterwards. `moves` comes empty, and lists the moves made.
+///
+/// Where a slot is free in both already, the lowest one is answered and nothing moves. Else let `a`
+/// be the lowest slot that is free in the row, and `b` the lowest that is free in the column. The
+/// path of the column in `a`, the path in `b` of the row where that one ends, the next one in `a`
+/// and so on form a chain. It never comes to row `i`, so with r lines it has at most 2r - 2 paths.
+/// They exchange `a` and `b`, they are listed in the order of the chain, and `a` is answered.
+///
+/// Source: M. C. Paull, "Reswitching of connection networks", Bell System Technical Journal 41
+/// (1962), for the chain and the exchange; the Slepian-Duguid theorem, that a row and a column with
+/// room each can always be given a slot, is what is proved of it. That the lowest slots are taken,
+/// and that the chain starts in the column, are this exchange's own rules.
 pub fn make_room(matrix: &mut PaullMatrix, i: u8, j: u8, moves: &mut ArrayVec<Move, 66>) -> u8
     requires row { i < matrix.old.lines }
     requires column { j < matrix.old.lines }
