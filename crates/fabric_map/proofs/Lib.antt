@@ -1,1 +1,3 @@
 pub mod Tabling
+pub mod Matched
+pub mod Rearranged

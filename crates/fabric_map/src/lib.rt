@@ -1,6 +1,8 @@
 //! The live map of the paths through a fabric of thirty internal slots.
 #![tactic(auto)]
 
+mod ends;
 mod path_table;
 
+pub use ends::Ends;
 pub use path_table::PathTable;

@@ -1,0 +1,10 @@
+use circuit_model::Slot;
+
+/// The two ends of a path: its inlet and its outlet.
+#[derive(Clone, Copy, Debug, PartialEq, Eq)]
+pub struct Ends {
+    /// The inlet.
+    pub from: Slot,
+    /// The outlet.
+    pub to: Slot,
+}
