@@ -1,3 +1,4 @@
 pub mod Tabling
 pub mod Matched
 pub mod Rearranged
+pub mod Chained
