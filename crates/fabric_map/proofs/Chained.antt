@@ -35,7 +35,7 @@ seen : (lines slots : ℕ) (m : Matrix) (layout : Layout) (side : Side) (line s 
 seen lines slots m layout Incoming line s b = b.is line s
 seen lines slots m layout Outgoing line s b = column_matches lines slots m layout b.legal_matrix b.legal b.is line s
 
-found_at : (lines slots : ℕ) (layout : Layout) (side : Side) (line s : ℕ) (p : Path) → Legal lines slots layout → path_at layout side line s ≡ Some p → IsPathOf lines layout p × (p.slot ≡ s)
+pub found_at : (lines slots : ℕ) (layout : Layout) (side : Side) (line s : ℕ) (p : Path) → Legal lines slots layout → path_at layout side line s ≡ Some p → IsPathOf lines layout p × (p.slot ≡ s)
 found_at lines slots layout Incoming line s p legal e = let f = path_in_found lines layout line s p legal.inlets e in (f.0, f.2)
 found_at lines slots layout Outgoing line s p legal e = let f = path_out_found lines layout line s p legal.inlets e in (f.0, f.2)
 

@@ -2,3 +2,4 @@ pub mod Tabling
 pub mod Matched
 pub mod Rearranged
 pub mod Chained
+pub mod Exchanged
