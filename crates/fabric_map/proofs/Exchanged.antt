@@ -100,3 +100,72 @@ moved_set [] (a ∷ rest) n v same inside = absurd (omega (arith, same))
 moved_set (b ∷ bs) [] n v same inside = absurd (omega (arith, same))
 moved_set (b ∷ bs) (a ∷ rest) zero v same inside = omega arith
 moved_set (b ∷ bs) (a ∷ rest) (suc n) v same inside = let later = moved_set bs rest n v (omega (arith, same)) (omega (arith, inside)) in omega (arith, later)
+
+-- ---- a whole chain has moved
+-- the paths of a chain use the two slots
+abbrev pub AllTurn : ℕ → ℕ → List Path → Type 0
+AllTurn a b [] = ⊤
+AllTurn a b (p ∷ ps) = (p.slot ≢ other a b p.slot) × AllTurn a b ps
+
+-- the layout still has the paths as they were before
+abbrev pub AllWere : Layout → List Path → Type 0
+AllWere layout [] = ⊤
+AllWere layout (p ∷ ps) = HasPath layout p.from p.to p.slot × AllWere layout ps
+
+were_still : (lines : ℕ) (layout : Layout) (p : Path) (slot : ℕ) (ps : List Path) → p.from.place < 30 → AllSlots lines (map ends_of ps) → Apart (ends_of p) (map ends_of ps) → AllWere layout ps → AllWere (with_path layout p.from p.to slot) ps
+were_still lines layout p slot [] place slots apart were = tt
+were_still lines layout p slot (q ∷ ps) place slots apart were =
+    (hop_else layout p.from p.to slot q.from slots.0.0.1 place apart.0.0 ∙ were.0, were_still lines layout p slot ps place slots.1 apart.1 were.1)
+
+not_equal : (s t : ℕ) → s ≢ t → (s == t) ≡ false
+not_equal s t apart = ⊎_elim (λ (e : (eqb s t ≡ true) × (s ≡ t)). absurd (apart e.1)) (λ (e : (eqb s t ≡ false) × (s ≢ t)). e.0) (eqb_tells s t)
+
+turned_hop : (to : Slot) (s t : ℕ) → s ≢ t → is_moved (Some (record { to = to; slot = s })) (Some (record { to = to; slot = t })) ≡ 1
+turned_hop to s t apart = same_hop (record { to = to; slot = s }) (record { to = to; slot = t }) true false (same_slot-refl to) (not_equal s t apart)
+
+pub chain_moved : (lines a b : ℕ) (before : Layout) (ps : List Path) (after : Layout) → length before ≡ 30 * lines → length after ≡ 30 * lines → AllSlots lines (map ends_of ps) → AllApart (map ends_of ps) → AllTurn a b ps → AllWere before ps → AllWere after ps
+    → moved before (exchanged after a b ps) ≡ moved before after + length ps
+chain_moved lines a b before [] after size_b size_a slots apart turn were now = omega arith
+chain_moved lines a b before (p ∷ ps) after size_b size_a slots apart turn were now =
+    let new = other a b p.slot in
+    let next = with_path after p.from p.to new in
+    let inside : number_of p.from < length after = let n = number_inside lines p.from slots.0.0 in omega (arith, n, size_a) in
+    let step = moved_set before after (number_of p.from) (Some (record { to = p.to; slot = new })) (size_b ∙ sym size_a) inside in
+    let was : is_moved (get_or before (number_of p.from) None) (get_or after (number_of p.from) None) ≡ 0 = ap (λ h. is_moved h (get_or after (number_of p.from) None)) were.0 ∙ ap (is_moved (Some (record { to = p.to; slot = p.slot }))) now.0 ∙ not_moved (record { to = p.to; slot = p.slot }) in
+    let is : is_moved (get_or before (number_of p.from) None) (Some (record { to = p.to; slot = new })) ≡ 1 = ap (λ h. is_moved h (Some (record { to = p.to; slot = new }))) were.0 ∙ turned_hop p.to p.slot new turn.0 in
+    let rest = chain_moved lines a b before ps next size_b (length-set after (number_of p.from) _ ∙ size_a) slots.1 apart.1 turn.1 were.1 (were_still lines after p new ps slots.0.0.1 slots.1 apart.0 now.1) in
+    omega (arith, step, was, is, rest)
+
+-- a new path has not moved
+pub new_unmoved : (lines : ℕ) (before after : Layout) (from to : Slot) (slot : ℕ) → length before ≡ 30 * lines → length after ≡ 30 * lines → IsSlot lines from → hop_of before from ≡ None → moved before (with_path after from to slot) ≡ moved before after
+new_unmoved lines before after from to slot size_b size_a inside free =
+    let step = moved_set before after (number_of from) (Some (record { to = to; slot = slot })) (size_b ∙ sym size_a) (let n = number_inside lines from inside in omega (arith, n, size_a)) in
+    let was = ap (λ h. is_moved h (get_or after (number_of from) None)) free in
+    let is = ap (λ h. is_moved h (Some (record { to = to; slot = slot }))) free in
+    omega (arith, step, was, is)
+
+-- ---- which slots are joined
+pub exchanged_long : (a b : ℕ) (ps : List Path) (layout : Layout) → length (exchanged layout a b ps) ≡ length layout
+exchanged_long a b [] layout = refl
+exchanged_long a b (p ∷ ps) layout = exchanged_long a b ps (with_path layout p.from p.to (other a b p.slot)) ∙ length-set layout (number_of p.from) _
+
+-- a path that changes its slot joins what it joined
+turn_joins : (lines : ℕ) (layout : Layout) (from to : Slot) (slot new : ℕ) → length layout ≡ 30 * lines → IsSlot lines from → HasPath layout from to slot → (x y : Slot) → IsSlot lines x → (Joins (with_path layout from to new) x y → Joins layout x y) × (Joins layout x y → Joins (with_path layout from to new) x y)
+turn_joins lines layout from to slot new size inside has x y in_x = (
+    λ j. ⊎_elim (λ (n : IsNew from to new x y j.0). (slot, subst (λ f. HasPath layout f y slot) (sym n.0) (subst (λ t. HasPath layout from t slot) (sym n.1) has)))
+      (λ (old : (x ≡ from → ⊥) × HasPath layout x y j.0). (j.0, old.1)) (new_or_old lines layout from to new size inside x y j.0 in_x j.1),
+    λ j. ⊎_elim
+      (λ (e : (eqb (number_of x) (number_of from) ≡ true) × (number_of x ≡ number_of from)).
+        let same = same_number x from in_x.1 inside.1 e.1 in
+        let hop = one_hop layout from y to j.0 slot (subst (λ f. HasPath layout f y j.0) same j.1) has in
+        (new, subst (λ f. HasPath (with_path layout from to new) f y new) (sym same) (subst (λ t. HasPath (with_path layout from to new) from t new) (sym hop.0) (hop_here lines layout from to new size inside))))
+      (λ (e : (eqb (number_of x) (number_of from) ≡ false) × (number_of x ≢ number_of from)). (j.0, hop_else layout from to new x in_x.1 inside.1 (λ same. e.1 (ap number_of same)) ∙ j.1))
+      (eqb_tells (number_of x) (number_of from)))
+
+pub exchange_joins : (lines a b : ℕ) (ps : List Path) (layout : Layout) → length layout ≡ 30 * lines → AllSlots lines (map ends_of ps) → AllApart (map ends_of ps) → AllWere layout ps → (x y : Slot) → IsSlot lines x → (Joins (exchanged layout a b ps) x y → Joins layout x y) × (Joins layout x y → Joins (exchanged layout a b ps) x y)
+exchange_joins lines a b [] layout size slots apart were x y in_x = (λ j. j, λ j. j)
+exchange_joins lines a b (p ∷ ps) layout size slots apart were x y in_x =
+    let new = other a b p.slot in
+    let one = turn_joins lines layout p.from p.to p.slot new size slots.0.0 were.0 x y in_x in
+    let rest = exchange_joins lines a b ps (with_path layout p.from p.to new) (length-set layout (number_of p.from) _ ∙ size) slots.1 apart.1 (were_still lines layout p new ps slots.0.0.1 slots.1 apart.0 were.1) x y in_x in
+    (λ j. one.0 (rest.0 j), λ j. rest.1 (one.1 j))
