@@ -259,3 +259,73 @@ fn vacate(rooms: &mut [Option<(u8, u32)>])
         *port = None;
     }
 }
+
+#[cfg(test)]
+mod tests {
+    use super::Image;
+    use crate::control_table::ControlTable;
+    use crate::heard::Heard;
+    use circuit_model::{Kind, Slot};
+    use std::alloc::AllocError;
+
+    #[test]
+    fn one_path_is_written_into_three_tables(rt: HostRuntime) -> Result<(), AllocError> {
+        let port = Slot { line: 2, place: 4 };
+        let mut image = Image::new(rt.alloc(), 2, 1, 5)?;
+        image.clear_all(7);
+        image.set_path(Slot { line: 0, place: 9 }, Slot { line: 1, place: 29 }, 3);
+        image.set_heard(port, Heard::Path { since: 6 });
+        image.set_room(port, 40, 6);
+        assert_eq!(&rt; image.frame(), 7);
+        assert_eq!(&rt;
+            [image.incoming(0, 3), image.incoming(1, 3)],
+            [Some(9), None]
+        );
+        assert_eq!(&rt; [image.space(1, 3), image.space(0, 3)], [Some(0), None]);
+        assert_eq!(&rt;
+            [image.outgoing(1, 29), image.outgoing(0, 9)],
+            [Some(3), None]
+        );
+        assert!(&rt; image.heard(port) == Heard::Path { since: 6 });
+        assert!(&rt; image.room(port) == Some((40, 6)));
+        image.clear_all(8);
+        assert_eq!(&rt;
+            [
+                image.incoming(0, 3),
+                image.space(1, 3),
+                image.outgoing(1, 29)
+            ],
+            [None; 3]
+        );
+        assert!(&rt; image.heard(port) == Heard::Silent);
+        assert!(&rt; image.room(port).is_none());
+        Ok(())
+    }
+
+    #[test]
+    fn tables_are_taken_over_whole(rt: HostRuntime) -> Result<(), AllocError> {
+        let mut incoming = ControlTable::new(rt.alloc(), 1, 2, 30)?;
+        let mut space = ControlTable::new(rt.alloc(), 1, 2, 1)?;
+        let outgoing = ControlTable::new(rt.alloc(), 1, 30, 2)?;
+        let mut image = Image::new(rt.alloc(), 1, 0, 2)?;
+        incoming.set(0, 1, 17);
+        incoming.set(0, 0, 16);
+        incoming.unset(0, 0);
+        space.set(0, 1, 0);
+        image.set_heard(
+            Slot { line: 0, place: 0 },
+            Heard::Tone {
+                kind: Kind::Busy,
+                since: 1,
+            },
+        );
+        image.set_tables(&incoming, &space, &outgoing);
+        assert_eq!(&rt;
+            [image.incoming(0, 0), image.incoming(0, 1)],
+            [None, Some(17)]
+        );
+        assert_eq!(&rt; [image.space(0, 0), image.space(0, 1)], [None, Some(0)]);
+        assert_eq!(&rt; image.outgoing(0, 17), None);
+        Ok(())
+    }
+}

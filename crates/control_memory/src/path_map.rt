@@ -9,7 +9,7 @@ use crate::image::Image;
 use circuit_model::Slot;
 
 /// A live map of the paths through the fabric: a legal layout, which new paths join by the rule of
-/// rearrangement. No call takes memory, and none is refused.
+/// rearrangement. No call takes memory, and none is refused. After each call its layout is legal.
 pub trait PathMap: Send {
     /// How many lines it has, external and bridge lines together.
     ghost width: { Self → ℕ };
@@ -26,12 +26,14 @@ pub trait PathMap: Send {
     /// Whether no path begins at the inlet.
     fn inlet_free(&self, at: Slot) -> bool
         requires { IsSlot (width self.now) at }
-        ensures { result ≡ is_none (hop_of (layout self.now) at) };
+        ensures free { result ≡ is_none (hop_of (layout self.now) at) }
+        ensures legal { Legal (width self.now) (depth self.now) (layout self.now) };
 
     /// Whether no path ends at the outlet.
     fn outlet_free(&self, at: Slot) -> bool
         requires { IsSlot (width self.now) at }
-        ensures { result ≡ is_none (path_to (layout self.now) at) };
+        ensures free { result ≡ is_none (path_to (layout self.now) at) }
+        ensures legal { Legal (width self.now) (depth self.now) (layout self.now) };
 
     /// Connects a free inlet to a free outlet: in the lowest internal slot that is free in both
     /// lines, or after live paths were moved along the alternating chain of two slots.
@@ -48,7 +50,8 @@ pub trait PathMap: Send {
         ensures few { result ≤ bound self.old }
         ensures width { width self.new ≡ width self.old }
         ensures depth { depth self.new ≡ depth self.old }
-        ensures bound { bound self.new ≡ bound self.old };
+        ensures bound { bound self.new ≡ bound self.old }
+        ensures legal { Legal (width self.new) (depth self.new) (layout self.new) };
 
     /// Takes a path out. No other path changes its slot.
     fn disconnect(&mut self, from: Slot, to: Slot)
@@ -57,16 +60,19 @@ pub trait PathMap: Send {
         ensures layout { layout self.new ≡ without_path (layout self.old) from }
         ensures width { width self.new ≡ width self.old }
         ensures depth { depth self.new ≡ depth self.old }
-        ensures bound { bound self.new ≡ bound self.old };
+        ensures bound { bound self.new ≡ bound self.old }
+        ensures legal { Legal (width self.new) (depth self.new) (layout self.new) };
 
     /// The internal slot of the path that begins at an inlet. `None` exactly where the inlet is free.
     fn slot_of(&self, from: Slot) -> Option<u8>
         requires { IsSlot (width self.now) from }
-        ensures { result ≡ option_map (λ (hop : Hop). hop.slot) (hop_of (layout self.now) from) };
+        ensures slot { result ≡ option_map (λ (hop : Hop). hop.slot) (hop_of (layout self.now) from) }
+        ensures legal { Legal (width self.now) (depth self.now) (layout self.now) };
 
     /// How many internal slots there are.
     fn slots(&self) -> u8
-        ensures { result ≡ depth self.now };
+        ensures slots { result ≡ depth self.now }
+        ensures legal { Legal (width self.now) (depth self.now) (layout self.now) };
 
     /// Writes the layout into the three tables of a control memory without paths.
     fn write_tables(&self, image: &mut Image)
@@ -74,11 +80,9 @@ pub trait PathMap: Send {
         requires slots { image.old.slots ≡ depth self.now }
         requires cleared { IsCleared image.old }
         ensures tables { HasLayout image.new (layout self.now) }
+        ensures legal { Legal (width self.now) (depth self.now) (layout self.now) }
         ensures sizes { SameSizes image.old image.new }
         ensures frame { image.new.frame ≡ image.old.frame }
         ensures heard { image.new.heard ≡ image.old.heard }
         ensures rooms { image.new.rooms ≡ image.old.rooms };
-
-    /// Its layout is legal, and it has as many lines and internal slots as a fabric can have.
-    ghost legal: { (m : Self) → Legal (width m) (depth m) (layout m) };
 }

@@ -1,5 +1,5 @@
 -- What a matrix has after a path more and a path less.
-use Rattle.std.proofs.Common.{◌≡◌, ◌⊎◌, ℕ, ◌<◌, ◌≤◌, Bool, eq-eqb, true, false, Option, Some, None, arith, refl, sym, ap, subst, ◌∙◌}
+use Rattle.std.proofs.Common.{◌≡◌, ◌⊎◌, ℕ, ◌<◌, ◌≤◌, eq-eqb, true, false, Option, Some, None, arith, refl, sym, ap, subst, ◌∙◌}
 use Rattle.std.specs.Prelude.{nat_eq, is_none, is_some, ◌&&◌, ◌+◌, if◌then◌else◌}
 use Rattle.std.specs.Cmp.{IsTotalOrder, nat_cmp_total, tied_itself, Equal-is}
 use Rattle.std.proofs.lemmas.Option.{same_Some}
@@ -12,6 +12,7 @@ use Rattle.std.proofs.lemmas.Map.Lookups.{exact_pairs, exact_unsigned}
 use Rattle.std.proofs.lemmas.Bool.{cases_eq}
 use Rattle.paull_matrix.specs.Numbers.{lowest}
 use Rattle.paull_matrix.specs.Matrix.{by_row_and_slot, Matrix, row_slot, column_slot, names, has_path, no_paths, with_path, without_path, is_free_in_row, is_free_in_column, paths_of_row, paths_of_column, paths_of_cell, IsLegal}
+use Rattle.paull_matrix.proofs.Bools.{false_unless, both_true}
 use Rattle.paull_matrix.proofs.Numbers.{lowest_passes, lowest_only, lowest_of_none, count_full, count_more, count_same, count_short}
 
 pub places_total : IsTotalOrder by_row_and_slot
@@ -23,15 +24,6 @@ places_exact p q e = exact_pairs nat_cmp nat_cmp exact_unsigned exact_unsigned p
 -- a row and a slot tie with themselves alone
 pub tied_here : (p : ℕ × ℕ) → eq_by_cmp by_row_and_slot p p ≡ true
 tied_here p = ap is_eq (tied_itself places_total p)
-
-false_unless : (b : Bool) → (b ≡ true → ⊥) → b ≡ false
-false_unless true not_true = absurd (not_true refl)
-false_unless false not_true = refl
-
-pub both_true : (a b : Bool) → (a && b) ≡ true → (a ≡ true) × (b ≡ true)
-both_true true true e = (refl, refl)
-both_true true false e = absurd (cc)
-both_true false b e = absurd (cc)
 
 pub tied_apart : (i s k t : ℕ) → (k ≡ i → t ≡ s → ⊥) → eq_by_cmp by_row_and_slot (k, t) (i, s) ≡ false
 tied_apart i s k t apart = false_unless _ (λ tied.

@@ -1,6 +1,6 @@
 -- A matrix that is kept as a list of paths.
 use Rattle.std.proofs.Common.{◌≡◌, ◌⊎◌, ℕ, ◌+◌, ◌*◌, ◌<◌, ◌≤◌, Bool, true, false, Option, Some, None, List, [], ◌∷◌, ◌++◌, length, map, length-append, eq-eqb, arith, refl, sym, ap, subst, ◌∙◌}
-use Rattle.std.specs.Prelude.{nat_eq, cond, not, ◌&&◌, ◌||◌, filter}
+use Rattle.std.specs.Prelude.{nat_eq, cond, ◌&&◌, filter}
 use Rattle.std.specs.List.{IsDistinct, AllByRecursion, list_any}
 use Rattle.std.specs.List.{find as first}
 use Rattle.std.specs.Option.{option_map}
@@ -17,24 +17,15 @@ use mathlib.Core.Logic.{inl, inr}
 use Rattle.paull_matrix.specs.declared.matrix.Path.{Path}
 use Rattle.paull_matrix.specs.Matrix.{by_row_and_slot, row_slot, column_slot, with_path, without_path, IsLegal}
 use Rattle.paull_matrix.specs.Listed.{entry, listed, place_number, IsWithin, IsKept, column_in, row_in, is_other}
+use Rattle.paull_matrix.proofs.Bools.{false_unless, not_false, both_true, or_true, or_false, or_cases}
 use Rattle.paull_matrix.proofs.Laws.{places_total, places_exact, tied_here, tied_apart, column_of_row, no_column, legal_with, legal_without, legal_empty, here_or_other, without_path_here, without_path_other}
-
-false_unless : (b : Bool) → (b ≡ true → ⊥) → b ≡ false
-false_unless true not_true = absurd (not_true refl)
-false_unless false not_true = refl
 
 none_from_all : (n : ℕ) (ns : List ℕ) → AllByRecursion (λ m. nat_eq n m ≡ false) ns → list_any (nat_eq n) ns ≡ false
 none_from_all n [] all = refl
 none_from_all n (m ∷ ns) all = rw (all.0, none_from_all n ns all.1) refl
 
--- what a test of both parts says
-both : (a b : Bool) → (a && b) ≡ true → (a ≡ true) × (b ≡ true)
-both true true e = (refl, refl)
-both true false e = absurd (cc)
-both false b e = absurd (cc)
-
 is_place : (p : Path) (i s : ℕ) → (nat_eq p.row i && nat_eq p.slot s) ≡ true → (p.row ≡ i) × (p.slot ≡ s)
-is_place p i s e = let b = both (nat_eq p.row i) (nat_eq p.slot s) e in (exact_unsigned_eq p.row i b.0, exact_unsigned_eq p.slot s b.1)
+is_place p i s e = let b = both_true (nat_eq p.row i) (nat_eq p.slot s) e in (exact_unsigned_eq p.row i b.0, exact_unsigned_eq p.slot s b.1)
 
 -- a path is at the row and the slot, or elsewhere
 at_place : (p : Path) (i s : ℕ) → ((p.row ≡ i) × (p.slot ≡ s) × ((nat_eq p.row i && nat_eq p.slot s) ≡ true)) ⊎ ((nat_eq p.row i && nat_eq p.slot s) ≡ false)
@@ -51,12 +42,8 @@ at_column : (p : Path) (j s : ℕ) → ((p.column ≡ j) × (p.slot ≡ s) × ((
 at_column p j s = cases (nat_eq p.column j && nat_eq p.slot s) refl
   where
     cases : (b : Bool) → (nat_eq p.column j && nat_eq p.slot s) ≡ b → ((p.column ≡ j) × (p.slot ≡ s) × ((nat_eq p.column j && nat_eq p.slot s) ≡ true)) ⊎ ((nat_eq p.column j && nat_eq p.slot s) ≡ false)
-    cases true e = let parts = both (nat_eq p.column j) (nat_eq p.slot s) e in inl (exact_unsigned_eq p.column j parts.0, exact_unsigned_eq p.slot s parts.1, e)
+    cases true e = let parts = both_true (nat_eq p.column j) (nat_eq p.slot s) e in inl (exact_unsigned_eq p.column j parts.0, exact_unsigned_eq p.slot s parts.1, e)
     cases false e = inr e
-
-not_false : (b : Bool) → not b ≡ false → b ≡ true
-not_false true e = refl
-not_false false e = absurd (cc)
 
 -- the key of an entry ties exactly where row and slot are equal
 tie_test : (p : Path) (i s : ℕ) → is_eq (by_row_and_slot (i, s) (p.row, p.slot)) ≡ (nat_eq p.row i && nat_eq p.slot s)
@@ -81,14 +68,6 @@ scanned_column (p ∷ ps) j s = elim (at_column p j s) [ inl here ↦ rw here.2 
 -- what the list has at a row and a slot
 pub row_slot_listed : (lines slots : ℕ) (ps : List Path) (i s : ℕ) → row_slot (listed lines slots ps) i s ≡ column_in ps i s
 row_slot_listed lines slots ps i s = get-from_entries places_total (map entry ps) (i, s) ∙ find_entry ps i s
-
-or_true : (a b : Bool) → b ≡ true → (a || b) ≡ true
-or_true true b e = refl
-or_true false b e = e
-
-or_false : (a b : Bool) → a ≡ false → b ≡ false → (a || b) ≡ false
-or_false true b e f = absurd (cc)
-or_false false b e f = f
 
 -- a path that the list has is numbered in it
 numbered : (slots : ℕ) (ps : List Path) (i s j : ℕ) → column_in ps i s ≡ Some j → list_any (nat_eq (i * slots + s)) (map (place_number slots) ps) ≡ true
@@ -188,10 +167,6 @@ kept_push lines slots room ps p kept row column slot row_none column_none =
       reserved = kept.reserved;
     }
 
-or_cases : (a b : Bool) → (a || b) ≡ true → (a ≡ true) ⊎ (b ≡ true)
-or_cases true b e = inl refl
-or_cases false b e = inr e
-
 number_below : (lines slots : ℕ) (ps : List Path) (q : ℕ) → AllByRecursion (IsWithin lines slots) ps → list_any (nat_eq q) (map (place_number slots) ps) ≡ true → q < lines * slots
 number_below lines slots [] q within e = absurd (cc)
 number_below lines slots (p ∷ ps) q within e = elim (or_cases (nat_eq q (place_number slots p)) _ e) [
@@ -213,8 +188,8 @@ room_for_one lines slots room ps i s kept row slot row_none =
 -- a path that is not another is the one
 is_itself : (p : Path) (i j s : ℕ) → is_other i j s p ≡ false → (p.row ≡ i) × (p.column ≡ j) × (p.slot ≡ s)
 is_itself p i j s e =
-    let one = both (nat_eq p.row i && nat_eq p.column j) (nat_eq p.slot s) (not_false _ e) in
-    let two = both (nat_eq p.row i) (nat_eq p.column j) one.0 in
+    let one = both_true (nat_eq p.row i && nat_eq p.column j) (nat_eq p.slot s) (not_false _ e) in
+    let two = both_true (nat_eq p.row i) (nat_eq p.column j) one.0 in
     (exact_unsigned_eq p.row i two.0, exact_unsigned_eq p.column j two.1, exact_unsigned_eq p.slot s one.1)
 
 itself : (p : Path) (i j s : ℕ) → p.row ≡ i → p.column ≡ j → p.slot ≡ s → is_other i j s p ≡ false

@@ -8,6 +8,7 @@ use Rattle.std.proofs.lemmas.List.Folds.{find-append}
 use Rattle.std.specs.Prelude.{cond, find, count_by, if◌then◌else◌, [], ◌∷◌, ◌++◌}
 use Rattle.std.specs.List.{range_with_len}
 use Rattle.std.specs.Option.{option_or}
+use Rattle.paull_matrix.proofs.Bools.{false_unless}
 use Rattle.paull_matrix.specs.Numbers.{lowest, count_below}
 
 -- an answer that was found before, or else the number, where it passes
@@ -121,17 +122,13 @@ none_lower p (suc n) none = lowest_step p n ∙ or_this_past (lowest p n) (p n) 
 pub lowest_is : (p : ℕ → Bool) (n k : ℕ) → p k ≡ true → k < n → ((m : ℕ) → m < k → p m ≡ false) → lowest p n ≡ Some k
 lowest_is p n k t below none = found_at p n k (none_lower p k none) t below
 
-false_of : (b : Bool) → (b ≡ true → ⊥) → b ≡ false
-false_of true not_true = absurd (not_true refl)
-false_of false not_true = refl
-
 -- the only number that passes is the lowest
 pub lowest_only : (p : ℕ → Bool) (n k : ℕ) → p k ≡ true → k < n → ((m : ℕ) → p m ≡ true → m ≡ k) → lowest p n ≡ Some k
-lowest_only p n k t below only = lowest_is p n k t below (λ m less. false_of (p m) (λ passes. let same = only m passes in omega arith))
+lowest_only p n k t below only = lowest_is p n k t below (λ m less. false_unless (p m) (λ passes. let same = only m passes in omega arith))
 
 -- where none passes there is no lowest
 pub lowest_of_none : (p : ℕ → Bool) (n : ℕ) → ((m : ℕ) → m < n → p m ≡ true → ⊥) → lowest p n ≡ None
-lowest_of_none p n none = none_lower p n (λ m below. false_of (p m) (none m below))
+lowest_of_none p n none = none_lower p n (λ m below. false_unless (p m) (none m below))
 
 -- where one passes, there is a lowest
 pub lowest_found : (p : ℕ → Bool) (n k : ℕ) → p k ≡ true → k < n → lowest p n ≡ None → ⊥

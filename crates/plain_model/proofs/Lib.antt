@@ -1,2 +1,4 @@
 mod Intervals
 mod Arrivals
+mod Totals
+mod Membership

@@ -1,1 +1,3 @@
 pub mod Tones
+pub mod Mixing
+pub mod Story

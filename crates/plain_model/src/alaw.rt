@@ -15,12 +15,23 @@ pub fn expand_by_search(octet: u8) -> i32
     let character = octet ^ EVEN_BITS;
     let interval = character % INTERVALS;
     let middle = i32::from((decision_value(interval) + decision_value(interval + 1)) / 2);
-    if character >= INTERVALS { middle } else { -middle }
+    if character >= INTERVALS {
+        middle
+    } else {
+        -middle
+    }
 }
 
 /// The octet of a value: the first interval that ends beyond its magnitude, or the last one, with
 /// the sign of the value; zero is positive.
 pub fn compress_by_search(value: i32) -> u8
+    ensures { result ≡ compress value }
+{
+    octet_of_value(i128::from(value))
+}
+
+/// The octet of a value of any size, as the sum over a room may be.
+pub(crate) fn octet_of_value(value: i128) -> u8
     ensures { result ≡ compress value }
 {
     let magnitude = value.unsigned_abs().min(4095) as u16;
@@ -60,5 +71,9 @@ fn width(interval: u8) -> u16
     requires { interval < 128 }
     ensures { result ≡ slice_index widths interval }
 {
-    if interval < 32 { 2 } else { 1 << (interval / 16) }
+    if interval < 32 {
+        2
+    } else {
+        1 << (interval / 16)
+    }
 }

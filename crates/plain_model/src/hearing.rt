@@ -1,10 +1,11 @@
 ghost use Rattle.std.specs.Prelude.{◌≡◌, ◌≤◌, slice_get};
 ghost use Rattle.circuit_model.specs.Circuits.{listener, heard_by};
 ghost use Rattle.circuit_model.specs.FrameInput.{arrives, line_of, octet_at};
-ghost use Rattle.circuit_model.specs.Hears.{mix, hears};
+ghost use Rattle.circuit_model.specs.Hears.{is_through, is_other, mix, tone_octet, hears};
 ghost use Rattle.plain_model.specs.Tones.{tones_of};
+ghost use Rattle.plain_model.specs.Mixing.{value_in_mix};
 
-use crate::alaw::{compress_by_search, expand_by_search};
+use crate::alaw::{expand_by_search, octet_of_value};
 use crate::rows::Rows;
 use circuit_model::{Circuit, IDLE, Kind, Slot};
 
@@ -12,7 +13,10 @@ use circuit_model::{Circuit, IDLE, Kind, Slot};
 pub fn find_heard(circuits: &[Circuit], x: Slot) -> Option<Circuit>
     ensures { result ≡ heard_by circuits.now x }
 {
-    circuits.iter().copied().find(|circuit| x == listener_of(*circuit))
+    circuits
+        .iter()
+        .copied()
+        .find(|circuit| x == listener_of(*circuit))
 }
 
 /// The slot that hears something by a circuit.
@@ -47,5 +51,96 @@ fn octet_of_place(octets: Option<[u8; 30]>, place: u8) -> u8
     match octets {
         Some(octets) => octets.get(usize::from(place)).copied().unwrap_or(IDLE),
         None => IDLE,
+    }
+}
+
+/// The octet that slot `y` hears in frame `f`, given the octets of the two tones and, for each frame,
+/// what arrived in it and which circuits stood in it.
+pub fn heard(
+    ringback: &[u8],
+    busy: &[u8],
+    inputs: &Rows<Option<[u8; 30]>>,
+    held: &Rows<Circuit>,
+    f: u32,
+    y: Slot,
+) -> u8
+    ensures { result ≡ hears (tones_of ringback.now busy.now) inputs.now held.now f y }
+{
+    let Some(circuit) = find_heard(held.row(f as usize), y) else {
+        return IDLE;
+    };
+    let sent = f.saturating_sub(2);
+    match circuit {
+        Circuit::Tone { kind, since, .. } => {
+            tone_octet(table_of(kind, ringback, busy), f.saturating_sub(since))
+        }
+        Circuit::Pair { from, since, .. } if is_through(since, f) => arriving(inputs, sent, from),
+        Circuit::Member { room, at, since } if is_through(since, f) => {
+            mixed(inputs, held.row(sent as usize), room, at, sent)
+        }
+        Circuit::Pair { .. } | Circuit::Member { .. } => IDLE,
+    }
+}
+
+/// The octets of a tone.
+fn table_of<'a>(kind: Kind, ringback: &'a [u8], busy: &'a [u8]) -> &'a [u8]
+    ensures { result.now ≡ tones_of ringback.now busy.now kind }
+{
+    match kind {
+        Kind::Ringback => ringback,
+        Kind::Busy => busy,
+    }
+}
+
+/// What the bridge mixes for slot `y` in frame `g`: the values of the octets that the other members
+/// of the room sent two frames before are added up, and the sum is coded once.
+pub fn mixed(inputs: &Rows<Option<[u8; 30]>>, circuits: &[Circuit], room: u8, y: Slot, g: u32) -> u8
+    ensures { result ≡ mix inputs.now circuits.now room y g }
+{
+    let mut sum = 0;
+    for circuit in circuits {
+        let value = value_in_mix(inputs, *circuit, room, y, g);
+        sum += i128::from(value);
+    }
+    octet_of_value(sum)
+}
+
+/// What a circuit adds to the mix: the value of what its slot sent two frames before where it seats
+/// another member of the room who is heard, and nothing otherwise.
+fn value_in_mix(inputs: &Rows<Option<[u8; 30]>>, circuit: Circuit, room: u8, y: Slot, g: u32) -> i32
+    ensures { result ≡ value_in_mix inputs.now room y g circuit }
+{
+    if is_other(room, y, g, circuit) {
+        expand_by_search(arriving(inputs, g.saturating_sub(2), listener_of(circuit)))
+    } else {
+        0
+    }
+}
+
+/// Whether a circuit seats another slot than `y` in the wanted room and is two frames old in frame `g`.
+fn is_other(wanted: u8, y: Slot, g: u32, circuit: Circuit) -> bool
+    ensures { result ≡ is_other wanted y g circuit }
+{
+    match circuit {
+        Circuit::Member { room, at, since } => room == wanted && at != y && is_through(since, g),
+        Circuit::Pair { .. } | Circuit::Tone { .. } => false,
+    }
+}
+
+/// Whether a circuit that stands since `since` is two frames old in frame `f`.
+fn is_through(since: u32, f: u32) -> bool
+    ensures { result ≡ is_through since f }
+{
+    f >= 2 && since <= f - 2
+}
+
+/// The octet of a tone that has sounded for so many frames.
+fn tone_octet(table: &[u8], frames: u32) -> u8
+    ensures { result ≡ tone_octet table.now frames }
+{
+    if table.is_empty() {
+        IDLE
+    } else {
+        table[frames as usize % table.len()]
     }
 }

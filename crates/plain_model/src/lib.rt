@@ -6,9 +6,17 @@
 #![tactic(auto)]
 
 mod alaw;
+mod exchange;
 mod hearing;
+mod laws;
+mod names;
 mod rows;
 
 pub use alaw::{compress_by_search, expand_by_search};
-pub use hearing::{arriving, find_heard};
+pub use exchange::Exchange;
+pub use hearing::{arriving, find_heard, heard, mixed};
+pub use laws::law_of_stories;
 pub use rows::Rows;
+
+#[cfg(test)]
+mod tests;

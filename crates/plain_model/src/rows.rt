@@ -16,14 +16,16 @@ impl<T> Model for Rows<T> {
     ghost view = { λ a. map (λ row. row.items) a.rows.items };
 }
 
-impl<T: Copy> Rows<T> {
-    ghost use Rattle.std.specs.Prelude.{◌≡◌, [], ◌∷◌, ◌++◌, OnOk, OnErr, slice_index_or};
+impl<T: Copy + Drop> Rows<T> {
+    ghost use Rattle.std.specs.Prelude.{◌≡◌, [], ◌∷◌, ◌++◌, OnOk, OnErr, length, take, slice_index_or};
 
     /// No frame yet.
     pub fn new(alloc: Global) -> Rows<T>
         ensures { result ≡ [] }
     {
-        Rows { rows: Vec::new(alloc) }
+        Rows {
+            rows: Vec::new(alloc),
+        }
     }
 
     /// Adds the list of the next frame. Where memory runs out nothing is added.
@@ -34,6 +36,20 @@ impl<T: Copy> Rows<T> {
         let row = Vec::from_slice(alloc, row)?;
         self.rows.push(row)?;
         Ok(())
+    }
+
+    /// How many frames there are.
+    pub fn len(&self) -> usize
+        ensures { result ≡ length self.now }
+    {
+        self.rows.len()
+    }
+
+    /// Keeps the first `count` frames alone.
+    pub fn truncate(&mut self, count: usize)
+        ensures { self.new ≡ take count self.old }
+    {
+        self.rows.truncate(count);
     }
 
     /// The list of frame `f`, counted from 0; an empty one where there is no such frame.

@@ -125,6 +125,23 @@ fn discards(rt: HostRuntime) {
     }
 }
 
+#[test]
+fn names_discards(rt: HostRuntime) -> Result<(), Fail> {
+    for (discard, number, text) in [
+        (Discard::Discriminator, 1, "another protocol discriminator"),
+        (Discard::Short, 2, "the message is too short"),
+        (
+            Discard::ReferenceLength,
+            3,
+            "a call reference of another length",
+        ),
+    ] {
+        assert_eq!(rt; discard as u8, number);
+        assert_eq!(rt; format!(in rt.alloc(); "{discard}")?.as_str(), text);
+    }
+    Ok(())
+}
+
 // The first cause of these elements, behind a header.
 fn cause_in(octets: &[u8]) -> Option<u8> {
     read(octets).ok()?.cause()

@@ -4,7 +4,8 @@ use Rattle.std.specs.Prelude.{slice_get, ◌&&◌, is_none}
 use mathlib.Core.Logic.{inl, inr}
 use Rattle.paull_matrix.specs.Matrix.{Matrix, row_slot, column_slot, is_free_in_row, is_free_in_column, lowest_in_row, lowest_in_column, lowest_in_both, paths_of_cell, SameSizes, IsLegal}
 use Rattle.paull_matrix.proofs.Numbers.{lowest_passes, lowest_none}
-use Rattle.paull_matrix.proofs.Laws.{column_of_row, row_of_column, row_inside, no_column, both_true}
+use Rattle.paull_matrix.proofs.Laws.{column_of_row, row_of_column, row_inside, no_column}
+use Rattle.paull_matrix.proofs.Bools.{both_true}
 use Rattle.rearrange_chain.specs.declared.moves.Move.{Move}
 use Rattle.rearrange_chain.specs.declared.moves.End.{End}
 use Rattle.rearrange_chain.specs.declared.moves.End.TheVariants.{Row, Column}
@@ -37,9 +38,9 @@ column_open m i j a b legal row column row_free column_free apart = record {
 }
 
 -- a move's path is found where the move says
-stands_at : (look : End → ℕ → Option ℕ) (m : Matrix) (e : End) (line old new : ℕ) → IsLegal m → far_line m e old ≡ Some line → row_slot m (move_of e line old new).row old ≡ Some (move_of e line old new).column
-stands_at look m (Row i) line old new legal h = h
-stands_at look m (Column j) line old new legal h = row_of_column m line old j h
+stands_at : (m : Matrix) (e : End) (line old new : ℕ) → IsLegal m → far_line m e old ≡ Some line → row_slot m (move_of e line old new).row old ≡ Some (move_of e line old new).column
+stands_at m (Row i) line old new legal h = h
+stands_at m (Column j) line old new legal h = row_of_column m line old j h
 
 -- an end is left in another slot than it is entered in
 two_ways : (a b : ℕ) (e : End) → a ≢ b → leave a b e ≡ enter a b e → ⊥
@@ -54,7 +55,7 @@ chain_exchanges m a b start other legal a_inside b_inside opened = record {
       let at = is_step (far_line m) a b start (2 * m.lines) k v h in
       subst (λ (w : Move). row_slot m w.row w.old ≡ Some w.column) (sym at.is)
       (ap (row_slot m (move_of at.near at.line (leave a b at.near) (enter a b at.near)).row) (old_of at.near at.line (leave a b at.near) (enter a b at.near))
-      ∙ stands_at (far_line m) m at.near at.line (leave a b at.near) (enter a b at.near) legal at.goes);
+      ∙ stands_at m at.near at.line (leave a b at.near) (enter a b at.near) legal at.goes);
   turns = λ k v h same.
       let at = is_step (far_line m) a b start (2 * m.lines) k v h in
       two_ways a b at.near opened.two_slots

@@ -1,7 +1,7 @@
 -- The walk of an alternating chain. Rows are left in slot b and entered in slot a, columns are left in a and entered in b.
-use Rattle.std.proofs.Common.{◌≡◌, ◌≢◌, ◌⊎◌, ℕ, zero, suc, ◌+◌, ◌*◌, ◌<◌, ◌≤◌, Bool, true, false, Option, Some, None, List, [], ◌∷◌, length, arith, zero-add, add-zero, refl, sym, ap, subst, ◌∙◌}
+use Rattle.std.proofs.Common.{◌≡◌, ◌≢◌, ◌⊎◌, ℕ, zero, suc, ◌+◌, ◌*◌, ◌<◌, ◌≤◌, true, Option, Some, None, List, [], ◌∷◌, length, arith, zero-add, add-zero, refl, sym, ap, subst, ◌∙◌}
 use Rattle.std.specs.Prelude.{slice_get, option_map, option_and_then}
-use Rattle.std.specs.Prelude.{map, nat_eq, ◌||◌, unwrap_or}
+use Rattle.std.specs.Prelude.{map, nat_eq, unwrap_or}
 use Rattle.std.specs.List.{list_any, range_with_len}
 use Rattle.std.proofs.lemmas.Bool.{cases_lt}
 use Rattle.std.proofs.lemmas.Option.{same_Some}
@@ -10,6 +10,7 @@ use Rattle.std.proofs.lemmas.Map.Keys.{IsDistinct-from_apart}
 use Rattle.std.proofs.lemmas.Map.Steps.{length-le_from_distinct_below}
 use Rattle.std.proofs.lemmas.List.FromFn.{length-map-range_with_len, get_or-map-range_with_len}
 use mathlib.Core.Logic.{inl, inr}
+use Rattle.paull_matrix.proofs.Bools.{false_unless, or_cases}
 use Rattle.rearrange_chain.specs.declared.moves.Move.{Move}
 use Rattle.rearrange_chain.specs.declared.moves.End.{End}
 use Rattle.rearrange_chain.specs.declared.moves.End.TheVariants.{Row, Column}
@@ -119,14 +120,6 @@ in_range f n a (suc len) q below h = elim (or_cases (nat_eq q (f a)) _ h) [
   | inl here ↦ subst (λ k. k < n) (sym (exact_unsigned_eq q (f a) here)) (below a (omega arith) (omega arith))
   | inr later ↦ in_range f n (a + 1) len q (λ k low high. below k (omega arith) (omega arith)) later
 ]
-  where
-    or_cases : (c d : Bool) → (c || d) ≡ true → (c ≡ true) ⊎ (d ≡ true)
-    or_cases true d e = inl refl
-    or_cases false d e = inr e
-
-false_unless : (c : Bool) → (c ≡ true → ⊥) → c ≡ false
-false_unless true not_true = absurd (not_true refl)
-false_unless false not_true = refl
 
 pub pigeonhole : (f : ℕ → ℕ) (len n : ℕ) → ((k : ℕ) → k < len → f k < n) → ((k l : ℕ) → k < l → l < len → f k ≡ f l → ⊥) → len ≤ n
 pigeonhole f len n below apart =

@@ -5,10 +5,9 @@ ghost use Rattle.control_memory.specs.Layout.{Layout, Legal};
 ghost use Rattle.control_memory.specs.Image.{lines_of, HasLayout, EachSlot};
 ghost use Rattle.control_memory.specs.Carrying.{carried};
 
+use crate::interchange::{incoming, outgoing};
 use control_memory::Image;
 use frame_buffer::{Crossed, FrameBuffer, Highway};
-
-use crate::interchange::{incoming, outgoing};
 
 /// The three stages in a row, under one control memory: where its tables are those of a legal
 /// layout, each outlet gets the octet of the inlet of its path, and every other slot is idle.
@@ -24,6 +23,8 @@ pub fn carry(
     requires slots { highway.old.slots ≡ image.now.slots }
     requires size { SameSize highway.old crossed.old }
     requires out { out.old.lines ≡ lines_of image.now }
+    ensures highway_size { SameSize highway.old highway.new }
+    ensures crossed_size { SameSize crossed.old crossed.new }
     ensures lines { out.new.lines ≡ out.old.lines }
     ensures octets { (layout : Layout) → Legal (lines_of image.now) image.now.slots layout → HasLayout image.now layout → EachSlot (lines_of image.now) (λ at. octet_of out.new.filled at ≡ carried layout (octet_of buffer.now.readable) at) }
     ensures readable { out.new.readable ≡ out.old.readable }
@@ -32,3 +33,6 @@ pub fn carry(
     space_stage::cross(highway, image, crossed);
     outgoing(crossed, image, out);
 }
+
+#[cfg(test)]
+mod tests;

@@ -1,5 +1,4 @@
-use Rattle.std.proofs.Common.{arith, ◌<◌, ◌≤◌, ℕ, get_or, sym, ◌≡◌, ◌+◌}
-use Rattle.circuit_model.specs.ALaw.{decision_values}
+use Rattle.std.proofs.Common.{arith, sym}
 use Rattle.plain_model.proofs.Intervals.{first_beyond, last_end}
 use Rattle.plain_model.proofs.alaw.find_interval.Goals as goal
 

@@ -12,5 +12,5 @@ returns-clause-octets c layout legal tables at inside near =
     let octet = octet_of c.args.buffer.now.readable in
     let sends : SendsBy (lines_of m) m.slots (sent m) octet (octet_on c.incoming.new.highway) = λ line slot here low. c.incoming.ensures.octets line slot (search rules) (search rules) in
     let holds : HoldsCrossing (lines_of m) m.slots layout octet (octet_on c.cross.new.crossed) =
-        λ line slot here low. c.cross.ensures.octets line slot (search rules) (search rules) ∙ crossing_is (lines_of m) m.slots layout (sent m) (received m) (read m) octet legal tables (octet_on c.incoming.new.highway) sends line slot here low in
+    λ line slot here low. c.cross.ensures.octets line slot (search rules) (search rules) ∙ crossing_is (lines_of m) m.slots layout (sent m) (received m) (read m) octet legal tables (octet_on c.incoming.new.highway) sends line slot here low in
     c.outgoing.ensures.octets at (search rules) near ∙ carried_is (lines_of m) m.slots layout (sent m) (received m) (read m) octet legal tables (octet_on c.cross.new.crossed) holds at inside near

@@ -1,0 +1,19 @@
+//! Carries frames through the three stages of a full fabric: the proved half of `bench/stages`.
+//!
+//! `bench_stages PAIRS` carries so many pairs of frames, and prints a sum over the last one.
+#![tactic(auto)]
+
+mod fabric;
+
+use anyhow::Result;
+use std::env;
+
+fn main(rt: HostRuntime) -> Result<()> {
+    let mut pairs = 0u32;
+    for word in env::args(&rt)?.skip(1) {
+        pairs = word.parse().unwrap_or(0);
+    }
+    let sum = fabric::run(rt.alloc(), pairs)?;
+    println!(rt; "{sum}")?;
+    Ok(())
+}

@@ -1,0 +1,71 @@
+//! The conference bridge: what each member of a room hears of the others.
+//!
+//! A room is a row of places, each with the octet that its member sent or none. The bridge is linear:
+//! a member hears the sum of the values of the other octets, coded once by A-law. `specs/Bridge.antt`
+//! defines it by leaving the member out and adding up the rest. The code adds up all places once and
+//! takes each member's own value out of that total, so a mix takes as many steps as there are places.
+#![tactic(auto)]
+
+ghost use Rattle.std.specs.Prelude.{◌≡◌, ℕ, ◌*◌, ◌≤◌, length, slice_index, map, All, EachIndex, nat_abs};
+ghost use Rattle.circuit_model.specs.Hears.{sum_of_values};
+ghost use Rattle.conference_mix.specs.Bridge.{present, value_of, mixed_for};
+
+mod laws;
+
+use alaw_codec::{compress, expand};
+pub use laws::{law_of_order, law_of_small_rooms};
+
+/// The most members that a bridge mixes: as many as two bridge lines have bearer channels. The limit
+/// is this exchange's own.
+pub const MAX_MEMBERS: usize = 60;
+
+/// Mixes a room: writes to each place of `out` the A-law octet of the sum of the others' values.
+///
+/// `members` has for each place the octet that arrived there, or `None` where none counts, which adds
+/// nothing. `out` has the same places, and each is written, also that of an absent octet. The sum is
+/// exact and saturates only in its coding (ITU-T G.711 (11/88), table 1a): with 60 members it stays
+/// within 241,920. The bridge is this exchange's own.
+pub fn mix(members: &[Option<u8>], out: &mut [u8])
+    requires same { length out.old ≡ length members.now }
+    requires few { length members.now ≤ MAX_MEMBERS }
+    ensures { EachIndex members.now (λ k. slice_index out.new k ≡ mixed_for k members.now) }
+{
+    let mut scratch = [0; MAX_MEMBERS];
+    let values = &mut scratch[..members.len()];
+    let total = expand_each(members, values);
+    for (k, own) in values.iter().enumerate() {
+        out[k] = compress(total - *own);
+    }
+}
+
+/// Writes what each place adds to the sum, and returns the sum over all places.
+fn expand_each(members: &[Option<u8>], values: &mut [i32]) -> i32
+    requires same { length values.old ≡ length members.now }
+    requires few { length members.now ≤ MAX_MEMBERS }
+    ensures each { values.new ≡ map value_of members.now }
+    ensures small { All (λ value. nat_abs value ≤ 4032) values.new }
+    ensures total { result ≡ sum_of_values (present members.now) }
+    ensures within { nat_abs result ≤ 4032 * MAX_MEMBERS }
+{
+    let mut total = 0;
+    for (k, member) in members.iter().enumerate() {
+        let value = value_of(*member);
+        values[k] = value;
+        total += value;
+    }
+    total
+}
+
+/// What a place adds to the sum: nothing where no octet is present. An idle octet would add 1.
+fn value_of(member: Option<u8>) -> i32
+    ensures value { result ≡ value_of member }
+    ensures within { nat_abs result ≤ 4032 }
+{
+    match member {
+        Some(octet) => expand(octet),
+        None => 0,
+    }
+}
+
+#[cfg(test)]
+mod tests;

@@ -1,0 +1,16 @@
+//! The two ends of the exchange: where its bytes come from, and where they go.
+//!
+//! [`Source`] and [`Sink`] count their faults, so that a caller who answers a fault can be held to
+//! it: a read or a write is answered by [`Failed`] only where that count rose. [`MemSource`] and
+//! [`MemSink`] are ends in memory that fail at the calls they are told to. [`StdSource`] and
+//! [`StdSink`] stand on standard input and output.
+#![tactic(auto)]
+
+mod ends;
+mod faults;
+mod memory;
+mod standard;
+
+pub use ends::{Failed, Sink, Source};
+pub use memory::{MemSink, MemSource};
+pub use standard::{StdSink, StdSource};

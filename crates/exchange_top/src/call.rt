@@ -1,0 +1,203 @@
+ghost use Rattle.std.specs.Prelude.{◌≡◌, ℕ, ◌≤◌, ◌⊎◌, ◌↔◌, ◌++◌, List, [], ◌∷◌, map, length, string_bytes, IsTrue, IfOk, IfErr, Some, codes, decimal};
+ghost use Rattle.std.specs.Io.KnownBytes.{Appends, Keeps};
+ghost use Rattle.ex_io.specs.Ends.{Rose};
+ghost use Rattle.exchange_top.specs.declared.reader.fault.Reason.{Reason};
+ghost use Rattle.exchange_top.specs.declared.trace.Trace.{Trace};
+ghost use Rattle.exchange_top.specs.Commands.{IsRun, IsInput, IsDone, IsTurnedDown, IsCutShort, IsUndone, IsWholeInput, Runs, Answers, Ends, reason_name, refusal, words_refusal};
+ghost use Rattle.exchange_top.specs.Outcomes.{IsReported, IsBegun};
+ghost use Rattle.exchange_top.specs.Sound.{IsSound};
+ghost use Rattle.exchange_top.specs.Streams.{AppendsFront};
+ghost use Rattle.exchange_top.specs.TraceGrammar.{IsTrace, IsRefused};
+
+use crate::reader::{Reason, TraceFault, read_trace};
+use crate::run::{RunFault, run};
+use crate::streams::{ReadFault, read_all, write_all};
+use crate::trace::Trace;
+use ex_io::{Sink, Source};
+use itoa::Buffer;
+use std::alloc::{AllocError, Global};
+
+// How many bytes of an input are looked at: those of the longest trace.
+const MOST_BYTES: usize = 67_108_864;
+
+/// How a call of the exchange ended.
+#[derive(Drop)]
+pub struct Outcome {
+    /// 0 where the trace was run and its report was written, 1 where the input is no trace, 2 where
+    /// the words are no command, 3 where a read failed, 4 where a write failed, 5 for want of memory.
+    pub status: u8,
+    /// The numbers of the events that were done, in the order in which they happened.
+    pub order: Vec<u32>,
+}
+
+// An outcome of a call that did no event.
+fn ended(alloc: Global, status: u8) -> Outcome
+    ensures status { result.status ≡ status }
+    ensures none { result.order.items ≡ [] }
+{
+    Outcome {
+        status,
+        order: Vec::new(alloc),
+    }
+}
+
+// Whether the words are the one command.
+fn is_run(words: &[String]) -> bool
+    ensures { IsTrue result ↔ IsRun (map string_bytes words.now) }
+{
+    match words {
+        [word] => word.as_str() == "run",
+        _ => false,
+    }
+}
+
+// How a refusal names its reason.
+fn name_of(reason: Reason) -> &'static [u8]
+    ensures { result.now ≡ reason_name reason }
+{
+    match reason {
+        Reason::Header => b"header",
+        Reason::Word => b"word",
+        Reason::Slot => b"slot",
+        Reason::Hex => b"hex",
+        Reason::Length => b"length",
+        Reason::Number => b"number",
+        Reason::Prefix => b"prefix",
+        Reason::Limit => b"limit",
+        Reason::Later => b"later",
+    }
+}
+
+// The line that refuses what is no trace.
+fn refusal(alloc: Global, number: u32, reason: Reason) -> Result<Vec<u8>, AllocError>
+    ensures { IfOk result (λ line. line.items ≡ refusal number reason) }
+{
+    let mut buffer = Buffer::new();
+    let mut line = Vec::from_slice(alloc, b"refused ")?;
+    line.extend_from_slice(buffer.format(number).as_bytes())?;
+    line.extend_from_slice(b" ")?;
+    line.extend_from_slice(name_of(reason))?;
+    line.extend_from_slice(b"\n")?;
+    Ok(line)
+}
+
+// Writes a refusal, which answers with the given status unless a write fails.
+fn refuse<K: Sink>(alloc: Global, sink: &mut K, line: &[u8], status: u8) -> Outcome
+    ensures none { result.order.items ≡ [] }
+    ensures answer { ((result.status ≡ status) × Appends (K.written sink.old) (K.written sink.new) line.now)
+        ⊎ ((result.status ≡ 4) × Rose (K.faults sink.old) (K.faults sink.new) × AppendsFront (K.written sink.old) (K.written sink.new) line.now) }
+{
+    match write_all(sink, line) {
+        Ok(()) => ended(alloc, status),
+        Err(_) => ended(alloc, 4),
+    }
+}
+
+// Runs a trace, once there is room for the numbers of its events.
+fn run_trace<K: Sink>(alloc: Global, trace: &Trace, sink: &mut K) -> Outcome
+    requires { IsSound trace.now }
+    ensures { Runs trace.now result.status result.order.items (K.written sink.old) (K.written sink.new) (K.faults sink.old) (K.faults sink.new) }
+{
+    let Ok(mut order) = Vec::with_capacity(alloc, trace.events.as_slice().len()) else {
+        return ended(alloc, 5);
+    };
+    match run(alloc, trace, &mut order, sink) {
+        Ok(()) => Outcome { status: 0, order },
+        Err(RunFault::Write) => Outcome { status: 4, order },
+        Err(RunFault::Memory) => Outcome { status: 5, order },
+    }
+}
+
+// Answers the bytes that were read.
+fn answer<K: Sink>(alloc: Global, bytes: Vec<u8>, sink: &mut K) -> Outcome
+    ensures { Answers bytes.items result.status result.order.items (K.written sink.old) (K.written sink.new) (K.faults sink.old) (K.faults sink.new) }
+{
+    match read_trace(alloc, bytes.as_slice()) {
+        Ok(trace) => {
+            drop(bytes);
+            run_trace(alloc, &trace, sink)
+        }
+        Err(TraceFault::Memory) => ended(alloc, 5),
+        Err(TraceFault::Line { number, reason }) => match refusal(alloc, number, reason) {
+            Ok(line) => refuse(alloc, sink, line.as_slice(), 1),
+            Err(_) => ended(alloc, 5),
+        },
+    }
+}
+
+// Answers the words and, where they are the command, the input.
+fn answer_words<S: Source, K: Sink>(
+    alloc: Global,
+    words: &[String],
+    source: &mut S,
+    sink: &mut K,
+) -> Outcome
+    ensures ends { Ends (map string_bytes words.now) result.status result.order.items
+        (record { left = S.left source.old; reads = S.faults source.old; written = K.written sink.old; writes = K.faults sink.old })
+        (record { left = S.left source.new; reads = S.faults source.new; written = K.written sink.new; writes = K.faults sink.new }) }
+    ensures unread { ¬ IsRun (map string_bytes words.now) → source.new ≡ source.old }
+{
+    if !is_run(words) {
+        return refuse(alloc, sink, b"refused words\n", 2);
+    }
+    match read_all(alloc, source, MOST_BYTES) {
+        Ok(bytes) => answer(alloc, bytes, sink),
+        Err(ReadFault::Read) => ended(alloc, 3),
+        Err(ReadFault::Memory) => ended(alloc, 5),
+    }
+}
+
+/// Reads a trace, does its events, and writes their report.
+///
+/// The one command is the word `run`, alone. Its input is read to the end, or until more bytes are
+/// held than a trace may have; then its events are done in the order of the file, and the report has
+/// a line for each (`docs/FORMATS.md`). The causes of another end are met in this order: the words,
+/// reading, the trace, the run, writing.
+///
+/// The source's count of faults rises where a read fails, and the sink's where a write fails; a read
+/// or write that fails ends the call. Want of memory may end it too, at any trace.
+pub fn exchange<S: Source, K: Sink>(
+    alloc: Global,
+    words: &[String],
+    source: &mut S,
+    sink: &mut K,
+) -> Outcome
+    // 0: all of the input was read, it is a trace, its events were done in the order of the file,
+    // which is lawful for it, and their report was written.
+    ensures done { result.status ≡ 0 → (bytes : List ℕ)
+        × IsWholeInput (S.left source.old) (S.left source.new) bytes
+        × IsDone bytes result.order.items (K.written sink.old) (K.written sink.new) }
+    // 1: what was read is no trace, and the line that says so was written.
+    ensures turned_down { result.status ≡ 1 → (bytes : List ℕ)
+        × IsInput (S.left source.old) (S.left source.new) bytes
+        × IsTurnedDown bytes result.order.items (K.written sink.old) (K.written sink.new) }
+    // 2: the words are no command, nothing was read, and the line that says so was written.
+    ensures wrong_words { result.status ≡ 2 → ¬ IsRun (map string_bytes words.now)
+        × (result.order.items ≡ [])
+        × Appends (K.written sink.old) (K.written sink.new) words_refusal }
+    ensures unread { ¬ IsRun (map string_bytes words.now) → source.new ≡ source.old }
+    // 3: a read failed, and nothing was written.
+    ensures read_failed { result.status ≡ 3 → Rose (S.faults source.old) (S.faults source.new) }
+    ensures silent { result.status ≡ 3 → (result.order.items ≡ []) × Keeps (K.written sink.old) (K.written sink.new) }
+    // 4: a write failed. 5: there was no memory. A front of the text was written.
+    ensures write_failed { result.status ≡ 4 → Rose (K.faults sink.old) (K.faults sink.new) }
+    ensures cut_short { (result.status ≡ 4) ⊎ (result.status ≡ 5)
+        → IsUndone (map string_bytes words.now) (S.left source.old) (S.left source.new) result.order.items (K.written sink.old) (K.written sink.new) }
+    // There is no other status; and where neither count rose, the words and the input decide, but
+    // for want of memory.
+    ensures statuses { result.status ≤ 5 }
+    ensures other_words { ¬ IsRun (map string_bytes words.now) → ¬ Rose (K.faults sink.old) (K.faults sink.new) → result.status ≡ 2 }
+    ensures command { IsRun (map string_bytes words.now)
+        → ¬ Rose (S.faults source.old) (S.faults source.new) → ¬ Rose (K.faults sink.old) (K.faults sink.new)
+        → (result.status ≡ 0) ⊎ (result.status ≡ 1) ⊎ (result.status ≡ 5) }
+    ensures trace { (bytes : List ℕ) (t : Trace) → S.left source.old ≡ Some bytes → IsTrace bytes t
+        → IsRun (map string_bytes words.now)
+        → ¬ Rose (S.faults source.old) (S.faults source.new) → ¬ Rose (K.faults sink.old) (K.faults sink.new)
+        → (result.status ≡ 0) ⊎ (result.status ≡ 5) }
+    ensures no_trace { (bytes : List ℕ) (number : ℕ) (why : Reason) → S.left source.old ≡ Some bytes → IsRefused bytes number why
+        → IsRun (map string_bytes words.now)
+        → ¬ Rose (S.faults source.old) (S.faults source.new) → ¬ Rose (K.faults sink.old) (K.faults sink.new)
+        → (result.status ≡ 1) ⊎ (result.status ≡ 5) }
+{
+    answer_words(alloc, words, source, sink)
+}

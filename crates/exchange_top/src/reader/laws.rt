@@ -1,0 +1,21 @@
+//! Laws of the trace grammar.
+ghost use Rattle.std.specs.Prelude.{◌≡◌, ◌⊎◌, ℕ, List};
+ghost use Rattle.exchange_top.specs.declared.reader.fault.Reason.{Reason};
+ghost use Rattle.exchange_top.specs.declared.trace.Trace.{Trace};
+ghost use Rattle.exchange_top.specs.TraceGrammar.{IsTrace, IsRefused};
+
+/// Bytes have one reading: they are one trace, or they are refused for one reason at one line.
+pub fn one_reading()
+    ensures one_trace { (bytes : List ℕ) (t u : Trace) → IsTrace bytes t → IsTrace bytes u → t ≡ u }
+    ensures never_both { (bytes : List ℕ) (t : Trace) (number : ℕ) (why : Reason) →
+        IsTrace bytes t → IsRefused bytes number why → ⊥ }
+    ensures one_fault { (bytes : List ℕ) (m n : ℕ) (why other : Reason) →
+        IsRefused bytes m why → IsRefused bytes n other → (m ≡ n) × (why ≡ other) }
+{}
+
+/// Bytes have a reading: they are a trace, or they are refused.
+pub fn some_reading()
+    ensures { (bytes : List ℕ) →
+        ((t : Trace) × IsTrace bytes t)
+        ⊎ ((number : ℕ) × (why : Reason) × IsRefused bytes number why) }
+{}

@@ -1,0 +1,133 @@
+ghost use Rattle.std.specs.Prelude.{◌≡◌, ℕ, ◌+◌, ◌<◌, ◌≤◌, ◌^◌, ◌++◌, List, [], length, vec_len, vec_capacity, OnOk, OnErr, IsErrOf};
+ghost use Rattle.std.specs.declared.option.Option.{Option};
+ghost use Rattle.std.specs.Io.KnownBytes.{Appends};
+ghost use Rattle.ex_io.specs.Ends.{Rose};
+ghost use Rattle.exchange_top.specs.declared.run.RunFault.TheVariants.{Memory, Write};
+ghost use Rattle.exchange_top.specs.Exchange.{World, next, reply};
+ghost use Rattle.exchange_top.specs.Outcomes.{IsReported, IsBegun, IsPending};
+ghost use Rattle.exchange_top.specs.Report.{report_line, sent};
+ghost use Rattle.exchange_top.specs.Sound.{IsSound, Fits};
+ghost use Rattle.exchange_top.specs.Streams.{AppendsFront};
+ghost use Rattle.exchange_top.specs.Switching.{Stands};
+
+use crate::report::append_answer;
+use crate::streams::write_all;
+use crate::switch::Switch;
+use crate::trace::{Event, Trace};
+use circuit_model::IDLE;
+use ex_io::{Failed, Sink};
+use std::alloc::{AllocError, Global};
+
+// So many bytes of a report are written at once, and the last of them as they are.
+const PIECE: usize = 65_536;
+
+// Room for the longest line of a report: a frame in which each of 32 lines sends thirty octets.
+const LONGEST_LINE: usize = 4096;
+
+/// Why a run did not come to its end (this exchange's own).
+#[derive(Clone, Copy, Debug, PartialEq, Eq)]
+pub enum RunFault {
+    /// There was no memory.
+    Memory,
+    /// A write of the report failed.
+    Write,
+}
+
+impl From<AllocError> for RunFault {
+    ghost from_gives = { λ _ fault. fault ≡ Memory };
+
+    fn from(_: AllocError) -> RunFault {
+        RunFault::Memory
+    }
+}
+
+impl From<Failed> for RunFault {
+    ghost from_gives = { λ _ fault. fault ≡ Write };
+
+    fn from(_: Failed) -> RunFault {
+        RunFault::Write
+    }
+}
+
+/// Does the events of a trace in the order of the file, writes their report, and notes the numbers
+/// of the events in `order`, which has room for them.
+///
+/// # Errors
+///
+/// [`RunFault::Write`] where a write failed and the sink's count of faults rose, and
+/// [`RunFault::Memory`] for want of memory. A front of the report of the events in `order` was
+/// written by then.
+pub fn run<K: Sink>(
+    alloc: Global,
+    trace: &Trace,
+    order: &mut Vec<u32>,
+    sink: &mut K,
+) -> Result<(), RunFault>
+    requires sound { IsSound trace.now }
+    requires empty { order.old.items ≡ [] }
+    requires room { length trace.now.events ≤ vec_capacity order.old }
+    ensures whole { OnOk result (IsReported trace.now order.new.items (K.written sink.old) (K.written sink.new)) }
+    ensures begun { OnErr result (IsBegun trace.now order.new.items (K.written sink.old) (K.written sink.new)) }
+    ensures cause { IsErrOf result RunFault.Write → Rose (K.faults sink.old) (K.faults sink.new) }
+    ensures later { K.faults sink.old ≤ K.faults sink.new }
+{
+    let mut switch = Switch::new(alloc, trace.external)?;
+    let mut octets = vec![in alloc; [IDLE; 30]; usize::from(trace.external)]?;
+    let mut text = Vec::with_capacity(alloc, PIECE + LONGEST_LINE)?;
+    for (index, event) in trace.events.as_slice().iter().enumerate() {
+        let number = index as u32 + 1;
+        order.push_reserved(number);
+        report_event(&mut switch, &mut octets, number, event, &mut text)?;
+        flush_full(sink, &mut text)?;
+    }
+    flush(sink, &mut text)?;
+    Ok(())
+}
+
+// Does one event, and appends its line to the text.
+fn report_event(
+    switch: &mut Switch,
+    octets: &mut [[u8; 30]],
+    number: u32,
+    event: &Event,
+    text: &mut Vec<u8>,
+) -> Result<(), AllocError>
+    requires fits { Fits switch.old.table.external event.now }
+    requires room { switch.old.table.next + 1 < 2 ^ 32 }
+    requires lines { length octets.old ≡ switch.old.table.external }
+    ensures external { switch.new.table.external ≡ switch.old.table.external }
+    ensures world { (w : World) → Stands switch.old w → Stands switch.new (next w event.now) }
+    ensures line { (w : World) → Stands switch.old w → OnOk result (text.new.items ≡ text.old.items ++ report_line (sent (next w event.now) switch.old.table.external) number (reply w event.now)) }
+    ensures kept { OnErr result (text.new.items ≡ text.old.items) }
+{
+    let reply = switch.step(event, octets);
+    append_answer(text, number, reply, octets)
+}
+
+// Writes what is pending, once it is a whole piece.
+fn flush_full<K: Sink>(sink: &mut K, text: &mut Vec<u8>) -> Result<(), Failed>
+    ensures pending { (known : Option (List ℕ)) (whole : List ℕ) →
+        IsPending known (K.written sink.old) text.old.items whole
+        → OnOk result (IsPending known (K.written sink.new) text.new.items whole) }
+    ensures front { OnErr result (AppendsFront (K.written sink.old) (K.written sink.new) text.old.items) }
+    ensures cause { OnErr result (Rose (K.faults sink.old) (K.faults sink.new)) }
+    ensures later { K.faults sink.old ≤ K.faults sink.new }
+{
+    if text.len() < PIECE {
+        return Ok(());
+    }
+    flush(sink, text)
+}
+
+// Writes all that is pending.
+fn flush<K: Sink>(sink: &mut K, text: &mut Vec<u8>) -> Result<(), Failed>
+    ensures whole { OnOk result (Appends (K.written sink.old) (K.written sink.new) text.old.items) }
+    ensures empty { OnOk result (text.new.items ≡ []) }
+    ensures front { OnErr result (AppendsFront (K.written sink.old) (K.written sink.new) text.old.items) }
+    ensures cause { OnErr result (Rose (K.faults sink.old) (K.faults sink.new)) }
+    ensures later { K.faults sink.old ≤ K.faults sink.new }
+{
+    write_all(sink, text.as_slice())?;
+    text.clear();
+    Ok(())
+}

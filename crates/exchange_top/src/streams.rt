@@ -1,0 +1,91 @@
+// Whole inputs and outputs, over sources and sinks that move them in pieces.
+ghost use Rattle.std.specs.Prelude.{◌≡◌, ◌+◌, ◌≤◌, length, IfOk, OnOk, OnErr, IsErrOf};
+ghost use Rattle.std.specs.Io.KnownBytes.{Appends, Consumes, IsAtEnd};
+ghost use Rattle.ex_io.specs.Ends.{Rose};
+ghost use Rattle.exchange_top.specs.Streams.{ConsumesSome, AppendsFront};
+ghost use Rattle.exchange_top.specs.declared.streams.ReadFault.TheVariants.{Memory, Read};
+
+use ex_io::{Failed, Sink, Source};
+use std::alloc::{AllocError, Global};
+
+// The bytes of one read.
+const PIECE: usize = 65_536;
+
+/// Why an input could not be read (this exchange's own).
+#[derive(Clone, Copy, Debug, PartialEq, Eq)]
+pub enum ReadFault {
+    /// There was no memory for the bytes.
+    Memory,
+    /// A read failed.
+    Read,
+}
+
+impl From<AllocError> for ReadFault {
+    ghost from_gives = { λ _ fault. fault ≡ Memory };
+
+    fn from(_: AllocError) -> ReadFault {
+        ReadFault::Memory
+    }
+}
+
+impl From<Failed> for ReadFault {
+    ghost from_gives = { λ _ fault. fault ≡ Read };
+
+    fn from(_: Failed) -> ReadFault {
+        ReadFault::Read
+    }
+}
+
+/// Reads the source to its end, or until more than `limit` bytes are held.
+///
+/// # Errors
+///
+/// [`ReadFault::Read`] where a read failed and the source's count of faults rose, and
+/// [`ReadFault::Memory`] for want of memory. The bytes read until then are lost.
+pub fn read_all<S: Source>(
+    alloc: Global,
+    source: &mut S,
+    limit: usize,
+) -> Result<Vec<u8>, ReadFault>
+    ensures front { IfOk result (λ bytes. Consumes (S.left source.old) (S.left source.new) bytes.items) }
+    ensures whole { IfOk result (λ bytes. length bytes.items ≤ limit → IsAtEnd (S.left source.new)) }
+    ensures most { IfOk result (λ bytes. length bytes.items ≤ limit + 65536) }
+
+    ensures lost { OnErr result (ConsumesSome (S.left source.old) (S.left source.new)) }
+    ensures cause { IsErrOf result ReadFault.Read → Rose (S.faults source.old) (S.faults source.new) }
+    ensures later { S.faults source.old ≤ S.faults source.new }
+{
+    let mut bytes = Vec::new(alloc);
+    let mut piece = [0u8; PIECE];
+    while bytes.len() <= limit {
+        let count = source.read(&mut piece)?;
+        if count == 0 {
+            return Ok(bytes);
+        }
+        bytes.extend_from_slice(&piece[..count])?;
+    }
+    Ok(bytes)
+}
+
+/// Writes all of the bytes.
+///
+/// # Errors
+///
+/// [`Failed`] where a write failed and the sink's count of faults rose. A front of the bytes, maybe
+/// none of them, was written by then.
+pub fn write_all<K: Sink>(sink: &mut K, bytes: &[u8]) -> Result<(), Failed>
+    ensures whole { OnOk result (Appends (K.written sink.old) (K.written sink.new) bytes.now) }
+
+    ensures front { OnErr result (AppendsFront (K.written sink.old) (K.written sink.new) bytes.now) }
+    ensures cause { OnErr result (Rose (K.faults sink.old) (K.faults sink.new)) }
+    ensures later { K.faults sink.old ≤ K.faults sink.new }
+{
+    let mut done = 0;
+    while done < bytes.len() {
+        done += sink.write(&bytes[done..])?;
+    }
+    Ok(())
+}
+
+#[cfg(test)]
+mod tests;

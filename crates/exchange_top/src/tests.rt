@@ -1,0 +1,154 @@
+// Worked traces, from bytes to bytes.
+use crate::call::{Outcome, exchange};
+use ex_io::{MemSink, MemSource};
+use std::alloc::{AllocError, Global};
+use std::test::Fail;
+
+// A text in which `+` stands for twenty-nine idle octets.
+fn spelled(alloc: Global, text: &str) -> Result<Vec<u8>, AllocError> {
+    let mut bytes = Vec::new(alloc);
+    for byte in text.bytes() {
+        if byte == b'+' {
+            for _ in 0..29 {
+                bytes.extend_from_slice(b"D5")?;
+            }
+        } else {
+            bytes.push(byte)?;
+        }
+    }
+    Ok(bytes)
+}
+
+// How the command `run` ends on an input, and what it writes.
+fn ran(alloc: Global, input: Vec<u8>) -> Result<(Outcome, MemSink), AllocError> {
+    let words = vec![in alloc; String::from_str(alloc, "run")?]?;
+    let mut source = MemSource::new(input, 4096, Vec::new(alloc));
+    let mut sink = MemSink::new(alloc, 1_000_000, 4096, Vec::new(alloc))?;
+    let outcome = exchange(alloc, &words, &mut source, &mut sink);
+    Ok((outcome, sink))
+}
+
+const DELAY: &str = "exchange 1 2 0 1\nnail 0/1 1/1\nsync\n\
+    F 0:01+ 1:81+\nF 0:02+ 1:82+\nF 0:03+ 1:83+\nF 0:04+ 1:84+\nF 0:05+ 1:85+\n";
+
+#[test]
+fn traces_are_answered_by_their_reports(rt: HostRuntime) -> Result<(), Fail> {
+    let alloc = rt.alloc();
+    for (trace, count, report) in [
+        ("exchange 1 1 0 1\nF\n", 1, "1 frame 0\n"),
+        (
+            DELAY,
+            6,
+            "1 granted 0 0\n2 frame 0\n3 frame 1\n\
+            4 frame 2 0:81+ 1:01+\n5 frame 3 0:82+ 1:02+\n6 frame 4 0:83+ 1:03+\n",
+        ),
+        // A circuit that is made later is silent for two frames more; one direction may be idle.
+        (
+            "exchange 1 2 0 1\nF 0:0a+\nnail 0/1 1/1\nF 0:0b+\nF 0:0c+\nF 0:0d+\n",
+            5,
+            "1 frame 0\n2 granted 0 0\n3 frame 1\n4 frame 2\n5 frame 3 1:0B+\n",
+        ),
+        // A slot is busy whether it comes first or second, and a refused nail leaves both as they were.
+        (
+            "exchange 1 3 0 1\nnail 0/1 1/1\nnail 0/1 2/1\nnail 2/1 1/1\nnail 2/1 2/2\n",
+            4,
+            "1 granted 0 0\n2 busy\n3 busy\n4 granted 0 0\n",
+        ),
+        // A line whose places are all nailed to each other.
+        (
+            "exchange 1 1 0 1\nnail 0/1 0/2\nnail 0/3 0/4\nnail 0/5 0/6\nnail 0/7 0/8\n\
+            nail 0/9 0/10\nnail 0/11 0/12\nnail 0/13 0/14\nnail 0/15 0/17\nnail 0/18 0/19\n\
+            nail 0/20 0/21\nnail 0/22 0/23\nnail 0/24 0/25\nnail 0/26 0/27\nnail 0/28 0/29\n\
+            nail 0/30 0/31\nnail 0/1 0/2\n",
+            16,
+            "1 granted 0 0\n2 granted 0 0\n3 granted 0 0\n4 granted 0 0\n5 granted 0 0\n\
+            6 granted 0 0\n7 granted 0 0\n8 granted 0 0\n9 granted 0 0\n10 granted 0 0\n\
+            11 granted 0 0\n12 granted 0 0\n13 granted 0 0\n14 granted 0 0\n15 granted 0 0\n16 busy\n",
+        ),
+    ] {
+        let (outcome, sink) = ran(alloc, spelled(alloc, trace)?)?;
+        assert_eq!(rt; outcome.status, 0, "{trace}");
+        assert_eq!(rt; outcome.order.as_slice().last(), Some(&count), "{trace}");
+        assert_eq!(rt; sink.bytes(), spelled(alloc, report)?.as_slice(), "{trace}");
+    }
+    Ok(())
+}
+
+#[test]
+fn thirty_channels_are_granted_and_no_more(rt: HostRuntime) -> Result<(), Fail> {
+    let alloc = rt.alloc();
+    let mut trace = String::from_str(alloc, "exchange 1 2 0 1\n")?;
+    let mut report = String::new(alloc);
+    for (event, channel) in (1..).zip((1..16).chain(17..32)) {
+        trace.push_str(&format!(in alloc; "nail 0/{channel} 1/{channel}\n")?)?;
+        report.push_str(&format!(in alloc; "{event} granted 0 0\n")?)?;
+    }
+    trace.push_str("nail 0/31 1/31\n")?;
+    report.push_str("31 busy\n")?;
+    let (outcome, sink) = ran(alloc, trace.into_bytes())?;
+    assert_eq!(rt; outcome.status, 0);
+    assert_eq!(rt; sink.bytes(), report.as_bytes());
+    Ok(())
+}
+
+#[test]
+fn what_is_no_trace_is_refused_at_its_first_fault(rt: HostRuntime) -> Result<(), Fail> {
+    let alloc = rt.alloc();
+    let mut too_many = b"exchange 1 1 0 1".to_vec(alloc)?;
+    for _ in 0..65_536 {
+        too_many.extend_from_slice(b"\nF")?;
+    }
+    for (input, refusal) in [
+        (b"".as_slice(), "refused 1 header\n"),
+        (b"exchange 1 1 0 1\nF 0:D", "refused 2 hex\n"),
+        (b"exchange 1 1 0 1\nF 0:11111111111111111111111111111111111111111111111111111111111111\n", "refused 2 length\n"),
+        (b"exchange 1 1 0 1\nnail 0/1 0/16\n", "refused 2 slot\n"),
+        (b"exchange 1 1 0 1\n\nhold\n", "refused 3 word\n"),
+        (b"exchange 1 1 1 1\nseat 0/1 0\n", "refused 2 later\n"),
+        (too_many.as_slice(), "refused 65537 limit\n"),
+    ] {
+        let (outcome, sink) = ran(alloc, input.to_vec(alloc)?)?;
+        assert_eq!(rt; outcome.status, 1, "{refusal}");
+        assert!(rt; outcome.order.is_empty(), "{refusal}");
+        assert_eq!(rt; sink.bytes(), refusal.as_bytes());
+    }
+    Ok(())
+}
+
+#[test]
+fn words_other_than_run_are_refused_unread(rt: HostRuntime) -> Result<(), Fail> {
+    let alloc = rt.alloc();
+    for words in [[].as_slice(), &["gen"], &["Run"], &["run", "run"]] {
+        let mut given = Vec::new(alloc);
+        for word in words {
+            given.push(String::from_str(alloc, word)?)?;
+        }
+        // The first read would fail.
+        let mut source = MemSource::new(Vec::new(alloc), 16, [1].to_vec(alloc)?);
+        let mut sink = MemSink::new(alloc, 100, 16, Vec::new(alloc))?;
+        let outcome = exchange(alloc, &given, &mut source, &mut sink);
+        assert_eq!(rt; outcome.status, 2);
+        assert_eq!(rt; source.faults(), 0);
+        assert_eq!(rt; sink.bytes(), b"refused words\n".as_slice());
+    }
+    Ok(())
+}
+
+#[test]
+fn a_failing_read_or_write_ends_the_call(rt: HostRuntime) -> Result<(), Fail> {
+    let alloc = rt.alloc();
+    let words = vec![in alloc; String::from_str(alloc, "run")?]?;
+
+    let mut source = MemSource::new(spelled(alloc, DELAY)?, 16, [3].to_vec(alloc)?);
+    let mut sink = MemSink::new(alloc, 1000, 1000, Vec::new(alloc))?;
+    let outcome = exchange(alloc, &words, &mut source, &mut sink);
+    assert_eq!(rt; (outcome.status, source.faults()), (3, 1));
+    assert!(rt; sink.bytes().is_empty());
+
+    let mut source = MemSource::new(spelled(alloc, DELAY)?, 1000, Vec::new(alloc));
+    let mut sink = MemSink::new(alloc, 1000, 10, [2].to_vec(alloc)?)?;
+    let outcome = exchange(alloc, &words, &mut source, &mut sink);
+    assert_eq!(rt; (outcome.status, sink.faults()), (4, 1));
+    assert_eq!(rt; sink.bytes(), b"1 granted ".as_slice());
+    Ok(())
+}

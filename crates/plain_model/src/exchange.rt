@@ -1,0 +1,130 @@
+use crate::hearing::heard;
+use crate::names::remove_naming;
+use crate::rows::Rows;
+use circuit_model::{Circuit, Kind, Slot};
+use std::alloc::{AllocError, Global};
+use std::marker::Model;
+
+/// An exchange that keeps everything that ever arrived and stood in it, and looks up what is heard.
+///
+/// It asks nothing of its commands: that slots are idle, and that there is a port for each member,
+/// is for the caller to see to.
+#[derive(Drop)]
+pub struct Exchange {
+    circuits: Vec<Circuit>,
+    next: u32,
+    inputs: Rows<Option<[u8; 30]>>,
+    held: Rows<Circuit>,
+}
+
+impl Model for Exchange {
+    ghost use Rattle.plain_model.specs.Story.{Story};
+
+    ghost Value = { Story };
+
+    ghost view = { λ e. record { holding = record { circuits = e.circuits.items; next = e.next }; inputs = e.inputs; held = e.held } };
+}
+
+impl Exchange {
+    ghost use Rattle.std.specs.Prelude.{◌≡◌, ◌+◌, ◌<◌, ◌^◌, OnOk, OnErr};
+    ghost use Rattle.circuit_model.specs.Holding.{Connect, Seat, Give_tone, Clear};
+    ghost use Rattle.circuit_model.specs.Hears.{hears};
+    ghost use Rattle.plain_model.specs.Tones.{tones_of};
+    ghost use Rattle.plain_model.specs.Story.{start, commanded, passed};
+
+    /// An exchange before its first frame, in which nothing stands.
+    pub fn new(alloc: Global) -> Exchange
+        ensures { result ≡ start }
+    {
+        Exchange {
+            circuits: Vec::new(alloc),
+            next: 0,
+            inputs: Rows::new(alloc),
+            held: Rows::new(alloc),
+        }
+    }
+
+    /// The number of the next frame.
+    pub fn next_frame(&self) -> u32
+        ensures { result ≡ self.now.holding.next }
+    {
+        self.next
+    }
+
+    /// Connects two slots, both ways. Where memory runs out nothing changes.
+    pub fn connect(&mut self, x: Slot, y: Slot) -> Result<(), AllocError>
+        ensures ok { OnOk result (self.new ≡ commanded self.old (Connect x y)) }
+        ensures err { OnErr result (self.new ≡ self.old) }
+    {
+        let since = self.next;
+        self.circuits.extend_from_slice(&[
+            Circuit::Pair {
+                from: x,
+                to: y,
+                since,
+            },
+            Circuit::Pair {
+                from: y,
+                to: x,
+                since,
+            },
+        ])
+    }
+
+    /// Seats a slot in a conference room. Where memory runs out nothing changes.
+    pub fn seat(&mut self, x: Slot, room: u8) -> Result<(), AllocError>
+        ensures ok { OnOk result (self.new ≡ commanded self.old (Seat x room)) }
+        ensures err { OnErr result (self.new ≡ self.old) }
+    {
+        self.circuits.push(Circuit::Member {
+            room,
+            at: x,
+            since: self.next,
+        })?;
+        Ok(())
+    }
+
+    /// Gives a slot a tone. Where memory runs out nothing changes.
+    pub fn give_tone(&mut self, x: Slot, kind: Kind) -> Result<(), AllocError>
+        ensures ok { OnOk result (self.new ≡ commanded self.old (Give_tone x kind)) }
+        ensures err { OnErr result (self.new ≡ self.old) }
+    {
+        self.circuits.push(Circuit::Tone {
+            kind,
+            to: x,
+            since: self.next,
+        })?;
+        Ok(())
+    }
+
+    /// Takes away every circuit that names a slot.
+    pub fn clear(&mut self, x: Slot)
+        ensures { self.new ≡ commanded self.old (Clear x) }
+    {
+        remove_naming(&mut self.circuits, x);
+    }
+
+    /// Passes a frame's boundary: what arrives in the frame and what stands in it is kept. Where
+    /// memory runs out nothing changes.
+    pub fn frame(&mut self, alloc: Global, input: &[Option<[u8; 30]>]) -> Result<(), AllocError>
+        requires { self.old.holding.next + 1 < 2 ^ 32 }
+        ensures ok { OnOk result (self.new ≡ passed self.old input.now) }
+        ensures err { OnErr result (self.new ≡ self.old) }
+    {
+        let frames = self.inputs.len();
+        self.inputs.push(alloc, input)?;
+        if let Err(refused) = self.held.push(alloc, self.circuits.as_slice()) {
+            self.inputs.truncate(frames);
+            return Err(refused);
+        }
+        self.next += 1;
+        Ok(())
+    }
+
+    /// The octet that a slot hears in frame `f`, given the octets of the two tones.
+    pub fn heard(&self, ringback: &[u8], busy: &[u8], f: u32, y: Slot) -> u8
+        ensures { result ≡ hears (tones_of ringback.now busy.now) self.now.inputs self.now.held f y }
+    {
+        heard(ringback, busy, &self.inputs, &self.held, f, y)
+    }
+}

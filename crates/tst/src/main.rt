@@ -1,0 +1,29 @@
+//! A digital telephone exchange as a filter: a trace of its events on standard input, the report of
+//! what it did on standard output.
+#![tactic(auto)]
+
+use ex_io::{StdSink, StdSource};
+use exchange_top::exchange;
+use std::env;
+use std::io::{self, ErrorKind};
+use std::process::ExitCode;
+
+// The words after the program's name. Arguments that are no text are no command.
+fn words_of(rt: &HostRuntime) -> io::Result<Vec<String>> {
+    let arguments = match env::args(rt) {
+        Ok(arguments) => arguments,
+        Err(error) if error.kind() == ErrorKind::InvalidData => return Ok(Vec::new(rt.alloc())),
+        Err(error) => return Err(error),
+    };
+    Ok(arguments.skip(1).collect(rt.alloc())?)
+}
+
+fn main(rt: HostRuntime) -> ExitCode {
+    // What is left is want of memory.
+    let Ok(words) = words_of(&rt) else {
+        return ExitCode::from(5);
+    };
+    let mut source = StdSource::new(rt.stdin());
+    let mut sink = StdSink::new(rt.stdout());
+    ExitCode::from(exchange(rt.alloc(), &words, &mut source, &mut sink).status)
+}
