@@ -10,6 +10,7 @@ use Rattle.circuit_model.specs.declared.channel.Slot.{Slot}
 use Rattle.control_memory.specs.Layout.{Path, Layout, number_of, path_in, path_out, path_to, place_sent, line_received, slot_read, IsSlot, HasPath, Legal}
 use Rattle.control_memory.specs.Connecting.{with_path, without_path}
 use Rattle.control_memory.specs.Tables.{Table, HasSize, SameSize, entry, Agree, written, nothing, HasTables}
+use Rattle.control_memory.proofs.Lookups.{path_in_found}
 use Rattle.control_memory.proofs.Steps.{IsFree, legal_with, legal_without}
 use Rattle.fabric_map.specs.Paths.{IsTabled}
 use Rattle.control_memory.proofs.Tabled.{Looks, found_none, looks_in, looks_out, looks_to, sent_in, received_in, ends_at, path_of, found_with_new, found_with_old, found_without_old, found_without_other}
@@ -146,3 +147,17 @@ tabled_bare lines slots a b c few size_a size_b size_c none_a none_b none_c = re
     outgoing_size = size_c;
     tables = tables_bare lines slots (entry a) (entry b) (entry c) none_a none_b none_c;
   }
+
+number_is : (a b : ℕ) → Some a ≡ Some b → a ≡ b
+number_is a b e = cc
+
+-- ---- the path that a line sends in a slot, by its entry
+pub sent_from : (lines slots : ℕ) (layout : Layout) (line slot place : ℕ) (p : Path) → Legal lines slots layout → path_in layout line slot ≡ Some p → place_sent layout line slot ≡ Some place → record { line = line; place = place } ≡ p.from
+sent_from lines slots layout line slot place p legal at sent =
+    let f = path_in_found lines layout line slot p legal.inlets at in
+    let there : p.from.place ≡ place = number_is p.from.place place (ap (option_map (λ (q : Path). q.from.place)) (sym at) ∙ sent) in
+    let line_is = f.1 in
+    λ i. record { line = sym line_is i; place = sym there i }
+
+pub path_there : (lines slots : ℕ) (layout : Layout) (line slot : ℕ) (p : Path) → Legal lines slots layout → path_in layout line slot ≡ Some p → IsSlot lines p.from × HasPath layout p.from p.to p.slot
+path_there lines slots layout line slot p legal at = let f = path_in_found lines layout line slot p legal.inlets at in (f.0.inlet, f.0.path)

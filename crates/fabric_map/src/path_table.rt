@@ -1,9 +1,12 @@
 ghost use Rattle.std.specs.Prelude.{◌≡◌, ℕ, ◌+◌, ◌*◌, ◌<◌, ◌≤◌, None, Some, IfOk, replicate};
-ghost use Rattle.control_memory.specs.Layout.{Layout, IsSlot, HasPath, hop_of};
+ghost use Rattle.control_memory.specs.Layout.{Layout, Legal, IsSlot, HasPath, hop_of, slot_read, path_in, Path};
+ghost use Rattle.control_memory.specs.Image.{lines_of, HasLayout, SameSizes};
+ghost use Rattle.fabric_map.specs.Rearranging.{ends_of};
 ghost use Rattle.control_memory.specs.Connecting.{with_path, without_path};
 ghost use Rattle.control_memory.proofs.Steps.{IsFree};
 ghost use Rattle.fabric_map.specs.Paths.{Fabric};
 
+use crate::ends::Ends;
 use circuit_model::Slot;
 use control_memory::{ControlTable, Hop, Image};
 use std::alloc::{AllocError, Global};
@@ -38,6 +41,7 @@ impl PathTable {
         ensures lines { IfOk result (λ t. t.lines ≡ lines) }
         ensures slots { IfOk result (λ t. t.slots ≡ slots) }
         ensures bare { IfOk result (λ t. t.layout ≡ replicate (30 * lines) None) }
+        ensures legal { IfOk result (λ t. Legal lines slots t.layout) }
     {
         Ok(PathTable {
             lines,
@@ -57,7 +61,9 @@ impl PathTable {
         requires slot { slot < self.old.slots }
         requires free { IsFree self.old.lines self.old.layout from to slot }
         ensures layout { self.new.layout ≡ with_path self.old.layout from to slot }
-        ensures sizes { (self.new.lines ≡ self.old.lines) × (self.new.slots ≡ self.old.slots) }
+        ensures lines { self.new.lines ≡ self.old.lines }
+        ensures slots { self.new.slots ≡ self.old.slots }
+        ensures legal { Legal self.new.lines self.new.slots self.new.layout }
     {
         self.hops[number_of(from)] = Some(Hop { to, slot });
         self.incoming.set(from.line, slot, from.place);
@@ -70,7 +76,9 @@ impl PathTable {
         requires from { IsSlot self.old.lines from }
         requires stands { HasPath self.old.layout from hop.to hop.slot }
         ensures layout { self.new.layout ≡ without_path self.old.layout from }
-        ensures sizes { (self.new.lines ≡ self.old.lines) × (self.new.slots ≡ self.old.slots) }
+        ensures lines { self.new.lines ≡ self.old.lines }
+        ensures slots { self.new.slots ≡ self.old.slots }
+        ensures legal { Legal self.new.lines self.new.slots self.new.layout }
     {
         self.hops[number_of(from)] = None;
         self.incoming.unset(from.line, hop.slot);
@@ -81,9 +89,55 @@ impl PathTable {
     /// Where the path of an inlet goes, and in which internal slot; `None` where it is free.
     pub(crate) fn hop(&self, from: Slot) -> Option<Hop>
         requires { IsSlot self.now.lines from }
-        ensures { result ≡ hop_of self.now.layout from }
+        ensures hop { result ≡ hop_of self.now.layout from }
+        ensures legal { Legal self.now.lines self.now.slots self.now.layout }
     {
         self.hops[number_of(from)]
+    }
+
+    /// The internal slot of the path that ends at an outlet; `None` where it is free.
+    pub(crate) fn read(&self, to: Slot) -> Option<u8>
+        requires { IsSlot self.now.lines to }
+        ensures slot { result ≡ slot_read self.now.layout to }
+        ensures legal { Legal self.now.lines self.now.slots self.now.layout }
+    {
+        self.outgoing.get(to.line, to.place)
+    }
+
+    /// Takes out the path that an incoming line sends in an internal slot, and answers its ends.
+    pub(crate) fn lift(&mut self, line: u8, slot: u8) -> Ends
+        requires line { line < self.old.lines }
+        requires slot { slot < self.old.slots }
+        requires stands { (p : Path) × (path_in self.old.layout line slot ≡ Some p) }
+        ensures ends { (p : Path) × (path_in self.old.layout line slot ≡ Some p) × (ends_of p ≡ result) }
+        ensures layout { self.new.layout ≡ without_path self.old.layout result.from }
+        ensures lines { self.new.lines ≡ self.old.lines }
+        ensures slots { self.new.slots ≡ self.old.slots }
+        ensures legal { Legal self.new.lines self.new.slots self.new.layout }
+    {
+        let Some(place) = self.incoming.get(line, slot) else {
+            unreachable!()
+        };
+        let from = Slot { line, place };
+        let Some(hop) = self.hop(from) else {
+            unreachable!()
+        };
+        self.take(from, hop);
+        Ends { from, to: hop.to }
+    }
+
+    /// Writes the layout into a control memory.
+    pub(crate) fn write(&self, image: &mut Image)
+        requires lines { lines_of image.old ≡ self.now.lines }
+        requires slots { image.old.slots ≡ self.now.slots }
+        ensures tables { HasLayout image.new self.now.layout }
+        ensures sizes { SameSizes image.old image.new }
+        ensures frame { image.new.frame ≡ image.old.frame }
+        ensures heard { image.new.heard ≡ image.old.heard }
+        ensures rooms { image.new.rooms ≡ image.old.rooms }
+        ensures legal { Legal self.now.lines self.now.slots self.now.layout }
+    {
+        image.set_tables(&self.incoming, &self.space, &self.outgoing);
     }
 }
 

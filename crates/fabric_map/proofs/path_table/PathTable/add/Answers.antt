@@ -17,3 +17,6 @@ invariant_of-self c =
     rw c.number_of.ensures
       (tabled_with _ _ _ from to c.args.slot _ _ _ c.set.new.self c.set-2.new.self c.set-3.new.self c.self.invariant inside (subst (λ n. IsSlot n to) lines c.requires.to) (subst (λ n. c.args.slot < n) slots c.requires.slot) free
         c.set.ensures.size c.set-2.ensures.size c.set-3.ensures.size c.set.ensures.entries c.set-2.ensures.entries c.set-3.ensures.entries)
+
+pub returns-clause-legal : goal.returns-clause-legal
+returns-clause-legal c = (invariant_of-self c).legal

@@ -13,3 +13,6 @@ invariant_of-self c =
     rw c.number_of.ensures
       (tabled_without _ _ _ from hop.to hop.slot _ _ _ c.unset.new.self c.unset-2.new.self c.unset-3.new.self c.self.invariant (subst (λ n. IsSlot n from) lines c.requires.from) (subst (λ l. HasPath l from hop.to hop.slot) layout c.requires.stands)
         c.unset.ensures.size c.unset-2.ensures.size c.unset-3.ensures.size c.unset.ensures.entries c.unset-2.ensures.entries c.unset-3.ensures.entries)
+
+pub returns-clause-legal : goal.returns-clause-legal
+returns-clause-legal c = (invariant_of-self c).legal
