@@ -3,3 +3,4 @@ pub mod Matched
 pub mod Rearranged
 pub mod Chained
 pub mod Exchanged
+pub mod Turns

@@ -7,9 +7,11 @@ use Rattle.control_memory.specs.Connecting.{with_path, without_path}
 use Rattle.control_memory.proofs.Lookups.{IsPathOf, path_in_found, path_in_is, path_out_found, path_out_is}
 use Rattle.control_memory.proofs.Steps.{IsFree}
 use Rattle.control_memory.proofs.Tabled.{looks_in, sent_in, path_of, found_with_new, found_with_old, found_without_old, found_without_other}
-use Rattle.paull_matrix.specs.Matrix.{Matrix, row_slot, column_slot, IsLegal, with_path as with_entry, without_path as without_entry}
+use Rattle.paull_matrix.specs.Matrix.{Matrix, by_row_and_slot, no_paths, row_slot, column_slot, IsLegal, with_path as with_entry, without_path as without_entry}
 use Rattle.paull_matrix.proofs.Laws.{with_path_here, with_path_other, without_path_here, without_path_other, here_or_other, column_of_row, no_column, no_row}
 use Rattle.fabric_map.specs.Matching.{IsMatrixOf}
+use Rattle.fabric_map.proofs.Tabling.{bare, finds_nothing}
+use Rattle.std.specs.FinMap.{get-empty}
 
 some_number : (a b : ℕ) → Some a ≡ Some b → a ≡ b
 some_number a b e = cc
@@ -80,3 +82,7 @@ free_by_matrix lines slots m layout from to slot legal_m legal is inlet outlet r
       let at : row_slot m x.line slot ≡ Some y.line = is x.line slot ∙ ap (option_map (λ p. p.to.line)) (path_in_is lines slots layout x y slot legal inside has) in
       no_row m x.line slot to.line legal_m column (subst (λ l. row_slot m x.line slot ≡ Some l) line at);
   }
+
+-- ---- no path at all
+pub bare_matches : (lines slots : ℕ) → IsMatrixOf (no_paths lines slots) (bare lines)
+bare_matches lines slots i s = get-empty by_row_and_slot (i, s) ∙ sym (ap (option_map (λ p. p.to.line)) (finds_nothing lines slots (λ x. path_in x i s) (sent_in i s) (looks_in lines slots i s)))

@@ -92,7 +92,7 @@ legal_bare lines slots = record {
     one_received = λ x z y t s in_x in_z a b e. absurd (no_path lines x y s a);
   }
 
-finds_nothing : (lines slots : ℕ) (look : Layout → Option Path) (For : Path → Type 0) → Looks lines slots look For → look (bare lines) ≡ None
+pub finds_nothing : (lines slots : ℕ) (look : Layout → Option Path) (For : Path → Type 0) → Looks lines slots look For → look (bare lines) ≡ None
 finds_nothing lines slots look For looks = found_none (look (bare lines)) (λ p e. let f = looks.found (bare lines) p (legal_bare lines slots) e in no_path lines p.from p.to p.slot f.0.path)
 
 pub tables_bare : (lines slots : ℕ) (p c r : ℕ → ℕ → Option ℕ) → Agree lines slots p nothing → Agree lines slots c nothing → Agree lines 30 r nothing → HasTables lines slots (bare lines) p c r
@@ -161,3 +161,11 @@ sent_from lines slots layout line slot place p legal at sent =
 
 pub path_there : (lines slots : ℕ) (layout : Layout) (line slot : ℕ) (p : Path) → Legal lines slots layout → path_in layout line slot ≡ Some p → IsSlot lines p.from × HasPath layout p.from p.to p.slot
 path_there lines slots layout line slot p legal at = let f = path_in_found lines layout line slot p legal.inlets at in (f.0.inlet, f.0.path)
+
+pub line_inside : (lines slots : ℕ) (layout : Layout) (line slot : ℕ) → Legal lines slots layout → (p : Path) × (path_in layout line slot ≡ Some p) → line < lines
+line_inside lines slots layout line slot legal at = let f = path_in_found lines layout line slot at.0 legal.inlets at.1 in subst (λ l. l < lines) f.1 f.0.inlet.0
+
+pub slot_inside : (lines slots : ℕ) (layout : Layout) (line slot : ℕ) → Legal lines slots layout → (p : Path) × (path_in layout line slot ≡ Some p) → slot < slots
+slot_inside lines slots layout line slot legal at =
+    let f = path_in_found lines layout line slot at.0 legal.inlets at.1 in
+    subst (λ s. s < slots) f.2 (legal.within at.0.from at.0.to at.0.slot f.0.inlet f.0.path).1

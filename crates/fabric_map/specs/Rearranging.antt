@@ -26,6 +26,11 @@ AreTaken layout [] (e ∷ es) = ⊥
 AreTaken layout (v ∷ moves) [] = ⊥
 AreTaken layout (v ∷ moves) (e ∷ es) = ((p : Path) × (moving layout v ≡ Some p) × (ends_of p ≡ e)) × AreTaken (without_path layout e.from) moves es
 
+-- the ends of the paths that the moves find, one after the other
+abbrev pub taken_by : Layout → List Move → List Ends
+taken_by layout [] = []
+taken_by layout (v ∷ moves) = elim (moving layout v) as (λ _. List Ends) [ None ↦ [] | Some p ↦ ends_of p ∷ taken_by (without_path layout p.from) moves ]
+
 -- the paths are put back, each in the slot that its move gives
 abbrev pub laid : Layout → List Ends → List Move → Layout
 laid layout [] moves = layout

@@ -8,3 +8,10 @@ pub struct Ends {
     /// The outlet.
     pub to: Slot,
 }
+
+impl Default for Ends {
+    fn default() -> Self {
+        let at = Slot { line: 0, place: 0 };
+        Ends { from: at, to: at }
+    }
+}

@@ -2,7 +2,9 @@
 #![tactic(auto)]
 
 mod ends;
+mod fabric;
 mod path_table;
 
 pub use ends::Ends;
+pub use fabric::FabricMap;
 pub use path_table::PathTable;
