@@ -4,3 +4,6 @@ pub mod Rearranged
 pub mod Chained
 pub mod Exchanged
 pub mod Turns
+pub mod FreeSlots
+pub mod Making
+pub mod Made
