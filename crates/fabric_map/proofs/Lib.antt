@@ -7,3 +7,4 @@ pub mod Turns
 pub mod FreeSlots
 pub mod Making
 pub mod Made
+pub mod Connected

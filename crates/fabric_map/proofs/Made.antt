@@ -17,7 +17,7 @@ use Rattle.rearrange_chain.proofs.Exchange.{IsExchange, exchange_lifts, exchange
 use Rattle.rearrange_chain.proofs.Freed.{column_chain_makes_room}
 use Rattle.fabric_map.specs.declared.ends.Ends.{Ends}
 use Rattle.fabric_map.specs.Rearranging.{ends_of, without_all, AreTaken, taken_by, laid, CanLay}
-use Rattle.fabric_map.proofs.Rearranged.{Beside, AllSlots, Apart, Ready, Lifts, lifts, Lays, lays, no_hop}
+use Rattle.fabric_map.proofs.Rearranged.{Beside, AllSlots, Apart, Ready, Lifts, lifts, Lays, lays}
 use Rattle.fabric_map.proofs.Chained.{other, moved_by, chains_match}
 use Rattle.fabric_map.proofs.Exchanged.{AllStand, chain_stands, taken_chain, AllApart, laid_is, AllTurn, AllWere, chain_moved, moved_same, new_unmoved, exchanged_long, exchange_joins}
 use Rattle.fabric_map.proofs.Making.{common_is, unsent_slot, unreceived_slot, taken_is}

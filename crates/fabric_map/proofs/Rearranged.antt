@@ -69,7 +69,7 @@ abbrev pub AllJoined : Layout → List Ends → Type 0
 AllJoined layout [] = ⊤
 AllJoined layout (e ∷ es) = Joins layout e.from e.to × AllJoined layout es
 
-no_hop : (layout : Layout) (x : Slot) → ((y : Slot) (s : ℕ) → HasPath layout x y s → ⊥) → hop_of layout x ≡ None
+pub no_hop : (layout : Layout) (x : Slot) → ((y : Slot) (s : ℕ) → HasPath layout x y s → ⊥) → hop_of layout x ≡ None
 no_hop layout x nothing = by_hop (hop_of layout x) (λ h e. nothing h.to h.slot e)
 
 joined_before : (lines : ℕ) (layout : Layout) (from : Slot) (es : List Ends) → length layout ≡ 30 * lines → IsSlot lines from → AllSlots lines es → AllJoined (without_path layout from) es → AllJoined layout es

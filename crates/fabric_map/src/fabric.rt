@@ -126,7 +126,7 @@ impl PathMap for FabricMap {
     }
 
     fn slots(&self) -> u8 {
-        SLOTS
+        self.paths.slots()
     }
 
     fn write_tables(&self, image: &mut Image) {

@@ -86,6 +86,14 @@ impl PathTable {
         self.outgoing.unset(hop.to.line, hop.to.place);
     }
 
+    /// How many internal slots it has.
+    pub(crate) fn slots(&self) -> u8
+        ensures slots { result ≡ self.now.slots }
+        ensures legal { Legal self.now.lines self.now.slots self.now.layout }
+    {
+        self.slots
+    }
+
     /// Where the path of an inlet goes, and in which internal slot; `None` where it is free.
     pub(crate) fn hop(&self, from: Slot) -> Option<Hop>
         requires { IsSlot self.now.lines from }
