@@ -1,22 +1,16 @@
 -- The chain of a layout is the chain of its matrix, path by path; and what its exchange makes of the layout.
-use Rattle.std.proofs.Common.{◌≡◌, ◌≢◌, ℕ, zero, suc, ◌+◌, ◌*◌, ◌<◌, ◌⊎◌, Bool, true, false, cond, eqb, Option, Some, None, List, [], ◌∷◌, map, length, get_or, set, refl, sym, ◌∙◌, ap, subst, inl, inr, ⊎_elim, arith, length-set}
-use Rattle.std.specs.Prelude.{⊤, option_map, ◌==◌, if◌then◌else◌, find}
-use Rattle.std.specs.List.{range_with_len}
-use Rattle.circuit_model.specs.declared.channel.Slot.{Slot}
-use Rattle.control_memory.specs.Layout.{Path, Layout, number_of, hop_of, path_in, path_out, IsSlot, HasPath, Legal}
-use Rattle.control_memory.specs.Connecting.{Side, Incoming, Outgoing, across, path_at, far_line, chain, exchanged, with_path, without_path}
-use Rattle.control_memory.proofs.Lookups.{IsPathOf, path_in_found, path_in_is, path_out_found}
-use Rattle.control_memory.proofs.Steps.{same_number, was_there}
-use Rattle.paull_matrix.specs.Matrix.{Matrix, row_slot, column_slot, IsLegal}
+use Rattle.std.proofs.Common.{◌≡◌, ℕ, zero, suc, Option, Some, None, List, [], ◌∷◌, map, refl, sym, ◌∙◌, ap}
+use Rattle.std.specs.Prelude.{option_map, ◌==◌, if◌then◌else◌}
+use Rattle.control_memory.specs.Layout.{Path, Layout, Legal}
+use Rattle.control_memory.specs.Connecting.{Side, Incoming, Outgoing, across, path_at, far_line, chain}
+use Rattle.control_memory.proofs.Lookups.{IsPathOf, path_in_found, path_out_found}
+use Rattle.paull_matrix.specs.Matrix.{Matrix}
 use Rattle.rearrange_chain.specs.declared.moves.Move.{Move}
 use Rattle.rearrange_chain.specs.declared.moves.End.{End}
 use Rattle.rearrange_chain.specs.declared.moves.End.TheVariants.{Row, Column}
 use Rattle.rearrange_chain.specs.Chain.{move_of, far_end, far_line as look_far, chain as matrix_chain}
-use Rattle.fabric_map.specs.declared.ends.Ends.{Ends}
-use Rattle.fabric_map.specs.Matching.{IsMatrixOf}
-use Rattle.fabric_map.specs.Rearranging.{moving, ends_of, without_all, AreTaken, laid}
 use Rattle.fabric_map.proofs.Matched.{column_matches}
-use Rattle.fabric_map.proofs.Rearranged.{Beside, AllSlots, Apart}
+use Rattle.fabric_map.proofs.Rearranged.{Beside}
 
 -- the other of the two slots
 abbrev pub other : ℕ → ℕ → ℕ → ℕ

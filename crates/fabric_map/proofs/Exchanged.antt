@@ -1,6 +1,6 @@
 -- What the exchange of a chain makes of a layout: its paths lifted and laid again, and how many of them have moved.
-use Rattle.std.proofs.Common.{◌≡◌, ◌≢◌, ℕ, zero, suc, ◌+◌, ◌*◌, ◌<◌, ◌⊎◌, ◌&&◌, Bool, true, false, cond, not, eqb, Option, Some, None, List, [], ◌∷◌, map, length, get_or, set, refl, sym, ◌∙◌, ap, subst, inl, inr, ⊎_elim, arith, length-set, get_or-set_same, get_or-set_other}
-use Rattle.std.specs.Prelude.{⊤, ◌==◌, if◌then◌else◌, slice_index_or}
+use Rattle.std.proofs.Common.{◌≡◌, ◌≢◌, ℕ, zero, suc, ◌+◌, ◌*◌, ◌<◌, ◌&&◌, Bool, true, false, cond, not, eqb, Option, Some, None, List, [], ◌∷◌, map, length, get_or, set, refl, sym, ◌∙◌, ap, subst, ⊎_elim, arith, length-set}
+use Rattle.std.specs.Prelude.{⊤, ◌==◌}
 use Rattle.std.proofs.lemmas.List.{set-set, set_comm}
 use Rattle.std.proofs.lemmas.Bool.{eq-eqb}
 use Rattle.std.proofs.lemmas.Bool.Decides.{eqb_tells}
@@ -9,12 +9,11 @@ use Rattle.circuit_model.specs.Circuits.{same_slot}
 use Rattle.circuit_model.proofs.Slots.{same_slot-refl}
 use Rattle.control_memory.specs.declared.hop.Hop.{Hop}
 use Rattle.control_memory.specs.Layout.{Path, Layout, number_of, hop_of, path_in, IsSlot, HasPath, Joins, Legal}
-use Rattle.control_memory.specs.Connecting.{Side, Incoming, Outgoing, across, path_at, far_line, chain, exchanged, with_path, without_path, moved, is_moved}
+use Rattle.control_memory.specs.Connecting.{Side, across, path_at, far_line, chain, exchanged, with_path, without_path, moved, is_moved}
 use Rattle.control_memory.proofs.Lookups.{IsPathOf, path_in_found, path_in_is, one_hop}
 use Rattle.control_memory.proofs.Steps.{same_number, number_inside, was_there, hop_here, hop_else, IsNew, new_or_old}
-use Rattle.rearrange_chain.specs.declared.moves.Move.{Move}
 use Rattle.fabric_map.specs.declared.ends.Ends.{Ends}
-use Rattle.fabric_map.specs.Rearranging.{moving, ends_of, without_all, AreTaken, laid}
+use Rattle.fabric_map.specs.Rearranging.{ends_of, without_all, AreTaken, laid}
 use Rattle.fabric_map.proofs.Rearranged.{AllSlots, Apart}
 use Rattle.fabric_map.proofs.Chained.{other, moved_by, found_at}
 
@@ -53,7 +52,7 @@ taken_chain lines slots whole a b legal (p ∷ ps) layout (e ∷ es) size stand 
     let here : e ≡ ends_of p = sym taken.0.2 ∙ ap ends_of same in
     let inside : IsSlot lines e.from = subst (λ (x : Ends). IsSlot lines x.from) (sym here) stand.0.inlet in
     let tail = taken_chain lines slots whole a b legal ps (without_path layout e.from) es (length-set layout (number_of e.from) None ∙ size) stand.1
-      (λ x y s in_x has. below x y s in_x (was_there lines layout e.from size inside x y s in_x has).1) taken.1 in
+    (λ x y s in_x has. below x y s in_x (was_there lines layout e.from size inside x y s in_x has).1) taken.1 in
     λ i. here i ∷ tail i
 
 -- ---- lifted and laid again
@@ -77,8 +76,8 @@ laid_is lines a b (p ∷ ps) layout slots apart =
     let es = map ends_of ps in
     let new = other a b p.slot in
     ap (λ l. laid l es (map (moved_by a b) ps))
-      (laid_before lines (without_path layout p.from) (ends_of p) new es slots.0.0.1 slots.1 apart.0
-        ∙ ap (λ l. without_all l es) (set-set layout (number_of p.from) None (Some (record { to = p.to; slot = new }))))
+    (laid_before lines (without_path layout p.from) (ends_of p) new es slots.0.0.1 slots.1 apart.0
+    ∙ ap (λ l. without_all l es) (set-set layout (number_of p.from) None (Some (record { to = p.to; slot = new }))))
     ∙ laid_is lines a b ps (with_path layout p.from p.to new) slots.1 apart.1
 
 -- ---- how many paths have moved
@@ -152,15 +151,16 @@ exchanged_long a b (p ∷ ps) layout = exchanged_long a b ps (with_path layout p
 -- a path that changes its slot joins what it joined
 turn_joins : (lines : ℕ) (layout : Layout) (from to : Slot) (slot new : ℕ) → length layout ≡ 30 * lines → IsSlot lines from → HasPath layout from to slot → (x y : Slot) → IsSlot lines x → (Joins (with_path layout from to new) x y → Joins layout x y) × (Joins layout x y → Joins (with_path layout from to new) x y)
 turn_joins lines layout from to slot new size inside has x y in_x = (
-    λ j. ⊎_elim (λ (n : IsNew from to new x y j.0). (slot, subst (λ f. HasPath layout f y slot) (sym n.0) (subst (λ t. HasPath layout from t slot) (sym n.1) has)))
+  λ j. ⊎_elim (λ (n : IsNew from to new x y j.0). (slot, subst (λ f. HasPath layout f y slot) (sym n.0) (subst (λ t. HasPath layout from t slot) (sym n.1) has)))
       (λ (old : (x ≡ from → ⊥) × HasPath layout x y j.0). (j.0, old.1)) (new_or_old lines layout from to new size inside x y j.0 in_x j.1),
-    λ j. ⊎_elim
+  λ j. ⊎_elim
       (λ (e : (eqb (number_of x) (number_of from) ≡ true) × (number_of x ≡ number_of from)).
-        let same = same_number x from in_x.1 inside.1 e.1 in
-        let hop = one_hop layout from y to j.0 slot (subst (λ f. HasPath layout f y j.0) same j.1) has in
-        (new, subst (λ f. HasPath (with_path layout from to new) f y new) (sym same) (subst (λ t. HasPath (with_path layout from to new) from t new) (sym hop.0) (hop_here lines layout from to new size inside))))
+      let same = same_number x from in_x.1 inside.1 e.1 in
+      let hop = one_hop layout from y to j.0 slot (subst (λ f. HasPath layout f y j.0) same j.1) has in
+      (new, subst (λ f. HasPath (with_path layout from to new) f y new) (sym same) (subst (λ t. HasPath (with_path layout from to new) from t new) (sym hop.0) (hop_here lines layout from to new size inside))))
       (λ (e : (eqb (number_of x) (number_of from) ≡ false) × (number_of x ≢ number_of from)). (j.0, hop_else layout from to new x in_x.1 inside.1 (λ same. e.1 (ap number_of same)) ∙ j.1))
-      (eqb_tells (number_of x) (number_of from)))
+      (eqb_tells (number_of x) (number_of from)),
+)
 
 pub exchange_joins : (lines a b : ℕ) (ps : List Path) (layout : Layout) → length layout ≡ 30 * lines → AllSlots lines (map ends_of ps) → AllApart (map ends_of ps) → AllWere layout ps → (x y : Slot) → IsSlot lines x → (Joins (exchanged layout a b ps) x y → Joins layout x y) × (Joins layout x y → Joins (exchanged layout a b ps) x y)
 exchange_joins lines a b [] layout size slots apart were x y in_x = (λ j. j, λ j. j)

@@ -1,11 +1,11 @@
 -- A line with a free place has a free internal slot, where there are as many slots as places.
-use Rattle.std.proofs.Common.{◌≡◌, ◌≢◌, ℕ, zero, suc, ◌+◌, ◌-◌, ◌*◌, ◌<◌, ◌≤◌, ◌⊎◌, Bool, true, false, cond, ltb, Option, Some, None, refl, sym, ◌∙◌, ap, subst, inl, inr, ⊎_elim, arith}
+use Rattle.std.proofs.Common.{◌≡◌, ◌≢◌, ℕ, ◌+◌, ◌-◌, ◌<◌, ◌≤◌, false, cond, ltb, Option, Some, None, refl, sym, ◌∙◌, ap, subst, ⊎_elim, arith}
 use Rattle.std.specs.Prelude.{is_none, option_map, unwrap_or}
 use Rattle.std.proofs.lemmas.Bool.{cases_lt, lt-ltb}
 use Rattle.std.proofs.lemmas.Bool.Decides.{nat_tests}
 use Rattle.circuit_model.specs.declared.channel.Slot.{Slot}
 use Rattle.control_memory.specs.Layout.{Path, Layout, hop_of, path_in, path_out, path_to, IsSlot, HasPath, Legal}
-use Rattle.control_memory.proofs.Lookups.{IsPathOf, path_in_found, path_in_is, path_out_found, path_out_is, path_to_is, one_hop}
+use Rattle.control_memory.proofs.Lookups.{IsPathOf, path_in_found, path_out_found, path_to_is, one_hop}
 use Rattle.paull_matrix.specs.Matrix.{Matrix, row_slot, column_slot, is_free_in_row, is_free_in_column, paths_of_row, paths_of_column, lowest_in_row, lowest_in_column, IsLegal}
 use Rattle.paull_matrix.proofs.Numbers.{lowest_none}
 use Rattle.paull_matrix.proofs.Laws.{row_has_room, column_has_room}
@@ -45,23 +45,23 @@ both_above gap k l x y a b e = let p = positive gap k x a in let q = positive ga
 closed_below : (gap n k : ℕ) → k < n + 1 → k ≢ gap → gap < n + 1 → closed_up gap k < n
 closed_below gap n k inside apart at =
     ⊎_elim (λ (l : k < gap). subst (λ x. x < n) (sym (below_gap gap k l)) (omega (arith, l, at)))
-      (λ (l : gap ≤ k). subst (λ x. x < n) (sym (above_gap gap k l)) (above_inside gap n k l inside apart)) (cases_lt k gap)
+    (λ (l : gap ≤ k). subst (λ x. x < n) (sym (above_gap gap k l)) (above_inside gap n k l inside apart)) (cases_lt k gap)
 
 closed_apart : (gap k l : ℕ) → k ≢ gap → l ≢ gap → closed_up gap k ≡ closed_up gap l → k ≡ l
 closed_apart gap k l a b e =
     ⊎_elim
-      (λ (x : k < gap). ⊎_elim (λ (y : l < gap). sym (below_gap gap k x) ∙ e ∙ below_gap gap l y)
-        (λ (y : gap ≤ l). absurd (crossed gap k l x y b (sym (below_gap gap k x) ∙ e ∙ above_gap gap l y))) (cases_lt l gap))
-      (λ (x : gap ≤ k). ⊎_elim (λ (y : l < gap). absurd (crossed gap l k y x a (sym (below_gap gap l y) ∙ sym e ∙ above_gap gap k x)))
-        (λ (y : gap ≤ l). both_above gap k l x y a b (sym (above_gap gap k x) ∙ e ∙ above_gap gap l y)) (cases_lt l gap))
-      (cases_lt k gap)
+    (λ (x : k < gap). ⊎_elim (λ (y : l < gap). sym (below_gap gap k x) ∙ e ∙ below_gap gap l y)
+    (λ (y : gap ≤ l). absurd (crossed gap k l x y b (sym (below_gap gap k x) ∙ e ∙ above_gap gap l y))) (cases_lt l gap))
+    (λ (x : gap ≤ k). ⊎_elim (λ (y : l < gap). absurd (crossed gap l k y x a (sym (below_gap gap l y) ∙ sym e ∙ above_gap gap k x)))
+    (λ (y : gap ≤ l). both_above gap k l x y a b (sym (above_gap gap k x) ∙ e ∙ above_gap gap l y)) (cases_lt l gap))
+    (cases_lt k gap)
 
 -- places that differ from slot to slot and miss one place leave a slot without any
 pub some_slot_left : (f : ℕ → ℕ) (gap : ℕ) → gap < 30 → ((k : ℕ) → k < 30 → f k < 30) → ((k : ℕ) → k < 30 → f k ≢ gap) → ((k l : ℕ) → k < l → l < 30 → f k ≡ f l → ⊥) → ⊥
 some_slot_left f gap at inside apart once =
     let few = pigeonhole (λ k. closed_up gap (f k)) 30 29
-      (λ k l. closed_below gap 29 (f k) (inside k l) (apart k l) at)
-      (λ k l below l_inside e. once k l below l_inside (closed_apart gap (f k) (f l) (apart k (omega (arith, below, l_inside))) (apart l l_inside) e)) in
+    (λ k l. closed_below gap 29 (f k) (inside k l) (apart k l) at)
+    (λ k l below l_inside e. once k l below l_inside (closed_apart gap (f k) (f l) (apart k (omega (arith, below, l_inside))) (apart l l_inside) e)) in
     omega (arith, few)
 
 -- ---- a row
@@ -104,14 +104,14 @@ row_room lines m layout from thirty legal is inside free =
         let path = λ (k : ℕ) (l : k < 30). sent_path lines 30 m layout from.line k legal is (full k l) in
         let place : (k : ℕ) (l : k < 30) → inlet_place layout from.line k ≡ (path k l).0.from.place = λ k l. ap (λ o. unwrap_or (option_map (λ p. p.from.place) o) 0) (path k l).1 in
         absurd (some_slot_left (inlet_place layout from.line) from.place inside.1
-          (λ k l. subst (λ n. n < 30) (sym (place k l)) (path k l).2.inlet.1)
-          (λ k l same. taken_inlet lines layout from (path k l).0 free (path k l).2 (path k l).3 (sym (place k l) ∙ same))
-          (λ k l below inside_l same.
-            let a = path k (omega (arith, below, inside_l)) in
-            let b = path l inside_l in
-            let hops = two_slots_one_inlet lines layout a.0 b.0 a.2 b.2 (a.3 ∙ sym b.3) (sym (place k (omega (arith, below, inside_l))) ∙ same ∙ place l inside_l) in
-            let at_a = a.4 in let at_b = b.4 in
-            omega (arith, hops, at_a, at_b, below)))
+        (λ k l. subst (λ n. n < 30) (sym (place k l)) (path k l).2.inlet.1)
+        (λ k l same. taken_inlet lines layout from (path k l).0 free (path k l).2 (path k l).3 (sym (place k l) ∙ same))
+        (λ k l below inside_l same.
+        let a = path k (omega (arith, below, inside_l)) in
+        let b = path l inside_l in
+        let hops = two_slots_one_inlet lines layout a.0 b.0 a.2 b.2 (a.3 ∙ sym b.3) (sym (place k (omega (arith, below, inside_l))) ∙ same ∙ place l inside_l) in
+        let at_a = a.4 in let at_b = b.4 in
+        omega (arith, hops, at_a, at_b, below)))
 
 -- ---- a column
 abbrev outlet_place : Layout → ℕ → ℕ → ℕ
@@ -145,11 +145,11 @@ column_room lines m layout to legal_m thirty legal is inside free =
         let path = λ (k : ℕ) (l : k < 30). received_path lines 30 m layout to.line k legal_m legal is (full k l) in
         let place : (k : ℕ) (l : k < 30) → outlet_place layout to.line k ≡ (path k l).0.to.place = λ k l. ap (λ o. unwrap_or (option_map (λ p. p.to.place) o) 0) (path k l).1 in
         absurd (some_slot_left (outlet_place layout to.line) to.place inside.1
-          (λ k l. let p = (path k l).0 in subst (λ n. n < 30) (sym (place k l)) (legal.within p.from p.to p.slot (path k l).2.inlet (path k l).2.path).0.1)
-          (λ k l same. taken_outlet lines 30 layout to (path k l).0 legal free (path k l).2 (path k l).3 (sym (place k l) ∙ same))
-          (λ k l below inside_l same.
-            let a = path k (omega (arith, below, inside_l)) in
-            let b = path l inside_l in
-            let slots = two_slots_one_outlet lines 30 layout a.0 b.0 legal a.2 b.2 (a.3 ∙ sym b.3) (sym (place k (omega (arith, below, inside_l))) ∙ same ∙ place l inside_l) in
-            let at_a = a.4 in let at_b = b.4 in
-            omega (arith, slots, at_a, at_b, below)))
+        (λ k l. let p = (path k l).0 in subst (λ n. n < 30) (sym (place k l)) (legal.within p.from p.to p.slot (path k l).2.inlet (path k l).2.path).0.1)
+        (λ k l same. taken_outlet lines 30 layout to (path k l).0 legal free (path k l).2 (path k l).3 (sym (place k l) ∙ same))
+        (λ k l below inside_l same.
+        let a = path k (omega (arith, below, inside_l)) in
+        let b = path l inside_l in
+        let slots = two_slots_one_outlet lines 30 layout a.0 b.0 legal a.2 b.2 (a.3 ∙ sym b.3) (sym (place k (omega (arith, below, inside_l))) ∙ same ∙ place l inside_l) in
+        let at_a = a.4 in let at_b = b.4 in
+        omega (arith, slots, at_a, at_b, below)))

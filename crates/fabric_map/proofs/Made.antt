@@ -1,14 +1,13 @@
 -- What a connection makes of the map.
-use Rattle.std.proofs.Common.{◌≡◌, ◌≢◌, ℕ, zero, suc, ◌+◌, ◌*◌, ◌<◌, ◌≤◌, ◌⊎◌, Bool, true, false, cond, eqb, Option, Some, None, List, [], ◌∷◌, map, length, refl, sym, ◌∙◌, ap, subst, inl, inr, ⊎_elim, arith, zero-add}
-use Rattle.std.specs.Prelude.{⊤, slice_get, unwrap_or}
+use Rattle.std.proofs.Common.{◌≡◌, ◌≢◌, ℕ, suc, ◌+◌, ◌*◌, ◌<◌, true, false, cond, eqb, Option, Some, None, List, [], ◌∷◌, map, length, refl, sym, ◌∙◌, ap, subst, ⊎_elim, zero-add}
+use Rattle.std.specs.Prelude.{slice_get, unwrap_or}
 use Rattle.std.proofs.lemmas.Bool.{eq-eqb}
 use Rattle.std.proofs.lemmas.Bool.Decides.{eqb_tells}
 use Rattle.std.proofs.lemmas.List.{length-map}
 use Rattle.circuit_model.specs.declared.channel.Slot.{Slot}
-use Rattle.control_memory.specs.Layout.{Path, Layout, number_of, hop_of, path_to, IsSlot, HasPath, Joins, Legal}
-use Rattle.control_memory.specs.Connecting.{Side, Incoming, Outgoing, chain, exchanged, with_path, without_path, connect, connect_in, common_slot, first_unsent, first_unreceived, moved}
-use Rattle.control_memory.proofs.Lookups.{IsPathOf, path_to_is}
-use Rattle.paull_matrix.specs.Matrix.{Matrix, row_slot, lowest_in_row, lowest_in_column, lowest_in_both, paths_of_row, paths_of_column, IsLegal}
+use Rattle.control_memory.specs.Layout.{Path, Layout, hop_of, IsSlot, Joins}
+use Rattle.control_memory.specs.Connecting.{Outgoing, chain, exchanged, with_path, without_path, connect, connect_in, common_slot, first_unreceived, moved}
+use Rattle.paull_matrix.specs.Matrix.{Matrix, lowest_in_row, lowest_in_column, lowest_in_both, paths_of_row, paths_of_column}
 use Rattle.paull_matrix.proofs.Laws.{row_lacks_one, column_lacks_one}
 use Rattle.rearrange_chain.specs.declared.moves.Move.{Move}
 use Rattle.rearrange_chain.specs.declared.moves.End.TheVariants.{Column}
@@ -17,7 +16,7 @@ use Rattle.rearrange_chain.proofs.Exchange.{IsExchange, exchange_lifts, exchange
 use Rattle.rearrange_chain.proofs.Freed.{column_chain_makes_room}
 use Rattle.fabric_map.specs.declared.ends.Ends.{Ends}
 use Rattle.fabric_map.specs.Rearranging.{ends_of, without_all, AreTaken, taken_by, laid, CanLay}
-use Rattle.fabric_map.proofs.Rearranged.{Beside, AllSlots, Apart, Ready, Lifts, lifts, Lays, lays}
+use Rattle.fabric_map.proofs.Rearranged.{Beside, AllSlots, Ready, lifts, lays}
 use Rattle.fabric_map.proofs.Chained.{other, moved_by, chains_match}
 use Rattle.fabric_map.proofs.Exchanged.{AllStand, chain_stands, taken_chain, AllApart, laid_is, AllTurn, AllWere, chain_moved, moved_same, new_unmoved, exchanged_long, exchange_joins}
 use Rattle.fabric_map.proofs.Making.{common_is, unsent_slot, unreceived_slot, taken_is}
@@ -38,14 +37,14 @@ pub record Made (lines slots : ℕ) (m : Matrix) (layout : Layout) (from to : Sl
 -- ---- where a slot is free in both
 made_common : (lines slots : ℕ) (m : Matrix) (layout : Layout) (from to : Slot) (c : ℕ) → Beside lines slots m layout → IsSlot lines from → hop_of layout from ≡ None → common_slot slots layout from.line to.line ≡ Some c → Made lines slots m layout from to [] c
 made_common lines slots m layout from to c b inside free common = record {
-    taken = tt;
-    same = refl;
-    room = tt;
-    beside = b;
-    joins = λ x y in_x. (λ j. j, λ j. j);
-    joined = sym (ap (connect_in lines slots layout from to) common);
-    count = new_unmoved lines layout layout from to c b.legal.inlets b.legal.inlets inside free ∙ moved_same layout;
-  }
+  taken = tt;
+  same = refl;
+  room = tt;
+  beside = b;
+  joins = λ x y in_x. (λ j. j, λ j. j);
+  joined = sym (ap (connect_in lines slots layout from to) common);
+  count = new_unmoved lines layout layout from to c b.legal.inlets b.legal.inlets inside free ∙ moved_same layout;
+}
 
 -- ---- where none is
 other_first : (a b : ℕ) → b ≡ other a b a
@@ -103,25 +102,25 @@ made_by lines slots m layout from to a b moves ps of_lines of_slots beside insid
     let slots_in : AllSlots lines (map ends_of ps) = subst (AllSlots lines) ends lift.within in
     let apart : AllApart (map ends_of ps) = subst AllApart ends (ready_apart lines (without_all layout lift.ends) lift.ends moves lift.ready) in
     let after : laid (without_all layout lift.ends) lift.ends moves ≡ exchanged layout a b ps =
-      ap (λ v. laid (without_all layout lift.ends) lift.ends v) are ∙ ap (λ es. laid (without_all layout es) es (map (moved_by a b) ps)) ends ∙ laid_is lines a b ps layout slots_in apart in
+    ap (λ v. laid (without_all layout lift.ends) lift.ends v) are ∙ ap (λ es. laid (without_all layout es) es (map (moved_by a b) ps)) ends ∙ laid_is lines a b ps layout slots_in apart in
     let were = all_were lines layout ps stand in
     let turn = all_turn a b ps (λ k v e. exchange.turns k v (subst (λ ms. slice_get ms k ≡ Some v) (sym are) e)) in
     let Whole : List Ends → Type 0 = λ es. MadeWith lines slots m layout from to moves a es in
     made_with lines slots m layout from to moves a
-      (subst Whole is (record {
-        taken = lift.taken;
-        same = taken_same moves layout lift.ends lift.taken;
-        room = lay.can;
-        beside = lay.beside;
-        joins = λ x y in_x.
+    (subst Whole is (record {
+      taken = lift.taken;
+      same = taken_same moves layout lift.ends lift.taken;
+      room = lay.can;
+      beside = lay.beside;
+      joins = λ x y in_x.
           let j = exchange_joins lines a b ps layout beside.legal.inlets slots_in apart were x y in_x in
           (λ q. j.0 (subst (λ l. Joins l x y) after q), λ q. subst (λ l. Joins l x y) (sym after) (j.1 q));
-        joined = ap (λ l. with_path l from to a) after ∙ sym rule;
-        count = ap (λ l. moved layout (with_path l from to a)) after
+      joined = ap (λ l. with_path l from to a) after ∙ sym rule;
+      count = ap (λ l. moved layout (with_path l from to a)) after
           ∙ new_unmoved lines layout (exchanged layout a b ps) from to a beside.legal.inlets (exchanged_long a b ps layout ∙ beside.legal.inlets) inside free
           ∙ chain_moved lines a b layout ps layout beside.legal.inlets beside.legal.inlets slots_in apart turn were were
           ∙ ap (λ n. n + length ps) (moved_same layout) ∙ zero-add (length ps) ∙ sym (ap length are ∙ length-map ps (moved_by a b));
-      }))
+    }))
 
 made_chain : (lines slots : ℕ) (m : Matrix) (layout : Layout) (from to : Slot) → m.lines ≡ lines → m.slots ≡ slots → Beside lines slots m layout → IsSlot lines from → IsSlot lines to → hop_of layout from ≡ None
     → paths_of_row m from.line < m.slots → paths_of_column m to.line < m.slots → lowest_in_both m from.line to.line ≡ None → Made lines slots m layout from to (column_chain m from.line to.line) (slot_a m from.line)
@@ -139,9 +138,9 @@ made_chain lines slots m layout from to of_lines of_slots b inside inside_to fre
     let is_a = unsent_slot lines slots m layout of_slots b i in
     let is_z = unreceived_slot lines slots m layout of_slots b j in
     let rule : connect lines slots layout from to ≡ with_path (exchanged layout a z ps) from to a =
-      ap (connect_in lines slots layout from to) none_common
-      ∙ ap (λ s. with_path (exchanged layout s (first_unreceived slots layout j) (chain (2 * lines) layout Outgoing j s (first_unreceived slots layout j))) from to s) (sym is_a)
-      ∙ ap (λ s. with_path (exchanged layout a s (chain (2 * lines) layout Outgoing j a s)) from to a) (sym is_z) in
+    ap (connect_in lines slots layout from to) none_common
+    ∙ ap (λ s. with_path (exchanged layout s (first_unreceived slots layout j) (chain (2 * lines) layout Outgoing j s (first_unreceived slots layout j))) from to s) (sym is_a)
+    ∙ ap (λ s. with_path (exchanged layout a s (chain (2 * lines) layout Outgoing j a s)) from to a) (sym is_z) in
     made_by lines slots m layout from to a z (column_chain m i j) ps of_lines of_slots b inside free (chain_stands lines slots layout b.legal (2 * lines) Outgoing j a z) are room.exchange rule
 
 pub made : (lines slots : ℕ) (m : Matrix) (layout : Layout) (from to : Slot) → m.lines ≡ lines → m.slots ≡ slots → Beside lines slots m layout → IsSlot lines from → IsSlot lines to → hop_of layout from ≡ None

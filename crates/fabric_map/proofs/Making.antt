@@ -1,18 +1,15 @@
 -- One connection on the map: what the rule on the matrix makes of the layout, and that it is the rule on the layout.
-use Rattle.std.proofs.Common.{◌≡◌, ◌≢◌, ℕ, zero, suc, ◌+◌, ◌*◌, ◌<◌, ◌≤◌, ◌⊎◌, ◌&&◌, Bool, true, false, cond, eqb, Option, Some, None, List, [], ◌∷◌, map, length, refl, sym, ◌∙◌, ap, subst, inl, inr, ⊎_elim, arith}
-use Rattle.std.specs.Prelude.{⊤, is_none, option_map, find, unwrap_or}
+use Rattle.std.proofs.Common.{◌≡◌, ℕ, ◌&&◌, Bool, cond, Option, Some, None, List, [], ◌∷◌, refl, sym, ◌∙◌, ap}
+use Rattle.std.specs.Prelude.{is_none, option_map, find, unwrap_or}
 use Rattle.std.specs.List.{range_with_len}
-use Rattle.circuit_model.specs.declared.channel.Slot.{Slot}
-use Rattle.control_memory.specs.Layout.{Path, Layout, hop_of, path_in, path_out, path_to, IsSlot, HasPath, Joins, Legal}
-use Rattle.control_memory.specs.Connecting.{Side, Incoming, Outgoing, chain, exchanged, exchange_for, with_path, without_path, connect, connect_in, common_slot, first_unsent, first_unreceived, is_unsent, is_unreceived, moved}
-use Rattle.control_memory.proofs.Lookups.{path_to_is}
-use Rattle.control_memory.proofs.Steps.{IsFree, new_or_old, hop_here, hop_else, IsNew}
-use Rattle.paull_matrix.specs.Matrix.{Matrix, row_slot, column_slot, is_free_in_row, is_free_in_column, lowest_in_row, lowest_in_column, lowest_in_both, IsLegal}
+use Rattle.control_memory.specs.Layout.{Path, Layout, path_in, path_out}
+use Rattle.control_memory.specs.Connecting.{without_path, common_slot, first_unsent, first_unreceived, is_unsent, is_unreceived}
+use Rattle.paull_matrix.specs.Matrix.{Matrix, is_free_in_row, is_free_in_column, lowest_in_both}
 use Rattle.rearrange_chain.specs.declared.moves.Move.{Move}
-use Rattle.rearrange_chain.specs.Chain.{slot_for, slot_by, moves_for, moves_by, slot_a, slot_b, column_chain, lifted, exchanged as exchanged_matrix}
+use Rattle.rearrange_chain.specs.Chain.{slot_a, slot_b}
 use Rattle.fabric_map.specs.declared.ends.Ends.{Ends}
 use Rattle.fabric_map.specs.Matching.{IsMatrixOf}
-use Rattle.fabric_map.specs.Rearranging.{moving, ends_of, without_all, AreTaken, taken_by, laid, CanLay}
+use Rattle.fabric_map.specs.Rearranging.{ends_of, AreTaken, taken_by}
 use Rattle.fabric_map.proofs.Matched.{column_matches}
 use Rattle.fabric_map.proofs.Rearranged.{Beside}
 
@@ -35,7 +32,7 @@ find_same p q same (x ∷ xs) = ap (λ b. cond b (Some x) (find p xs)) (same x) 
 pub common_is : (lines slots : ℕ) (m : Matrix) (layout : Layout) → m.slots ≡ slots → Beside lines slots m layout → (i j : ℕ) → lowest_in_both m i j ≡ common_slot slots layout i j
 common_is lines slots m layout of b i j =
     find_same (λ s. is_free_in_row m i s && is_free_in_column m j s) (λ s. is_unsent layout i s && is_unreceived layout j s)
-      (λ s. ap (λ x. x && is_free_in_column m j s) (unsent_is m layout b.is i s) ∙ ap (λ x. is_unsent layout i s && x) (unreceived_is lines slots m layout b j s)) (range_with_len 0 m.slots)
+    (λ s. ap (λ x. x && is_free_in_column m j s) (unsent_is m layout b.is i s) ∙ ap (λ x. is_unsent layout i s && x) (unreceived_is lines slots m layout b j s)) (range_with_len 0 m.slots)
     ∙ ap (λ n. find (λ s. is_unsent layout i s && is_unreceived layout j s) (range_with_len 0 n)) of
 
 pub unsent_slot : (lines slots : ℕ) (m : Matrix) (layout : Layout) → m.slots ≡ slots → Beside lines slots m layout → (i : ℕ) → slot_a m i ≡ first_unsent slots layout i

@@ -1,5 +1,5 @@
 -- A live map: a layout on thirty internal slots, and Paull's matrix of it. Source: this exchange's own.
-use Rattle.std.specs.Prelude.{◌≡◌, ℕ, ◌<◌}
+use Rattle.std.specs.Prelude.{◌≡◌, ◌<◌}
 use Rattle.control_memory.specs.Layout.{Legal}
 use Rattle.paull_matrix.specs.Matrix.{Matrix, IsLegal}
 use Rattle.fabric_map.specs.Paths.{Fabric}

@@ -1,5 +1,5 @@
 -- The paths of a fabric, with the control tables that carry them out. Source: this exchange's own.
-use Rattle.std.specs.Prelude.{◌≡◌, ℕ, ◌≤◌, ◌<◌, Option, Some, None}
+use Rattle.std.specs.Prelude.{ℕ, ◌≤◌}
 use Rattle.control_memory.specs.Layout.{Layout, Legal}
 use Rattle.control_memory.specs.Tables.{Table, HasSize, HasTables, entry}
 

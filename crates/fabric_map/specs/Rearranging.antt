@@ -1,6 +1,5 @@
 -- How the paths that move are taken out of a layout, and put back in their new slots. Source: this exchange's own.
 use Rattle.std.specs.Prelude.{◌≡◌, ℕ, ◌<◌, ⊤, Option, Some, None, List, [], ◌∷◌}
-use Rattle.circuit_model.specs.declared.channel.Slot.{Slot}
 use Rattle.control_memory.specs.Layout.{Path, Layout, path_in, IsSlot}
 use Rattle.control_memory.specs.Connecting.{with_path, without_path}
 use Rattle.control_memory.proofs.Steps.{IsFree}

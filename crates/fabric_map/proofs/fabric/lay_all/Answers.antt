@@ -1,4 +1,4 @@
-use Rattle.std.proofs.Common.{◌<◌, length, arith, subst}
+use Rattle.std.proofs.Common.{◌<◌, subst}
 use Rattle.fabric_map.proofs.Turns.{lay_slot}
 use Rattle.fabric_map.proofs.fabric.lay_all.Goals as goal
 

@@ -1,14 +1,12 @@
-use Rattle.std.proofs.Common.{◌≡◌, ℕ, ◌*◌, ◌⊎◌, ◌∙◌, sym, ap, subst, List, length, None}
+use Rattle.std.proofs.Common.{◌≡◌, ◌⊎◌, ◌∙◌, sym, ap, subst, length, None}
 use Rattle.circuit_model.specs.declared.channel.Slot.{Slot}
-use Rattle.control_memory.specs.Layout.{Layout, IsSlot, Joins, hop_of, path_to}
+use Rattle.control_memory.specs.Layout.{IsSlot, Joins, hop_of, path_to}
 use Rattle.control_memory.specs.Connecting.{with_path, connect, moved}
 use Rattle.control_memory.proofs.Steps.{IsFree}
-use Rattle.paull_matrix.specs.Matrix.{Matrix, row_slot, column_slot}
-use Rattle.rearrange_chain.specs.declared.moves.Move.{Move}
-use Rattle.rearrange_chain.specs.Chain.{moves_for, slot_for, exchanged}
+use Rattle.rearrange_chain.specs.Chain.{moves_for, exchanged}
 use Rattle.fabric_map.specs.Paths.{Fabric}
-use Rattle.fabric_map.specs.Rearranging.{AreTaken, taken_by, laid}
-use Rattle.fabric_map.proofs.Rearranged.{Beside, no_hop}
+use Rattle.fabric_map.specs.Rearranging.{AreTaken, taken_by}
+use Rattle.fabric_map.proofs.Rearranged.{Beside}
 use Rattle.fabric_map.proofs.Connected.{CanConnect, has_row_room, has_column_room, connects, readied, readied_is, can_lay_is, free_in, pairs_after, map_with}
 use Rattle.fabric_map.proofs.fabric.FabricMapPathMap.connect.Goals as goal
 
@@ -46,7 +44,7 @@ lay_all-requires-clause-room c =
     let first = c.deref.ensures.0 ∙ c.make_room-slot.ensures.moves in
     let second = c.deref-2.ensures.0 ∙ c.make_room-slot.ensures.moves in
     can_lay_is _ _ _ _ c.self.inside.paths.layout _ (moves_for c.self.inside.matrix c.args.from.line c.args.to.line) c.deref.result.now c.deref-2.result.now c.deref-3.result.now
-      c.lift_all.ensures.lines c.lift_all.ensures.slots first second (c.deref-3.ensures.0 ∙ c.lift_all.ensures.lifted) c.lift_all.ensures.layout made.room
+    c.lift_all.ensures.lines c.lift_all.ensures.slots first second (c.deref-3.ensures.0 ∙ c.lift_all.ensures.lifted) c.lift_all.ensures.layout made.room
 
 pub add-requires-clause-free : goal.add-requires-clause-free
 add-requires-clause-free c =
@@ -62,7 +60,7 @@ add-requires-clause-free c =
     let after = c.make_room-slot.new.matrix in
     let after_is : after ≡ exchanged m mv = c.make_room-slot.ensures.exchanged ∙ ap (exchanged m) c.make_room-slot.ensures.moves in
     let laid_is : c.lay_all.new.paths.layout ≡ readied f.layout mv =
-      readied_is f.layout c.lift_all.new.paths.layout c.lay_all.new.paths.layout mv c.deref.result.now c.deref-2.result.now c.deref-3.result.now first second (c.deref-3.ensures.0 ∙ c.lift_all.ensures.lifted) c.lift_all.ensures.layout c.lay_all.ensures.layout in
+    readied_is f.layout c.lift_all.new.paths.layout c.lay_all.new.paths.layout mv c.deref.result.now c.deref-2.result.now c.deref-3.result.now first second (c.deref-3.ensures.0 ∙ c.lift_all.ensures.lifted) c.lift_all.ensures.layout c.lay_all.ensures.layout in
     let lines : c.lay_all.new.paths.lines ≡ f.lines = c.lay_all.ensures.lines ∙ c.lift_all.ensures.lines in
     let slots : c.lay_all.new.paths.slots ≡ f.slots = c.lay_all.ensures.slots ∙ c.lift_all.ensures.slots in
     let beside = subst (λ x. Beside f.lines f.slots x (readied f.layout mv)) (sym after_is) made.beside in
@@ -83,13 +81,13 @@ invariant_of-self c =
     let after = c.make_room-slot.new.matrix in
     let after_is : after ≡ exchanged m mv = c.make_room-slot.ensures.exchanged ∙ ap (exchanged m) c.make_room-slot.ensures.moves in
     let laid_is : c.lay_all.new.paths.layout ≡ readied f.layout mv =
-      readied_is f.layout c.lift_all.new.paths.layout c.lay_all.new.paths.layout mv c.deref.result.now c.deref-2.result.now c.deref-3.result.now first second (c.deref-3.ensures.0 ∙ c.lift_all.ensures.lifted) c.lift_all.ensures.layout c.lay_all.ensures.layout in
+    readied_is f.layout c.lift_all.new.paths.layout c.lay_all.new.paths.layout mv c.deref.result.now c.deref-2.result.now c.deref-3.result.now first second (c.deref-3.ensures.0 ∙ c.lift_all.ensures.lifted) c.lift_all.ensures.layout c.lay_all.ensures.layout in
     let lines : c.lay_all.new.paths.lines ≡ f.lines = c.lay_all.ensures.lines ∙ c.lift_all.ensures.lines in
     let slots : c.lay_all.new.paths.slots ≡ f.slots = c.lay_all.ensures.slots ∙ c.lift_all.ensures.slots in
     let beside = subst (λ x. Beside f.lines f.slots x (readied f.layout mv)) (sym after_is) made.beside in
     let free = free_in f.lines f.slots after f.layout from to mv c.make_room-slot.result c.self.invariant.legal can.inlet can.outlet can.from_inside beside made.joins c.make_room-slot.ensures.row_free c.make_room-slot.ensures.column_free in
     map_with m f from to c.make_room-slot.result after c.place.new.self mv c.add.new.self c.self.invariant can beside c.make_room-slot.ensures.sizes.0 c.make_room-slot.ensures.sizes.1 c.make_room-slot.ensures.within free c.place.ensures.placed c.place.ensures.legal
-      (c.add.ensures.layout ∙ ap (λ l. with_path l from to c.make_room-slot.result) laid_is) (c.add.ensures.lines ∙ lines) (c.add.ensures.slots ∙ slots)
+    (c.add.ensures.layout ∙ ap (λ l. with_path l from to c.make_room-slot.result) laid_is) (c.add.ensures.lines ∙ lines) (c.add.ensures.slots ∙ slots)
 
 pub returns-clause-layout : goal.returns-clause-layout
 returns-clause-layout c =
@@ -105,7 +103,7 @@ returns-clause-layout c =
     let after = c.make_room-slot.new.matrix in
     let after_is : after ≡ exchanged m mv = c.make_room-slot.ensures.exchanged ∙ ap (exchanged m) c.make_room-slot.ensures.moves in
     let laid_is : c.lay_all.new.paths.layout ≡ readied f.layout mv =
-      readied_is f.layout c.lift_all.new.paths.layout c.lay_all.new.paths.layout mv c.deref.result.now c.deref-2.result.now c.deref-3.result.now first second (c.deref-3.ensures.0 ∙ c.lift_all.ensures.lifted) c.lift_all.ensures.layout c.lay_all.ensures.layout in
+    readied_is f.layout c.lift_all.new.paths.layout c.lay_all.new.paths.layout mv c.deref.result.now c.deref-2.result.now c.deref-3.result.now first second (c.deref-3.ensures.0 ∙ c.lift_all.ensures.lifted) c.lift_all.ensures.layout c.lay_all.ensures.layout in
     let lines : c.lay_all.new.paths.lines ≡ f.lines = c.lay_all.ensures.lines ∙ c.lift_all.ensures.lines in
     let slots : c.lay_all.new.paths.slots ≡ f.slots = c.lay_all.ensures.slots ∙ c.lift_all.ensures.slots in
     let beside = subst (λ x. Beside f.lines f.slots x (readied f.layout mv)) (sym after_is) made.beside in
@@ -127,15 +125,15 @@ returns-clause-pairs c =
     let after = c.make_room-slot.new.matrix in
     let after_is : after ≡ exchanged m mv = c.make_room-slot.ensures.exchanged ∙ ap (exchanged m) c.make_room-slot.ensures.moves in
     let laid_is : c.lay_all.new.paths.layout ≡ readied f.layout mv =
-      readied_is f.layout c.lift_all.new.paths.layout c.lay_all.new.paths.layout mv c.deref.result.now c.deref-2.result.now c.deref-3.result.now first second (c.deref-3.ensures.0 ∙ c.lift_all.ensures.lifted) c.lift_all.ensures.layout c.lay_all.ensures.layout in
+    readied_is f.layout c.lift_all.new.paths.layout c.lay_all.new.paths.layout mv c.deref.result.now c.deref-2.result.now c.deref-3.result.now first second (c.deref-3.ensures.0 ∙ c.lift_all.ensures.lifted) c.lift_all.ensures.layout c.lay_all.ensures.layout in
     let lines : c.lay_all.new.paths.lines ≡ f.lines = c.lay_all.ensures.lines ∙ c.lift_all.ensures.lines in
     let slots : c.lay_all.new.paths.slots ≡ f.slots = c.lay_all.ensures.slots ∙ c.lift_all.ensures.slots in
     let beside = subst (λ x. Beside f.lines f.slots x (readied f.layout mv)) (sym after_is) made.beside in
     let free = free_in f.lines f.slots after f.layout from to mv c.make_room-slot.result c.self.invariant.legal can.inlet can.outlet can.from_inside beside made.joins c.make_room-slot.ensures.row_free c.make_room-slot.ensures.column_free in
     let new : c.add.new.self.layout ≡ with_path (readied f.layout mv) from to c.make_room-slot.result = c.add.ensures.layout ∙ ap (λ l. with_path l from to c.make_room-slot.result) laid_is in
     let all : (x y : Slot) → IsSlot f.lines x → (Joins c.add.new.self.layout x y → Joins f.layout x y ⊎ ((x ≡ from) × (y ≡ to))) × (Joins f.layout x y ⊎ ((x ≡ from) × (y ≡ to)) → Joins c.add.new.self.layout x y) =
-      λ x y in_x. subst (λ l. (Joins l x y → Joins f.layout x y ⊎ ((x ≡ from) × (y ≡ to))) × (Joins f.layout x y ⊎ ((x ≡ from) × (y ≡ to)) → Joins l x y)) (sym new)
-        (pairs_after f.lines f.layout (readied f.layout mv) from to c.make_room-slot.result beside.legal.inlets can.from_inside free.inlet made.joins x y in_x) in
+    λ x y in_x. subst (λ l. (Joins l x y → Joins f.layout x y ⊎ ((x ≡ from) × (y ≡ to))) × (Joins f.layout x y ⊎ ((x ≡ from) × (y ≡ to)) → Joins l x y)) (sym new)
+    (pairs_after f.lines f.layout (readied f.layout mv) from to c.make_room-slot.result beside.legal.inlets can.from_inside free.inlet made.joins x y in_x) in
     subst (λ (now : Fabric). (x y : Slot) → IsSlot now.lines x → (Joins c.add.new.self.layout x y → Joins now.layout x y ⊎ ((x ≡ from) × (y ≡ to))) × (Joins now.layout x y ⊎ ((x ≡ from) × (y ≡ to)) → Joins c.add.new.self.layout x y)) c.self.view_is all
 
 pub returns-clause-moves : goal.returns-clause-moves
@@ -152,7 +150,7 @@ returns-clause-moves c =
     let after = c.make_room-slot.new.matrix in
     let after_is : after ≡ exchanged m mv = c.make_room-slot.ensures.exchanged ∙ ap (exchanged m) c.make_room-slot.ensures.moves in
     let laid_is : c.lay_all.new.paths.layout ≡ readied f.layout mv =
-      readied_is f.layout c.lift_all.new.paths.layout c.lay_all.new.paths.layout mv c.deref.result.now c.deref-2.result.now c.deref-3.result.now first second (c.deref-3.ensures.0 ∙ c.lift_all.ensures.lifted) c.lift_all.ensures.layout c.lay_all.ensures.layout in
+    readied_is f.layout c.lift_all.new.paths.layout c.lay_all.new.paths.layout mv c.deref.result.now c.deref-2.result.now c.deref-3.result.now first second (c.deref-3.ensures.0 ∙ c.lift_all.ensures.lifted) c.lift_all.ensures.layout c.lay_all.ensures.layout in
     let lines : c.lay_all.new.paths.lines ≡ f.lines = c.lay_all.ensures.lines ∙ c.lift_all.ensures.lines in
     let slots : c.lay_all.new.paths.slots ≡ f.slots = c.lay_all.ensures.slots ∙ c.lift_all.ensures.slots in
     let beside = subst (λ x. Beside f.lines f.slots x (readied f.layout mv)) (sym after_is) made.beside in

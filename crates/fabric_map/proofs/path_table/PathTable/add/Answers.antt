@@ -1,5 +1,5 @@
-use Rattle.std.proofs.Common.{◌≡◌, ◌<◌, ap, sym, subst, ℕ, None, Some}
-use Rattle.control_memory.specs.Layout.{Layout, IsSlot}
+use Rattle.std.proofs.Common.{◌<◌, ap, sym, subst}
+use Rattle.control_memory.specs.Layout.{IsSlot}
 use Rattle.control_memory.proofs.Steps.{IsFree}
 use Rattle.fabric_map.specs.Paths.{Fabric}
 use Rattle.fabric_map.proofs.Tabling.{tabled_with}
@@ -15,8 +15,8 @@ invariant_of-self c =
     let inside = subst (λ n. IsSlot n from) lines c.requires.from in
     let free = subst (λ l. IsFree c.self.inside.lines l from to c.args.slot) layout (subst (λ n. IsFree n c.args.self.now.layout from to c.args.slot) lines c.requires.free) in
     rw c.number_of.ensures
-      (tabled_with _ _ _ from to c.args.slot _ _ _ c.set.new.self c.set-2.new.self c.set-3.new.self c.self.invariant inside (subst (λ n. IsSlot n to) lines c.requires.to) (subst (λ n. c.args.slot < n) slots c.requires.slot) free
-        c.set.ensures.size c.set-2.ensures.size c.set-3.ensures.size c.set.ensures.entries c.set-2.ensures.entries c.set-3.ensures.entries)
+    (tabled_with _ _ _ from to c.args.slot _ _ _ c.set.new.self c.set-2.new.self c.set-3.new.self c.self.invariant inside (subst (λ n. IsSlot n to) lines c.requires.to) (subst (λ n. c.args.slot < n) slots c.requires.slot) free
+    c.set.ensures.size c.set-2.ensures.size c.set-3.ensures.size c.set.ensures.entries c.set-2.ensures.entries c.set-3.ensures.entries)
 
 pub returns-clause-legal : goal.returns-clause-legal
 returns-clause-legal c = (invariant_of-self c).legal
