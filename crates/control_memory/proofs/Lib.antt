@@ -2,3 +2,4 @@ pub mod Carrying
 pub mod Entries
 pub mod Lookups
 pub mod Steps
+pub mod Tabled

@@ -4,11 +4,7 @@
 use Rattle.std.specs.Prelude.{◌≡◌, ℕ, ◌+◌, ◌*◌, ◌/◌, ◌%◌, ◌<◌, ◌&&◌, ◌==◌, List, [], ◌∷◌, length, Option, Some, None, option_map, slice_index_or, find}
 use Rattle.circuit_model.specs.declared.channel.Slot.{Slot}
 use Rattle.circuit_model.specs.Circuits.{same_slot}
-
--- where a path goes, and the internal slot in which it crosses
-pub record Hop : Type 0 where
-  pub to : Slot
-  pub slot : ℕ
+pub use Rattle.control_memory.specs.declared.hop.Hop.{Hop}
 
 -- a path from an inlet to an outlet in an internal slot
 pub record Path : Type 0 where

@@ -10,5 +10,5 @@ mod room;
 #[cfg(test)]
 mod tests;
 
-pub use moves::Move;
+pub use moves::{End, Move};
 pub use room::make_room;

@@ -18,7 +18,7 @@ pub struct Move {
 
 /// One end of a path: its row or its column.
 #[derive(Clone, Copy, Debug, PartialEq, Eq)]
-pub(crate) enum End {
+pub enum End {
     /// A row, by its number.
     Row(u8),
     /// A column, by its number.
@@ -27,7 +27,7 @@ pub(crate) enum End {
 
 impl End {
     /// The other end of a path whose other line is `line`.
-    pub(crate) fn far(self, line: u8) -> End
+    pub fn far(self, line: u8) -> End
         ensures { result ≡ far_end self line }
     {
         match self {
@@ -37,7 +37,7 @@ impl End {
     }
 
     /// The move of the path between this end and `line`.
-    pub(crate) fn moved(self, line: u8, old: u8, new: u8) -> Move
+    pub fn moved(self, line: u8, old: u8, new: u8) -> Move
         ensures { result ≡ move_of self line old new }
     {
         match self {

@@ -1,0 +1,10 @@
+pub mod Tabling
+pub mod Matched
+pub mod Rearranged
+pub mod Chained
+pub mod Exchanged
+pub mod Turns
+pub mod FreeSlots
+pub mod Making
+pub mod Made
+pub mod Connected

@@ -1,0 +1,4 @@
+pub mod Paths
+pub mod Matching
+pub mod Rearranging
+pub mod Map

@@ -1,0 +1,50 @@
+-- How the paths that move are taken out of a layout, and put back in their new slots. Source: this exchange's own.
+use Rattle.std.specs.Prelude.{◌≡◌, ℕ, ◌<◌, ⊤, Option, Some, None, List, [], ◌∷◌}
+use Rattle.control_memory.specs.Layout.{Path, Layout, path_in, IsSlot}
+use Rattle.control_memory.specs.Connecting.{with_path, without_path}
+use Rattle.control_memory.proofs.Steps.{IsFree}
+use Rattle.rearrange_chain.specs.declared.moves.Move.{Move}
+use Rattle.fabric_map.specs.declared.ends.Ends.{Ends}
+
+-- the path that moves
+abbrev pub moving : Layout → Move → Option Path
+moving layout v = path_in layout v.row v.old
+
+abbrev pub ends_of : Path → Ends
+ends_of p = record { from = p.from; to = p.to }
+
+-- the layout without these paths
+abbrev pub without_all : Layout → List Ends → Layout
+without_all layout [] = layout
+without_all layout (e ∷ es) = without_all (without_path layout e.from) es
+
+-- each of the moves finds its path in the layout that the moves before it left, and these are the ends of the paths
+abbrev pub AreTaken : Layout → List Move → List Ends → Type 0
+AreTaken layout [] [] = ⊤
+AreTaken layout [] (e ∷ es) = ⊥
+AreTaken layout (v ∷ moves) [] = ⊥
+AreTaken layout (v ∷ moves) (e ∷ es) = ((p : Path) × (moving layout v ≡ Some p) × (ends_of p ≡ e)) × AreTaken (without_path layout e.from) moves es
+
+-- the ends of the paths that the moves find, one after the other
+abbrev pub taken_by : Layout → List Move → List Ends
+taken_by layout [] = []
+taken_by layout (v ∷ moves) = elim (moving layout v) as (λ _. List Ends) [ None ↦ [] | Some p ↦ ends_of p ∷ taken_by (without_path layout p.from) moves ]
+
+-- the paths are put back, each in the slot that its move gives
+abbrev pub laid : Layout → List Ends → List Move → Layout
+laid layout [] moves = layout
+laid layout (e ∷ es) [] = layout
+laid layout (e ∷ es) (v ∷ moves) = laid (with_path layout e.from e.to v.new) es moves
+
+-- each path has room when its turn comes
+pub record HasRoom (lines slots : ℕ) (layout : Layout) (e : Ends) (v : Move) : Type 0 where
+  pub from : IsSlot lines e.from
+  pub to : IsSlot lines e.to
+  pub slot : v.new < slots
+  pub free : IsFree lines layout e.from e.to v.new
+
+abbrev pub CanLay : ℕ → ℕ → Layout → List Ends → List Move → Type 0
+CanLay lines slots layout [] [] = ⊤
+CanLay lines slots layout [] (v ∷ moves) = ⊥
+CanLay lines slots layout (e ∷ es) [] = ⊥
+CanLay lines slots layout (e ∷ es) (v ∷ moves) = HasRoom lines slots layout e v × CanLay lines slots (with_path layout e.from e.to v.new) es moves
