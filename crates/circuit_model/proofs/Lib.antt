@@ -4,3 +4,4 @@ pub mod Hearing
 pub mod Validity
 pub mod Recorded
 pub mod Refused
+pub mod Seats
