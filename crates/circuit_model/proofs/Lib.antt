@@ -5,3 +5,4 @@ pub mod Validity
 pub mod Recorded
 pub mod Refused
 pub mod Seats
+pub mod Extents

@@ -17,4 +17,4 @@ pub use holding_laws::{
     worked_holdings,
 };
 pub use laws::{law_of_age, worked_edges, worked_frames, worked_values};
-pub use port_laws::law_of_ports;
+pub use port_laws::{law_of_extent, law_of_ports};
