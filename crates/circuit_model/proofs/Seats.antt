@@ -11,7 +11,7 @@ use Rattle.circuit_model.specs.Circuits.{same_slot, names, is_member, since_of}
 use Rattle.circuit_model.specs.Holding.{Holding, empty, Command, Connect, Seat, Give_tone, Clear, Frame, after, frames, circuits_of, naming, Stands, Is_idle, Has_tone, Is_seated, Is_connected, IsAllowed, AreAllowed}
 use Rattle.circuit_model.specs.Ports.{Ports, free_ports, given, has, returned, ports_after, port_frames, ports_of, owner_of, sum_of_owners, sum_of_members}
 use Rattle.circuit_model.proofs.Slots.{true_or_false, same_slot-refl, same_slot-true, same_slot-false}
-use Rattle.circuit_model.proofs.Age.{cons_cases, at_head, in_tail, none_in_nil, within_filtered, first_frame}
+use Rattle.circuit_model.proofs.Age.{cons_cases, at_head, in_tail, none_in_nil, within_filtered, first_frame, age}
 use Rattle.std.proofs.Math.ListN.{get_or-eq_default}
 use Rattle.circuit_model.proofs.Validity.{count_by-append, valid-empty}
 use Rattle.circuit_model.proofs.Recorded.{valid-frames}
@@ -317,7 +317,7 @@ keeps_port ports cs (suc f) k room since x inside older owned =
 pub matched-empty : (bridges : ℕ) → Matched bridges empty.circuits (free_ports bridges)
 matched-empty bridges = record { size = free_length (30 * bridges); counted = λ p. none_taken p (30 * bridges); added = λ weight. none_added weight (30 * bridges) }
 
-below_or_not : (a b : ℕ) → (a < b) ⊎ (b ≤ a)
+pub below_or_not : (a b : ℕ) → (a < b) ⊎ (b ≤ a)
 below_or_not a zero = inr (omega arith)
 below_or_not zero (suc b) = inl (omega arith)
 below_or_not (suc a) (suc b) = ⊎_elim (λ (h : a < b). inl (omega (arith, h))) (λ (h : b ≤ a). inr (omega (arith, h))) (below_or_not a b)
@@ -335,3 +335,37 @@ recorded bridges cs f allowed =
     (λ (beyond : length (frames empty cs) ≤ f).
     Is_beyond (get_or-eq_default (frames empty cs) [] beyond) (get_or-eq_default (port_frames (free_ports bridges) cs) [] (omega (arith, beyond, frames_alike empty (free_ports bridges) cs))))
     (below_or_not f (length (frames empty cs)))
+
+-- ---- the law of ports
+module _ (bridges : ℕ) (cs : List Command) where
+  abbrev pub circuits_in : ℕ → List Circuit
+  circuits_in f = circuits_of (frames empty cs) f
+
+  abbrev pub ports_in : ℕ → Ports
+  ports_in f = ports_of (port_frames (free_ports bridges) cs) f
+
+  unowned : (k : ℕ) (x : Slot) (ports : Ports) → ports ≡ [] → owner_of ports k ≡ Some x → ⊥
+  unowned k x ports none owned = let no : None ≡ Some x = rw none at owned in cc
+
+  pub each_in : (f room since : ℕ) (x : Slot) → Recorded bridges cs f → Contains (circuits_in f) (Member room x since) → (k : ℕ) × (k < 30 * bridges) × (owner_of (ports_in f) k ≡ Some x)
+  each_in f room since x (Is_recorded m s) inside = has_port bridges room since _ _ x m inside
+  each_in f room since x (Is_beyond none empty_ports) inside = absurd (none_in_nil (Member room x since) (rw none at inside))
+
+  pub owned_in : (f k : ℕ) (x : Slot) → Recorded bridges cs f → owner_of (ports_in f) k ≡ Some x → (room : ℕ) × (since : ℕ) × Contains (circuits_in f) (Member room x since)
+  owned_in f k x (Is_recorded m s) owned = has_member bridges k _ _ x m owned
+  owned_in f k x (Is_beyond none empty_ports) owned = absurd (unowned k x _ empty_ports owned)
+
+  pub alone_in : (f j k : ℕ) (x : Slot) → Recorded bridges cs f → owner_of (ports_in f) j ≡ Some x → owner_of (ports_in f) k ≡ Some x → j ≡ k
+  alone_in f j k x (Is_recorded m s) a b = has_one_port bridges j k _ _ x m (s x) a b
+  alone_in f j k x (Is_beyond none empty_ports) a b = absurd (unowned j x _ empty_ports a)
+
+  pub sums_in : (f : ℕ) (weight : Slot → ℤ) → Recorded bridges cs f → sum_of_owners weight (ports_in f) ≡ sum_of_members weight (circuits_in f)
+  sums_in f weight (Is_recorded m s) = m.added weight
+  sums_in f weight (Is_beyond none empty_ports) = ap (sum_of_owners weight) empty_ports ∙ sym (ap (sum_of_members weight) none)
+
+  -- a member older than a frame had its port in the frame before too
+  pub had_port : AreAllowed bridges empty cs → (f k room since : ℕ) (x : Slot) → Contains (circuits_in f) (Member room x since) → since < f → owner_of (ports_in f) k ≡ Some x → owner_of (ports_in (f - 1)) k ≡ Some x
+  had_port allowed f k room since x inside older owned =
+      let before = each_in (f - 1) room since x (recorded bridges cs (f - 1) allowed) (age cs f (Member room x since) inside older) in
+      let now = keeps_port (free_ports bridges) cs f before.0 room since x inside older before.2 in
+      subst (λ j. owner_of (ports_in (f - 1)) j ≡ Some x) (alone_in f before.0 k x (recorded bridges cs f allowed) now owned) before.2

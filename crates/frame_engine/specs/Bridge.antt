@@ -8,16 +8,20 @@ use Rattle.circuit_model.specs.Hears.{is_through}
 use Rattle.control_memory.specs.Image.{Control, room_at}
 use Rattle.conference_mix.specs.Bridge.{mixed_for}
 
--- the octet that a port's member adds to a room in frame f: what was read out at the port, once the member has sat in that room for two frames
+-- what the member in a port adds to a room in frame f: the octet that was read out for it, once it has sat in that room for two frames
 abbrev pub added : ℕ → ℕ → ℕ → Option (ℕ × ℕ) → Option ℕ
 added f room octet None = None
 added f room octet (Some seat) = if (seat.0 == room) && is_through seat.1 f then Some octet else None
 
--- what each port adds to a room, port by port, given the octets that were read out
-abbrev pub row_of : Control → (Slot → ℕ) → ℕ → List (Option ℕ)
-row_of m octet room = map (λ k. added m.frame room (octet (port_numbered m.external k)) (room_at m (port_numbered m.external k))) (range_with_len 0 (30 * m.bridges))
+-- what each port adds to a room, given the octets that were read out
+abbrev pub added_at : Control → (Slot → ℕ) → ℕ → ℕ → Option ℕ
+added_at m octet room k = added m.frame room (octet (port_numbered m.external k)) (room_at m (port_numbered m.external k))
 
--- the octet that a port is given: the mix of its member's room without the member, and the idle octet where nobody sits
+-- all that is added to a room, port by port
+abbrev pub row_of : Control → (Slot → ℕ) → ℕ → List (Option ℕ)
+row_of m octet room = map (added_at m octet room) (range_with_len 0 (30 * m.bridges))
+
+-- the octet that a port is given: its member's room without the member, mixed, and the idle octet where nobody sits
 abbrev pub mixed_to : Control → (Slot → ℕ) → ℕ → Option (ℕ × ℕ) → ℕ
 mixed_to m octet k None = idle_octet
 mixed_to m octet k (Some seat) = mixed_for k (row_of m octet seat.0)

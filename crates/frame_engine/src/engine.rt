@@ -90,7 +90,7 @@ impl Carrier for Engine {
         mix_rooms(&self.read, image, &mut self.speech);
         incoming(&self.speech, image, &mut self.highway);
         cross(&self.highway, image, &mut self.crossed);
-        take_in(input, &mut self.speech);
+        take_in(input, self.external, &mut self.speech);
         self.speech.swap();
         play(&self.read, image, tones, out);
         mem::swap(&mut self.kept, image);
