@@ -5,3 +5,5 @@ pub mod Validity
 pub mod Recorded
 pub mod Refused
 pub mod Seats
+pub mod PortSeats
+pub mod Extents

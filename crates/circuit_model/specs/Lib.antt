@@ -6,3 +6,4 @@ pub mod Holding
 pub mod Hears
 pub mod Examples
 pub mod Ports
+pub mod Extent

@@ -1,6 +1,8 @@
 -- The ports of the conference bridges, and which member has which. Source: this exchange's own.
-use Rattle.std.specs.Prelude.{ℕ, ◌+◌, ◌*◌, ◌/◌, ◌%◌, Bool, false, List, [], ◌∷◌, map, replicate, Option, Some, None, option_map, position, if◌then◌else◌}
+use Rattle.std.specs.Prelude.{◌≡◌, ℕ, ℤ, pos, ◌+◌, ◌+ℤ◌, ◌*◌, ◌/◌, ◌%◌, Bool, true, false, List, [], ◌∷◌, map, replicate, Option, Some, None, option_map, position, slice_index_or, if◌then◌else◌}
 use Rattle.circuit_model.specs.declared.channel.Slot.{Slot}
+use Rattle.circuit_model.specs.declared.circuit.Circuit.{Circuit}
+use Rattle.circuit_model.specs.declared.circuit.Circuit.TheVariants.{Pair, Member, Tone}
 use Rattle.circuit_model.specs.Circuits.{same_slot}
 use Rattle.circuit_model.specs.Holding.{Command, Connect, Seat, Give_tone, Clear, Frame}
 
@@ -50,3 +52,24 @@ port_numbered external n = record { line = external + n / 30; place = n % 30 }
 -- the port that a member has
 abbrev pub port_of : ℕ → Ports → Slot → Option Slot
 port_of external ports x = option_map (port_numbered external) (position (has x) ports)
+
+-- the ports of frame f of those listed; none where there is no such frame
+abbrev pub ports_of : List Ports → ℕ → Ports
+ports_of ports f = slice_index_or ports f []
+
+-- the member that the port with a number has, if any
+abbrev pub owner_of : Ports → ℕ → Option Slot
+owner_of ports k = slice_index_or ports k None
+
+-- what the members who have ports add up to, each by its weight
+abbrev pub sum_of_owners : (Slot → ℤ) → Ports → ℤ
+sum_of_owners weight [] = pos 0
+sum_of_owners weight (None ∷ ports) = sum_of_owners weight ports
+sum_of_owners weight (Some x ∷ ports) = weight x +ℤ sum_of_owners weight ports
+
+-- what the members among some circuits add up to, each by its weight
+abbrev pub sum_of_members : (Slot → ℤ) → List Circuit → ℤ
+sum_of_members weight [] = pos 0
+sum_of_members weight (Pair from to since ∷ circuits) = sum_of_members weight circuits
+sum_of_members weight (Member room at since ∷ circuits) = weight at +ℤ sum_of_members weight circuits
+sum_of_members weight (Tone kind to since ∷ circuits) = sum_of_members weight circuits

@@ -8,6 +8,7 @@ mod channel;
 mod circuit;
 mod holding_laws;
 mod laws;
+mod port_laws;
 
 pub use channel::{PLACES, Slot, channel_of, slot_of_channel};
 pub use circuit::{Circuit, IDLE, Kind};
@@ -16,3 +17,4 @@ pub use holding_laws::{
     law_of_validity, worked_holdings,
 };
 pub use laws::{law_of_age, worked_edges, worked_frames, worked_values};
+pub use port_laws::{law_of_extent, law_of_ports};

@@ -1,17 +1,17 @@
 -- What an engine of three stages holds of the frames that it has carried. Source: this exchange's own.
-use Rattle.std.specs.Prelude.{◌≡◌, ℕ, zero, suc, List, length}
+use Rattle.std.specs.Prelude.{◌≡◌, ℕ, zero, suc, ◌+◌, ◌≤◌, ◌<◌, List, length}
 use Rattle.circuit_model.specs.declared.channel.Slot.{Slot}
 use Rattle.circuit_model.specs.declared.circuit.Circuit.{Circuit}
 use Rattle.circuit_model.specs.FrameInput.{Input, idle_octet}
 use Rattle.circuit_model.specs.Holding.{circuits_of}
-use Rattle.circuit_model.specs.Ports.{Ports}
-use Rattle.frame_buffer.specs.Speech.{octet_of}
+use Rattle.circuit_model.specs.Ports.{Ports, ports_of}
+use Rattle.frame_buffer.specs.Speech.{Speech, octet_of}
 use Rattle.frame_buffer.specs.Highways.{Highways, octet_on}
 use Rattle.control_memory.specs.Layout.{Layout}
 use Rattle.control_memory.specs.Image.{Control, lines_of, EachSlot}
 use Rattle.control_memory.specs.Carrying.{HoldsCrossing}
 use Rattle.control_memory.specs.Shown.{ShowsBy}
-use Rattle.frame_engine.specs.Frames.{ports_of, brought}
+use Rattle.frame_engine.specs.Frames.{brought}
 
 -- an engine: its sizes, the number of its next frame, the control memory of the frame before that, what the frame before brought to each slot,
 -- and the octets that crossed in it
@@ -40,7 +40,7 @@ pub record CarriesLast (e : Stages) (inputs : List Input) (held : List (List Cir
 -- before the first frame everything is idle
 pub record IsFresh (e : Stages) : Type 0 where
   pub taken : EachSlot (lines_of e.kept) (λ at. octet_of e.taken at ≡ idle_octet)
-  pub crossed : (line slot : ℕ) → octet_on e.crossed line slot ≡ idle_octet
+  pub crossed : (line slot : ℕ) → line < lines_of e.kept → slot < e.slots → octet_on e.crossed line slot ≡ idle_octet
 
 abbrev pub CarriesAt : Stages → List Input → List (List Circuit) → List Ports → ℕ → Type 0
 CarriesAt e inputs held ports zero = IsFresh e
@@ -52,3 +52,17 @@ pub record Carries (e : Stages) (inputs : List Input) (held : List (List Circuit
   pub held_counted : length held ≡ e.next
   pub ports_counted : length ports ≡ e.next
   pub last : CarriesAt e inputs held ports e.next
+
+-- how large the parts of an engine are: one line of each for every external and bridge line
+pub record IsBuilt (external bridges slots : ℕ) (kept : Control) (speech : Speech) (highway crossed : Highways) (read : Speech) : Type 0 where
+  pub few : external ≤ 32
+  pub few_bridges : bridges ≤ 2
+  pub kept_external : kept.external ≡ external
+  pub kept_bridges : kept.bridges ≡ bridges
+  pub kept_slots : kept.slots ≡ slots
+  pub speech_lines : speech.lines ≡ external + bridges
+  pub highway_lines : highway.lines ≡ external + bridges
+  pub highway_slots : highway.slots ≡ slots
+  pub crossed_lines : crossed.lines ≡ external + bridges
+  pub crossed_slots : crossed.slots ≡ slots
+  pub read_lines : read.lines ≡ external + bridges

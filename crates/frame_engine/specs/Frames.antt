@@ -7,7 +7,8 @@ use Rattle.circuit_model.specs.declared.circuit.Circuit.TheVariants.{Pair, Membe
 use Rattle.circuit_model.specs.FrameInput.{Input, idle_octet, arrives}
 use Rattle.circuit_model.specs.Circuits.{heard_by}
 use Rattle.circuit_model.specs.Holding.{Command, empty, frames, circuits_of, AreAllowed}
-use Rattle.circuit_model.specs.Ports.{Ports, free_ports, port_frames}
+use Rattle.circuit_model.specs.Ports.{Ports, free_ports, port_frames, ports_of}
+use Rattle.circuit_model.specs.Extent.{AreWithin}
 use Rattle.circuit_model.specs.Hears.{mix}
 use Rattle.control_memory.specs.declared.heard.Heard.TheVariants.{Tone as Sounds}
 use Rattle.control_memory.specs.Image.{Control, lines_of, EachSlot, heard_at}
@@ -15,16 +16,13 @@ use Rattle.control_memory.specs.Shown.{member_at}
 use Rattle.tone_rules.specs.declared.tones.Tones.{Tones}
 use Rattle.tone_rules.specs.Tables.{IsGiven}
 
--- the circuits and ports of each frame are those of one list of allowed commands and boundaries
-pub record Come (bridges : ℕ) (held : List (List Circuit)) (ports : List Ports) : Type 0 where
+-- the circuits and ports of each frame are those of one list of allowed commands and boundaries, which name slots of external lines alone
+pub record Come (external bridges : ℕ) (held : List (List Circuit)) (ports : List Ports) : Type 0 where
   pub commands : List Command
+  pub within : AreWithin external commands
   pub allowed : AreAllowed bridges empty commands
   pub circuits : held ≡ frames empty commands
   pub seats : ports ≡ port_frames (free_ports bridges) commands
-
--- the ports of frame f of those listed; none where there is no such frame
-abbrev pub ports_of : List Ports → ℕ → Ports
-ports_of ports f = slice_index_or ports f []
 
 -- what the bridge mixes for a member by the circuit by which it hears
 abbrev pub mixed_for : List Input → List Circuit → ℕ → Option Circuit → ℕ

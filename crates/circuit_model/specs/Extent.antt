@@ -1,0 +1,28 @@
+-- The slots of the external lines, which circuits connect. Source: this exchange's own; ports of bridge lines are given, and named by no command.
+use Rattle.std.specs.Prelude.{ℕ, ◌<◌, List, [], ◌∷◌}
+use Rattle.circuit_model.specs.declared.channel.Slot.{Slot}
+use Rattle.circuit_model.specs.declared.circuit.Circuit.{Circuit}
+use Rattle.circuit_model.specs.declared.circuit.Circuit.TheVariants.{Pair, Member, Tone}
+use Rattle.circuit_model.specs.Holding.{Command, Connect, Seat, Give_tone, Clear, Frame}
+
+-- a slot of so many external lines
+abbrev pub IsExternal : ℕ → Slot → Type 0
+IsExternal lines x = (x.line < lines) × (x.place < 30)
+
+-- a command, and a circuit, that names such slots alone
+abbrev pub CommandWithin : ℕ → Command → Type 0
+CommandWithin lines (Connect x y) = IsExternal lines x × IsExternal lines y
+CommandWithin lines (Seat x room) = IsExternal lines x
+CommandWithin lines (Give_tone x kind) = IsExternal lines x
+CommandWithin lines (Clear x) = Unit {0}
+CommandWithin lines Frame = Unit {0}
+
+abbrev pub NamesWithin : ℕ → Circuit → Type 0
+NamesWithin lines (Pair x y since) = IsExternal lines x × IsExternal lines y
+NamesWithin lines (Member room x since) = IsExternal lines x
+NamesWithin lines (Tone kind x since) = IsExternal lines x
+
+-- so does each of the commands
+abbrev pub AreWithin : ℕ → List Command → Type 0
+AreWithin lines [] = Unit {0}
+AreWithin lines (c ∷ cs) = CommandWithin lines c × AreWithin lines cs

@@ -1,0 +1,83 @@
+use Rattle.std.proofs.Common.{◌≡◌, ◌+◌, ◌<◌, length, ℕ, List, [], ◌∷◌, ◌++◌, sym, ◌∙◌, ap, subst, arith, rules}
+use Rattle.circuit_model.specs.declared.channel.Slot.{Slot}
+use Rattle.circuit_model.specs.Hears.{hears}
+use Rattle.circuit_model.specs.Ports.{port_numbered}
+use Rattle.frame_buffer.specs.Speech.{Speech, octet_of}
+use Rattle.control_memory.specs.Image.{Control, sent}
+use Rattle.control_memory.specs.Carrying.{fetched}
+use Rattle.control_memory.specs.Shown.{Shows}
+use Rattle.tone_rules.specs.Tables.{table_of}
+use Rattle.frame_engine.specs.Frames.{Come}
+use Rattle.frame_engine.specs.Carries.{Stages, Carries}
+use Rattle.frame_engine.proofs.Frame.{IsAt, Did, plays, carries_on}
+use Rattle.frame_engine.proofs.engine.EngineCarrier.frame.Goals as goal
+
+-- the engine and the control memory as they come
+abbrev stages : goal.After-self-1 → Stages
+stages c = let w = c.self.inside in record { external = w.external; bridges = w.bridges; slots = w.slots; next = w.next; kept = w.kept; taken = w.speech.readable; crossed = w.crossed }
+
+abbrev image : goal.After-self-1 → Control
+image c = c.args.image.now
+
+-- what is read out, what the incoming lines send, what crosses, and what is taken in
+abbrev octets_read : goal.After-self-1 → List ℕ
+octets_read c = c.swap.new.self.readable
+
+sizes : (c : goal.After-self-1) → IsAt (stages c) (image c) (octets_read c)
+sizes c =
+    let view = c.self.view_is in
+    record {
+      kept_external = c.self.invariant.kept_external;
+      kept_bridges = c.self.invariant.kept_bridges;
+      kept_slots = c.self.invariant.kept_slots;
+      external = c.requires.external ∙ sym (ap (λ (s : Stages). s.external) view);
+      bridges = c.requires.bridges ∙ sym (ap (λ (s : Stages). s.bridges) view);
+      slots = c.requires.slots ∙ sym (ap (λ (s : Stages). s.slots) view);
+      frame = c.requires.frame ∙ sym (ap (λ (s : Stages). s.next) view);
+      read_out = λ at inside near.
+          ap (λ (b : Speech). octet_of b.readable at) c.swap.ensures
+          ∙ c.outgoing.ensures.octets at (let made = c.outgoing.ensures.lines in let had = c.self.invariant.read_lines in omega (arith, inside, made, had)) near;
+    }
+
+did : (c : goal.After-self-1) → Did (stages c) (image c) c.args.input.now (octets_read c) c.swap-2.new.self.readable c.incoming.new.highway c.cross.new.crossed
+did c =
+    let external = (sizes c).external in
+    let bridges = (sizes c).bridges in
+    let swapped : c.swap-2.new.self.readable ≡ c.take_in.new.speech.filled = ap (λ (b : Speech). b.readable) c.swap-2.ensures in
+    record {
+      sends = λ line slot here near.
+          c.incoming.ensures.octets line slot
+          (let size = c.incoming.ensures.size.lines in let had = c.self.invariant.highway_lines in omega (arith, here, size, had))
+          (let size = c.incoming.ensures.size.slots in let had = c.self.invariant.highway_slots in omega (arith, near, size, had))
+          ∙ ap (λ (r : List ℕ). fetched (sent (image c) line slot) (λ place. octet_of r (record { line = line; place = place }))) c.mix_rooms.ensures.readable;
+      crosses = λ line slot here near.
+          c.cross.ensures.octets line slot
+          (let size = c.cross.ensures.size.lines in let had = c.self.invariant.crossed_lines in omega (arith, here, size, had))
+          (let size = c.cross.ensures.size.slots in let had = c.self.invariant.crossed_slots in omega (arith, near, size, had));
+      takes = λ at here near. ap (λ (r : List ℕ). octet_of r at) swapped ∙ c.take_in.ensures.taken at here near;
+      mixes = λ k near.
+          let port = port_numbered (image c).external k in
+          ap (λ (r : List ℕ). octet_of r port) swapped
+          ∙ c.take_in.ensures.others port (omega (arith, external)) (omega arith)
+          ∙ c.mix_rooms.ensures.ports k (omega (arith, near, bridges));
+    }
+
+pub returns-clause-plays : goal.returns-clause-plays
+returns-clause-plays c inputs held ports circuits seats carried shown come at line place =
+    let view = c.self.view_is in
+    let carries = subst (λ (s : Stages). Carries s inputs held ports) (sym view) carried in
+    let shows = subst (λ (s : Stages). Shows (image c) circuits seats s.next) (sym view) shown in
+    let comes = subst (λ (s : Stages). Come s.external s.bridges (held ++ circuits ∷ []) (ports ++ seats ∷ [])) (sym view) come in
+    let here : at.line < (stages c).external = subst (λ (s : Stages). at.line < s.external) (sym view) line in
+    c.play.ensures at (let external = (sizes c).external in omega (arith, here, external)) place
+    ∙ plays (stages c) (image c) (octets_read c) (sizes c) inputs held ports c.args.input.now circuits seats carries shows.0 shows.1 comes (table_of c.args.tones.now) at here place
+    ∙ ap (λ (s : Stages). hears (table_of c.args.tones.now) (inputs ++ c.args.input.now ∷ []) (held ++ circuits ∷ []) s.next at) view
+
+pub returns-clause-carries : goal.returns-clause-carries
+returns-clause-carries c inputs held ports circuits seats carried shown come =
+    let view = c.self.view_is in
+    let carries = subst (λ (s : Stages). Carries s inputs held ports) (sym view) carried in
+    let shows = subst (λ (s : Stages). Shows (image c) circuits seats s.next) (sym view) shown in
+    let comes = subst (λ (s : Stages). Come s.external s.bridges (held ++ circuits ∷ []) (ports ++ seats ∷ [])) (sym view) come in
+    let on = carries_on (stages c) (image c) (octets_read c) (sizes c) inputs held ports c.args.input.now circuits seats carries shows.0 shows.1 comes c.incoming.new.highway c.cross.new.crossed c.swap-2.new.self.readable (did c) in
+    subst (λ (m : Control). Carries (record (stages c) { next = c.self.inside.next + 1; kept = m; taken = c.swap-2.new.self.readable; crossed = c.cross.new.crossed }) (inputs ++ c.args.input.now ∷ []) (held ++ circuits ∷ []) (ports ++ seats ∷ [])) (sym c.swap-3.ensures.x_after) on

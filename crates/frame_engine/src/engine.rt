@@ -1,0 +1,99 @@
+ghost use Rattle.std.specs.Prelude.{◌≡◌, ◌+◌, ◌<◌, length};
+ghost use Rattle.circuit_model.specs.Hears.{hears};
+ghost use Rattle.frame_engine.specs.Carries.{Carries};
+
+use crate::carrier::Carrier;
+use crate::intake::take_in;
+use crate::play::play;
+use crate::rooms::mix_rooms;
+use control_memory::Image;
+use frame_buffer::{Crossed, FrameBuffer, Highway};
+use space_stage::cross;
+use std::alloc::{AllocError, Global};
+use std::marker::Model;
+use std::mem;
+use time_stage::{incoming, outgoing};
+use tone_rules::Tones;
+
+/// The engine of three stages: speech memories, and the control memory of the frame that crossed last.
+#[derive(Drop)]
+pub struct Engine {
+    external: u8,
+    bridges: u8,
+    slots: u8,
+    next: u32,
+    kept: Image,
+    speech: FrameBuffer,
+    highway: Highway,
+    crossed: Crossed,
+    read: FrameBuffer,
+}
+
+impl Model for Engine {
+    ghost use Rattle.std.specs.Prelude.{◌≡◌, ◌+◌, ◌≤◌};
+    ghost use Rattle.frame_engine.specs.Carries.{Stages, IsBuilt};
+
+    ghost Value = { Stages };
+
+    ghost view = { λ e. record {
+      external = e.external;
+      bridges = e.bridges;
+      slots = e.slots;
+      next = e.next;
+      kept = e.kept;
+      taken = e.speech.readable;
+      crossed = e.crossed;
+    } };
+
+    ghost invariant = { λ e. IsBuilt e.external e.bridges e.slots e.kept e.speech e.highway e.crossed e.read };
+}
+
+impl Carrier for Engine {
+    ghost external_lines = { λ e. e.external };
+
+    ghost bridge_lines = { λ e. e.bridges };
+
+    ghost depth = { λ e. e.slots };
+
+    ghost next = { λ e. e.next };
+
+    ghost carries = { λ e inputs held ports. Carries e inputs held ports };
+
+    ghost plays = { hears };
+
+    ghost counted = { λ e inputs held ports carried. carried.inputs_counted };
+
+    fn new(alloc: Global, external: u8, bridges: u8, slots: u8) -> Result<Self, AllocError> {
+        let lines = external + bridges;
+        Ok(Engine {
+            external,
+            bridges,
+            slots,
+            next: 0,
+            kept: Image::new(alloc, external, bridges, slots)?,
+            speech: FrameBuffer::new(alloc, lines)?,
+            highway: Highway::new(alloc, lines, slots)?,
+            crossed: Crossed::new(alloc, lines, slots)?,
+            read: FrameBuffer::new(alloc, lines)?,
+        })
+    }
+
+    fn frame(
+        &mut self,
+        image: &mut Image,
+        tones: &Tones,
+        input: &[Option<[u8; 30]>],
+        out: &mut [[u8; 30]],
+    ) {
+        outgoing(&self.crossed, &self.kept, &mut self.read);
+        self.read.swap();
+        mix_rooms(&self.read, image, &mut self.speech);
+        incoming(&self.speech, image, &mut self.highway);
+        cross(&self.highway, image, &mut self.crossed);
+        take_in(input, self.external, &mut self.speech);
+        self.speech.swap();
+        play(&self.read, image, tones, out);
+        mem::swap(&mut self.kept, image);
+        self.next += 1;
+    }
+}

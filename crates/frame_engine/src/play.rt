@@ -1,0 +1,56 @@
+ghost use Rattle.std.specs.Prelude.{◌≡◌, ℕ, ◌<◌, ◌≤◌, [], length, slice_index, slice_index_or};
+ghost use Rattle.circuit_model.specs.declared.channel.Slot.{Slot};
+ghost use Rattle.circuit_model.specs.declared.circuit.Kind.{Kind};
+ghost use Rattle.frame_buffer.specs.Speech.{octet_of};
+ghost use Rattle.control_memory.specs.declared.heard.Heard.TheVariants.{Tone};
+ghost use Rattle.control_memory.specs.Image.{lines_of, heard_at};
+ghost use Rattle.tone_rules.specs.Tables.{table_of, IsGiven};
+ghost use Rattle.frame_engine.specs.Frames.{PlaysOut, TonesGiven};
+ghost use Rattle.frame_engine.specs.Playing.{played};
+
+use crate::age::is_through;
+use circuit_model::{IDLE, PLACES, Slot};
+use control_memory::{Heard, Image};
+use frame_buffer::FrameBuffer;
+use tone_rules::{Tones, octet_of};
+
+// Writes what each external slot sends.
+pub(crate) fn play(read: &FrameBuffer, image: &Image, tones: &Tones, out: &mut [[u8; 30]])
+    requires read { read.now.lines ≡ lines_of image.now }
+    requires lines { lines_of image.now ≤ 255 }
+    requires out { length out.old ≡ image.now.external }
+    requires tones { TonesGiven tones.now image.now }
+    ensures { PlaysOut image.now.external (λ at. played (table_of tones.now) image.now.frame (octet_of read.now.readable at) (heard_at image.now at)) out.new }
+{
+    for line in 0..image.external() {
+        out[usize::from(line)] = play_line(read, image, tones, line);
+    }
+}
+
+// What one external line sends.
+fn play_line(read: &FrameBuffer, image: &Image, tones: &Tones, line: u8) -> [u8; 30]
+    requires read { read.now.lines ≡ lines_of image.now }
+    requires line { line < image.now.external }
+    requires tones { TonesGiven tones.now image.now }
+    ensures { (place : ℕ) → place < 30 → let at : Slot = record { line = line; place = place } in slice_index result place ≡ played (table_of tones.now) image.now.frame (octet_of read.now.readable at) (heard_at image.now at) }
+{
+    let mut octets = [IDLE; 30];
+    for place in 0..PLACES {
+        let at = Slot { line, place };
+        octets[usize::from(place)] = play_octet(image.heard(at), read.get(at), tones, image.frame());
+    }
+    octets
+}
+
+// What is heard of an octet that was read out, or the octet of a tone.
+fn play_octet(heard: Heard, octet: u8, tones: &Tones, frame: u32) -> u8
+    requires { (kind : Kind) (since : ℕ) → heard ≡ Tone kind since → IsGiven tones.now kind }
+    ensures { result ≡ played (table_of tones.now) frame octet heard }
+{
+    match heard {
+        Heard::Silent => IDLE,
+        Heard::Path { since } if is_through(since, frame) => octet,
+        Heard::Path { .. } => IDLE,
+        Heard::Tone { kind, since } => octet_of(tones, kind, frame.saturating_sub(since)),
+    }
+}
