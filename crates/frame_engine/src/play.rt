@@ -37,7 +37,12 @@ fn play_line(read: &FrameBuffer, image: &Image, tones: &Tones, line: u8) -> [u8;
     let mut octets = [IDLE; 30];
     for place in 0..PLACES {
         let at = Slot { line, place };
-        octets[usize::from(place)] = play_octet(image.heard(at), read.get(at), tones, image.frame());
+        octets[usize::from(place)] = play_octet(
+            image.heard(at),
+            read.get(at),
+            tones,
+            image.frame(),
+        );
     }
     octets
 }
