@@ -12,3 +12,6 @@ mod rooms;
 pub use carrier::Carrier;
 pub use engine::Engine;
 pub use marker::Marker;
+
+#[cfg(test)]
+mod tests;
