@@ -1,11 +1,11 @@
 -- Circuits name the slots that the commands name.
-use Rattle.std.proofs.Common.{◌≡◌, ℕ, zero, suc, List, [], ◌∷◌, ◌++◌, ◌⊎◌, ⊎_elim, subst}
+use Rattle.std.proofs.Common.{◌≡◌, ℕ, zero, suc, List, [], ◌∷◌, ◌++◌, ⊎_elim, subst}
 use Rattle.std.specs.List.{Contains}
 use Rattle.std.proofs.lemmas.List.Elements.{Contains-append_cases}
 use Rattle.circuit_model.specs.declared.circuit.Circuit.{Circuit}
 use Rattle.circuit_model.specs.declared.circuit.Circuit.TheVariants.{Pair, Member, Tone}
 use Rattle.circuit_model.specs.Holding.{Holding, Command, Connect, Seat, Give_tone, Clear, Frame, after, frames, circuits_of}
-use Rattle.circuit_model.specs.Extent.{IsExternal, CommandWithin, NamesWithin, AreWithin}
+use Rattle.circuit_model.specs.Extent.{NamesWithin, AreWithin}
 use Rattle.circuit_model.proofs.Age.{cons_cases, none_in_nil, within_filtered}
 
 abbrev AllWithin : ℕ → List Circuit → Type 0

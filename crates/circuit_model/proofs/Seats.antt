@@ -1,5 +1,5 @@
 -- Members and their ports: the ports of a frame have the members that stand in it, each once, and a member keeps its port.
-use Rattle.std.proofs.Common.{◌≡◌, ℕ, zero, suc, ◌+◌, ◌-◌, ◌*◌, ◌<◌, ◌≤◌, Bool, true, false, not, ◌&&◌, ◌⊎◌, List, [], ◌∷◌, ◌++◌, length, replicate, get_or, Option, Some, None, ℤ, pos, ◌+ℤ◌, refl, sym, ◌∙◌, ap, subst, inl, inr, ⊎_elim, arith, sub-one, if◌then◌else◌}
+use Rattle.std.proofs.Common.{◌≡◌, ℕ, zero, suc, ◌+◌, ◌-◌, ◌*◌, ◌<◌, ◌≤◌, Bool, true, false, not, ◌⊎◌, List, [], ◌∷◌, ◌++◌, length, replicate, Option, Some, None, ℤ, pos, ◌+ℤ◌, refl, sym, ◌∙◌, ap, subst, inl, inr, ⊎_elim, arith, sub-one, if◌then◌else◌}
 use Rattle.std.specs.List.{Contains, filter, count_by}
 use Rattle.std.proofs.lemmas.Int.{ints}
 use Rattle.std.proofs.lemmas.Grind.{common_steps}
@@ -7,11 +7,11 @@ use Rattle.std.proofs.lemmas.List.{length-map}
 use Rattle.circuit_model.specs.declared.channel.Slot.{Slot}
 use Rattle.circuit_model.specs.declared.circuit.Circuit.{Circuit}
 use Rattle.circuit_model.specs.declared.circuit.Circuit.TheVariants.{Pair, Member, Tone}
-use Rattle.circuit_model.specs.Circuits.{same_slot, names, is_member, since_of}
+use Rattle.circuit_model.specs.Circuits.{same_slot, names, is_member}
 use Rattle.circuit_model.specs.Holding.{Holding, empty, Command, Connect, Seat, Give_tone, Clear, Frame, after, frames, circuits_of, naming, Stands, Is_idle, Has_tone, Is_seated, Is_connected, IsAllowed, AreAllowed}
-use Rattle.circuit_model.specs.Ports.{Ports, free_ports, given, has, returned, ports_after, port_frames, ports_of, owner_of, sum_of_owners, sum_of_members}
-use Rattle.circuit_model.proofs.Slots.{true_or_false, same_slot-refl, same_slot-true, same_slot-false}
-use Rattle.circuit_model.proofs.Age.{cons_cases, at_head, in_tail, none_in_nil, within_filtered, first_frame, age}
+use Rattle.circuit_model.specs.Ports.{Ports, free_ports, given, returned, ports_after, port_frames, ports_of, owner_of, sum_of_owners, sum_of_members}
+use Rattle.circuit_model.proofs.Slots.{true_or_false, same_slot-refl, same_slot-true}
+use Rattle.circuit_model.proofs.Age.{cons_cases, at_head, in_tail, none_in_nil, first_frame, age}
 use Rattle.std.proofs.Math.ListN.{get_or-eq_default}
 use Rattle.circuit_model.proofs.Validity.{count_by-append, valid-empty}
 use Rattle.circuit_model.proofs.Recorded.{valid-frames}
@@ -283,7 +283,7 @@ not_named x (d ∷ ds) c inside =
     elim (true_or_false (names x d)) [
       | inl gone ↦ let rest : Contains (filter (λ c. not (names x c)) ds) c = rw gone at inside in not_named x ds c rest
       | inr stays ↦ let kept : Contains (d ∷ filter (λ c. not (names x c)) ds) c = rw stays at inside in
-        ⊎_elim (λ (e : d ≡ c). ap (names x) (sym e) ∙ stays) (λ (t : Contains (filter (λ c. not (names x c)) ds) c). not_named x ds c t) (cons_cases d (filter (λ c. not (names x c)) ds) c kept)
+          ⊎_elim (λ (e : d ≡ c). ap (names x) (sym e) ∙ stays) (λ (t : Contains (filter (λ c. not (names x c)) ds) c). not_named x ds c t) (cons_cases d (filter (λ c. not (names x c)) ds) c kept)
     ]
 
 -- the member of the first frame that is older than the next one had its port at the beginning

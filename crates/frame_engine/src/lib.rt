@@ -12,6 +12,3 @@ mod rooms;
 pub use carrier::Carrier;
 pub use engine::Engine;
 pub use marker::Marker;
-
-#[cfg(test)]
-mod tests;
