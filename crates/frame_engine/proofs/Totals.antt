@@ -1,5 +1,5 @@
 -- The totals of the rooms, as ports are added to them.
-use Rattle.std.proofs.Common.{◌≡◌, ℕ, ◌<◌, ◌≤◌, ◌+◌, List, length, get_or, set, get_or-set_other, get_or-set_same, Some, ℤ, pos, ◌+ℤ◌, nat_abs, sym, ap, ◌∙◌, subst, inl, inr, arith}
+use Rattle.std.proofs.Common.{◌≡◌, ℕ, ◌<◌, ◌≤◌, ◌+◌, List, length, get_or, set, get_or-set_other, get_or-set_same, Option, Some, None, ℤ, pos, ◌+ℤ◌, nat_abs, refl, sym, ap, ◌∙◌, subst, inl, inr, arith}
 use Rattle.std.proofs.lemmas.Int.{ints}
 use Rattle.std.proofs.lemmas.Bool.{cases_eq, ne_eqb}
 use Rattle.conference_mix.specs.Bridge.{value_of}

@@ -1,3 +1,5 @@
+use Rattle.std.proofs.Common.{◌≡◌, ◌<◌, [], slice_index, slice_index_or}
+use Rattle.circuit_model.specs.declared.channel.Slot.{Slot}
 use Rattle.frame_buffer.specs.Speech.{octet_of}
 use Rattle.control_memory.specs.Image.{heard_at}
 use Rattle.tone_rules.specs.Tables.{table_of}

@@ -1,4 +1,4 @@
-use Rattle.std.proofs.Common.{◌≡◌, ◌*◌, ◌<◌, ◌≤◌, get_or, Some, None, ℤ, pos, ◌-ℤ◌, nat_abs, to_z, of_z, length, sym, ap, ◌∙◌, arith, rules}
+use Rattle.std.proofs.Common.{◌≡◌, ℕ, ◌+◌, ◌*◌, ◌<◌, ◌≤◌, List, Option, get_or, Some, None, ℤ, pos, ◌+ℤ◌, ◌-ℤ◌, nat_abs, to_z, of_z, length, sym, ap, ◌∙◌, arith, rules}
 use Rattle.std.specs.Int.{w32}
 use Rattle.std.proofs.lemmas.Int.{ints}
 use Rattle.std.proofs.lemmas.List.FromFn.{length-map-range_with_len, get_or-map-range_with_len}

@@ -1,4 +1,5 @@
-use Rattle.std.proofs.Common.{◌*◌, ◌%◌, ◌<◌, ◌≤◌, ap, ◌∙◌, ⊎_elim, arith, rules}
+use Rattle.std.proofs.Common.{◌≡◌, ℕ, ◌+◌, ◌*◌, ◌/◌, ◌%◌, ◌<◌, ◌≤◌, ap, ◌∙◌, ⊎_elim, arith, rules}
+use Rattle.circuit_model.specs.declared.channel.Slot.{Slot}
 use Rattle.circuit_model.specs.Ports.{port_numbered}
 use Rattle.circuit_model.proofs.Seats.{below_or_not}
 use Rattle.frame_buffer.specs.Speech.{octet_of}
