@@ -15,7 +15,17 @@ use std::mem;
 use time_stage::{incoming, outgoing};
 use tone_rules::Tones;
 
-/// The engine of three stages: speech memories, and the control memory of the frame that crossed last.
+/// The engine of a time-space-time exchange: two speech memories, the highways between the stages,
+/// and the control memory of the frame that crossed last.
+///
+/// In each frame it reads out what crossed in the frame before, by the control memory of that
+/// frame; mixes the conference ports; lets what came in the frame before cross, by the control
+/// memory of this frame, which it keeps; and takes in what comes now. So an octet leaves two frames
+/// after it came, whether or not its path moved in between, and one that is mixed passes the stages
+/// twice. The order is this exchange's own.
+///
+/// Only `new` takes memory. A frame's work is the same whatever stands: it takes no lock and never
+/// waits.
 #[derive(Drop)]
 pub struct Engine {
     external: u8,

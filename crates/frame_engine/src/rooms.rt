@@ -15,8 +15,8 @@ use frame_buffer::FrameBuffer;
 // How many rooms a control memory can name.
 const ROOMS: usize = 256;
 
-// Gives each conference port its member's room without the member: one pass over the ports adds the rooms up, another one takes each
-// member's own value out.
+// Gives each conference port its member's room without the member: one pass over the ports adds the
+// rooms up, another one takes each member's own value out.
 pub(crate) fn mix_rooms(read: &FrameBuffer, image: &Image, speech: &mut FrameBuffer)
     requires few { image.now.bridges ≤ 2 }
     requires lines { lines_of image.now ≤ 255 }
@@ -113,7 +113,8 @@ fn port_of(image: &Image, port: u8) -> Slot
     }
 }
 
-// What a member adds to its room: the value of the octet that was read out for it, and nothing before it has sat there for two frames.
+// What a member adds to its room: the value of the octet that was read out for it, and nothing
+// before it has sat there for two frames.
 fn value_of(octet: u8, room: u8, since: u32, frame: u32) -> i32
     ensures value { result ≡ value_of (added frame room octet (Some (room, since))) }
     ensures within { nat_abs result ≤ 4032 }
