@@ -1,0 +1,6 @@
+pub mod Needs
+pub mod Rows
+pub mod Holdings
+pub mod Sockets
+pub mod Paths
+pub mod Clearing

@@ -1,0 +1,195 @@
+ghost use Rattle.std.specs.Prelude.{◌≡◌, ◌≢◌, ◌+◌, ◌*◌, ◌<◌, ◌≤◌, ◌↔◌, ℕ, None, Some, IfSome, true, IfOk, IsOk, IsErr, IsTrue, OnErr, OnOk, count_by, is_none};
+ghost use Rattle.circuit_model.specs.declared.channel.Slot.{Slot};
+ghost use Rattle.circuit_model.specs.declared.circuit.Circuit.{Circuit};
+ghost use Rattle.circuit_model.specs.Circuits.{is_idle, is_member};
+ghost use Rattle.circuit_model.specs.Holding.{Holding, empty, Connect, Seat, Give_tone, Clear, Frame, after};
+ghost use Rattle.circuit_model.specs.Ports.{Ports as Members, ports_after, free_ports, port_of};
+ghost use Rattle.control_memory.specs.Layout.{IsBare};
+ghost use Rattle.control_memory.specs.Connecting.{moved};
+ghost use Rattle.control_memory.specs.Shown.{ShowsBy};
+ghost use Rattle.circuit_map.specs.Connections.{lines_of, IsExternal, hears_at, Holds, SameSizes, joined_one, joined_both, parted, is_pathless};
+
+use circuit_model::{Circuit, Kind, Slot};
+use conference_ports::Ports;
+use control_memory::{Image, PathMap};
+use std::alloc::{AllocError, Global};
+use std::marker::Model;
+
+/// Every conference port is taken.
+#[derive(Clone, Copy, Debug, PartialEq, Eq)]
+pub struct NoPort;
+
+/// The circuits that stand, and the paths and conference ports that carry them.
+///
+/// Contracts see the circuit by which each external slot hears, the member of each port and the
+/// layout of the paths; `Holds` says of which holding these are. No call but `new` takes memory.
+pub struct CircuitMap<P: PathMap> {
+    external: u8,
+    bridges: u8,
+    // The number of the next frame.
+    next: u32,
+    // The circuit by which each external slot hears, line by line.
+    heard: Vec<Option<Circuit>>,
+    ports: Ports,
+    paths: P,
+}
+
+impl<P: PathMap> Model for CircuitMap<P> {
+    ghost use Rattle.std.specs.Prelude.{◌≡◌};
+    ghost use Rattle.conference_ports.specs.Owners.{members};
+    ghost use Rattle.circuit_map.specs.Connections.{Connections, IsSound};
+
+    ghost Value = { Connections };
+
+    ghost view = { λ m. record {
+      external = m.external;
+      bridges = m.bridges;
+      slots = P.depth m.paths;
+      bound = P.bound m.paths;
+      next = m.next;
+      heard = m.heard.items;
+      ports = members m.ports.owners;
+      layout = P.layout m.paths;
+    } };
+
+    ghost invariant = { λ m. IsSound (record {
+      external = m.external;
+      bridges = m.bridges;
+      slots = P.depth m.paths;
+      bound = P.bound m.paths;
+      next = m.next;
+      heard = m.heard.items;
+      ports = members m.ports.owners;
+      layout = P.layout m.paths;
+    }) (P.width m.paths) m.ports.external m.ports.lines };
+}
+
+impl<P: PathMap> CircuitMap<P> {
+    /// Whether no circuit names an external slot.
+    pub fn idle(&self, at: Slot) -> bool
+        requires external { IsExternal self.now at }
+        ensures silent { result ≡ is_none (hears_at self.now at) }
+        ensures idle { (h : Holding) (ports : Members) → Holds self.now h ports → result ≡ is_idle h.circuits at }
+    {
+        self.hears(at).is_none()
+    }
+
+    /// Gives a tone to an idle slot.
+    pub fn tone(&mut self, x: Slot, kind: Kind)
+        requires external { IsExternal self.old x }
+        requires idle { hears_at self.old x ≡ None }
+        ensures holds { (h : Holding) (ports : Members) → Holds self.old h ports → Holds self.new (after h (Give_tone x kind)) (ports_after ports (Give_tone x kind)) }
+        ensures layout { self.new.layout ≡ self.old.layout }
+        ensures sizes { SameSizes self.old self.new }
+    {
+        self.heard[number_of(x)] = Some(Circuit::Tone {
+            kind,
+            to: x,
+            since: self.next,
+        });
+    }
+
+    /// Connects two idle slots: x to y, and then y to x.
+    ///
+    /// Answers how many live paths each of the two connects moved.
+    pub fn pair(&mut self, x: Slot, y: Slot) -> (u32, u32)
+        requires external_x { IsExternal self.old x }
+        requires external_y { IsExternal self.old y }
+        requires distinct { x ≢ y }
+        requires idle_x { hears_at self.old x ≡ None }
+        requires idle_y { hears_at self.old y ≡ None }
+        ensures holds { (h : Holding) (ports : Members) → Holds self.old h ports → Holds self.new (after h (Connect x y)) (ports_after ports (Connect x y)) }
+        ensures layout { self.new.layout ≡ joined_both self.old x y }
+        ensures there { result.0 ≡ moved self.old.layout (joined_one self.old x y) }
+        ensures back { result.1 ≡ moved (joined_one self.old x y) (joined_both self.old x y) }
+        ensures few { (result.0 ≤ self.old.bound) × (result.1 ≤ self.old.bound) }
+        ensures sizes { SameSizes self.old self.new }
+    {
+        let there = self.paths.connect(x, y);
+        let back = self.paths.connect(y, x);
+        let since = self.next;
+        self.heard[number_of(x)] = Some(Circuit::Pair {
+            from: y,
+            to: x,
+            since,
+        });
+        self.heard[number_of(y)] = Some(Circuit::Pair {
+            from: x,
+            to: y,
+            since,
+        });
+        (there, back)
+    }
+
+    /// Takes away every circuit that names a slot, with its paths and its conference port.
+    pub fn clear(&mut self, x: Slot)
+        requires external { IsExternal self.old x }
+        ensures holds { (h : Holding) (ports : Members) → Holds self.old h ports → Holds self.new (after h (Clear x)) (ports_after ports (Clear x)) }
+        ensures layout { self.new.layout ≡ parted self.old x }
+        ensures sizes { SameSizes self.old self.new }
+    {
+        match self.hears(x) {
+            None => self.silence(x),
+            Some(Circuit::Tone { .. }) => self.silence(x),
+            Some(Circuit::Pair { from, .. }) => self.release(x, from),
+            Some(Circuit::Member { .. }) => self.unseat(x),
+        }
+    }
+
+    // The circuit by which an external slot hears.
+    fn hears(&self, at: Slot) -> Option<Circuit>
+        requires external { IsExternal self.now at }
+        ensures { result ≡ hears_at self.now at }
+    {
+        self.heard[number_of(at)]
+    }
+
+    // Takes away the tone of a slot, if it has one.
+    fn silence(&mut self, x: Slot)
+        requires external { IsExternal self.old x }
+        requires pathless { is_pathless (hears_at self.old x) ≡ true }
+        ensures holds { (h : Holding) (ports : Members) → Holds self.old h ports → Holds self.new (after h (Clear x)) (ports_after ports (Clear x)) }
+        ensures layout { self.new.layout ≡ parted self.old x }
+        ensures sizes { SameSizes self.old self.new }
+    {
+        self.heard[number_of(x)] = None;
+    }
+
+    // Takes down the connection of x with y, both ways.
+    fn release(&mut self, x: Slot, y: Slot)
+        requires external { IsExternal self.old x }
+        requires connected { (to : Slot) × (since : ℕ) × (hears_at self.old x ≡ Some (Circuit.Pair y to since)) }
+        ensures holds { (h : Holding) (ports : Members) → Holds self.old h ports → Holds self.new (after h (Clear x)) (ports_after ports (Clear x)) }
+        ensures layout { self.new.layout ≡ parted self.old x }
+        ensures sizes { SameSizes self.old self.new }
+    {
+        self.paths.disconnect(x, y);
+        self.paths.disconnect(y, x);
+        self.heard[number_of(x)] = None;
+        self.heard[number_of(y)] = None;
+    }
+
+    // Takes a member out of its room, and its port back.
+    fn unseat(&mut self, x: Slot)
+        requires external { IsExternal self.old x }
+        requires seated { (room : ℕ) × (at : Slot) × (since : ℕ) × (hears_at self.old x ≡ Some (Circuit.Member room at since)) }
+        ensures holds { (h : Holding) (ports : Members) → Holds self.old h ports → Holds self.new (after h (Clear x)) (ports_after ports (Clear x)) }
+        ensures layout { self.new.layout ≡ parted self.old x }
+        ensures sizes { SameSizes self.old self.new }
+    {
+        let Some(port) = self.ports.port_of(x) else {
+            unreachable!();
+        };
+        self.paths.disconnect(x, port);
+        self.paths.disconnect(port, x);
+        self.ports.give(x);
+        self.heard[number_of(x)] = None;
+    }
+}
+
+// Where an external slot's circuit stands: slots are numbered line by line.
+fn number_of(at: Slot) -> usize
+    ensures { result ≡ 30 * at.line + at.place }
+{
+    30 * usize::from(at.line) + usize::from(at.place)
+}
