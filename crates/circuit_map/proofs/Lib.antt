@@ -4,3 +4,4 @@ pub mod Holdings
 pub mod Sockets
 pub mod Paths
 pub mod Clearing
+pub mod Showing

@@ -1,5 +1,5 @@
 -- What a map of circuits keeps, and the holding that it stands for. Source: this exchange's own.
-use Rattle.std.specs.Prelude.{◌≡◌, ℕ, ◌+◌, ◌*◌, ◌<◌, ◌≤◌, ◌&&◌, nat_lt, Bool, true, false, List, length, count_by, Option, Some, None, is_some, slice_index_or, if◌then◌else◌}
+use Rattle.std.specs.Prelude.{◌≡◌, ℕ, ◌+◌, ◌*◌, ◌<◌, ◌≤◌, ◌&&◌, nat_lt, Bool, true, false, List, length, count_by, Option, Some, None, is_some, slice_index_or, option_and_then, if◌then◌else◌}
 use Rattle.circuit_model.specs.declared.channel.Slot.{Slot}
 use Rattle.circuit_model.specs.declared.circuit.Circuit.{Circuit}
 use Rattle.circuit_model.specs.declared.circuit.Circuit.TheVariants.{Pair, Member, Tone}
@@ -8,7 +8,7 @@ use Rattle.circuit_model.specs.Holding.{Holding, Valid}
 use Rattle.circuit_model.specs.Ports.{Ports, has, port_of}
 use Rattle.control_memory.specs.Layout.{Layout, Legal, number_of}
 use Rattle.control_memory.specs.Connecting.{connect, without_path}
-use Rattle.control_memory.specs.Shown.{JoinsCircuits}
+use Rattle.control_memory.specs.Shown.{JoinsCircuits, served_by, seated_as}
 
 -- for each external slot, line by line, the circuit by which it hears; the member of each conference port; and the layout of the paths
 pub record Connections : Type 0 where
@@ -98,3 +98,11 @@ is_pathless (Some (Tone kind to since)) = true
 
 abbrev pub parted : Connections → Slot → Layout
 parted m x = without_both m.layout x (partner m.external m.ports (hears_at m x))
+
+-- the circuit that a slot serves: an external slot the one by which it hears, a conference port that of its member
+abbrev pub served_at : Connections → Slot → Option Circuit
+served_at m at = option_and_then (hears_at m) (served_by m.external m.ports at)
+
+-- the room that a slot shows: that of a port's member
+abbrev pub room_shown : Connections → Slot → Option (ℕ × ℕ)
+room_shown m at = if nat_lt at.line m.external then None else seated_as (served_at m at)

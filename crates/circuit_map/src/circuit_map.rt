@@ -1,17 +1,18 @@
-ghost use Rattle.std.specs.Prelude.{◌≡◌, ◌≢◌, ◌+◌, ◌*◌, ◌<◌, ◌≤◌, ◌↔◌, ℕ, None, Some, IfSome, true, IfOk, IsOk, IsErr, IsTrue, OnErr, OnOk, count_by, is_none};
+ghost use Rattle.std.specs.Prelude.{◌≡◌, ◌≢◌, ◌+◌, ◌*◌, ◌<◌, ◌≤◌, ◌↔◌, ℕ, None, Some, IfSome, true, IfOk, IsOk, IsErr, IsTrue, OnErr, OnOk, count_by, is_none, if◌then◌else◌};
 ghost use Rattle.circuit_model.specs.declared.channel.Slot.{Slot};
 ghost use Rattle.circuit_model.specs.declared.circuit.Circuit.{Circuit};
-ghost use Rattle.circuit_model.specs.Circuits.{is_idle, is_member};
+ghost use Rattle.circuit_model.specs.Circuits.{is_idle, is_member, same_slot};
 ghost use Rattle.circuit_model.specs.Holding.{Holding, empty, Connect, Seat, Give_tone, Clear, Frame, after};
 ghost use Rattle.circuit_model.specs.Ports.{Ports as Members, ports_after, free_ports, port_of};
-ghost use Rattle.control_memory.specs.Layout.{IsBare};
+ghost use Rattle.control_memory.specs.Layout.{IsBare, slot_numbered};
 ghost use Rattle.control_memory.specs.Connecting.{moved};
-ghost use Rattle.control_memory.specs.Shown.{ShowsBy};
-ghost use Rattle.circuit_map.specs.Connections.{lines_of, IsExternal, hears_at, Holds, SameSizes, joined_one, joined_both, parted, is_pathless};
+ghost use Rattle.control_memory.specs.Shown.{ShowsBy, heard_as, seated_as};
+ghost use Rattle.control_memory.specs.Image.{EachSlot, heard_at, room_at, SameTables, SameSizes as SameImageSizes, lines_of as image_lines};
+ghost use Rattle.circuit_map.specs.Connections.{lines_of, IsExternal, hears_at, Holds, SameSizes, joined_one, joined_both, parted, is_pathless, served_at, room_shown};
 
 use circuit_model::{Circuit, Kind, Slot};
 use conference_ports::Ports;
-use control_memory::{Image, PathMap};
+use control_memory::{Heard, Image, PathMap};
 use std::alloc::{AllocError, Global};
 use std::marker::Model;
 
@@ -136,6 +137,74 @@ impl<P: PathMap> CircuitMap<P> {
         }
     }
 
+    /// Writes the control memory of the next frame whole, and answers the frame's number.
+    ///
+    /// It has the paths' tables, what each slot and each port hears, and who sits in each port. The
+    /// next boundary has the next number.
+    pub fn boundary(&mut self, image: &mut Image) -> u32
+        requires next { self.old.next < 4294967295 }
+        requires external { image.old.external ≡ self.old.external }
+        requires bridges { image.old.bridges ≡ self.old.bridges }
+        requires slots { image.old.slots ≡ self.old.slots }
+        ensures number { result ≡ self.old.next }
+        ensures shows { (h : Holding) (ports : Members) → Holds self.old h ports → ShowsBy self.old.layout image.new h.circuits ports h.next }
+        ensures image { SameImageSizes image.old image.new }
+        ensures holds { (h : Holding) (ports : Members) → Holds self.old h ports → Holds self.new (after h Frame) (ports_after ports Frame) }
+        ensures layout { self.new.layout ≡ self.old.layout }
+        ensures sizes { SameSizes self.old self.new }
+    {
+        let frame = self.next;
+        image.clear_all(frame);
+        self.paths.write_tables(image);
+        self.show_slots(image);
+        self.next = frame + 1;
+        frame
+    }
+
+    // Writes what each slot hears, and who sits in each port, into a control memory without rooms.
+    fn show_slots(&self, image: &mut Image)
+        requires external { image.old.external ≡ self.now.external }
+        requires bridges { image.old.bridges ≡ self.now.bridges }
+        requires vacant { EachSlot (lines_of self.now) (λ at. room_at image.old at ≡ None) }
+        ensures heard { EachSlot (lines_of self.now) (λ at. heard_at image.new at ≡ heard_as (served_at self.now at)) }
+        ensures rooms { EachSlot (lines_of self.now) (λ at. room_at image.new at ≡ room_shown self.now at) }
+        ensures image { SameImageSizes image.old image.new }
+        ensures frame { image.new.frame ≡ image.old.frame }
+        ensures tables { SameTables image.old image.new }
+    {
+        for number in 0..usize::from(self.external + self.bridges) * 30 {
+            let at = slot_at(number);
+            show(image, at, heard_in(self.served(at)), self.room(at));
+        }
+    }
+
+    // The circuit that a slot serves: its own, or that of the member that has the port.
+    fn served(&self, at: Slot) -> Option<Circuit>
+        requires line { at.line < lines_of self.now }
+        requires place { at.place < 30 }
+        ensures { result ≡ served_at self.now at }
+    {
+        if at.line < self.external {
+            return self.hears(at);
+        }
+        let Some((_, member)) = self.ports.room_of(at) else {
+            return None;
+        };
+        self.hears(member)
+    }
+
+    // The room of the member that has a port, and since when it sits there.
+    fn room(&self, at: Slot) -> Option<(u8, u32)>
+        requires line { at.line < lines_of self.now }
+        requires place { at.place < 30 }
+        ensures { result ≡ room_shown self.now at }
+    {
+        if at.line < self.external {
+            return None;
+        }
+        seat_in(self.served(at))
+    }
+
     // The circuit by which an external slot hears.
     fn hears(&self, at: Slot) -> Option<Circuit>
         requires external { IsExternal self.now at }
@@ -192,4 +261,54 @@ fn number_of(at: Slot) -> usize
     ensures { result ≡ 30 * at.line + at.place }
 {
     30 * usize::from(at.line) + usize::from(at.place)
+}
+
+// The slot with a number, counted line by line.
+fn slot_at(number: usize) -> Slot
+    requires { number < 1020 }
+    ensures { result ≡ slot_numbered number }
+{
+    Slot {
+        line: (number / 30) as u8,
+        place: (number % 30) as u8,
+    }
+}
+
+// What a slot hears by a circuit.
+fn heard_in(circuit: Option<Circuit>) -> Heard
+    ensures { result ≡ heard_as circuit }
+{
+    match circuit {
+        None => Heard::Silent,
+        Some(Circuit::Pair { since, .. }) => Heard::Path { since },
+        Some(Circuit::Member { since, .. }) => Heard::Path { since },
+        Some(Circuit::Tone { kind, since, .. }) => Heard::Tone { kind, since },
+    }
+}
+
+// The room in which a circuit seats its member, and since when.
+fn seat_in(circuit: Option<Circuit>) -> Option<(u8, u32)>
+    ensures { result ≡ seated_as circuit }
+{
+    match circuit {
+        Some(Circuit::Member { room, since, .. }) => Some((room, since)),
+        _ => None,
+    }
+}
+
+// Writes what a slot hears, and who sits in it where it is a port; no one did before.
+fn show(image: &mut Image, at: Slot, heard: Heard, room: Option<(u8, u32)>)
+    requires line { at.line < image_lines image.old }
+    requires place { at.place < 30 }
+    requires vacant { room_at image.old at ≡ None }
+    ensures heard { EachSlot (image_lines image.old) (λ x. heard_at image.new x ≡ (if same_slot x at then heard else heard_at image.old x)) }
+    ensures rooms { EachSlot (image_lines image.old) (λ x. room_at image.new x ≡ (if same_slot x at then room else room_at image.old x)) }
+    ensures image { SameImageSizes image.old image.new }
+    ensures frame { image.new.frame ≡ image.old.frame }
+    ensures tables { SameTables image.old image.new }
+{
+    image.set_heard(at, heard);
+    if let Some((room, since)) = room {
+        image.set_room(at, room, since);
+    }
 }
