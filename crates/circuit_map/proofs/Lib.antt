@@ -5,3 +5,5 @@ pub mod Sockets
 pub mod Paths
 pub mod Clearing
 pub mod Showing
+pub mod Starting
+pub mod Seating

@@ -22,7 +22,7 @@ port_found external ports x p e = go external x p (position (has x) ports) refl 
 pub port_line : (external : ℕ) (ports : Ports) (x p : Slot) → port_of external ports x ≡ Some p → external ≤ p.line
 port_line external ports x p e = let f = port_found external ports x p e in let line = ap (λ (s : Slot). s.line) f.2 in omega (arith, line)
 
-one_number : (external j k : ℕ) → port_numbered external j ≡ port_numbered external k → j ≡ k
+pub one_number : (external j k : ℕ) → port_numbered external j ≡ port_numbered external k → j ≡ k
 one_number external j k e = let line = ap (λ (s : Slot). s.line) e in let place = ap (λ (s : Slot). s.place) e in omega (arith, line, place)
 
 has_one : (x y : Slot) (port : Option Slot) → has x port ≡ true → has y port ≡ true → x ≡ y

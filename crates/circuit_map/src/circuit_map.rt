@@ -65,6 +65,36 @@ impl<P: PathMap> Model for CircuitMap<P> {
     }) (P.width m.paths) m.ports.external m.ports.lines };
 }
 
+impl<P: PathMap + Drop> CircuitMap<P> {
+    /// No circuit over a map of paths that has none yet, for so many external and bridge lines.
+    pub fn new(
+        alloc: Global,
+        paths: P,
+        external: u8,
+        bridges: u8,
+    ) -> Result<CircuitMap<P>, AllocError>
+        requires external { (1 ≤ external) × (external ≤ 32) }
+        requires bridges { bridges ≤ 2 }
+        requires lines { P.width paths ≡ external + bridges }
+        requires bare { IsBare (P.layout paths) }
+        ensures holds { IfOk result (λ m. Holds m empty (free_ports bridges)) }
+        ensures external { IfOk result (λ m. m.external ≡ external) }
+        ensures bridges { IfOk result (λ m. m.bridges ≡ bridges) }
+        ensures paths { IfOk result (λ m. (m.layout ≡ P.layout paths) × (m.slots ≡ P.depth paths) × (m.bound ≡ P.bound paths)) }
+    {
+        // Any call of a path map tells that its layout is legal.
+        let _slots = paths.slots();
+        Ok(CircuitMap {
+            external,
+            bridges,
+            next: 0,
+            heard: vec![in alloc; None; usize::from(external) * 30]?,
+            ports: Ports::new(alloc, external, bridges)?,
+            paths,
+        })
+    }
+}
+
 impl<P: PathMap> CircuitMap<P> {
     /// Whether no circuit names an external slot.
     pub fn idle(&self, at: Slot) -> bool
@@ -120,6 +150,35 @@ impl<P: PathMap> CircuitMap<P> {
             since,
         });
         (there, back)
+    }
+
+    /// Seats an idle slot in a conference room, at the lowest free port: connects the member to the
+    /// port, and then the port to the member.
+    ///
+    /// Answers how many live paths each of the two connects moved. `NoPort` exactly where there are
+    /// as many members as ports; then nothing changes.
+    pub fn seat(&mut self, x: Slot, room: u8) -> Result<(u32, u32), NoPort>
+        requires external { IsExternal self.old x }
+        requires idle { hears_at self.old x ≡ None }
+        ensures holds { OnOk result ((h : Holding) (ports : Members) → Holds self.old h ports → Holds self.new (after h (Seat x room)) (ports_after ports (Seat x room))) }
+        ensures full { (h : Holding) (ports : Members) → Holds self.old h ports → IsErr result ↔ (count_by is_member h.circuits ≡ 30 * self.old.bridges) }
+        ensures refused { OnErr result (self.new ≡ self.old) }
+        ensures layout { IfOk result (λ moves. IfSome (port_of self.old.external self.new.ports x) (λ port. self.new.layout ≡ joined_both self.old x port)) }
+        ensures moves { IfOk result (λ moves. IfSome (port_of self.old.external self.new.ports x) (λ port. (moves.0 ≡ moved self.old.layout (joined_one self.old x port)) × (moves.1 ≡ moved (joined_one self.old x port) (joined_both self.old x port)))) }
+        ensures few { IfOk result (λ moves. (moves.0 ≤ self.old.bound) × (moves.1 ≤ self.old.bound)) }
+        ensures sizes { SameSizes self.old self.new }
+    {
+        let Some(port) = self.ports.take(room, x) else {
+            return Err(NoPort);
+        };
+        let there = self.paths.connect(x, port);
+        let back = self.paths.connect(port, x);
+        self.heard[number_of(x)] = Some(Circuit::Member {
+            room,
+            at: x,
+            since: self.next,
+        });
+        Ok((there, back))
     }
 
     /// Takes away every circuit that names a slot, with its paths and its conference port.
