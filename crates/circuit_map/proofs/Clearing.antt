@@ -1,14 +1,13 @@
 -- The connections after a slot is cleared are those of the holding after it.
-use Rattle.std.proofs.Common.{◌≡◌, ℕ, zero, suc, ◌+◌, ◌*◌, ◌<◌, ◌≤◌, ◌⊎◌, Bool, true, false, not, List, [], ◌∷◌, ◌++◌, length, get_or, set, Option, Some, None, refl, sym, ◌∙◌, ap, subst, inl, inr, arith, length-set, if◌then◌else◌}
-use Rattle.std.specs.Prelude.{◌↔◌, is_some, is_none}
+use Rattle.std.proofs.Common.{◌≡◌, ℕ, zero, suc, ◌+◌, ◌*◌, ◌<◌, ◌≤◌, Bool, true, false, not, List, [], ◌∷◌, length, get_or, Option, Some, None, refl, sym, ◌∙◌, ap, subst, inl, inr, arith, length-set, if◌then◌else◌}
+use Rattle.std.specs.Prelude.{◌↔◌}
 use Rattle.std.specs.List.{count_by, filter, Contains}
 use Rattle.std.proofs.lemmas.Grind.{common_steps}
 use Rattle.std.proofs.lemmas.List.Quantifiers.{position-Some}
 use Rattle.circuit_model.specs.declared.channel.Slot.{Slot}
-use Rattle.circuit_model.specs.declared.circuit.Kind.{Kind}
 use Rattle.circuit_model.specs.declared.circuit.Circuit.{Circuit}
 use Rattle.circuit_model.specs.declared.circuit.Circuit.TheVariants.{Pair, Member, Tone}
-use Rattle.circuit_model.specs.Circuits.{same_slot, listener, names, heard_by, is_idle, is_member, unless_naming}
+use Rattle.circuit_model.specs.Circuits.{same_slot, listener, names, heard_by, is_member, unless_naming}
 use Rattle.circuit_model.specs.Holding.{Holding, Valid, Clear, after}
 use Rattle.circuit_model.specs.Ports.{Ports, port_of, has, returned}
 use Rattle.circuit_model.proofs.Age.{at_head, in_tail}
@@ -17,9 +16,9 @@ use Rattle.circuit_model.proofs.Validity.{valid-clear, heard_by-clear, heard_by-
 use Rattle.control_memory.specs.Layout.{Layout, IsSlot, Joins, number_of}
 use Rattle.control_memory.specs.Connecting.{without_path}
 use Rattle.control_memory.proofs.Steps.{was_there, hop_left}
-use Rattle.circuit_map.specs.Connections.{Connections, lines_of, hears_in, hears_at, seats, Holds, is_pathless}
+use Rattle.circuit_map.specs.Connections.{Connections, lines_of, hears_at, seats, Holds, is_pathless}
 use Rattle.circuit_map.proofs.Needs.{Needs, Paired, To_port, From_port, needed_is, heard_stands}
-use Rattle.circuit_map.proofs.Rows.{Hearing, cleared_row, kept_row, hears_written}
+use Rattle.circuit_map.proofs.Rows.{Hearing, cleared_row, kept_row}
 use Rattle.circuit_map.proofs.Holdings.{joins_needed}
 use Rattle.circuit_map.proofs.Paths.{hearing_in}
 use Rattle.circuit_map.proofs.Sockets.{port_line, count-returned, count-returned_mine, count-returned_other, returned_other, one_member, returned_none, none_counted, ported, port_found}

@@ -1,23 +1,21 @@
 -- The connections after a tone is given and after a connection is made are those of the holding after it.
-use Rattle.std.proofs.Common.{◌≡◌, ℕ, ◌+◌, ◌*◌, ◌<◌, ◌≤◌, ◌⊎◌, Bool, true, false, List, [], ◌∷◌, ◌++◌, length, get_or, set, Option, Some, None, refl, sym, ◌∙◌, ap, subst, inl, inr, arith, length-set, if◌then◌else◌}
-use Rattle.std.specs.Prelude.{◌↔◌, is_some, is_none}
-use Rattle.std.specs.List.{count_by}
+use Rattle.std.proofs.Common.{◌≡◌, ℕ, ◌+◌, ◌*◌, ◌<◌, ◌⊎◌, Bool, true, false, [], ◌∷◌, length, set, Option, Some, None, refl, sym, ◌∙◌, ap, subst, inl, inr, arith, length-set, if◌then◌else◌}
+use Rattle.std.specs.Prelude.{◌↔◌, is_none}
 use Rattle.std.proofs.lemmas.Grind.{common_steps}
 use Rattle.circuit_model.specs.declared.channel.Slot.{Slot}
 use Rattle.circuit_model.specs.declared.circuit.Kind.{Kind}
 use Rattle.circuit_model.specs.declared.circuit.Circuit.{Circuit}
-use Rattle.circuit_model.specs.declared.circuit.Circuit.TheVariants.{Pair, Member, Tone}
-use Rattle.circuit_model.specs.Circuits.{same_slot, listener, names, heard_by, is_idle, is_member}
-use Rattle.circuit_model.specs.Holding.{Holding, Valid, Connect, Seat, Give_tone, Clear, Frame, after}
-use Rattle.circuit_model.specs.Ports.{Ports, port_of, has}
+use Rattle.circuit_model.specs.declared.circuit.Circuit.TheVariants.{Pair, Tone}
+use Rattle.circuit_model.specs.Circuits.{same_slot, heard_by, is_idle, is_member}
+use Rattle.circuit_model.specs.Holding.{Holding, Valid, Connect, Give_tone, Frame, after}
+use Rattle.circuit_model.specs.Ports.{Ports}
 use Rattle.circuit_model.proofs.Slots.{same_slot-refl, same_slot-false, same_slot_cases, idle_is_deaf}
 use Rattle.circuit_model.proofs.Hearing.{heard_by-one, heard_by-two}
 use Rattle.circuit_model.proofs.Validity.{deaf_is_idle, count_by-append, valid-tone, valid-connect, valid-frame}
-use Rattle.control_memory.specs.Layout.{Layout, IsSlot, Joins, number_of}
-use Rattle.control_memory.specs.Shown.{JoinsCircuits}
+use Rattle.control_memory.specs.Layout.{IsSlot, Joins, number_of}
 use Rattle.circuit_map.specs.Connections.{Connections, lines_of, hears_in, hears_at, seats, Holds}
-use Rattle.circuit_map.proofs.Needs.{Needs, Paired, To_port, From_port, needed_is}
-use Rattle.circuit_map.proofs.Rows.{Adds, adds, Fresh, Fresh_pair, Fresh_to, Fresh_from, needs_kept, needs_split, hears_written}
+use Rattle.circuit_map.proofs.Needs.{Needs, Paired, needed_is}
+use Rattle.circuit_map.proofs.Rows.{adds, Fresh, Fresh_pair, Fresh_to, Fresh_from, needs_kept, needs_split, hears_written}
 
 -- ---- by the holding
 pub idle_in : (m : Connections) (h : Holding) (ports : Ports) (x : Slot) → Holds m h ports → hears_at m x ≡ None → is_idle h.circuits x ≡ true

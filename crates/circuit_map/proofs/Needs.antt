@@ -1,5 +1,5 @@
 -- Which inlets and outlets are to be joined, told by whom each slot hears.
-use Rattle.std.proofs.Common.{◌≡◌, ℕ, ◌+◌, ◌*◌, ◌<◌, ◌≤◌, ◌⊎◌, true, false, List, [], ◌∷◌, length, Option, Some, None, refl, sym, ◌∙◌, ap, subst, inl, inr, arith}
+use Rattle.std.proofs.Common.{◌≡◌, ℕ, ◌⊎◌, List, [], ◌∷◌, Option, Some, None, refl, sym, ◌∙◌, ap, subst, inl, inr, arith}
 use Rattle.std.specs.Prelude.{◌↔◌}
 use Rattle.std.specs.List.{Contains}
 use Rattle.std.proofs.lemmas.Grind.{common_steps}
@@ -7,7 +7,7 @@ use Rattle.circuit_model.specs.declared.channel.Slot.{Slot}
 use Rattle.circuit_model.specs.declared.circuit.Circuit.{Circuit}
 use Rattle.circuit_model.specs.declared.circuit.Circuit.TheVariants.{Pair, Member, Tone}
 use Rattle.circuit_model.specs.Circuits.{same_slot, listener, heard_by}
-use Rattle.circuit_model.specs.Holding.{Holding, Valid, Stands}
+use Rattle.circuit_model.specs.Holding.{Holding, Valid}
 use Rattle.circuit_model.specs.Ports.{Ports, port_of}
 use Rattle.circuit_model.proofs.Age.{cons_cases, at_head, in_tail, none_in_nil}
 use Rattle.circuit_model.proofs.Slots.{true_or_false, same_slot-true}

@@ -1,12 +1,11 @@
 -- Inlets and outlets that no circuit needs are free.
-use Rattle.std.proofs.Common.{◌≡◌, ℕ, ◌+◌, ◌*◌, ◌<◌, ◌≤◌, ◌⊎◌, inl, inr, length, Option, Some, None, refl, sym, ◌∙◌, ap, subst, arith}
+use Rattle.std.proofs.Common.{◌≡◌, ℕ, ◌*◌, ◌<◌, ◌⊎◌, inl, inr, length, Option, Some, None, refl, sym, ◌∙◌, subst, arith}
 use Rattle.std.specs.Prelude.{◌↔◌}
 use Rattle.circuit_model.specs.declared.channel.Slot.{Slot}
 use Rattle.circuit_model.specs.declared.circuit.Circuit.{Circuit}
-use Rattle.circuit_model.specs.declared.circuit.Circuit.TheVariants.{Pair, Member, Tone}
 use Rattle.circuit_model.specs.Circuits.{heard_by}
 use Rattle.circuit_model.specs.Holding.{Holding}
-use Rattle.circuit_model.specs.Ports.{Ports, port_of}
+use Rattle.circuit_model.specs.Ports.{Ports}
 use Rattle.control_memory.specs.Layout.{Hop, Path, Layout, IsSlot, Joins, hop_of, path_to}
 use Rattle.control_memory.proofs.Lookups.{path_to_found}
 use Rattle.circuit_map.specs.Connections.{Connections, lines_of, hears_at, Holds}

@@ -1,16 +1,15 @@
 -- What each slot hears by the rows that are kept, and what a row more or less makes of it.
-use Rattle.std.proofs.Common.{◌≡◌, ℕ, ◌+◌, ◌*◌, ◌<◌, ◌≤◌, ◌⊎◌, true, false, List, [], ◌∷◌, length, get_or, set, Option, Some, None, refl, sym, ◌∙◌, ap, subst, inl, inr, arith, get_or-set_other, get_or-set_same, if◌then◌else◌}
-use Rattle.std.specs.Prelude.{◌↔◌}
+use Rattle.std.proofs.Common.{◌≡◌, ℕ, ◌*◌, ◌<◌, ◌⊎◌, true, false, List, length, get_or, set, Option, Some, None, sym, ◌∙◌, ap, subst, inl, inr, arith, get_or-set_other, get_or-set_same, if◌then◌else◌}
 use Rattle.std.proofs.lemmas.Grind.{common_steps}
 use Rattle.std.proofs.lemmas.Bool.{cases_lt}
 use Rattle.std.proofs.lemmas.Bool.Decides.{nat_tests}
 use Rattle.circuit_model.specs.declared.channel.Slot.{Slot}
 use Rattle.circuit_model.specs.declared.circuit.Circuit.{Circuit}
-use Rattle.circuit_model.specs.declared.circuit.Circuit.TheVariants.{Pair, Member, Tone}
+use Rattle.circuit_model.specs.declared.circuit.Circuit.TheVariants.{Pair, Member}
 use Rattle.circuit_model.specs.Circuits.{same_slot, listener, names, heard_by, unless_naming}
 use Rattle.circuit_model.specs.Holding.{Holding, Valid, Stands, Is_idle, Has_tone, Is_seated, Is_connected, naming}
 use Rattle.circuit_model.specs.Ports.{Ports, port_of}
-use Rattle.circuit_model.proofs.Slots.{true_or_false, same_slot-true, same_slot-refl, same_slot_cases, same_slot-false, heard_by-naming}
+use Rattle.circuit_model.proofs.Slots.{true_or_false, same_slot-refl, same_slot_cases, same_slot-false, heard_by-naming}
 use Rattle.circuit_model.proofs.Validity.{heard_by-mutual}
 use Rattle.control_memory.specs.Layout.{number_of}
 use Rattle.control_memory.proofs.Steps.{same_number}

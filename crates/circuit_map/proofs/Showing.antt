@@ -1,5 +1,5 @@
 -- What a control memory shows of the connections at a frame's boundary.
-use Rattle.std.proofs.Common.{◌≡◌, ℕ, ◌+◌, ◌*◌, ◌<◌, ◌≤◌, ◌⊎◌, true, false, List, [], ◌∷◌, length, get_or, Option, Some, None, refl, sym, ◌∙◌, ap, subst, inl, inr, arith, if◌then◌else◌}
+use Rattle.std.proofs.Common.{◌≡◌, ℕ, ◌+◌, ◌<◌, ◌≤◌, ◌⊎◌, true, false, List, length, get_or, Option, Some, None, sym, ◌∙◌, ap, subst, inl, inr, arith, if◌then◌else◌}
 use Rattle.std.specs.Prelude.{◌↔◌, option_map, option_and_then, nat_lt}
 use Rattle.std.proofs.lemmas.Bool.{cases_lt}
 use Rattle.std.proofs.lemmas.List.{get_or_past, length-map}
@@ -11,13 +11,12 @@ use Rattle.circuit_model.proofs.Slots.{same_slot_cases, same_slot-refl}
 use Rattle.conference_ports.specs.declared.owner.Owner.{Owner}
 use Rattle.conference_ports.specs.Owners.{members, member_of}
 use Rattle.conference_ports.proofs.Indexes.{member_at}
-use Rattle.control_memory.specs.declared.heard.Heard.{Heard}
 use Rattle.control_memory.specs.Layout.{Layout, Legal, IsSlot, Joins, number_of, slot_numbered}
 use Rattle.control_memory.specs.Tables.{entry_in}
 use Rattle.control_memory.specs.Image.{Control, SameSizes, SameTables, HasLayout, lines_of as image_lines, EachSlot, heard_at, room_at}
 use Rattle.control_memory.specs.Shown.{ShowsBy, IsNeeded, heard_as, seated_as, served_by}
 use Rattle.control_memory.proofs.Lookups.{number_numbered, numbered_number}
-use Rattle.circuit_map.specs.Connections.{Connections, lines_of, hears_at, Holds, served_at, room_shown}
+use Rattle.circuit_map.specs.Connections.{Connections, lines_of, Holds, served_at, room_shown}
 use Rattle.circuit_map.proofs.Clearing.{owner_external}
 
 -- ---- who has a port

@@ -1,17 +1,16 @@
 -- The connections before the first frame.
-use Rattle.std.proofs.Common.{◌≡◌, ℕ, zero, suc, ◌+◌, ◌*◌, ◌<◌, Bool, true, false, ◌&&◌, if◌then◌else◌, arith, List, [], ◌∷◌, replicate, get_or, Option, Some, None, refl, sym, ◌∙◌, ap, subst}
-use Rattle.std.specs.Prelude.{◌↔◌, is_some, nat_lt}
+use Rattle.std.proofs.Common.{◌≡◌, ℕ, zero, suc, ◌*◌, Bool, true, false, ◌&&◌, if◌then◌else◌, arith, ◌∷◌, replicate, get_or, Option, None, refl, sym, ◌∙◌, ap}
+use Rattle.std.specs.Prelude.{is_some, nat_lt}
 use Rattle.std.specs.List.{count_by}
 use Rattle.std.proofs.lemmas.Grind.{common_steps}
 use Rattle.circuit_model.specs.declared.channel.Slot.{Slot}
 use Rattle.circuit_model.specs.declared.circuit.Circuit.{Circuit}
-use Rattle.circuit_model.specs.Holding.{Holding, empty}
-use Rattle.circuit_model.specs.Ports.{Ports, free_ports, has}
+use Rattle.circuit_model.specs.Holding.{empty}
+use Rattle.circuit_model.specs.Ports.{free_ports, has}
 use Rattle.circuit_model.proofs.Age.{none_in_nil}
 use Rattle.circuit_model.proofs.Validity.{valid-empty}
-use Rattle.conference_ports.specs.declared.owner.Owner.{Owner}
 use Rattle.conference_ports.specs.Owners.{members}
-use Rattle.control_memory.specs.Layout.{Layout, IsBare, number_of}
+use Rattle.control_memory.specs.Layout.{IsBare, number_of}
 use Rattle.circuit_map.specs.Connections.{Connections, hears_in, hears_at, Holds}
 
 pub none_at : {X : Type 0} (n k : ℕ) → get_or (replicate n (let x : Option X = None in x)) k None ≡ None

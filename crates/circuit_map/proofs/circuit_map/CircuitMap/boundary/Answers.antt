@@ -1,9 +1,8 @@
-use Rattle.std.proofs.Common.{◌≡◌, ◌+◌, ◌<◌, ℕ, None, sym, ◌∙◌, ap, subst, refl}
+use Rattle.std.proofs.Common.{◌+◌, sym, ◌∙◌, ap, subst}
 use Rattle.circuit_model.specs.Holding.{Holding, Frame, after}
 use Rattle.control_memory.specs.Layout.{Legal}
-use Rattle.control_memory.specs.Image.{EachSlot, HasLayout, heard_at, room_at}
-use Rattle.control_memory.specs.Shown.{heard_as}
-use Rattle.circuit_map.specs.Connections.{Connections, lines_of, Holds, served_at, room_shown}
+use Rattle.control_memory.specs.Image.{HasLayout}
+use Rattle.circuit_map.specs.Connections.{Connections, lines_of, Holds}
 use Rattle.circuit_map.proofs.Holdings.{holds_frame}
 use Rattle.circuit_map.proofs.Paths.{own_ports}
 use Rattle.circuit_map.proofs.Showing.{shows, same_layout}

@@ -1,8 +1,8 @@
-use Rattle.std.proofs.Common.{rules, ◌≡◌, ◌+◌, ◌*◌, ◌≤◌, ℕ, length, replicate, None, refl, sym, ◌∙◌, ap, subst, arith}
+use Rattle.std.proofs.Common.{rules, ◌≡◌, ◌*◌, length, replicate, None, refl, ◌∙◌, ap, arith}
 use Rattle.std.proofs.lemmas.List.{length-replicate}
-use Rattle.circuit_model.specs.Holding.{Holding, empty}
+use Rattle.circuit_model.specs.Holding.{empty}
 use Rattle.conference_ports.specs.Owners.{members}
-use Rattle.circuit_map.specs.Connections.{Connections, hears_in, Holds}
+use Rattle.circuit_map.specs.Connections.{hears_in}
 use Rattle.circuit_map.proofs.Paths.{own_ports}
 use Rattle.circuit_map.proofs.Starting.{holds_empty, silent_rows, free_members}
 use Rattle.circuit_map.proofs.circuit_map.CircuitMap.new.Goals as goal

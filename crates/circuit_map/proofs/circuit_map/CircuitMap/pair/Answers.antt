@@ -1,6 +1,5 @@
-use Rattle.std.proofs.Common.{◌≡◌, ◌+◌, ◌*◌, ◌⊎◌, ℕ, length, set, Some, refl, sym, ◌∙◌, ap, subst, arith, length-set, inl, inr, ⊎_elim}
+use Rattle.std.proofs.Common.{◌≡◌, ◌+◌, ◌*◌, ◌⊎◌, length, set, Some, sym, ◌∙◌, ap, subst, arith, length-set, ⊎_elim}
 use Rattle.std.specs.Prelude.{◌↔◌}
-use Rattle.circuit_model.specs.declared.channel.Slot.{Slot}
 use Rattle.circuit_model.specs.declared.circuit.Circuit.TheVariants.{Pair}
 use Rattle.circuit_model.specs.Holding.{Holding, Connect, after}
 use Rattle.control_memory.specs.Layout.{IsSlot, Joins}

@@ -1,6 +1,6 @@
-use Rattle.std.proofs.Common.{◌≡◌, ◌+◌, ◌*◌, ◌<◌, ℕ, length, set, None, Some, true, refl, sym, ◌∙◌, ap, subst, length-set, arith, if◌then◌else◌}
+use Rattle.std.proofs.Common.{◌≡◌, ◌*◌, ◌<◌, ℕ, length, set, None, Some, sym, ◌∙◌, ap, subst, length-set, arith, if◌then◌else◌}
 use Rattle.circuit_model.specs.declared.channel.Slot.{Slot}
-use Rattle.circuit_model.specs.declared.circuit.Circuit.TheVariants.{Pair, Member}
+use Rattle.circuit_model.specs.declared.circuit.Circuit.TheVariants.{Pair}
 use Rattle.circuit_model.specs.Circuits.{same_slot, heard_by}
 use Rattle.circuit_model.specs.Holding.{Holding, Clear, after}
 use Rattle.control_memory.specs.Layout.{IsSlot, Joins, number_of}

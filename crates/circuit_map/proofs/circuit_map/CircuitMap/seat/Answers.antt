@@ -1,14 +1,12 @@
-use Rattle.std.proofs.Common.{rules, ◌≡◌, ◌+◌, ◌*◌, ◌<◌, ◌⊎◌, ℕ, length, set, Some, None, true, refl, sym, ◌∙◌, ap, subst, arith, length-set, inl, inr, ⊎_elim}
+use Rattle.std.proofs.Common.{◌≡◌, ◌+◌, ◌*◌, ◌⊎◌, length, set, Some, None, refl, sym, ◌∙◌, ap, subst, length-set, ⊎_elim}
 use Rattle.std.specs.Prelude.{◌↔◌, position, is_none, IfSome}
-use Rattle.circuit_model.specs.declared.channel.Slot.{Slot}
 use Rattle.circuit_model.specs.declared.circuit.Circuit.TheVariants.{Member}
 use Rattle.circuit_model.specs.Holding.{Holding, Seat, after}
 use Rattle.circuit_model.specs.Ports.{Ports, port_of, given}
-use Rattle.conference_ports.specs.Owners.{members}
 use Rattle.control_memory.specs.Layout.{IsSlot, Joins}
 use Rattle.control_memory.specs.Connecting.{connect, moved}
-use Rattle.circuit_map.specs.Connections.{Connections, lines_of, joined_one, joined_both, Holds, hears_at}
-use Rattle.circuit_map.proofs.Paths.{own_ports, no_inlet, no_outlet, idle_joins_none, none_joins_idle, two_more, external_slot}
+use Rattle.circuit_map.specs.Connections.{Connections, lines_of, joined_one, joined_both, Holds}
+use Rattle.circuit_map.proofs.Paths.{own_ports, no_inlet, no_outlet, idle_joins_none, none_joins_idle, two_more}
 use Rattle.circuit_map.proofs.Sockets.{length-given}
 use Rattle.circuit_map.proofs.Seating.{holds_seat, no_lowest, none_given, free_port, port_joins_none, none_joins_port, idle_portless, full_where, not_full, seated_port, port_beyond}
 use Rattle.circuit_map.proofs.circuit_map.CircuitMap.seat.Goals as goal

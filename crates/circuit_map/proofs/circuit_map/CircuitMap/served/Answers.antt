@@ -1,4 +1,4 @@
-use Rattle.std.proofs.Common.{◌≡◌, sym, ◌∙◌, ap, subst}
+use Rattle.std.proofs.Common.{sym, ◌∙◌, ap, subst}
 use Rattle.circuit_model.specs.Holding.{Holding}
 use Rattle.circuit_map.specs.Connections.{Connections, Holds}
 use Rattle.circuit_map.proofs.Showing.{owner_is_external}

@@ -1,7 +1,4 @@
-use Rattle.std.proofs.Common.{rules, ◌≡◌, ◌+◌, ◌<◌, ℕ, None, sym, ◌∙◌, ap, subst, if◌then◌else◌}
-use Rattle.circuit_model.specs.declared.channel.Slot.{Slot}
-use Rattle.circuit_model.specs.Circuits.{same_slot}
-use Rattle.control_memory.specs.Layout.{slot_numbered}
+use Rattle.std.proofs.Common.{◌≡◌, ◌+◌, ◌<◌, sym, ◌∙◌, ap, subst}
 use Rattle.control_memory.specs.Shown.{heard_as}
 use Rattle.control_memory.specs.Image.{lines_of as image_lines}
 use Rattle.circuit_map.specs.Connections.{lines_of, served_at, room_shown}

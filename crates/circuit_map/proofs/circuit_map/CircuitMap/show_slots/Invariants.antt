@@ -1,4 +1,4 @@
-use Rattle.std.proofs.Common.{◌≡◌, ℕ, ◌<◌, ◌≤◌, None}
+use Rattle.std.proofs.Common.{◌≡◌, ◌<◌, ◌≤◌, None}
 use Rattle.control_memory.specs.Layout.{number_of}
 use Rattle.control_memory.specs.Shown.{heard_as}
 use Rattle.control_memory.specs.Image.{EachSlot, heard_at, room_at, SameTables, SameSizes}

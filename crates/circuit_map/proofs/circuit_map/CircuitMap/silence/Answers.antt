@@ -1,9 +1,6 @@
-use Rattle.std.proofs.Common.{◌≡◌, ◌*◌, ℕ, length, set, None, Some, true, refl, sym, ◌∙◌, ap, subst, length-set, if◌then◌else◌}
-use Rattle.circuit_model.specs.declared.circuit.Circuit.TheVariants.{Pair}
-use Rattle.circuit_model.specs.Circuits.{same_slot, unless_naming}
+use Rattle.std.proofs.Common.{◌≡◌, ◌*◌, length, set, None, sym, ◌∙◌, ap, subst, length-set}
 use Rattle.circuit_model.specs.Holding.{Holding, Clear, after}
-use Rattle.circuit_model.specs.Ports.{returned}
-use Rattle.circuit_map.specs.Connections.{Connections, Holds, hears_in, hears_at, is_pathless}
+use Rattle.circuit_map.specs.Connections.{Connections, Holds, hears_in, hears_at}
 use Rattle.circuit_map.proofs.Rows.{hears_written}
 use Rattle.circuit_map.proofs.Paths.{own_ports}
 use Rattle.circuit_map.proofs.Clearing.{clear_pathless, hearing_at, rows_one, pathless_pair, pathless_member, nobody_returns}

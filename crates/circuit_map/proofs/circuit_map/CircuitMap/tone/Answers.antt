@@ -1,4 +1,4 @@
-use Rattle.std.proofs.Common.{◌≡◌, ◌*◌, ℕ, length, set, Some, refl, sym, ◌∙◌, ap, subst, arith, length-set}
+use Rattle.std.proofs.Common.{◌≡◌, ◌*◌, length, set, Some, ◌∙◌, ap, subst, length-set}
 use Rattle.circuit_model.specs.declared.circuit.Circuit.TheVariants.{Tone}
 use Rattle.circuit_model.specs.Holding.{Holding, Give_tone, after}
 use Rattle.circuit_map.specs.Connections.{Connections, Holds}

@@ -1,13 +1,11 @@
-use Rattle.std.proofs.Common.{◌≡◌, ◌+◌, ◌*◌, ◌<◌, ℕ, length, set, None, Some, true, refl, sym, ◌∙◌, ap, subst, length-set, arith, if◌then◌else◌}
-use Rattle.circuit_model.specs.declared.channel.Slot.{Slot}
-use Rattle.circuit_model.specs.declared.circuit.Circuit.TheVariants.{Pair, Member}
-use Rattle.circuit_model.specs.Circuits.{same_slot, heard_by}
+use Rattle.std.proofs.Common.{◌≡◌, ◌*◌, length, set, None, Some, sym, ◌∙◌, ap, subst, length-set}
+use Rattle.circuit_model.specs.Circuits.{heard_by}
 use Rattle.circuit_model.specs.Holding.{Holding, Clear, after}
 use Rattle.circuit_model.specs.Ports.{port_of, returned}
-use Rattle.control_memory.specs.Layout.{IsSlot, Joins, number_of}
+use Rattle.control_memory.specs.Layout.{Joins}
 use Rattle.control_memory.specs.Connecting.{without_path}
 use Rattle.circuit_map.specs.Connections.{Connections, Holds, lines_of, hears_in, hears_at, without_both, partner, parted}
-use Rattle.circuit_map.proofs.Rows.{hears_written, row_inside}
+use Rattle.circuit_map.proofs.Rows.{hears_written}
 use Rattle.circuit_map.proofs.Paths.{own_ports, external_slot}
 use Rattle.circuit_map.proofs.Sockets.{length-returned}
 use Rattle.circuit_map.proofs.Clearing.{clear_paths, clears, hearing_at, rows_one, seated_in, member_ported, port_slot, joined_port, port_joined, port_apart, still_joined, less_two, member_partner, no_member_too}
