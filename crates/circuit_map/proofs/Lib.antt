@@ -1,0 +1,9 @@
+pub mod Needs
+pub mod Rows
+pub mod Holdings
+pub mod Sockets
+pub mod Paths
+pub mod Clearing
+pub mod Showing
+pub mod Starting
+pub mod Seating

@@ -1,0 +1,55 @@
+use Rattle.std.proofs.Common.{◌+◌, sym, ◌∙◌, ap, subst}
+use Rattle.circuit_model.specs.Holding.{Holding, Frame, after}
+use Rattle.control_memory.specs.Layout.{Legal}
+use Rattle.control_memory.specs.Image.{HasLayout}
+use Rattle.circuit_map.specs.Connections.{Connections, lines_of, Holds}
+use Rattle.circuit_map.proofs.Holdings.{holds_frame}
+use Rattle.circuit_map.proofs.Paths.{own_ports}
+use Rattle.circuit_map.proofs.Showing.{shows, same_layout}
+use Rattle.circuit_map.proofs.circuit_map.CircuitMap.boundary.Goals as goal
+
+pub returns-clause-holds : goal.returns-clause-holds
+returns-clause-holds g c = λ h ports holds.
+    let is = c.self.view_is in
+    holds_frame c.args.self.now _
+    (record {
+      external = ap (λ (m : Connections). m.external) is;
+      bridges = ap (λ (m : Connections). m.bridges) is;
+      next = ap (λ (m : Connections). m.next + 1) is;
+      heard = ap (λ (m : Connections). m.heard) is;
+      members = ap (λ (m : Connections). m.ports) is;
+      layout = ap (λ (m : Connections). m.layout) is;
+    }) h ports holds
+
+pub invariant_of-self : goal.invariant_of-self
+invariant_of-self g c =
+    let old = subst (λ (m : Connections). (h : Holding) × Holds m h m.ports) c.self.view_is c.self.invariant.held in
+    record {
+      few = c.self.invariant.few;
+      width = c.self.invariant.width;
+      first = c.self.invariant.first;
+      rows = c.self.invariant.rows;
+      listeners = c.self.invariant.listeners;
+      sockets = c.self.invariant.sockets;
+      legal = c.self.invariant.legal;
+      held = (after old.0 Frame, own_ports _ _ _ (returns-clause-holds g c old.0 c.args.self.now.ports old.1));
+    }
+
+pub returns-clause-shows : goal.returns-clause-shows
+returns-clause-shows g c = λ h ports holds.
+    let is = c.self.view_is in
+    let a = c.clear_all.ensures in
+    let b = c.write_tables.ensures in
+    let d = c.show_slots.ensures in
+    let width = c.self.invariant.width ∙ ap lines_of is in
+    shows c.args.self.now c.show_slots.new.image h ports
+    (record {
+      frame = d.frame ∙ b.frame ∙ a.frame ∙ ap (λ (m : Connections). m.next) is;
+      external = sym (a.sizes.external ∙ b.sizes.external ∙ d.image.external) ∙ c.requires.external;
+      bridges = sym (a.sizes.bridges ∙ b.sizes.bridges ∙ d.image.bridges) ∙ c.requires.bridges;
+      slots = sym (a.sizes.slots ∙ b.sizes.slots ∙ d.image.slots) ∙ c.requires.slots;
+      legal = subst (λ w. Legal w c.args.self.now.slots c.args.self.now.layout) width (subst (λ (m : Connections). Legal (g.P.PathMap.width c.self.inside.paths) m.slots m.layout) is c.self.invariant.legal);
+      tables = subst (λ l. HasLayout c.show_slots.new.image l) (ap (λ (m : Connections). m.layout) is) (same_layout c.write_tables.new.image c.show_slots.new.image _ d.image d.tables b.tables);
+      heard = d.heard;
+      rooms = d.rooms;
+    }) holds

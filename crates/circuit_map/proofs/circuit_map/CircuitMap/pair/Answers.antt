@@ -1,0 +1,93 @@
+use Rattle.std.proofs.Common.{◌≡◌, ◌+◌, ◌*◌, ◌⊎◌, length, set, Some, sym, ◌∙◌, ap, subst, arith, length-set, ⊎_elim}
+use Rattle.std.specs.Prelude.{◌↔◌}
+use Rattle.circuit_model.specs.declared.circuit.Circuit.TheVariants.{Pair}
+use Rattle.circuit_model.specs.Holding.{Holding, Connect, after}
+use Rattle.control_memory.specs.Layout.{IsSlot, Joins}
+use Rattle.control_memory.specs.Connecting.{connect}
+use Rattle.circuit_map.specs.Connections.{Connections, lines_of, joined_both, Holds}
+use Rattle.circuit_map.proofs.Holdings.{holds_pair}
+use Rattle.circuit_map.proofs.Paths.{own_ports, no_inlet, no_outlet, idle_joins_none, none_joins_idle, two_more}
+use Rattle.circuit_map.proofs.circuit_map.CircuitMap.pair.Goals as goal
+
+pub connect-there-requires-clause-inlet : goal.connect-there-requires-clause-inlet
+connect-there-requires-clause-inlet g c =
+    let held = subst (λ (m : Connections). (h : Holding) × Holds m h m.ports) c.self.view_is c.self.invariant.held in
+    let layout = ap (λ (m : Connections). m.layout) c.self.view_is in
+    no_inlet _ c.args.x (λ b j. idle_joins_none c.args.self.now held.0 c.args.self.now.ports c.args.x b held.1 c.requires.external_x.0 c.requires.external_x.1 c.requires.idle_x (subst (λ l. Joins l c.args.x b) layout j))
+
+pub connect-there-requires-clause-outlet : goal.connect-there-requires-clause-outlet
+connect-there-requires-clause-outlet g c =
+    let held = subst (λ (m : Connections). (h : Holding) × Holds m h m.ports) c.self.view_is c.self.invariant.held in
+    let layout = ap (λ (m : Connections). m.layout) c.self.view_is in
+    let lines = c.self.invariant.width ∙ ap lines_of c.self.view_is in
+    no_outlet _ _ c.args.y c.self.invariant.legal.inlets (λ a inside j. none_joins_idle c.args.self.now held.0 c.args.self.now.ports a c.args.y held.1 (subst (λ w. IsSlot w a) lines inside) c.requires.external_y.0 c.requires.idle_y (subst (λ l. Joins l a c.args.y) layout j))
+
+pub connect-back-requires-clause-inlet : goal.connect-back-requires-clause-inlet
+connect-back-requires-clause-inlet g c =
+    let held = subst (λ (m : Connections). (h : Holding) × Holds m h m.ports) c.self.view_is c.self.invariant.held in
+    let layout = ap (λ (m : Connections). m.layout) c.self.view_is in
+    let lines = c.self.invariant.width ∙ ap lines_of c.self.view_is in
+    let y_in = c.requires.external_y in
+    no_inlet _ c.args.y (λ b j. ⊎_elim
+    (λ (old : Joins _ c.args.y b). idle_joins_none c.args.self.now held.0 c.args.self.now.ports c.args.y b held.1 y_in.0 y_in.1 c.requires.idle_y (subst (λ l. Joins l c.args.y b) layout old))
+    (λ (new : (c.args.y ≡ c.args.x) × (b ≡ c.args.y)). c.requires.distinct (sym new.0))
+    ((c.connect-there.ensures.pairs c.args.y b (subst (λ w. IsSlot w c.args.y) (sym lines) (omega (arith, y_in), y_in.1))).0 j))
+
+pub connect-back-requires-clause-outlet : goal.connect-back-requires-clause-outlet
+connect-back-requires-clause-outlet g c =
+    let held = subst (λ (m : Connections). (h : Holding) × Holds m h m.ports) c.self.view_is c.self.invariant.held in
+    let layout = ap (λ (m : Connections). m.layout) c.self.view_is in
+    let lines = c.self.invariant.width ∙ ap lines_of c.self.view_is in
+    no_outlet _ _ c.args.x c.connect-there.ensures.legal.inlets (λ a inside j.
+    let was : IsSlot (g.P.PathMap.width c.self.inside.paths) a = subst (λ w. IsSlot w a) c.connect-there.ensures.width inside in
+    ⊎_elim
+    (λ (old : Joins _ a c.args.x). none_joins_idle c.args.self.now held.0 c.args.self.now.ports a c.args.x held.1 (subst (λ w. IsSlot w a) lines was) c.requires.external_x.0 c.requires.idle_x (subst (λ l. Joins l a c.args.x) layout old))
+    (λ (new : (a ≡ c.args.x) × (c.args.x ≡ c.args.y)). c.requires.distinct new.1)
+    ((c.connect-there.ensures.pairs a c.args.x was).0 j))
+
+pub returns-clause-layout : goal.returns-clause-layout
+returns-clause-layout g c =
+    let t = c.connect-there.ensures in
+    let b = c.connect-back.ensures in
+    let width = c.self.invariant.width in
+    let lines = c.self.inside.external + c.self.inside.bridges in
+    let depth = g.P.PathMap.depth c.self.inside.paths in
+    let now = c.connect-there.new.self in
+    b.layout
+    ∙ ap (λ w. connect w (g.P.PathMap.depth now) (g.P.PathMap.layout now) c.args.y c.args.x) (t.width ∙ width)
+    ∙ ap (λ d. connect lines d (g.P.PathMap.layout now) c.args.y c.args.x) t.depth
+    ∙ ap (λ l. connect lines depth l c.args.y c.args.x) (t.layout ∙ ap (λ w. connect w depth (g.P.PathMap.layout c.self.inside.paths) c.args.x c.args.y) width)
+    ∙ ap (λ (m : Connections). joined_both m c.args.x c.args.y) c.self.view_is
+
+pub returns-clause-holds : goal.returns-clause-holds
+returns-clause-holds g c = λ h ports holds.
+    let is = c.self.view_is in
+    let lines = c.self.invariant.width ∙ ap lines_of is in
+    holds_pair c.args.self.now _ c.args.x c.args.y (subst (λ (m : Connections). length m.heard ≡ 30 * m.external) is c.self.invariant.listeners) c.requires.external_x c.requires.external_y c.requires.distinct c.requires.idle_x c.requires.idle_y
+    (record {
+      external = ap (λ (m : Connections). m.external) is;
+      bridges = ap (λ (m : Connections). m.bridges) is;
+      next = ap (λ (m : Connections). m.next) is;
+      heard = λ i. set (set (is i).heard (c.number_of.ensures i) (Some (Pair c.args.y c.args.x (is i).next))) (c.number_of-2.ensures i) (Some (Pair c.args.x c.args.y (is i).next));
+      members = ap (λ (m : Connections). m.ports) is;
+      joins = λ a b inside.
+          let was : IsSlot (g.P.PathMap.width c.self.inside.paths) a = subst (λ w. IsSlot w a) (sym lines) inside in
+          subst (λ l. Joins (g.P.PathMap.layout c.connect-back.new.self) a b ↔ ((Joins l a b ⊎ ((a ≡ c.args.x) × (b ≡ c.args.y))) ⊎ ((a ≡ c.args.y) × (b ≡ c.args.x)))) (ap (λ (m : Connections). m.layout) is)
+          (two_more (c.connect-there.ensures.pairs a b was) (c.connect-back.ensures.pairs a b (subst (λ w. IsSlot w a) (sym c.connect-there.ensures.width) was)));
+    }) h ports holds
+
+pub invariant_of-self : goal.invariant_of-self
+invariant_of-self g c =
+    let old = subst (λ (m : Connections). (h : Holding) × Holds m h m.ports) c.self.view_is c.self.invariant.held in
+    let first = c.connect-there.ensures in
+    let second = c.connect-back.ensures in
+    record {
+      few = c.self.invariant.few;
+      width = second.width ∙ first.width ∙ c.self.invariant.width;
+      first = c.self.invariant.first;
+      rows = c.self.invariant.rows;
+      listeners = length-set (set c.self.inside.heard.items _ _) _ _ ∙ length-set c.self.inside.heard.items _ _ ∙ c.self.invariant.listeners;
+      sockets = c.self.invariant.sockets;
+      legal = second.legal;
+      held = (after old.0 (Connect c.args.x c.args.y), own_ports _ _ _ (returns-clause-holds g c old.0 c.args.self.now.ports old.1));
+    }

@@ -1,0 +1,38 @@
+use Rattle.std.proofs.Common.{◌≡◌, ◌*◌, length, set, None, sym, ◌∙◌, ap, subst, length-set}
+use Rattle.circuit_model.specs.Holding.{Holding, Clear, after}
+use Rattle.circuit_map.specs.Connections.{Connections, Holds, hears_in, hears_at}
+use Rattle.circuit_map.proofs.Rows.{hears_written}
+use Rattle.circuit_map.proofs.Paths.{own_ports}
+use Rattle.circuit_map.proofs.Clearing.{clear_pathless, hearing_at, rows_one, pathless_pair, pathless_member, nobody_returns}
+use Rattle.circuit_map.proofs.circuit_map.CircuitMap.silence.Goals as goal
+
+pub returns-clause-holds : goal.returns-clause-holds
+returns-clause-holds g c = λ h ports holds.
+    let is = c.self.view_is in
+    let m = c.args.self.now in
+    let size = subst (λ (m : Connections). length m.heard ≡ 30 * m.external) is c.self.invariant.listeners in
+    let k = hearing_at m h ports holds in
+    clear_pathless m _ c.args.x c.requires.external.0 c.requires.pathless
+    (record {
+      external = ap (λ (m : Connections). m.external) is;
+      bridges = ap (λ (m : Connections). m.bridges) is;
+      next = ap (λ (m : Connections). m.next) is;
+      heard = λ z.
+          (λ i. hears_in (is i).external (set (is i).heard (c.number_of.ensures i) None) z) ∙ hears_written m.external m.heard c.args.x None z size c.requires.external.0 c.requires.external.1
+          ∙ rows_one m.external (hears_at m) c.args.x z k (λ s e. pathless_pair (hears_at m c.args.x) z c.args.x s c.requires.pathless e);
+      members = ap (λ (m : Connections). m.ports) is ∙ sym (nobody_returns m h ports c.args.x (λ room at s e. pathless_member (hears_at m c.args.x) room at s c.requires.pathless e) holds);
+    }) (ap (λ (m : Connections). m.layout) is) h ports holds
+
+pub invariant_of-self : goal.invariant_of-self
+invariant_of-self g c =
+    let old = subst (λ (m : Connections). (h : Holding) × Holds m h m.ports) c.self.view_is c.self.invariant.held in
+    record {
+      few = c.self.invariant.few;
+      width = c.self.invariant.width;
+      first = c.self.invariant.first;
+      rows = c.self.invariant.rows;
+      listeners = length-set c.self.inside.heard.items _ _ ∙ c.self.invariant.listeners;
+      sockets = c.self.invariant.sockets;
+      legal = c.self.invariant.legal;
+      held = (after old.0 (Clear c.args.x), own_ports _ _ _ (returns-clause-holds g c old.0 c.args.self.now.ports old.1));
+    }

@@ -1,0 +1,108 @@
+-- What a map of circuits keeps, and the holding that it stands for. Source: this exchange's own.
+use Rattle.std.specs.Prelude.{◌≡◌, ℕ, ◌+◌, ◌*◌, ◌<◌, ◌≤◌, ◌&&◌, nat_lt, Bool, true, false, List, length, count_by, Option, Some, None, is_some, slice_index_or, option_and_then, if◌then◌else◌}
+use Rattle.circuit_model.specs.declared.channel.Slot.{Slot}
+use Rattle.circuit_model.specs.declared.circuit.Circuit.{Circuit}
+use Rattle.circuit_model.specs.declared.circuit.Circuit.TheVariants.{Pair, Member, Tone}
+use Rattle.circuit_model.specs.Circuits.{same_slot, heard_by, is_member}
+use Rattle.circuit_model.specs.Holding.{Holding, Valid}
+use Rattle.circuit_model.specs.Ports.{Ports, has, port_of}
+use Rattle.control_memory.specs.Layout.{Layout, Legal, number_of}
+use Rattle.control_memory.specs.Connecting.{connect, without_path}
+use Rattle.control_memory.specs.Shown.{JoinsCircuits, served_by, seated_as}
+
+-- for each external slot, line by line, the circuit by which it hears; the member of each conference port; and the layout of the paths
+pub record Connections : Type 0 where
+  pub external : ℕ
+  pub bridges : ℕ
+  pub slots : ℕ
+  pub bound : ℕ
+  pub next : ℕ
+  pub heard : List (Option Circuit)
+  pub ports : Ports
+  pub layout : Layout
+
+-- all lines: the external ones, and behind them the bridge lines
+abbrev pub lines_of : Connections → ℕ
+lines_of m = m.external + m.bridges
+
+abbrev pub IsExternal : Connections → Slot → Type 0
+IsExternal m x = (x.line < m.external) × (x.place < 30)
+
+-- the circuit by which a slot hears; a slot that isn't external hears by none
+abbrev pub hears_in : ℕ → List (Option Circuit) → Slot → Option Circuit
+hears_in external heard x = if nat_lt x.line external && nat_lt x.place 30 then slice_index_or heard (number_of x) None else None
+
+abbrev pub hears_at : Connections → Slot → Option Circuit
+hears_at m x = hears_in m.external m.heard x
+
+-- the circuit seats the slot
+abbrev pub seats : Slot → Circuit → Bool
+seats x (Pair from to since) = false
+seats x (Member room at since) = same_slot x at
+seats x (Tone kind to since) = false
+
+-- the connections are those of a valid holding and of its ports: each slot hears by its circuit, each member has one port and nobody else
+-- has any, and the paths are those that the circuits need
+pub record Holds (m : Connections) (h : Holding) (ports : Ports) : Type 0 where
+  pub next : m.next ≡ h.next
+  pub valid : Valid m.bridges h
+  pub heard : (x : Slot) → hears_at m x ≡ heard_by h.circuits x
+  pub members : m.ports ≡ ports
+  pub ported : (x : Slot) → count_by (has x) ports ≡ count_by (seats x) h.circuits
+  pub taken : count_by is_some ports ≡ count_by is_member h.circuits
+  pub joined : JoinsCircuits (lines_of m) m.external m.layout h.circuits ports
+
+-- how large the parts are, and that they are those of some holding
+pub record IsSound (m : Connections) (lines first_line bridge_lines : ℕ) : Type 0 where
+  pub few : lines_of m ≤ 34
+  pub width : lines ≡ lines_of m
+  pub first : first_line ≡ m.external
+  pub rows : bridge_lines ≡ m.bridges
+  pub listeners : length m.heard ≡ 30 * m.external
+  pub sockets : length m.ports ≡ 30 * m.bridges
+  pub legal : Legal lines m.slots m.layout
+  pub held : (h : Holding) × Holds m h m.ports
+
+-- the sizes are as before
+pub record SameSizes (a b : Connections) : Type 0 where
+  pub external : b.external ≡ a.external
+  pub bridges : b.bridges ≡ a.bridges
+  pub slots : b.slots ≡ a.slots
+  pub bound : b.bound ≡ a.bound
+
+-- the layout with a path from one slot to the other, and then with one back
+abbrev pub joined_one : Connections → Slot → Slot → Layout
+joined_one m x y = connect (lines_of m) m.slots m.layout x y
+
+abbrev pub joined_both : Connections → Slot → Slot → Layout
+joined_both m x y = connect (lines_of m) m.slots (joined_one m x y) y x
+
+-- the layout without the paths of the circuits that go with the one by which a slot hears: both directions of a connection, or those
+-- between a member and its port
+abbrev pub without_both : Layout → Slot → Option Slot → Layout
+without_both layout x None = layout
+without_both layout x (Some y) = without_path (without_path layout x) y
+
+abbrev pub partner : ℕ → Ports → Option Circuit → Option Slot
+partner external ports None = None
+partner external ports (Some (Pair from to since)) = Some from
+partner external ports (Some (Member room at since)) = port_of external ports at
+partner external ports (Some (Tone kind to since)) = None
+
+-- a circuit that needs no path, or none at all
+abbrev pub is_pathless : Option Circuit → Bool
+is_pathless None = true
+is_pathless (Some (Pair from to since)) = false
+is_pathless (Some (Member room at since)) = false
+is_pathless (Some (Tone kind to since)) = true
+
+abbrev pub parted : Connections → Slot → Layout
+parted m x = without_both m.layout x (partner m.external m.ports (hears_at m x))
+
+-- the circuit that a slot serves: an external slot the one by which it hears, a conference port that of its member
+abbrev pub served_at : Connections → Slot → Option Circuit
+served_at m at = option_and_then (hears_at m) (served_by m.external m.ports at)
+
+-- the room that a slot shows: that of a port's member
+abbrev pub room_shown : Connections → Slot → Option (ℕ × ℕ)
+room_shown m at = if nat_lt at.line m.external then None else seated_as (served_at m at)

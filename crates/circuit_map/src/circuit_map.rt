@@ -1,0 +1,373 @@
+ghost use Rattle.std.specs.Prelude.{◌≡◌, ◌≢◌, ◌+◌, ◌*◌, ◌<◌, ◌≤◌, ◌↔◌, ℕ, None, Some, IfSome, true, IfOk, IsOk, IsErr, IsTrue, OnErr, OnOk, count_by, is_none, if◌then◌else◌};
+ghost use Rattle.circuit_model.specs.declared.channel.Slot.{Slot};
+ghost use Rattle.circuit_model.specs.declared.circuit.Circuit.{Circuit};
+ghost use Rattle.circuit_model.specs.Circuits.{is_idle, is_member, same_slot};
+ghost use Rattle.circuit_model.specs.Holding.{Holding, empty, Connect, Seat, Give_tone, Clear, Frame, after};
+ghost use Rattle.circuit_model.specs.Ports.{Ports as Members, ports_after, free_ports, port_of};
+ghost use Rattle.control_memory.specs.Layout.{IsBare, slot_numbered};
+ghost use Rattle.control_memory.specs.Connecting.{moved};
+ghost use Rattle.control_memory.specs.Shown.{ShowsBy, heard_as, seated_as};
+ghost use Rattle.control_memory.specs.Image.{EachSlot, heard_at, room_at, SameTables, SameSizes as SameImageSizes, lines_of as image_lines};
+ghost use Rattle.circuit_map.specs.Connections.{lines_of, IsExternal, hears_at, Holds, SameSizes, joined_one, joined_both, parted, is_pathless, served_at, room_shown};
+
+use circuit_model::{Circuit, Kind, Slot};
+use conference_ports::Ports;
+use control_memory::{Heard, Image, PathMap};
+use std::alloc::{AllocError, Global};
+use std::marker::Model;
+
+/// Every conference port is taken.
+#[derive(Clone, Copy, Debug, PartialEq, Eq)]
+pub struct NoPort;
+
+/// The circuits that stand, and the paths and conference ports that carry them.
+///
+/// Contracts see the circuit by which each external slot hears, the member of each port and the
+/// layout of the paths; `Holds` says of which holding these are. No call but `new` takes memory.
+pub struct CircuitMap<P: PathMap> {
+    external: u8,
+    bridges: u8,
+    // The number of the next frame.
+    next: u32,
+    // The circuit by which each external slot hears, line by line.
+    heard: Vec<Option<Circuit>>,
+    ports: Ports,
+    paths: P,
+}
+
+impl<P: PathMap> Model for CircuitMap<P> {
+    ghost use Rattle.std.specs.Prelude.{◌≡◌};
+    ghost use Rattle.conference_ports.specs.Owners.{members};
+    ghost use Rattle.circuit_map.specs.Connections.{Connections, IsSound};
+
+    ghost Value = { Connections };
+
+    ghost view = { λ m. record {
+      external = m.external;
+      bridges = m.bridges;
+      slots = P.depth m.paths;
+      bound = P.bound m.paths;
+      next = m.next;
+      heard = m.heard.items;
+      ports = members m.ports.owners;
+      layout = P.layout m.paths;
+    } };
+
+    ghost invariant = { λ m. IsSound (record {
+      external = m.external;
+      bridges = m.bridges;
+      slots = P.depth m.paths;
+      bound = P.bound m.paths;
+      next = m.next;
+      heard = m.heard.items;
+      ports = members m.ports.owners;
+      layout = P.layout m.paths;
+    }) (P.width m.paths) m.ports.external m.ports.lines };
+}
+
+impl<P: PathMap + Drop> CircuitMap<P> {
+    /// No circuit over a map of paths that has none yet, for so many external and bridge lines.
+    pub fn new(
+        alloc: Global,
+        paths: P,
+        external: u8,
+        bridges: u8,
+    ) -> Result<CircuitMap<P>, AllocError>
+        requires external { (1 ≤ external) × (external ≤ 32) }
+        requires bridges { bridges ≤ 2 }
+        requires lines { P.width paths ≡ external + bridges }
+        requires bare { IsBare (P.layout paths) }
+        ensures holds { IfOk result (λ m. Holds m empty (free_ports bridges)) }
+        ensures external { IfOk result (λ m. m.external ≡ external) }
+        ensures bridges { IfOk result (λ m. m.bridges ≡ bridges) }
+        ensures paths { IfOk result (λ m. (m.layout ≡ P.layout paths) × (m.slots ≡ P.depth paths) × (m.bound ≡ P.bound paths)) }
+    {
+        // Any call of a path map tells that its layout is legal.
+        let _slots = paths.slots();
+        Ok(CircuitMap {
+            external,
+            bridges,
+            next: 0,
+            heard: vec![in alloc; None; usize::from(external) * 30]?,
+            ports: Ports::new(alloc, external, bridges)?,
+            paths,
+        })
+    }
+}
+
+impl<P: PathMap> CircuitMap<P> {
+    /// Whether no circuit names an external slot.
+    pub fn idle(&self, at: Slot) -> bool
+        requires external { IsExternal self.now at }
+        ensures silent { result ≡ is_none (hears_at self.now at) }
+        ensures idle { (h : Holding) (ports : Members) → Holds self.now h ports → result ≡ is_idle h.circuits at }
+    {
+        self.hears(at).is_none()
+    }
+
+    /// Gives a tone to an idle slot.
+    pub fn tone(&mut self, x: Slot, kind: Kind)
+        requires external { IsExternal self.old x }
+        requires idle { hears_at self.old x ≡ None }
+        ensures holds { (h : Holding) (ports : Members) → Holds self.old h ports → Holds self.new (after h (Give_tone x kind)) (ports_after ports (Give_tone x kind)) }
+        ensures layout { self.new.layout ≡ self.old.layout }
+        ensures sizes { SameSizes self.old self.new }
+    {
+        self.heard[number_of(x)] = Some(Circuit::Tone {
+            kind,
+            to: x,
+            since: self.next,
+        });
+    }
+
+    /// Connects two idle slots: x to y, and then y to x.
+    ///
+    /// Answers how many live paths each of the two connects moved.
+    pub fn pair(&mut self, x: Slot, y: Slot) -> (u32, u32)
+        requires external_x { IsExternal self.old x }
+        requires external_y { IsExternal self.old y }
+        requires distinct { x ≢ y }
+        requires idle_x { hears_at self.old x ≡ None }
+        requires idle_y { hears_at self.old y ≡ None }
+        ensures holds { (h : Holding) (ports : Members) → Holds self.old h ports → Holds self.new (after h (Connect x y)) (ports_after ports (Connect x y)) }
+        ensures layout { self.new.layout ≡ joined_both self.old x y }
+        ensures there { result.0 ≡ moved self.old.layout (joined_one self.old x y) }
+        ensures back { result.1 ≡ moved (joined_one self.old x y) (joined_both self.old x y) }
+        ensures few { (result.0 ≤ self.old.bound) × (result.1 ≤ self.old.bound) }
+        ensures sizes { SameSizes self.old self.new }
+    {
+        let there = self.paths.connect(x, y);
+        let back = self.paths.connect(y, x);
+        let since = self.next;
+        self.heard[number_of(x)] = Some(Circuit::Pair {
+            from: y,
+            to: x,
+            since,
+        });
+        self.heard[number_of(y)] = Some(Circuit::Pair {
+            from: x,
+            to: y,
+            since,
+        });
+        (there, back)
+    }
+
+    /// Seats an idle slot in a conference room, at the lowest free port: connects the member to the
+    /// port, and then the port to the member.
+    ///
+    /// Answers how many live paths each of the two connects moved. `NoPort` exactly where there are
+    /// as many members as ports; then nothing changes.
+    pub fn seat(&mut self, x: Slot, room: u8) -> Result<(u32, u32), NoPort>
+        requires external { IsExternal self.old x }
+        requires idle { hears_at self.old x ≡ None }
+        ensures holds { OnOk result ((h : Holding) (ports : Members) → Holds self.old h ports → Holds self.new (after h (Seat x room)) (ports_after ports (Seat x room))) }
+        ensures full { (h : Holding) (ports : Members) → Holds self.old h ports → IsErr result ↔ (count_by is_member h.circuits ≡ 30 * self.old.bridges) }
+        ensures refused { OnErr result (self.new ≡ self.old) }
+        ensures layout { IfOk result (λ moves. IfSome (port_of self.old.external self.new.ports x) (λ port. self.new.layout ≡ joined_both self.old x port)) }
+        ensures moves { IfOk result (λ moves. IfSome (port_of self.old.external self.new.ports x) (λ port. (moves.0 ≡ moved self.old.layout (joined_one self.old x port)) × (moves.1 ≡ moved (joined_one self.old x port) (joined_both self.old x port)))) }
+        ensures few { IfOk result (λ moves. (moves.0 ≤ self.old.bound) × (moves.1 ≤ self.old.bound)) }
+        ensures sizes { SameSizes self.old self.new }
+    {
+        let Some(port) = self.ports.take(room, x) else {
+            return Err(NoPort);
+        };
+        let there = self.paths.connect(x, port);
+        let back = self.paths.connect(port, x);
+        self.heard[number_of(x)] = Some(Circuit::Member {
+            room,
+            at: x,
+            since: self.next,
+        });
+        Ok((there, back))
+    }
+
+    /// Takes away every circuit that names a slot, with its paths and its conference port.
+    pub fn clear(&mut self, x: Slot)
+        requires external { IsExternal self.old x }
+        ensures holds { (h : Holding) (ports : Members) → Holds self.old h ports → Holds self.new (after h (Clear x)) (ports_after ports (Clear x)) }
+        ensures layout { self.new.layout ≡ parted self.old x }
+        ensures sizes { SameSizes self.old self.new }
+    {
+        match self.hears(x) {
+            None => self.silence(x),
+            Some(Circuit::Tone { .. }) => self.silence(x),
+            Some(Circuit::Pair { from, .. }) => self.release(x, from),
+            Some(Circuit::Member { .. }) => self.unseat(x),
+        }
+    }
+
+    /// Writes the control memory of the next frame whole, and answers the frame's number.
+    ///
+    /// It has the paths' tables, what each slot and each port hears, and who sits in each port. The
+    /// next boundary has the next number.
+    pub fn boundary(&mut self, image: &mut Image) -> u32
+        requires next { self.old.next < 4294967295 }
+        requires external { image.old.external ≡ self.old.external }
+        requires bridges { image.old.bridges ≡ self.old.bridges }
+        requires slots { image.old.slots ≡ self.old.slots }
+        ensures number { result ≡ self.old.next }
+        ensures shows { (h : Holding) (ports : Members) → Holds self.old h ports → ShowsBy self.old.layout image.new h.circuits ports h.next }
+        ensures image { SameImageSizes image.old image.new }
+        ensures holds { (h : Holding) (ports : Members) → Holds self.old h ports → Holds self.new (after h Frame) (ports_after ports Frame) }
+        ensures layout { self.new.layout ≡ self.old.layout }
+        ensures sizes { SameSizes self.old self.new }
+    {
+        let frame = self.next;
+        image.clear_all(frame);
+        self.paths.write_tables(image);
+        self.show_slots(image);
+        self.next = frame + 1;
+        frame
+    }
+
+    // Writes what each slot hears, and who sits in each port, into a control memory without rooms.
+    fn show_slots(&self, image: &mut Image)
+        requires external { image.old.external ≡ self.now.external }
+        requires bridges { image.old.bridges ≡ self.now.bridges }
+        requires vacant { EachSlot (lines_of self.now) (λ at. room_at image.old at ≡ None) }
+        ensures heard { EachSlot (lines_of self.now) (λ at. heard_at image.new at ≡ heard_as (served_at self.now at)) }
+        ensures rooms { EachSlot (lines_of self.now) (λ at. room_at image.new at ≡ room_shown self.now at) }
+        ensures image { SameImageSizes image.old image.new }
+        ensures frame { image.new.frame ≡ image.old.frame }
+        ensures tables { SameTables image.old image.new }
+    {
+        for number in 0..usize::from(self.external + self.bridges) * 30 {
+            let at = slot_at(number);
+            show(image, at, heard_in(self.served(at)), self.room(at));
+        }
+    }
+
+    // The circuit that a slot serves: its own, or that of the member that has the port.
+    fn served(&self, at: Slot) -> Option<Circuit>
+        requires line { at.line < lines_of self.now }
+        requires place { at.place < 30 }
+        ensures { result ≡ served_at self.now at }
+    {
+        if at.line < self.external {
+            return self.hears(at);
+        }
+        let Some((_, member)) = self.ports.room_of(at) else {
+            return None;
+        };
+        self.hears(member)
+    }
+
+    // The room of the member that has a port, and since when it sits there.
+    fn room(&self, at: Slot) -> Option<(u8, u32)>
+        requires line { at.line < lines_of self.now }
+        requires place { at.place < 30 }
+        ensures { result ≡ room_shown self.now at }
+    {
+        if at.line < self.external {
+            return None;
+        }
+        seat_in(self.served(at))
+    }
+
+    // The circuit by which an external slot hears.
+    fn hears(&self, at: Slot) -> Option<Circuit>
+        requires external { IsExternal self.now at }
+        ensures { result ≡ hears_at self.now at }
+    {
+        self.heard[number_of(at)]
+    }
+
+    // Takes away the tone of a slot, if it has one.
+    fn silence(&mut self, x: Slot)
+        requires external { IsExternal self.old x }
+        requires pathless { is_pathless (hears_at self.old x) ≡ true }
+        ensures holds { (h : Holding) (ports : Members) → Holds self.old h ports → Holds self.new (after h (Clear x)) (ports_after ports (Clear x)) }
+        ensures layout { self.new.layout ≡ parted self.old x }
+        ensures sizes { SameSizes self.old self.new }
+    {
+        self.heard[number_of(x)] = None;
+    }
+
+    // Takes down the connection of x with y, both ways.
+    fn release(&mut self, x: Slot, y: Slot)
+        requires external { IsExternal self.old x }
+        requires connected { (to : Slot) × (since : ℕ) × (hears_at self.old x ≡ Some (Circuit.Pair y to since)) }
+        ensures holds { (h : Holding) (ports : Members) → Holds self.old h ports → Holds self.new (after h (Clear x)) (ports_after ports (Clear x)) }
+        ensures layout { self.new.layout ≡ parted self.old x }
+        ensures sizes { SameSizes self.old self.new }
+    {
+        self.paths.disconnect(x, y);
+        self.paths.disconnect(y, x);
+        self.heard[number_of(x)] = None;
+        self.heard[number_of(y)] = None;
+    }
+
+    // Takes a member out of its room, and its port back.
+    fn unseat(&mut self, x: Slot)
+        requires external { IsExternal self.old x }
+        requires seated { (room : ℕ) × (at : Slot) × (since : ℕ) × (hears_at self.old x ≡ Some (Circuit.Member room at since)) }
+        ensures holds { (h : Holding) (ports : Members) → Holds self.old h ports → Holds self.new (after h (Clear x)) (ports_after ports (Clear x)) }
+        ensures layout { self.new.layout ≡ parted self.old x }
+        ensures sizes { SameSizes self.old self.new }
+    {
+        let Some(port) = self.ports.port_of(x) else {
+            unreachable!();
+        };
+        self.paths.disconnect(x, port);
+        self.paths.disconnect(port, x);
+        self.ports.give(x);
+        self.heard[number_of(x)] = None;
+    }
+}
+
+// Where an external slot's circuit stands: slots are numbered line by line.
+fn number_of(at: Slot) -> usize
+    ensures { result ≡ 30 * at.line + at.place }
+{
+    30 * usize::from(at.line) + usize::from(at.place)
+}
+
+// The slot with a number, counted line by line.
+fn slot_at(number: usize) -> Slot
+    requires { number < 1020 }
+    ensures { result ≡ slot_numbered number }
+{
+    Slot {
+        line: (number / 30) as u8,
+        place: (number % 30) as u8,
+    }
+}
+
+// What a slot hears by a circuit.
+fn heard_in(circuit: Option<Circuit>) -> Heard
+    ensures { result ≡ heard_as circuit }
+{
+    match circuit {
+        None => Heard::Silent,
+        Some(Circuit::Pair { since, .. }) => Heard::Path { since },
+        Some(Circuit::Member { since, .. }) => Heard::Path { since },
+        Some(Circuit::Tone { kind, since, .. }) => Heard::Tone { kind, since },
+    }
+}
+
+// The room in which a circuit seats its member, and since when.
+fn seat_in(circuit: Option<Circuit>) -> Option<(u8, u32)>
+    ensures { result ≡ seated_as circuit }
+{
+    match circuit {
+        Some(Circuit::Member { room, since, .. }) => Some((room, since)),
+        _ => None,
+    }
+}
+
+// Writes what a slot hears, and who sits in it where it is a port; no one did before.
+fn show(image: &mut Image, at: Slot, heard: Heard, room: Option<(u8, u32)>)
+    requires line { at.line < image_lines image.old }
+    requires place { at.place < 30 }
+    requires vacant { room_at image.old at ≡ None }
+    ensures heard { EachSlot (image_lines image.old) (λ x. heard_at image.new x ≡ (if same_slot x at then heard else heard_at image.old x)) }
+    ensures rooms { EachSlot (image_lines image.old) (λ x. room_at image.new x ≡ (if same_slot x at then room else room_at image.old x)) }
+    ensures image { SameImageSizes image.old image.new }
+    ensures frame { image.new.frame ≡ image.old.frame }
+    ensures tables { SameTables image.old image.new }
+{
+    image.set_heard(at, heard);
+    if let Some((room, since)) = room {
+        image.set_room(at, room, since);
+    }
+}
