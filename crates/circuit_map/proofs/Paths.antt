@@ -6,7 +6,8 @@ use Rattle.circuit_model.specs.declared.circuit.Circuit.{Circuit}
 use Rattle.circuit_model.specs.Circuits.{heard_by}
 use Rattle.circuit_model.specs.Holding.{Holding}
 use Rattle.circuit_model.specs.Ports.{Ports}
-use Rattle.control_memory.specs.Layout.{Hop, Path, Layout, IsSlot, Joins, hop_of, path_to}
+use Rattle.control_memory.specs.declared.hop.Hop.{Hop}
+use Rattle.control_memory.specs.Layout.{Path, Layout, IsSlot, Joins, hop_of, path_to}
 use Rattle.control_memory.proofs.Lookups.{path_to_found}
 use Rattle.circuit_map.specs.Connections.{Connections, lines_of, hears_at, Holds}
 use Rattle.circuit_map.proofs.Needs.{Needs, Paired, To_port, From_port}
