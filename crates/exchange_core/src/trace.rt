@@ -1,5 +1,5 @@
 ghost use Rattle.std.specs.Prelude.{◌≡◌, List, ℕ};
-ghost use Rattle.exchange_top.specs.declared.trace.Event.{Event};
+ghost use Rattle.exchange_core.specs.declared.trace.Event.{Event};
 
 use circuit_model::Slot;
 use std::marker::Model;
@@ -40,6 +40,10 @@ impl Input {
 pub enum Event {
     /// Connect two slots, both ways.
     Nail(Slot, Slot),
+    /// Seat a slot in a conference room, 0 to 63.
+    Seat(Slot, u8),
+    /// Undo the nail or the seat of a slot.
+    Free(Slot),
     /// The boundary of a frame, and what arrives in it.
     Frame(Input),
 }
@@ -52,7 +56,7 @@ pub struct Events {
 
 impl Model for Events {
     ghost use Rattle.std.specs.Prelude.{List};
-    ghost use Rattle.exchange_top.specs.declared.trace.Event.{Event};
+    ghost use Rattle.exchange_core.specs.declared.trace.Event.{Event};
 
     ghost Value = { List Event };
 

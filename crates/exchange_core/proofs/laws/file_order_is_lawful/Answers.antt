@@ -1,5 +1,5 @@
-use Rattle.exchange_top.proofs.OrderLemmas.{lawful_whole, lawful_begun}
-use Rattle.exchange_top.proofs.laws.file_order_is_lawful.Goals as goal
+use Rattle.exchange_core.proofs.Ordering.{lawful_whole, lawful_begun}
+use Rattle.exchange_core.proofs.laws.file_order_is_lawful.Goals as goal
 
 pub returns-clause-whole : goal.returns-clause-whole
 returns-clause-whole c t = lawful_whole t

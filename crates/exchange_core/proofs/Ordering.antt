@@ -4,9 +4,9 @@ use Rattle.std.specs.List.{range_with_len}
 use Rattle.std.proofs.lemmas.Bool.{ltb-true, le-leb, cases_lt}
 use Rattle.std.proofs.lemmas.List.Sums.{sum_by-cons}
 use Rattle.std.proofs.lemmas.List.FromFn.{length-range_with_len, get_or-range_with_len}
-use Rattle.exchange_top.specs.declared.trace.Trace.{Trace}
-use Rattle.exchange_top.proofs.TableLemmas.{bool_case}
-use Rattle.exchange_top.specs.Orders.{IsLawful, IsLawfulPrefix, Precedes, segment_of, file_order}
+use Rattle.exchange_core.specs.declared.trace.Trace.{Trace}
+use Rattle.circuit_model.proofs.Slots.{true_or_false}
+use Rattle.exchange_core.specs.Orders.{IsLawful, IsLawfulPrefix, Precedes, segment_of, file_order}
 
 -- whether a segment ends before event n, as a number
 abbrev ended_before : ℕ → ℕ → ℕ
@@ -14,7 +14,7 @@ ended_before n last = if nat_lt last n then 1 else 0
 
 ended_rises : (m n last : ℕ) → n ≤ m → ended_before n last ≤ ended_before m last
 ended_rises m n last below =
-    elim (bool_case (nat_lt last n)) [
+    elim (true_or_false (nat_lt last n)) [
       | inl before ↦
           let first : last < n = ltb-true last n before in
           let later : nat_lt last m ≡ true = le-leb (suc last) m (omega (arith, first, below)) in

@@ -1,0 +1,4 @@
+pub mod Sound
+pub mod Orders
+pub mod World
+pub mod Standing

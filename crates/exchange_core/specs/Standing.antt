@@ -1,0 +1,33 @@
+-- What the map of circuits stands for, and how a world comes about. Source: this exchange's own.
+use Rattle.std.specs.Prelude.{◌≡◌, ℕ, List, [], ◌∷◌, length}
+use Rattle.circuit_model.specs.Holding.{Command, empty, after_all, frames, AreAllowed}
+use Rattle.circuit_model.specs.Ports.{Ports, free_ports, ports_after, port_frames}
+use Rattle.circuit_model.specs.Extent.{AreWithin}
+use Rattle.circuit_map.specs.Connections.{Connections, Holds}
+use Rattle.exchange_core.specs.World.{Dimensions, World}
+
+-- the dimensions of a map of circuits
+abbrev pub dimensions_of : Connections → Dimensions
+dimensions_of m = record { external = m.external; bridges = m.bridges; slots = m.slots }
+
+-- the map holds the circuits and ports of the world, and its paths have the world's layout
+pub record Stands (m : Connections) (w : World) : Type 0 where
+  pub holds : Holds m w.holding w.ports
+  pub layout : m.layout ≡ w.layout
+
+-- what a list of commands makes of the ports
+abbrev pub ports_after_all : Ports → List Command → Ports
+ports_after_all ports [] = ports
+ports_after_all ports (c ∷ cs) = ports_after_all (ports_after ports c) cs
+
+-- a list of allowed commands and boundaries, which name slots of external lines alone, made the circuits and the ports of the world and of
+-- each frame so far
+pub record IsMade (d : Dimensions) (w : World) : Type 0 where
+  pub commands : List Command
+  pub within : AreWithin d.external commands
+  pub allowed : AreAllowed d.bridges empty commands
+  pub circuits : w.holding ≡ after_all empty commands
+  pub ports : w.ports ≡ ports_after_all (free_ports d.bridges) commands
+  pub held : w.held ≡ frames empty commands
+  pub seated : w.seated ≡ port_frames (free_ports d.bridges) commands
+  pub arrived : length w.inputs ≡ w.holding.next

@@ -1,0 +1,20 @@
+//! Laws of traces, of the orders of their events, and of the worlds that they make.
+ghost use Rattle.std.specs.Prelude.{ℕ, ◌≤◌, ◌<◌, All, List, length};
+ghost use Rattle.exchange_core.specs.declared.trace.Event.{Event};
+ghost use Rattle.exchange_core.specs.declared.trace.Trace.{Trace};
+ghost use Rattle.exchange_core.specs.Orders.{IsLawful, IsLawfulPrefix, file_order};
+ghost use Rattle.exchange_core.specs.Sound.{Fits};
+ghost use Rattle.exchange_core.specs.Standing.{IsMade};
+ghost use Rattle.exchange_core.specs.World.{Dimensions, start, world};
+
+/// The order of the file is lawful, and so is each of its beginnings.
+pub fn file_order_is_lawful()
+    ensures whole { (t : Trace) → IsLawful t (file_order (length t.events)) }
+    ensures begun { (t : Trace) (count : ℕ) → count ≤ length t.events → IsLawfulPrefix t (file_order count) }
+{}
+
+/// Whatever events happen, the circuits and ports of each frame come of one list of commands, each
+/// of which was allowed when its turn came.
+pub fn worlds_are_made()
+    ensures { (d : Dimensions) (events : List Event) → All (Fits d.external) events → IsMade d (world d (start d) events) }
+{}
