@@ -24,6 +24,7 @@ pub struct NoPort;
 ///
 /// Contracts see the circuit by which each external slot hears, the member of each port and the
 /// layout of the paths; `Holds` says of which holding these are. No call but `new` takes memory.
+#[derive(Drop)]
 pub struct CircuitMap<P: PathMap> {
     external: u8,
     bridges: u8,

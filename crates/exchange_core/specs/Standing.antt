@@ -1,5 +1,5 @@
 -- What the map of circuits stands for, and how a world comes about. Source: this exchange's own.
-use Rattle.std.specs.Prelude.{◌≡◌, ℕ, List, [], ◌∷◌, length}
+use Rattle.std.specs.Prelude.{◌≡◌, List, [], ◌∷◌, length}
 use Rattle.circuit_model.specs.Holding.{Command, empty, after_all, frames, AreAllowed}
 use Rattle.circuit_model.specs.Ports.{Ports, free_ports, ports_after, port_frames}
 use Rattle.circuit_model.specs.Extent.{AreWithin}

@@ -1,6 +1,6 @@
 -- The exchange as a machine: what stands, what each event makes of that, and what it is answered. Source: this exchange's own; the paths
 -- join the layout by Paull's rule.
-use Rattle.std.specs.Prelude.{ℕ, ◌+◌, ◌-◌, ◌*◌, ◌&&◌, ◌==◌, not, Bool, List, [], ◌∷◌, ◌++◌, filter_map, slice_get, count_by, replicate, Option, Some, None, if◌then◌else◌}
+use Rattle.std.specs.Prelude.{ℕ, ◌+◌, ◌-◌, ◌*◌, ◌&&◌, ◌==◌, ◌≤◌, not, Bool, true, false, List, [], ◌∷◌, ◌++◌, filter_map, slice_get, count_by, replicate, Option, Some, None, if◌then◌else◌}
 use Rattle.circuit_model.specs.declared.channel.Slot.{Slot}
 use Rattle.circuit_model.specs.declared.circuit.Circuit.{Circuit}
 use Rattle.circuit_model.specs.FrameInput.{Input}
@@ -118,6 +118,26 @@ next d w (Nail x y) = if can_nail w x y then obey d w (Connect x y) else w
 next d w (Seat x room) = if can_seat d w x then obey d w (Take_seat x room) else w
 next d w (Free x) = if is_nailed w x then obey d w (Clear x) else w
 next d w (Frame_event input) = pass w input
+
+-- an event that was refused
+abbrev pub is_refusal : Reply → Bool
+is_refusal (Granted a b) = false
+is_refusal Busy = true
+is_refusal (Seated a b) = false
+is_refusal NoPort = true
+is_refusal Freed = false
+is_refusal NotNailed = true
+is_refusal (Frame_reply k) = false
+
+-- an answer tells of so many moved paths at the most, each way
+abbrev pub MovesAtMost : ℕ → Reply → Type 0
+MovesAtMost n (Granted a b) = (a ≤ n) × (b ≤ n)
+MovesAtMost n Busy = Unit {0}
+MovesAtMost n (Seated a b) = (a ≤ n) × (b ≤ n)
+MovesAtMost n NoPort = Unit {0}
+MovesAtMost n Freed = Unit {0}
+MovesAtMost n NotNailed = Unit {0}
+MovesAtMost n (Frame_reply k) = Unit {0}
 
 -- the world after a list of events
 abbrev pub world : Dimensions → World → List Event → World

@@ -1,17 +1,16 @@
-ghost use Rattle.std.specs.Prelude.{◌≡◌, ◌+◌, ◌<◌, ◌≤◌, ℕ, IfOk, length};
+ghost use Rattle.std.specs.Prelude.{◌≡◌, ◌+◌, ◌<◌, ◌≤◌, ℕ, None, IfOk, IsTrue};
 ghost use Rattle.control_memory.specs.Image.{SameSizes as SameImageSizes};
-ghost use Rattle.control_memory.specs.Layout.{IsBare};
 ghost use Rattle.control_memory.specs.Shown.{Shows};
-ghost use Rattle.circuit_map.specs.Connections.{SameSizes};
-ghost use Rattle.exchange_core.specs.declared.reply.Reply.TheVariants.{Granted, Seated, Frame};
+ghost use Rattle.circuit_map.specs.Connections.{SameSizes, hears_at};
+ghost use Rattle.exchange_core.specs.declared.reply.Reply.TheVariants.{Frame};
 ghost use Rattle.exchange_core.specs.declared.trace.Event.TheVariants as event;
 ghost use Rattle.exchange_core.specs.Sound.{Fits};
 ghost use Rattle.exchange_core.specs.Standing.{Stands, dimensions_of};
-ghost use Rattle.exchange_core.specs.World.{World, start, reply, next};
+ghost use Rattle.exchange_core.specs.World.{World, start, reply, next, can_nail, is_refusal, MovesAtMost};
 
 use crate::reply::Reply;
 use crate::trace::Event;
-use circuit_map::{CircuitMap, NoPort};
+use circuit_map::CircuitMap;
 use circuit_model::Slot;
 use control_memory::{Image, PathMap};
 use std::alloc::{AllocError, Global};
@@ -22,6 +21,7 @@ use std::marker::Model;
 ///
 /// Contracts see what the map of circuits keeps; `Stands` says of which world that is. No call but
 /// `new` takes memory.
+#[derive(Drop)]
 pub struct Core<P: PathMap> {
     map: CircuitMap<P>,
 }
@@ -70,9 +70,10 @@ impl<P: PathMap> Core<P> {
         requires slots { image.old.slots ≡ self.old.slots }
         ensures reply { (w : World) → Stands self.old w → result ≡ reply (dimensions_of self.old) w event.now }
         ensures world { (w : World) → Stands self.old w → Stands self.new (next (dimensions_of self.old) w event.now) }
-        ensures granted { (a b : ℕ) → result ≡ Granted a b → (a ≤ self.old.bound) × (b ≤ self.old.bound) }
-        ensures seated { (a b : ℕ) → result ≡ Seated a b → (a ≤ self.old.bound) × (b ≤ self.old.bound) }
+        ensures few { MovesAtMost self.old.bound result }
+        ensures refused { IsTrue (is_refusal result) → self.new ≡ self.old }
         ensures shows { (w : World) (f : ℕ) → Stands self.old w → result ≡ Frame f → Shows image.new w.holding.circuits w.ports f }
+        ensures unshown { ((f : ℕ) → ¬ (result ≡ Frame f)) → image.new ≡ image.old }
         ensures image { SameImageSizes image.old image.new }
         ensures sizes { SameSizes self.old self.new }
     {
@@ -89,16 +90,25 @@ impl<P: PathMap> Core<P> {
         requires fits { Fits self.old.external (event.Nail x y) }
         ensures reply { (w : World) → Stands self.old w → result ≡ reply (dimensions_of self.old) w (event.Nail x y) }
         ensures world { (w : World) → Stands self.old w → Stands self.new (next (dimensions_of self.old) w (event.Nail x y)) }
-        ensures few { (a b : ℕ) → result ≡ Granted a b → (a ≤ self.old.bound) × (b ≤ self.old.bound) }
+        ensures few { MovesAtMost self.old.bound result }
+        ensures refused { IsTrue (is_refusal result) → self.new ≡ self.old }
         ensures no_frame { (f : ℕ) → ¬ (result ≡ Frame f) }
-        ensures no_seat { (a b : ℕ) → ¬ (result ≡ Seated a b) }
         ensures sizes { SameSizes self.old self.new }
     {
-        if !(self.map.idle(x) && self.map.idle(y)) {
+        if !self.can_nail(x, y) {
             return Reply::Busy;
         }
         let (there, back) = self.map.pair(x, y);
         Reply::Granted(there, back)
+    }
+
+    // Whether both slots are idle.
+    fn can_nail(&self, x: Slot, y: Slot) -> bool
+        requires fits { Fits self.now.external (event.Nail x y) }
+        ensures can { (w : World) → Stands self.now w → result ≡ can_nail w x y }
+        ensures silent { IsTrue result → (hears_at self.now x ≡ None) × (hears_at self.now y ≡ None) }
+    {
+        self.map.idle(x) && self.map.idle(y)
     }
 
     // Seats a slot in a room, where it is idle and a conference port is free.
@@ -106,18 +116,18 @@ impl<P: PathMap> Core<P> {
         requires fits { Fits self.old.external (event.Seat x room) }
         ensures reply { (w : World) → Stands self.old w → result ≡ reply (dimensions_of self.old) w (event.Seat x room) }
         ensures world { (w : World) → Stands self.old w → Stands self.new (next (dimensions_of self.old) w (event.Seat x room)) }
-        ensures few { (a b : ℕ) → result ≡ Seated a b → (a ≤ self.old.bound) × (b ≤ self.old.bound) }
+        ensures few { MovesAtMost self.old.bound result }
+        ensures refused { IsTrue (is_refusal result) → self.new ≡ self.old }
         ensures no_frame { (f : ℕ) → ¬ (result ≡ Frame f) }
-        ensures no_grant { (a b : ℕ) → ¬ (result ≡ Granted a b) }
         ensures sizes { SameSizes self.old self.new }
     {
         if !self.map.idle(x) {
             return Reply::Busy;
         }
-        match self.map.seat(x, room) {
-            Ok((there, back)) => Reply::Seated(there, back),
-            Err(NoPort) => Reply::NoPort,
-        }
+        let Ok((there, back)) = self.map.seat(x, room) else {
+            return Reply::NoPort;
+        };
+        Reply::Seated(there, back)
     }
 
     // Takes away the nail or the seat of a slot, where it has one.
@@ -125,9 +135,9 @@ impl<P: PathMap> Core<P> {
         requires fits { Fits self.old.external (event.Free x) }
         ensures reply { (w : World) → Stands self.old w → result ≡ reply (dimensions_of self.old) w (event.Free x) }
         ensures world { (w : World) → Stands self.old w → Stands self.new (next (dimensions_of self.old) w (event.Free x)) }
+        ensures few { MovesAtMost self.old.bound result }
+        ensures refused { IsTrue (is_refusal result) → self.new ≡ self.old }
         ensures no_frame { (f : ℕ) → ¬ (result ≡ Frame f) }
-        ensures no_grant { (a b : ℕ) → ¬ (result ≡ Granted a b) }
-        ensures no_seat { (a b : ℕ) → ¬ (result ≡ Seated a b) }
         ensures sizes { SameSizes self.old self.new }
     {
         if self.map.idle(x) {

@@ -1,0 +1,5 @@
+use Rattle.exchange_core.proofs.Making.{made}
+use Rattle.exchange_core.proofs.laws.worlds_are_made.Goals as goal
+
+pub returns : goal.returns
+returns c = made
