@@ -3,12 +3,14 @@ use Rattle.std.specs.Prelude.{◌≡◌, ℕ, ◌≤◌, List, [], ◌∷◌, �
 use Rattle.std.specs.Io.KnownBytes.{Appends, Consumes, IsAtEnd, Keeps}
 use Rattle.std.specs.declared.option.Option.{Option}
 use Rattle.ex_io.specs.Ends.{Rose}
-use Rattle.exchange_top.specs.declared.reader.fault.Reason.{Reason}
-use Rattle.exchange_top.specs.declared.reader.fault.Reason.TheVariants as reason
-use Rattle.exchange_top.specs.declared.trace.Trace.{Trace}
-use Rattle.exchange_top.specs.TraceGrammar.{IsTrace, IsRefused, most_bytes}
-use Rattle.exchange_top.specs.Orders.{IsLawful, IsLawfulPrefix}
+use Rattle.trace_text.specs.declared.fault.Reason.{Reason}
+use Rattle.trace_text.specs.declared.fault.Reason.TheVariants as reason
+use Rattle.exchange_core.specs.declared.trace.Trace.{Trace}
+use Rattle.trace_text.specs.TraceGrammar.{IsTrace, IsRefused, most_bytes}
+use Rattle.exchange_core.specs.Orders.{IsLawful, IsLawfulPrefix}
 use Rattle.exchange_top.specs.Outcomes.{IsReported, IsBegun}
+use Rattle.exchange_core.specs.World.{World}
+use Rattle.exchange_top.specs.Report.{Plays, world_of}
 use Rattle.exchange_top.specs.Streams.{AppendsFront}
 
 -- the one command: the word `run`, alone
@@ -45,12 +47,13 @@ pub record IsInput (old new : Option (List ℕ)) (bytes : List ℕ) : Type 0 whe
   pub front : Consumes old new bytes
   pub whole : length bytes ≤ most_bytes → IsAtEnd new
 
--- the bytes were answered by the report of the trace that they are, whole
-pub record IsDone (bytes order : List ℕ) (old new : Option (List ℕ)) : Type 0 where
+-- the bytes were answered by the report of the trace that they are, whole, and the engine carries the frames of its run
+pub record IsDone (plays : Plays) (carried : World → Type 0) (bytes order : List ℕ) (old new : Option (List ℕ)) : Type 0 where
   pub trace : Trace
   pub is_trace : IsTrace bytes trace
   pub lawful : IsLawful trace order
-  pub report : IsReported trace order old new
+  pub report : IsReported plays trace order old new
+  pub frames : carried (world_of trace order)
 
 -- the bytes were answered by the refusal of the line that they are no trace for
 pub record IsTurnedDown (bytes order : List ℕ) (old new : Option (List ℕ)) : Type 0 where
@@ -61,29 +64,29 @@ pub record IsTurnedDown (bytes order : List ℕ) (old new : Option (List ℕ)) :
   pub text : Appends old new (refusal number why)
 
 -- the answer to the bytes was cut short: nothing was written, or a front of their refusal, or a front of the report of the events that were done
-pub data IsCutShort (bytes order : List ℕ) (old new : Option (List ℕ)) : Type 0 where
-  At_once : order ≡ [] → Keeps old new → IsCutShort bytes order old new
-  In_refusal : (number : ℕ) (why : Reason) → IsRefused bytes number why → order ≡ [] → AppendsFront old new (refusal number why) → IsCutShort bytes order old new
-  In_report : (trace : Trace) → IsTrace bytes trace → IsLawfulPrefix trace order → IsBegun trace order old new → IsCutShort bytes order old new
+pub data IsCutShort (plays : Plays) (bytes order : List ℕ) (old new : Option (List ℕ)) : Type 0 where
+  At_once : order ≡ [] → Keeps old new → IsCutShort plays bytes order old new
+  In_refusal : (number : ℕ) (why : Reason) → IsRefused bytes number why → order ≡ [] → AppendsFront old new (refusal number why) → IsCutShort plays bytes order old new
+  In_report : (trace : Trace) → IsTrace bytes trace → IsLawfulPrefix trace order → IsBegun plays trace order old new → IsCutShort plays bytes order old new
 
 -- the whole call was cut short: it could write no refusal of the words, or it could not read its input, or its answer to the input was cut short
-pub data IsUndone (words : List (List ℕ)) (left_old left_new : Option (List ℕ)) (order : List ℕ) (old new : Option (List ℕ)) : Type 0 where
-  In_words : ¬ IsRun words → order ≡ [] → AppendsFront old new words_refusal → IsUndone words left_old left_new order old new
-  In_input : IsRun words → order ≡ [] → Keeps old new → IsUndone words left_old left_new order old new
-  In_answer : IsRun words → (bytes : List ℕ) → IsInput left_old left_new bytes → IsCutShort bytes order old new → IsUndone words left_old left_new order old new
+pub data IsUndone (plays : Plays) (words : List (List ℕ)) (left_old left_new : Option (List ℕ)) (order : List ℕ) (old new : Option (List ℕ)) : Type 0 where
+  In_words : ¬ IsRun words → order ≡ [] → AppendsFront old new words_refusal → IsUndone plays words left_old left_new order old new
+  In_input : IsRun words → order ≡ [] → Keeps old new → IsUndone plays words left_old left_new order old new
+  In_answer : IsRun words → (bytes : List ℕ) → IsInput left_old left_new bytes → IsCutShort plays bytes order old new → IsUndone plays words left_old left_new order old new
 
 -- how an answer to the bytes that were read ends, by its status; the counts are those of the sink's faults before and after
-pub data Answers (bytes : List ℕ) (status : ℕ) (order : List ℕ) (old new : Option (List ℕ)) (before after : ℕ) : Type 0 where
-  Done : status ≡ 0 → IsDone bytes order old new → Answers bytes status order old new before after
-  Turned_down : status ≡ 1 → IsTurnedDown bytes order old new → Answers bytes status order old new before after
-  Unwritten : status ≡ 4 → Rose before after → IsCutShort bytes order old new → Answers bytes status order old new before after
-  No_memory : status ≡ 5 → IsCutShort bytes order old new → Answers bytes status order old new before after
+pub data Answers (plays : Plays) (carried : World → Type 0) (bytes : List ℕ) (status : ℕ) (order : List ℕ) (old new : Option (List ℕ)) (before after : ℕ) : Type 0 where
+  Done : status ≡ 0 → IsDone plays carried bytes order old new → Answers plays carried bytes status order old new before after
+  Turned_down : status ≡ 1 → IsTurnedDown bytes order old new → Answers plays carried bytes status order old new before after
+  Unwritten : status ≡ 4 → Rose before after → IsCutShort plays bytes order old new → Answers plays carried bytes status order old new before after
+  No_memory : status ≡ 5 → IsCutShort plays bytes order old new → Answers plays carried bytes status order old new before after
 
 -- how a run of a trace ends
-pub data Runs (trace : Trace) (status : ℕ) (order : List ℕ) (old new : Option (List ℕ)) (before after : ℕ) : Type 0 where
-  Whole : status ≡ 0 → IsReported trace order old new → Runs trace status order old new before after
-  Unwritten_from : status ≡ 4 → Rose before after → IsBegun trace order old new → Runs trace status order old new before after
-  No_memory_from : status ≡ 5 → IsBegun trace order old new → Runs trace status order old new before after
+pub data Runs (plays : Plays) (carried : World → Type 0) (trace : Trace) (status : ℕ) (order : List ℕ) (old new : Option (List ℕ)) (before after : ℕ) : Type 0 where
+  Whole : status ≡ 0 → IsReported plays trace order old new → carried (world_of trace order) → Runs plays carried trace status order old new before after
+  Unwritten_from : status ≡ 4 → Rose before after → IsBegun plays trace order old new → Runs plays carried trace status order old new before after
+  No_memory_from : status ≡ 5 → IsBegun plays trace order old new → Runs plays carried trace status order old new before after
 
 -- what the source and the sink tell, before and after: the bytes left and written, and their counts of faults
 pub record Told : Type 0 where
@@ -93,9 +96,9 @@ pub record Told : Type 0 where
   pub writes : ℕ
 
 -- how a call ends, by its status
-pub data Ends (words : List (List ℕ)) (status : ℕ) (order : List ℕ) (old new : Told) : Type 0 where
-  Wrong_words : ¬ IsRun words → status ≡ 2 → order ≡ [] → Appends old.written new.written words_refusal → Ends words status order old new
-  Words_unwritten : ¬ IsRun words → status ≡ 4 → order ≡ [] → Rose old.writes new.writes → AppendsFront old.written new.written words_refusal → Ends words status order old new
-  Unread : IsRun words → status ≡ 3 → order ≡ [] → Rose old.reads new.reads → Keeps old.written new.written → Ends words status order old new
-  No_room : IsRun words → status ≡ 5 → order ≡ [] → Keeps old.written new.written → Ends words status order old new
-  Answered : IsRun words → (bytes : List ℕ) → IsInput old.left new.left bytes → Answers bytes status order old.written new.written old.writes new.writes → Ends words status order old new
+pub data Ends (plays : Plays) (carried : World → Type 0) (words : List (List ℕ)) (status : ℕ) (order : List ℕ) (old new : Told) : Type 0 where
+  Wrong_words : ¬ IsRun words → status ≡ 2 → order ≡ [] → Appends old.written new.written words_refusal → Ends plays carried words status order old new
+  Words_unwritten : ¬ IsRun words → status ≡ 4 → order ≡ [] → Rose old.writes new.writes → AppendsFront old.written new.written words_refusal → Ends plays carried words status order old new
+  Unread : IsRun words → status ≡ 3 → order ≡ [] → Rose old.reads new.reads → Keeps old.written new.written → Ends plays carried words status order old new
+  No_room : IsRun words → status ≡ 5 → order ≡ [] → Keeps old.written new.written → Ends plays carried words status order old new
+  Answered : IsRun words → (bytes : List ℕ) → IsInput old.left new.left bytes → Answers plays carried bytes status order old.written new.written old.writes new.writes → Ends plays carried words status order old new

@@ -1,56 +1,53 @@
--- The text of a report. Source: this exchange's own.
-use Rattle.std.specs.Prelude.{ℕ, ◌+◌, ◌==◌, List, [], ◌∷◌, ◌++◌, map, codes, decimal, if◌then◌else◌}
-use Rattle.std.specs.List.{list_all, range_with_len}
-use Rattle.hex.specs.Hex.{encode_upper}
+-- The report of a run. Source: this exchange's own.
+use Rattle.std.specs.Prelude.{ℕ, List, [], ◌∷◌, ◌++◌, Option, Some, None}
 use Rattle.circuit_model.specs.declared.channel.Slot.{Slot}
+use Rattle.circuit_model.specs.declared.circuit.Circuit.{Circuit}
 use Rattle.circuit_model.specs.declared.circuit.Kind.{Kind}
-use Rattle.circuit_model.specs.FrameInput.{idle_octet}
-use Rattle.circuit_model.specs.Hears.{hears}
-use Rattle.exchange_top.specs.declared.trace.Trace.{Trace}
-use Rattle.exchange_top.specs.declared.reply.Reply.{Reply}
-use Rattle.exchange_top.specs.declared.reply.Reply.TheVariants.{Granted, Busy, Frame}
-use Rattle.exchange_top.specs.Exchange.{World, start, world, run, events_of}
+use Rattle.circuit_model.specs.FrameInput.{Input}
+use Rattle.circuit_model.specs.Ports.{Ports}
+use Rattle.exchange_core.specs.declared.trace.Event.{Event}
+use Rattle.exchange_core.specs.declared.trace.Trace.{Trace}
+use Rattle.exchange_core.specs.World.{Dimensions, World, start, world, next, reply, events_of}
+use Rattle.report_text.specs.Report.{sent, report_line}
+
+-- the fabric has as many internal slots as a line has bearer channels
+abbrev pub dimensions : Trace → Dimensions
+dimensions trace = record { external = trace.external; bridges = trace.bridges; slots = 30 }
+
+-- what an engine plays on a slot in a frame, given the tones and each frame's input and circuits
+abbrev pub Plays : Type 0
+Plays = (Kind → List ℕ) → List Input → List (List Circuit) → ℕ → Slot → ℕ
 
 -- no tone has octets: a trace can't give any yet
 abbrev pub no_tones : Kind → List ℕ
 no_tones kind = []
 
--- the octet that a slot hears, and so sends out on its line, in frame f
-abbrev pub heard : World → ℕ → Slot → ℕ
-heard w f y = hears no_tones w.inputs w.held f y
+-- the octet that a slot sends in frame f
+abbrev pub played : Plays → World → ℕ → Slot → ℕ
+played plays w f y = plays no_tones w.inputs w.held f y
 
--- the thirty octets of a line, in order of place
-unfoldable pub line_octets : (Slot → ℕ) → ℕ → List ℕ
-line_octets octet line = map (λ place. octet (record { line = line; place = place })) (range_with_len 0 30)
+-- what each line sends in the frame that an event is, if it is one
+abbrev pub sent_at : Plays → Dimensions → World → Event → List (List ℕ)
+sent_at plays d w e = sent (played plays (next d w e) w.holding.next) d.external
 
--- the octets that each of so many lines sends in frame f
-abbrev pub sent : World → ℕ → ℕ → List (List ℕ)
-sent w lines f = map (line_octets (heard w f)) (range_with_len 0 lines)
+-- the line of an event, and the lines of events that happen one after another
+abbrev pub event_line : Plays → Dimensions → World → ℕ → Event → List ℕ
+event_line plays d w n e = report_line (sent_at plays d w e) n (reply d w e)
 
--- a line's part of a frame: its number and its octets; nothing where all of them are idle
-abbrev pub part : ℕ → List ℕ → List ℕ
-part line octets =
-    if list_all (λ octet. octet == idle_octet) octets then []
-    else codes " " ++ decimal line ++ codes ":" ++ encode_upper octets
-
--- the parts of a frame, from a line on
-abbrev pub parts : ℕ → List (List ℕ) → List ℕ
-parts line [] = []
-parts line (octets ∷ rest) = part line octets ++ parts (line + 1) rest
-
--- the line of a report for one event, given what each line sends in a frame
-abbrev pub report_line : (ℕ → List (List ℕ)) → ℕ → Reply → List ℕ
-report_line sends n (Granted a b) = decimal n ++ codes " granted " ++ decimal a ++ codes " " ++ decimal b ++ codes "\n"
-report_line sends n Busy = decimal n ++ codes " busy\n"
-report_line sends n (Frame k) = decimal n ++ codes " frame " ++ decimal k ++ parts 0 (sends k) ++ codes "\n"
-
-abbrev pub report_lines : (ℕ → List (List ℕ)) → List ℕ → List Reply → List ℕ
-report_lines sends [] replies = []
-report_lines sends (n ∷ order) [] = []
-report_lines sends (n ∷ order) (r ∷ replies) = report_line sends n r ++ report_lines sends order replies
+abbrev pub event_lines : Plays → Dimensions → World → List ℕ → List Event → List ℕ
+event_lines plays d w [] events = []
+event_lines plays d w (n ∷ order) [] = []
+event_lines plays d w (n ∷ order) (e ∷ events) = event_line plays d w n e ++ event_lines plays d (next d w e) order events
 
 -- the report of a trace whose events happen in this order: a line for each, in that order
-abbrev pub report : Trace → List ℕ → List ℕ
-report trace order =
-    let events = events_of trace.events order in
-    report_lines (sent (world start events) trace.external) order (run start events)
+abbrev pub report : Plays → Trace → List ℕ → List ℕ
+report plays trace order = let d = dimensions trace in event_lines plays d (start d) order (events_of trace.events order)
+
+-- the world that these events make
+abbrev pub world_of : Trace → List ℕ → World
+world_of trace order = let d = dimensions trace in world d (start d) (events_of trace.events order)
+
+-- the engine that a call hands out carries the frames of a world
+abbrev pub CarriesIn : {E : Type 0} → (E → List Input → List (List Circuit) → List Ports → Type 0) → Option E → World → Type 0
+CarriesIn carries None w = ⊥
+CarriesIn carries (Some e) w = carries e w.inputs w.held w.seated

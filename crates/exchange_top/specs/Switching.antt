@@ -1,17 +1,14 @@
--- The exchange's tables and speech memory, and the world that they stand for. Source: this exchange's own.
-use Rattle.std.specs.Prelude.{◌≡◌, length}
-use Rattle.frame_buffer.specs.Delay.{Delay, Carries}
-use Rattle.exchange_top.specs.Exchange.{World}
-use Rattle.exchange_top.specs.Tables.{Table, Shows}
+-- The exchange at work, and the world that it stands for. Source: this exchange's own.
+use Rattle.std.specs.Prelude.{ℕ, List}
+use Rattle.circuit_model.specs.declared.circuit.Circuit.{Circuit}
+use Rattle.circuit_model.specs.FrameInput.{Input}
+use Rattle.circuit_model.specs.Ports.{Ports}
+use Rattle.circuit_map.specs.Connections.{Connections}
+use Rattle.exchange_core.specs.Standing.{Stands, IsMade, dimensions_of}
+use Rattle.exchange_core.specs.World.{World}
 
--- the table of circuits, and the delay line for the octets
-pub record State : Type 0 where
-  pub table : Table
-  pub delay : Delay
-
--- a state stands for a world: its table shows the holding, its delay line carries the inputs, and each frame so far is recorded
-pub record Stands (state : State) (w : World) : Type 0 where
-  pub shown : Shows state.table w.holding
-  pub carried : Carries state.delay w.inputs
-  pub arrived : length w.inputs ≡ w.holding.next
-  pub recorded : length w.held ≡ w.holding.next
+-- what stands and the engine's frames are those of a world that events have made
+pub record Works {E : Type 0} (carries : E → List Input → List (List Circuit) → List Ports → Type 0) (core : Connections) (engine : E) (w : World) : Type 0 where
+  pub stands : Stands core w
+  pub made : IsMade (dimensions_of core) w
+  pub carried : carries engine w.inputs w.held w.seated
