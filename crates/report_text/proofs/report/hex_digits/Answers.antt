@@ -3,7 +3,7 @@ use Rattle.std.proofs.lemmas.List.{length-set}
 use Rattle.std.proofs.lemmas.Nat.{and_mask}
 use Rattle.hex.proofs.Pairs.{encode_step, encode_done}
 use Rattle.hex.specs.Hex.{upper_digits}
-use Rattle.exchange_top.proofs.report.hex_digits.Goals as goal
+use Rattle.report_text.proofs.report.hex_digits.Goals as goal
 
 pub loop-place-preserved : goal.loop-place-preserved
 loop-place-preserved c =

@@ -1,6 +1,6 @@
 use Rattle.std.proofs.Common.{◌≡◌, ◌*◌, ◌++◌, take, drop, length}
 use Rattle.hex.specs.Hex.{encode_upper}
-use Rattle.exchange_top.proofs.report.hex_digits.Given as goal
+use Rattle.report_text.proofs.report.hex_digits.Given as goal
 
 abbrev pub invariant-loop-place : goal.invariant-loop-place
 invariant-loop-place l = record {
