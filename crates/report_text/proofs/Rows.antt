@@ -1,0 +1,34 @@
+-- Rows of octets, and the octets of their slots.
+use Rattle.std.proofs.Common.{◌≡◌, ℕ, ◌+◌, ◌<◌, List, [], ◌∷◌, length, map, drop, slice_index, get_or, arith, ap, refl, sym, ◌∙◌}
+use Rattle.std.specs.List.{range_with_len}
+use Rattle.circuit_model.specs.declared.channel.Slot.{Slot}
+use Rattle.report_text.specs.Report.{line_octets, sent, octet_of}
+use Rattle.std.proofs.lemmas.List.{drop_more}
+use Rattle.std.proofs.lemmas.List.FromFn.{fill_by_all, length-map-range_with_len, get_or-map-range_with_len}
+
+-- a row of thirty octets is what its line sends
+pub row_is : (line : ℕ) (row : List ℕ) → length row ≡ 30 → line_octets (λ at. slice_index row at.place) line ≡ row
+unfolding line_octets
+row_is line row thirty = sym (fill_by_all (λ place. slice_index row place) row 30 0 thirty (λ k within. refl))
+
+-- a slot's octet is read in the row of its line
+pub row_of : (rows : List (List ℕ)) (line : ℕ) → line_octets (λ at. slice_index (get_or rows line []) at.place) line ≡ line_octets (octet_of rows) line
+unfolding line_octets
+row_of rows line = refl
+
+-- from one of the lines on, its own row comes first
+pub drop_sent : (octet : Slot → ℕ) (lines line : ℕ) → line < lines → drop line (sent octet lines) ≡ line_octets octet line ∷ drop (line + 1) (sent octet lines)
+drop_sent octet lines line within =
+    let count : length (sent octet lines) ≡ lines = length-map-range_with_len (line_octets octet) 0 lines in
+    drop_more (sent octet lines) line [] (omega (arith, count, within))
+    ∙ ap (λ first. first ∷ drop (line + 1) (sent octet lines)) (get_or-map-range_with_len (line_octets octet) 0 lines line line [] within (omega arith))
+
+-- what lines send depends on the octets of their slots alone
+pub line_octets_same : (f g : Slot → ℕ) (line : ℕ) → ((place : ℕ) → place < 30 → f (record { line = line; place = place }) ≡ g (record { line = line; place = place })) → line_octets f line ≡ line_octets g line
+unfolding line_octets
+line_octets_same f g line same = fill_by_all (λ place. g (record { line = line; place = place })) (map (λ place. f (record { line = line; place = place })) (range_with_len 0 30)) 30 0 (length-map-range_with_len (λ place. f (record { line = line; place = place })) 0 30)
+    (λ k within. get_or-map-range_with_len (λ place. f (record { line = line; place = place })) 0 30 k k 0 within (omega arith) ∙ same k within)
+
+pub sent_same : (f g : Slot → ℕ) (lines : ℕ) → ((line place : ℕ) → line < lines → place < 30 → f (record { line = line; place = place }) ≡ g (record { line = line; place = place })) → sent f lines ≡ sent g lines
+sent_same f g lines same = fill_by_all (line_octets g) (sent f lines) lines [] (length-map-range_with_len (line_octets f) 0 lines)
+    (λ k within. get_or-map-range_with_len (line_octets f) 0 lines k k [] within (omega arith) ∙ line_octets_same f g k (λ place. same k place within))

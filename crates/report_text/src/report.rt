@@ -1,0 +1,196 @@
+ghost use Rattle.std.specs.Prelude.{◌≡◌, ◌==◌, ℕ, ◌++◌, length, take, codes, decimal, slice_index, [], OnOk, OnErr};
+ghost use Rattle.std.specs.List.{list_all};
+ghost use Rattle.hex.specs.Hex.{encode_upper};
+ghost use Rattle.circuit_model.specs.FrameInput.{idle_octet};
+ghost use Rattle.exchange_core.specs.declared.reply.Reply.TheVariants.{Granted, Busy, Seated, NoPort, Freed, NotNailed, Frame};
+ghost use Rattle.report_text.specs.Report.{line_octets, sent, octet_of, part, parts, report_line};
+
+use circuit_model::IDLE;
+use exchange_core::Reply;
+use itoa::Buffer;
+use std::alloc::AllocError;
+
+// The hexadecimal digits, in upper case.
+const DIGITS: &[u8; 16] = b"0123456789ABCDEF";
+
+/// Appends a report's line for one event: its number, what it was answered, and for a frame the
+/// thirty octets of each line that sends an octet other than idle. `octets` holds what each external
+/// line sends; it is read for a frame alone.
+///
+/// # Errors
+///
+/// [`AllocError`] for want of memory, and then `out` is as it was.
+pub fn append_answer(
+    out: &mut Vec<u8>,
+    event: u32,
+    reply: Reply,
+    octets: &[[u8; 30]],
+) -> Result<(), AllocError>
+    ensures line { OnOk result (out.new.items ≡ out.old.items ++ report_line (sent (octet_of octets.now) (length octets.now)) event reply) }
+    ensures kept { OnErr result (out.new.items ≡ out.old.items) }
+{
+    let start = out.len();
+    let done = put_answer(out, event, reply, octets);
+    if done.is_err() {
+        out.truncate(start);
+    }
+    done
+}
+
+// The same, and a refusal leaves a front of the line.
+fn put_answer(
+    out: &mut Vec<u8>,
+    event: u32,
+    reply: Reply,
+    octets: &[[u8; 30]],
+) -> Result<(), AllocError>
+    ensures line { OnOk result (out.new.items ≡ out.old.items ++ report_line (sent (octet_of octets.now) (length octets.now)) event reply) }
+    ensures front { take (length out.old.items) out.new.items ≡ out.old.items }
+{
+    match reply {
+        Reply::Granted(a, b) => put_granted(out, event, a, b),
+        Reply::Busy => put_busy(out, event),
+        Reply::Seated(a, b) => put_seated(out, event, a, b),
+        Reply::NoPort => put_no_port(out, event),
+        Reply::Freed => put_freed(out, event),
+        Reply::NotNailed => put_not_nailed(out, event),
+        Reply::Frame(number) => put_frame(out, event, number, octets),
+    }
+}
+
+fn put_granted(out: &mut Vec<u8>, event: u32, a: u32, b: u32) -> Result<(), AllocError>
+    ensures line { OnOk result (out.new.items ≡ out.old.items ++ report_line [] event (Granted a b)) }
+    ensures front { take (length out.old.items) out.new.items ≡ out.old.items }
+{
+    put_numbers(out, event, b" granted ", a, b)
+}
+
+fn put_busy(out: &mut Vec<u8>, event: u32) -> Result<(), AllocError>
+    ensures line { OnOk result (out.new.items ≡ out.old.items ++ report_line [] event Busy) }
+    ensures front { take (length out.old.items) out.new.items ≡ out.old.items }
+{
+    put_number(out, event)?;
+    out.extend_from_slice(b" busy\n")
+}
+
+fn put_seated(out: &mut Vec<u8>, event: u32, a: u32, b: u32) -> Result<(), AllocError>
+    ensures line { OnOk result (out.new.items ≡ out.old.items ++ report_line [] event (Seated a b)) }
+    ensures front { take (length out.old.items) out.new.items ≡ out.old.items }
+{
+    put_numbers(out, event, b" seated ", a, b)
+}
+
+fn put_no_port(out: &mut Vec<u8>, event: u32) -> Result<(), AllocError>
+    ensures line { OnOk result (out.new.items ≡ out.old.items ++ report_line [] event NoPort) }
+    ensures front { take (length out.old.items) out.new.items ≡ out.old.items }
+{
+    put_number(out, event)?;
+    out.extend_from_slice(b" noport\n")
+}
+
+fn put_freed(out: &mut Vec<u8>, event: u32) -> Result<(), AllocError>
+    ensures line { OnOk result (out.new.items ≡ out.old.items ++ report_line [] event Freed) }
+    ensures front { take (length out.old.items) out.new.items ≡ out.old.items }
+{
+    put_number(out, event)?;
+    out.extend_from_slice(b" freed\n")
+}
+
+fn put_not_nailed(out: &mut Vec<u8>, event: u32) -> Result<(), AllocError>
+    ensures line { OnOk result (out.new.items ≡ out.old.items ++ report_line [] event NotNailed) }
+    ensures front { take (length out.old.items) out.new.items ≡ out.old.items }
+{
+    put_number(out, event)?;
+    out.extend_from_slice(b" notnailed\n")
+}
+
+// A line that ends with two numbers, each behind a space.
+fn put_numbers(out: &mut Vec<u8>, event: u32, word: &[u8], a: u32, b: u32) -> Result<(), AllocError>
+    ensures line { OnOk result (out.new.items ≡ out.old.items ++ decimal event ++ word.now ++ decimal a ++ codes " " ++ decimal b ++ codes "\n") }
+    ensures front { take (length out.old.items) out.new.items ≡ out.old.items }
+{
+    put_number(out, event)?;
+    out.extend_from_slice(word)?;
+    put_number(out, a)?;
+    out.extend_from_slice(b" ")?;
+    put_number(out, b)?;
+    out.extend_from_slice(b"\n")
+}
+
+fn put_frame(
+    out: &mut Vec<u8>,
+    event: u32,
+    number: u32,
+    octets: &[[u8; 30]],
+) -> Result<(), AllocError>
+    ensures line { OnOk result (out.new.items ≡ out.old.items ++ report_line (sent (octet_of octets.now) (length octets.now)) event (Frame number)) }
+    ensures front { take (length out.old.items) out.new.items ≡ out.old.items }
+{
+    put_number(out, event)?;
+    out.extend_from_slice(b" frame ")?;
+    put_number(out, number)?;
+    put_parts(out, octets)?;
+    out.extend_from_slice(b"\n")
+}
+
+// What each line sends, where it isn't idle.
+fn put_parts(out: &mut Vec<u8>, octets: &[[u8; 30]]) -> Result<(), AllocError>
+    ensures parts { OnOk result (out.new.items ≡ out.old.items ++ parts 0 (sent (octet_of octets.now) (length octets.now))) }
+    ensures front { take (length out.old.items) out.new.items ≡ out.old.items }
+{
+    for (line, row) in octets.iter().enumerate() {
+        put_row(out, line, row)?;
+    }
+    Ok(())
+}
+
+// What one line sends, where it isn't idle, read slot by slot.
+fn put_row(out: &mut Vec<u8>, line: usize, octets: &[u8; 30]) -> Result<(), AllocError>
+    ensures part { OnOk result (out.new.items ≡ out.old.items ++ part line (line_octets (λ at. slice_index octets.now at.place) line)) }
+    ensures front { take (length out.old.items) out.new.items ≡ out.old.items }
+{
+    put_part(out, line, octets)
+}
+
+// What one line sends, where it isn't idle.
+fn put_part(out: &mut Vec<u8>, line: usize, octets: &[u8; 30]) -> Result<(), AllocError>
+    ensures part { OnOk result (out.new.items ≡ out.old.items ++ part line octets.now) }
+    ensures front { take (length out.old.items) out.new.items ≡ out.old.items }
+{
+    if is_idle(octets) {
+        return Ok(());
+    }
+    let mut buffer = Buffer::new();
+    out.extend_from_slice(b" ")?;
+    out.extend_from_slice(buffer.format(line).as_bytes())?;
+    out.extend_from_slice(b":")?;
+    out.extend_from_slice(&hex_digits(octets))
+}
+
+// Whether a line sends nothing but idle octets.
+fn is_idle(octets: &[u8; 30]) -> bool
+    ensures { result ≡ list_all (λ octet. octet == idle_octet) octets.now }
+{
+    octets.iter().all(|octet| *octet == IDLE)
+}
+
+// The octets as hexadecimal digits, two each.
+fn hex_digits(octets: &[u8; 30]) -> [u8; 60]
+    ensures { result ≡ encode_upper octets.now }
+{
+    let mut digits = [0; 60];
+    for place in 0..30 {
+        let octet = octets[place];
+        digits[2 * place] = DIGITS[usize::from(octet >> 4)];
+        digits[2 * place + 1] = DIGITS[usize::from(octet & 0x0F)];
+    }
+    digits
+}
+
+fn put_number(out: &mut Vec<u8>, number: u32) -> Result<(), AllocError>
+    ensures number { OnOk result (out.new.items ≡ out.old.items ++ decimal number) }
+    ensures front { take (length out.old.items) out.new.items ≡ out.old.items }
+{
+    let mut buffer = Buffer::new();
+    out.extend_from_slice(buffer.format(number).as_bytes())
+}
