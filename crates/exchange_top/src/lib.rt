@@ -2,20 +2,10 @@
 #![tactic(auto)]
 
 mod call;
-mod circuit_table;
-mod laws;
-mod reader;
-mod reply;
-mod report;
 mod run;
 mod streams;
 mod switch;
 #[cfg(test)]
 mod tests;
-mod trace;
 
 pub use call::{Outcome, exchange};
-pub use laws::{file_order_is_lawful, traces_are_sound};
-pub use reader::{Reason, TraceFault, one_reading, read_trace, some_reading};
-pub use reply::Reply;
-pub use trace::{Event, Events, Input, Segments, Trace};

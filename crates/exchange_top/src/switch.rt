@@ -1,134 +1,85 @@
-ghost use Rattle.std.specs.Prelude.{◌≡◌, ℕ, ◌+◌, ◌<◌, ◌^◌, List, length, IfOk};
-ghost use Rattle.circuit_model.specs.FrameInput.{Input};
-ghost use Rattle.exchange_top.specs.declared.trace.Event.TheVariants.{Nail, Frame};
-ghost use Rattle.exchange_top.specs.Exchange.{World, start, reply, next, can_nail};
-ghost use Rattle.exchange_top.specs.Report.{heard, line_octets, sent};
-ghost use Rattle.exchange_top.specs.Sound.{IsSlotOf, IsNail, Fits};
-ghost use Rattle.exchange_top.specs.Switching.{State, Stands};
+ghost use Rattle.std.specs.Prelude.{◌≡◌, ◌+◌, ◌*◌, ◌-◌, ◌<◌, ◌≤◌, [], ℕ, IfOk, length};
+ghost use Rattle.circuit_map.specs.Connections.{SameSizes, lines_of};
+ghost use Rattle.exchange_core.specs.declared.reply.Reply.TheVariants.{Frame};
+ghost use Rattle.exchange_core.specs.Sound.{Fits};
+ghost use Rattle.exchange_core.specs.Standing.{dimensions_of};
+ghost use Rattle.exchange_core.specs.World.{World, start, reply, next, MovesAtMost};
+ghost use Rattle.exchange_top.specs.Report.{played};
+ghost use Rattle.exchange_top.specs.Switching.{Works};
+ghost use Rattle.report_text.specs.Report.{sent, octet_of};
 
-use crate::circuit_table::CircuitTable;
-use crate::reply::Reply;
-use crate::trace::Event;
-use circuit_model::{IDLE, PLACES, Slot};
-use frame_buffer::DelayLine;
+use control_memory::Image;
+use exchange_core::{Core, Event, Reply};
+use fabric_map::FabricMap;
+use frame_engine::Carrier;
 use std::alloc::{AllocError, Global};
-use std::marker::Model;
+use tone_rules::Tones;
 
-/// The exchange at work: the circuits that stand, and the octets of the last two frames.
+// The fabric has as many internal slots as a line has bearer channels.
+const SLOTS: u8 = 30;
+
+/// The exchange at work: what stands, the engine that carries the octets, and the control memory
+/// that a frame's boundary writes.
 #[derive(Drop)]
-pub struct Switch {
-    table: CircuitTable,
-    delay: DelayLine,
+pub struct Switch<C: Carrier> {
+    core: Core<FabricMap>,
+    engine: C,
+    image: Image,
+    tones: Tones,
+    ghost image_external: { image.external ≡ core.external },
+    ghost image_bridges: { image.bridges ≡ core.bridges },
+    ghost image_slots: { image.slots ≡ core.slots },
+    ghost engine_external: { C.external_lines engine ≡ core.external },
+    ghost engine_bridges: { C.bridge_lines engine ≡ core.bridges },
+    ghost engine_slots: { C.depth engine ≡ core.slots },
+    ghost engine_next: { C.next engine ≡ core.next },
+    ghost no_ringback: { tones.ringback ≡ [] },
+    ghost no_busy: { tones.busy ≡ [] },
 }
 
-impl Model for Switch {
-    ghost use Rattle.std.specs.Prelude.{◌≡◌};
-    ghost use Rattle.exchange_top.specs.Switching.{State};
-
-    ghost Value = { State };
-
-    ghost view = { λ s. record { table = s.table; delay = s.delay } };
-
-    ghost invariant = { λ s. s.delay.external ≡ s.table.external };
-}
-
-impl Switch {
-    /// An exchange with so many external lines, before its first event.
-    pub fn new(alloc: Global, external: u8) -> Result<Switch, AllocError>
-        ensures external { IfOk result (λ s. s.table.external ≡ external) }
-        ensures start { IfOk result (λ s. Stands s start) }
+impl<C: Carrier> Switch<C> {
+    /// An exchange with so many external and bridge lines, before its first event.
+    pub fn new(alloc: Global, external: u8, bridges: u8) -> Result<Switch<C>, AllocError>
+        requires external { (1 ≤ external) × (external ≤ 32) }
+        requires bridges { bridges ≤ 2 }
+        ensures works { IfOk result (λ s. Works C.carries s.core s.engine (start (record { external = external; bridges = bridges; slots = 30 }))) }
+        ensures external { IfOk result (λ s. s.core.external ≡ external) }
+        ensures bridges { IfOk result (λ s. s.core.bridges ≡ bridges) }
+        ensures slots { IfOk result (λ s. s.core.slots ≡ 30) }
+        ensures bound { IfOk result (λ s. s.core.bound ≡ 2 * (external + bridges) - 2) }
+        ensures next { IfOk result (λ s. s.core.next ≡ 0) }
     {
+        let paths = FabricMap::new(alloc, external + bridges)?;
         Ok(Switch {
-            table: CircuitTable::new(alloc, external)?,
-            delay: DelayLine::new(alloc, external)?,
+            core: Core::new(alloc, paths, external, bridges)?,
+            engine: C::new(alloc, external, bridges, SLOTS)?,
+            image: Image::new(alloc, external, bridges, SLOTS)?,
+            tones: Tones::none(alloc),
         })
     }
 
-    /// Does one event. At a frame, what each external line sends is written to `octets`.
+    /// Does one event. At a frame, the engine writes what each external line sends to `octets`.
     pub fn step(&mut self, event: &Event, octets: &mut [[u8; 30]]) -> Reply
-        requires fits { Fits self.old.table.external event.now }
-        requires room { self.old.table.next + 1 < 2 ^ 32 }
-        requires lines { length octets.old ≡ self.old.table.external }
-        ensures external { self.new.table.external ≡ self.old.table.external }
-        ensures reply { (w : World) → Stands self.old w → result ≡ reply w event.now }
-        ensures world { (w : World) → Stands self.old w → Stands self.new (next w event.now) }
-        ensures octets { (w : World) (f : ℕ) → Stands self.old w → result ≡ Reply.Frame f → octets.new ≡ sent (next w event.now) self.old.table.external f }
+        requires fits { Fits self.old.core.external event.now }
+        requires room { self.old.core.next < 4294967295 }
+        requires lines { length octets.old ≡ self.old.core.external }
+        ensures works { (w : World) → Works C.carries self.old.core self.old.engine w → Works C.carries self.new.core self.new.engine (next (dimensions_of self.old.core) w event.now) }
+        ensures reply { (w : World) → Works C.carries self.old.core self.old.engine w → result ≡ reply (dimensions_of self.old.core) w event.now }
+        ensures octets { (w : World) (f : ℕ) → Works C.carries self.old.core self.old.engine w → result ≡ Frame f → sent (octet_of octets.new) self.old.core.external ≡ sent (played C.plays (next (dimensions_of self.old.core) w event.now) f) self.old.core.external }
+        ensures few { MovesAtMost self.old.core.bound result }
+        ensures sizes { SameSizes self.old.core self.new.core }
     {
-        match event {
-            Event::Nail(x, y) => self.nail(*x, *y),
-            Event::Frame(input) => Reply::Frame(self.frame(input.as_slice(), octets)),
+        let reply = self.core.step(event, &mut self.image);
+        if let Event::Frame(input) = event {
+            self.engine.frame(&mut self.image, &self.tones, input.as_slice(), octets);
         }
+        reply
     }
 
-    // Connects two slots, where both are idle.
-    fn nail(&mut self, x: Slot, y: Slot) -> Reply
-        requires { IsNail self.old.table.external x y }
-        ensures external { self.new.table.external ≡ self.old.table.external }
-        ensures reply { (w : World) → Stands self.old w → result ≡ reply w (Nail x y) }
-        ensures world { (w : World) → Stands self.old w → Stands self.new (next w (Nail x y)) }
-        ensures no_frame { (f : ℕ) → ¬ (result ≡ Reply.Frame f) }
+    /// The engine, once the last event is done.
+    pub fn into_engine(self) -> C
+        ensures { result ≡ self.engine }
     {
-        if self.can_nail(x, y) {
-            self.table.connect(x, y);
-            Reply::Granted(0, 0)
-        } else {
-            Reply::Busy
-        }
-    }
-
-    // Whether both slots are idle.
-    fn can_nail(&self, x: Slot, y: Slot) -> bool
-        requires { IsNail self.now.table.external x y }
-        ensures { (w : World) → Stands self.now w → result ≡ can_nail w x y }
-    {
-        self.table.is_idle(x) && self.table.is_idle(y)
-    }
-
-    // Sends what each line hears, and takes in what arrives.
-    fn frame(&mut self, input: &[Option<[u8; 30]>], octets: &mut [[u8; 30]]) -> u32
-        requires input { length input.now ≡ self.old.table.external }
-        requires lines { length octets.old ≡ self.old.table.external }
-        requires room { self.old.table.next + 1 < 2 ^ 32 }
-        ensures number { result ≡ self.old.table.next }
-        ensures external { self.new.table.external ≡ self.old.table.external }
-        ensures world { (w : World) → Stands self.old w → Stands self.new (next w (Frame input.now)) }
-        ensures octets { (w : World) → Stands self.old w → octets.new ≡ sent (next w (Frame input.now)) self.old.table.external w.holding.next }
-    {
-        self.send(octets);
-        self.delay.push(input);
-        self.table.boundary()
-    }
-
-    // Writes what each line sends in the next frame, whatever arrives in it.
-    fn send(&self, octets: &mut [[u8; 30]])
-        requires { length octets.old ≡ self.now.table.external }
-        ensures { (w : World) (input : Input) → Stands self.now w → octets.new ≡ sent (next w (Frame input)) self.now.table.external w.holding.next }
-    {
-        for line in 0..self.table.external() {
-            octets[usize::from(line)] = self.line_octets(line);
-        }
-    }
-
-    // What a line sends in the next frame, whatever arrives in it.
-    fn line_octets(&self, line: u8) -> [u8; 30]
-        requires { line < self.now.table.external }
-        ensures { (w : World) (input : Input) → Stands self.now w → result ≡ line_octets (heard (next w (Frame input)) w.holding.next) line }
-    {
-        let mut octets = [IDLE; 30];
-        for place in 0..PLACES {
-            octets[usize::from(place)] = self.octet(Slot { line, place });
-        }
-        octets
-    }
-
-    // What a slot hears in the next frame, whatever arrives in it: whom it hears is heard two frames late.
-    fn octet(&self, at: Slot) -> u8
-        requires { IsSlotOf self.now.table.external at }
-        ensures { (w : World) (input : Input) → Stands self.now w → result ≡ heard (next w (Frame input)) w.holding.next at }
-    {
-        match self.table.source(at) {
-            Some(from) => self.delay.back_two(from),
-            None => IDLE,
-        }
+        self.engine
     }
 }
