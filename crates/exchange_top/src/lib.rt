@@ -4,7 +4,6 @@
 mod call;
 mod circuit_table;
 mod laws;
-mod reader;
 mod reply;
 mod report;
 mod run;
@@ -15,7 +14,6 @@ mod tests;
 mod trace;
 
 pub use call::{Outcome, exchange};
-pub use laws::{file_order_is_lawful, traces_are_sound};
-pub use reader::{Reason, TraceFault, one_reading, read_trace, some_reading};
+pub use laws::file_order_is_lawful;
 pub use reply::Reply;
 pub use trace::{Event, Events, Input, Segments, Trace};

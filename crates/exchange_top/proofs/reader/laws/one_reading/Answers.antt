@@ -1,5 +1,0 @@
-use Rattle.exchange_top.proofs.TraceReadings.{one_trace, never_both, one_fault}
-use Rattle.exchange_top.proofs.reader.laws.one_reading.Goals as goal
-
-pub returns : goal.returns
-returns c = record { one_trace = one_trace; never_both = never_both; one_fault = one_fault }
