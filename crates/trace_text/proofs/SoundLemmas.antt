@@ -20,11 +20,11 @@ use Rattle.trace_text.specs.declared.said.Said.TheVariants.{Nothing, Header, Hap
 use Rattle.trace_text.specs.declared.said.Kind.{Kind}
 use Rattle.trace_text.specs.declared.said.Kind.TheVariants as kind
 use Rattle.exchange_core.specs.declared.trace.Event.{Event}
-use Rattle.exchange_core.specs.declared.trace.Event.TheVariants.{Nail, Frame}
+use Rattle.exchange_core.specs.declared.trace.Event.TheVariants.{Nail, Seat, Free, Frame}
 use Rattle.exchange_core.specs.declared.trace.Trace.{Trace}
-use Rattle.trace_text.specs.TraceFields.{slash, numeral_in, external_line, slot, octets_written, thirty, header}
-use Rattle.trace_text.specs.TraceWords.{cut_at, numeral, lines, words, is_comment, is_blank, is_printable}
-use Rattle.trace_text.specs.TraceLines.{◌>>=◌, colon, with_part, with_parts, frame, nail, happens, by_kind, kind_of, by_words, by_place, says}
+use Rattle.trace_text.specs.TraceFields.{slash, numeral_in, external_line, slot, room, octets_written, thirty, header}
+use Rattle.trace_text.specs.TraceWords.{cut_at, numeral, lines, words, two, is_comment, is_blank, is_printable}
+use Rattle.trace_text.specs.TraceLines.{◌>>=◌, colon, with_part, with_parts, frame, nail, seat, free, happens, by_kind, kind_of, by_words, by_place, says}
 use Rattle.trace_text.specs.TraceGrammar.{sizes_in, events_in, EachSays, IsTrace}
 use Rattle.exchange_core.specs.Sound.{Fits, IsSound}
 use Rattle.trace_text.proofs.TraceOctets.{in_range}
@@ -97,16 +97,45 @@ nail_step external (Some one) (Some other) e in_x in_y h =
           rw (← is) (record { first = in_x one refl; second = in_y other refl; distinct = are_apart one other apart })
     ]
 
-pub nail_fits : (external : ℕ) (words : List (List ℕ)) (e : Event) → nail external words ≡ Ok e → Fits external e
-nail_fits external [] e h = absurd (grind (arith, h))
-nail_fits external (one ∷ []) e h = absurd (grind (arith, h))
-nail_fits external (one ∷ other ∷ []) e h = nail_step external (slot external one) (slot external other) e (slot_inside external one) (slot_inside external other) h
-nail_fits external (one ∷ other ∷ more ∷ others) e h = absurd (grind (arith, h))
-
 -- a check that passed had something to pass
 pub passed_first : {A B : Type 0} (r : Result A Reason) (step : A → Result B Reason) (v : B) → (r >>= step) ≡ Ok v → (x : A) × (r ≡ Ok x) × (step x ≡ Ok v)
 passed_first (Ok x) step v h = (x, refl, h)
 passed_first (Err why) step v h = absurd (grind (arith, h))
+
+-- the steps by which two words name a nail
+abbrev nail_by_words : ℕ → List ℕ × List ℕ → Result Event Reason
+nail_by_words external both = ok_or (slot external both.0) reason.Slot >>= λ one. ok_or (slot external both.1) reason.Slot >>= λ other. if same_slot one other then Err reason.Slot else Ok (Nail one other)
+
+pub nail_fits : (external : ℕ) (words : List (List ℕ)) (e : Event) → nail external words ≡ Ok e → Fits external e
+nail_fits external words e h =
+    let both = passed_first (ok_or (two words) reason.Word) (nail_by_words external) e h in
+    nail_step external (slot external both.0.0) (slot external both.0.1) e (slot_inside external both.0.0) (slot_inside external both.0.1) both.2
+
+-- a slot and a room, where each was found
+seat_step : (external : ℕ) (x : Option Slot) (number : Option ℕ) (e : Event) → ((at : Slot) → x ≡ Some at → IsExternal external at)
+    → (ok_or x reason.Slot >>= λ at. ok_or number reason.Number >>= λ n. Ok (Seat at n)) ≡ Ok e → Fits external e
+seat_step external None number e inside h = absurd (grind (arith, h))
+seat_step external (Some at) None e inside h = absurd (grind (arith, h))
+seat_step external (Some at) (Some n) e inside h = let is : Seat at n ≡ e = grind (arith, h) in rw (← is) (inside at refl)
+
+-- the steps by which two words name a seat
+abbrev seat_by_words : ℕ → List ℕ × List ℕ → Result Event Reason
+seat_by_words external both = ok_or (slot external both.0) reason.Slot >>= λ at. ok_or (room both.1) reason.Number >>= λ n. Ok (Seat at n)
+
+pub seat_fits : (external : ℕ) (words : List (List ℕ)) (e : Event) → seat external words ≡ Ok e → Fits external e
+seat_fits external words e h =
+    let both = passed_first (ok_or (two words) reason.Word) (seat_by_words external) e h in
+    seat_step external (slot external both.0.0) (room both.0.1) e (slot_inside external both.0.0) both.2
+
+-- a slot, where it was found
+free_step : (external : ℕ) (x : Option Slot) (e : Event) → ((at : Slot) → x ≡ Some at → IsExternal external at) → (ok_or x reason.Slot >>= λ at. Ok (Free at)) ≡ Ok e → Fits external e
+free_step external None e inside h = absurd (grind (arith, h))
+free_step external (Some at) e inside h = let is : Free at ≡ e = grind (arith, h) in rw (← is) (inside at refl)
+
+pub free_fits : (external : ℕ) (words : List (List ℕ)) (e : Event) → free external words ≡ Ok e → Fits external e
+free_fits external [] e h = absurd (grind (arith, h))
+free_fits external (word ∷ []) e h = free_step external (slot external word) e (slot_inside external word) h
+free_fits external (word ∷ more ∷ others) e h = absurd (grind (arith, h))
 
 -- the steps by which a word of a frame gives a line's octets
 abbrev put : Input → ℕ → List ℕ → Result Input Reason
@@ -164,6 +193,8 @@ happens_step external count (Ok event) e fits h =
 
 by_kind_step : (external count : ℕ) (k : Kind) (others : List (List ℕ)) (e : Event) → by_kind external count k others ≡ Ok (Happens e) → (count < 65535) × Fits external e
 by_kind_step external count kind.Nail others e h = happens_step external count (nail external others) e (nail_fits external others) h
+by_kind_step external count kind.Seat others e h = happens_step external count (seat external others) e (seat_fits external others) h
+by_kind_step external count kind.Free others e h = happens_step external count (free external others) e (free_fits external others) h
 by_kind_step external count kind.Frame others e h = happens_step external count (frame external others) e (frame_fits external others) h
 by_kind_step external count kind.Sync [] e h = absurd (grind (arith, h))
 by_kind_step external count kind.Sync (word ∷ others) e h = absurd (grind (arith, h))
@@ -283,6 +314,8 @@ event_is_none external count (Ok event) sizes h =
 
 kind_is_none : (external count : ℕ) (k : Kind) (others : List (List ℕ)) (sizes : Sizes) → by_kind external count k others ≡ Ok (Header sizes) → ⊥
 kind_is_none external count kind.Nail others sizes h = event_is_none external count (nail external others) sizes h
+kind_is_none external count kind.Seat others sizes h = event_is_none external count (seat external others) sizes h
+kind_is_none external count kind.Free others sizes h = event_is_none external count (free external others) sizes h
 kind_is_none external count kind.Frame others sizes h = event_is_none external count (frame external others) sizes h
 kind_is_none external count kind.Sync [] sizes h = grind (arith, h)
 kind_is_none external count kind.Sync (word ∷ others) sizes h = grind (arith, h)

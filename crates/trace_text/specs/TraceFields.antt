@@ -1,4 +1,4 @@
--- The fields of a trace's lines: lines and slots of the exchange, octets as hexadecimal digits, sizes. Source: this exchange's own;
+-- The fields of a trace's lines: lines, slots and rooms of the exchange, octets as hexadecimal digits, sizes. Source: this exchange's own;
 -- the channels are those of ITU-T Q.931 (05/98), section 4.5.13.
 use Rattle.std.specs.Prelude.{ℕ, ◌+◌, ◌-◌, ◌*◌, ◌&&◌, nat_lt, ◌==◌, List, [], ◌∷◌, length, codes, Option, Some, None, option_and_then, Result, Ok, Err, if◌then◌else◌}
 use Rattle.std.specs.Str.{bytes_eq}
@@ -38,6 +38,10 @@ slot external word = do
   channel ← numeral halves.1
   place ← place_of channel
   Some (record { line = line; place = place })
+
+-- the conference room that a word names: the numeral of one of the 64 rooms
+abbrev pub room : List ℕ → Option ℕ
+room word = numeral_in 0 63 word
 
 -- the value of a hexadecimal digit of either case
 abbrev pub digit_value : ℕ → Option ℕ

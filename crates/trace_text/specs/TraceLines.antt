@@ -5,7 +5,7 @@ use Rattle.std.specs.Str.{bytes_eq}
 use Rattle.circuit_model.specs.FrameInput.{Input}
 use Rattle.circuit_model.specs.Circuits.{same_slot}
 use Rattle.exchange_core.specs.declared.trace.Event.{Event}
-use Rattle.exchange_core.specs.declared.trace.Event.TheVariants.{Nail, Frame}
+use Rattle.exchange_core.specs.declared.trace.Event.TheVariants.{Nail, Seat, Free, Frame}
 use Rattle.trace_text.specs.declared.fault.Reason.{Reason}
 use Rattle.trace_text.specs.declared.fault.Reason.TheVariants as reason
 use Rattle.trace_text.specs.declared.fault.LineFault.{LineFault}
@@ -15,8 +15,8 @@ use Rattle.trace_text.specs.declared.said.Kind.{Kind}
 use Rattle.trace_text.specs.declared.said.Kind.TheVariants as kind
 use Rattle.trace_text.specs.declared.said.Said.{Said}
 use Rattle.trace_text.specs.declared.said.Said.TheVariants as said
-use Rattle.trace_text.specs.TraceWords.{words, cut_at, is_comment, is_blank, is_printable}
-use Rattle.trace_text.specs.TraceFields.{external_line, slot, octets_written, thirty, header}
+use Rattle.trace_text.specs.TraceWords.{words, two, cut_at, is_comment, is_blank, is_printable}
+use Rattle.trace_text.specs.TraceFields.{external_line, slot, room, octets_written, thirty, header}
 
 -- the second step where the first passed its checks
 infixl 10 ◌>>=◌
@@ -49,11 +49,26 @@ frame external parts = do
 
 -- a nail: two different slots
 abbrev pub nail : ℕ → List (List ℕ) → Result Event Reason
-nail external (one ∷ other ∷ []) = do
-  x ← ok_or (slot external one) reason.Slot
-  y ← ok_or (slot external other) reason.Slot
+nail external others = do
+  both ← ok_or (two others) reason.Word
+  x ← ok_or (slot external both.0) reason.Slot
+  y ← ok_or (slot external both.1) reason.Slot
   if same_slot x y then Err reason.Slot else Ok (Nail x y)
-nail external other = Err reason.Word
+
+-- a seat: a slot and the room that it is put into
+abbrev pub seat : ℕ → List (List ℕ) → Result Event Reason
+seat external others = do
+  both ← ok_or (two others) reason.Word
+  x ← ok_or (slot external both.0) reason.Slot
+  number ← ok_or (room both.1) reason.Number
+  Ok (Seat x number)
+
+-- a free: the slot whose nail or seat is undone
+abbrev pub free : ℕ → List (List ℕ) → Result Event Reason
+free external (word ∷ []) = do
+  x ← ok_or (slot external word) reason.Slot
+  Ok (Free x)
+free external others = Err reason.Word
 
 -- the end of a segment: one word
 abbrev pub sync : List (List ℕ) → Result Said Reason
@@ -66,12 +81,14 @@ happens count event = if nat_lt count 65535 then Ok (said.Happens event) else Er
 
 -- the kinds of line that are read later
 abbrev pub is_later : List ℕ → Bool
-is_later word = bytes_eq word (codes "number") || bytes_eq word (codes "tone") || bytes_eq word (codes "seat") || bytes_eq word (codes "free") || bytes_eq word (codes "M")
+is_later word = bytes_eq word (codes "number") || bytes_eq word (codes "tone") || bytes_eq word (codes "M")
 
 -- the kind of line that a first word names
 abbrev pub kind_of : List ℕ → Kind
 kind_of word =
     if bytes_eq word (codes "nail") then kind.Nail
+    else if bytes_eq word (codes "seat") then kind.Seat
+    else if bytes_eq word (codes "free") then kind.Free
     else if bytes_eq word (codes "F") then kind.Frame
     else if bytes_eq word (codes "sync") then kind.Sync
     else if is_later word then kind.Later
@@ -80,6 +97,8 @@ kind_of word =
 -- a line of a kind, whose further words are given, after so many events
 abbrev pub by_kind : ℕ → ℕ → Kind → List (List ℕ) → Result Said Reason
 by_kind external count kind.Nail others = nail external others >>= happens count
+by_kind external count kind.Seat others = seat external others >>= happens count
+by_kind external count kind.Free others = free external others >>= happens count
 by_kind external count kind.Frame others = frame external others >>= happens count
 by_kind external count kind.Sync others = sync others
 by_kind external count kind.Later others = Err reason.Later

@@ -21,6 +21,11 @@ is_empty (first ∷ others) = false
 abbrev pub words : List ℕ → List (List ℕ)
 words line = filter (λ run. not (is_empty run)) (slice_split (is_octet 32) line)
 
+-- two words, where there are no others
+abbrev pub two : List (List ℕ) → Option (List ℕ × List ℕ)
+two (one ∷ other ∷ []) = Some (one, other)
+two others = None
+
 -- what stands before and after the first octet of a word that is the mark, where it has one
 abbrev pub cut_at : ℕ → List ℕ → Option (List ℕ × List ℕ)
 cut_at mark word = option_map (λ at. (take at word, drop (at + 1) word)) (position (is_octet mark) word)

@@ -1,7 +1,7 @@
 // Lines, words and numerals, cut from borrowed octets.
 ghost use Rattle.std.specs.Prelude.{◌≡◌, ◌≢◌, ◌<◌, ◌≤◌, ◌∷◌, [], length, slice_index, MatchOption, option_map};
 ghost use Rattle.std.specs.List.{list_all};
-ghost use Rattle.trace_text.specs.TraceWords.{lines, words, cut_at, numeral, is_printable};
+ghost use Rattle.trace_text.specs.TraceWords.{lines, words, two, cut_at, numeral, is_printable};
 
 use memchr::memchr;
 
@@ -47,6 +47,18 @@ pub(crate) fn first_word(line: &[u8]) -> Option<(&[u8], &[u8])>
     }
     let end = memchr(SPACE, rest).unwrap_or(rest.len());
     Some(rest.split_at(end))
+}
+
+/// The words of what is left of a line, where they are two.
+pub(crate) fn two_words(line: &[u8]) -> Option<(&[u8], &[u8])>
+    ensures { option_map (λ both. (both.0.now, both.1.now)) result ≡ two (words line.now) }
+{
+    let (one, rest) = first_word(line)?;
+    let (other, rest) = first_word(rest)?;
+    if first_word(rest).is_some() {
+        return None;
+    }
+    Some((one, other))
 }
 
 /// What stands before and after the first octet of a word that is the mark, where one is.

@@ -1,7 +1,7 @@
-// The fields of a line: lines and slots of the exchange, octets, sizes.
+// The fields of a line: lines, slots and rooms of the exchange, sizes.
 ghost use Rattle.std.specs.Prelude.{◌≡◌, ◌<◌, IfSome};
 ghost use Rattle.trace_text.specs.TraceWords.{words};
-ghost use Rattle.trace_text.specs.TraceFields.{external_line, slot, numeral_in, header};
+ghost use Rattle.trace_text.specs.TraceFields.{external_line, slot, room, numeral_in, header};
 
 use crate::cut::{first_word, halves_at, numeral_of};
 use crate::said::Sizes;
@@ -34,7 +34,7 @@ pub(crate) fn slot_of_word(external: u8, word: &[u8]) -> Option<Slot>
     Some(Slot { line, place })
 }
 
-/// The number that a word writes, where it is a numeral and lies between two others.
+// The number that a word writes, where it is a numeral and lies between two others.
 fn numeral_within(low: u8, high: u8, word: &[u8]) -> Option<u8>
     ensures { result ≡ numeral_in low high word.now }
 {
@@ -44,6 +44,13 @@ fn numeral_within(low: u8, high: u8, word: &[u8]) -> Option<u8>
     } else {
         None
     }
+}
+
+/// The conference room that a word names, 0 to 63.
+pub(crate) fn room_of_word(word: &[u8]) -> Option<u8>
+    ensures { result ≡ room word.now }
+{
+    numeral_within(0, 63, word)
 }
 
 /// The sizes that the words of a line give, where they are those of a header.

@@ -1,13 +1,13 @@
 // What a line says, or the first of its checks that fails.
 ghost use Rattle.std.specs.Prelude.{◌≡◌, ◌<◌, length, Option, MatchResult, IfOk, Ok, Err};
 ghost use Rattle.trace_text.specs.TraceWords.{words};
-ghost use Rattle.trace_text.specs.TraceLines.{with_part, frame, nail, sync, is_later, kind_of, happens, by_kind, says, Gives};
+ghost use Rattle.trace_text.specs.TraceLines.{with_part, frame, nail, seat, free, sync, is_later, kind_of, happens, by_kind, says, Gives};
 ghost use Rattle.trace_text.specs.TraceDraft.{Suits};
 ghost use Rattle.trace_text.specs.declared.said.Sizes.{Sizes};
 
-use crate::cut::{first_word, halves_at, is_text};
+use crate::cut::{first_word, halves_at, is_text, two_words};
 use crate::fault::{LineFault, Reason};
-use crate::fields::{header_of, line_of_word, slot_of_word};
+use crate::fields::{header_of, line_of_word, room_of_word, slot_of_word};
 use crate::octets::thirty_octets;
 use crate::said::{Kind, Said, Sizes};
 use exchange_core::{Event, Input};
@@ -49,17 +49,35 @@ fn frame_of(alloc: Global, external: u8, line: &[u8]) -> Result<Event, LineFault
 fn nail_of(external: u8, line: &[u8]) -> Result<Event, Reason>
     ensures { result ≡ nail external (words line.now) }
 {
-    let (one, rest) = first_word(line).ok_or(Reason::Word)?;
-    let (other, rest) = first_word(rest).ok_or(Reason::Word)?;
-    if first_word(rest).is_some() {
-        return Err(Reason::Word);
-    }
+    let (one, other) = two_words(line).ok_or(Reason::Word)?;
     let one = slot_of_word(external, one).ok_or(Reason::Slot)?;
     let other = slot_of_word(external, other).ok_or(Reason::Slot)?;
     if one == other {
         return Err(Reason::Slot);
     }
     Ok(Event::Nail(one, other))
+}
+
+// The seat that the words of a line give.
+fn seat_of(external: u8, line: &[u8]) -> Result<Event, Reason>
+    ensures { result ≡ seat external (words line.now) }
+{
+    let (one, other) = two_words(line).ok_or(Reason::Word)?;
+    let slot = slot_of_word(external, one).ok_or(Reason::Slot)?;
+    let room = room_of_word(other).ok_or(Reason::Number)?;
+    Ok(Event::Seat(slot, room))
+}
+
+// The free that the one word of a line gives.
+fn free_of(external: u8, line: &[u8]) -> Result<Event, Reason>
+    ensures { result ≡ free external (words line.now) }
+{
+    let (word, rest) = first_word(line).ok_or(Reason::Word)?;
+    if first_word(rest).is_some() {
+        return Err(Reason::Word);
+    }
+    let slot = slot_of_word(external, word).ok_or(Reason::Slot)?;
+    Ok(Event::Free(slot))
 }
 
 // The end of a segment, where a line has no further word.
@@ -77,11 +95,7 @@ fn sync_of(line: &[u8]) -> Result<Said, Reason>
 fn is_later(word: &[u8]) -> bool
     ensures { result ≡ is_later word.now }
 {
-    word == b"number".as_slice()
-        || word == b"tone".as_slice()
-        || word == b"seat".as_slice()
-        || word == b"free".as_slice()
-        || word == b"M".as_slice()
+    word == b"number".as_slice() || word == b"tone".as_slice() || word == b"M".as_slice()
 }
 
 // The kind of line that a first word names.
@@ -90,6 +104,10 @@ fn kind_of(word: &[u8]) -> Kind
 {
     if word == b"nail".as_slice() {
         Kind::Nail
+    } else if word == b"seat".as_slice() {
+        Kind::Seat
+    } else if word == b"free".as_slice() {
+        Kind::Free
     } else if word == b"F".as_slice() {
         Kind::Frame
     } else if word == b"sync".as_slice() {
@@ -126,6 +144,8 @@ fn line_of_kind(
 {
     match kind {
         Kind::Nail => counted(count, nail_of(external, line)?),
+        Kind::Seat => counted(count, seat_of(external, line)?),
+        Kind::Free => counted(count, free_of(external, line)?),
         Kind::Frame => counted(count, frame_of(alloc, external, line)?),
         Kind::Sync => Ok(sync_of(line)?),
         Kind::Later => Err(LineFault::Refused(Reason::Later)),

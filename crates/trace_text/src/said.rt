@@ -16,6 +16,10 @@ pub struct Sizes {
 pub enum Kind {
     /// Two slots are connected.
     Nail,
+    /// A slot takes a seat in a conference room.
+    Seat,
+    /// The nail or the seat of a slot is undone.
+    Free,
     /// A frame arrives.
     Frame,
     /// The segment ends.

@@ -62,8 +62,6 @@ fn refused_lines(rt: HostRuntime) -> Result<(), Fail> {
         ("M 0", Reason::Later),
         ("number 1 line 0", Reason::Later),
         ("tone busy 00", Reason::Later),
-        ("seat 0/1 0", Reason::Later),
-        ("free", Reason::Later),
         ("sync x", Reason::Word),
         ("nail x", Reason::Word),
         ("nail 0/1 0/2 0/3", Reason::Word),
@@ -76,6 +74,25 @@ fn refused_lines(rt: HostRuntime) -> Result<(), Fail> {
         ("nail 0 0/1", Reason::Slot),
         ("nail 0/1 0/0000000002", Reason::Slot),
         ("nail 0/17 0/17", Reason::Slot),
+        ("seats 0/1 0", Reason::Word),
+        ("Free 0/1", Reason::Word),
+        ("seat", Reason::Word),
+        ("seat x", Reason::Word),
+        ("seat x 64 0", Reason::Word),
+        ("seat 0/16 64", Reason::Slot),
+        ("seat 1/1 0", Reason::Slot),
+        ("seat 0 0/1", Reason::Slot),
+        ("seat 0/1 64", Reason::Number),
+        ("seat 0/1 063", Reason::Number),
+        ("seat 0/1 00", Reason::Number),
+        ("seat 0/1 0/2", Reason::Number),
+        ("free", Reason::Word),
+        ("free 0/1 0", Reason::Word),
+        ("free x x", Reason::Word),
+        ("free 1/1", Reason::Slot),
+        ("free 0/16", Reason::Slot),
+        ("free 0/01", Reason::Slot),
+        ("free 0", Reason::Slot),
         ("F 0", Reason::Slot),
         ("F 1:D", Reason::Slot),
         ("F :D", Reason::Slot),
@@ -159,6 +176,26 @@ fn whole_trace(rt: HostRuntime) -> Result<(), Fail> {
     Ok(())
 }
 
+#[test]
+fn seats_and_frees(rt: HostRuntime) -> Result<(), Fail> {
+    let text = format!(in rt.alloc(); "{HEADER}seat 0/1 63\nfree  0/31\n seat 0/17 0 ")?;
+    let trace = read_trace(rt.alloc(), text.as_bytes())
+        .ok()
+        .ok_or("it is a trace")?;
+    let [
+        Event::Seat(one, last),
+        Event::Free(freed),
+        Event::Seat(other, first),
+    ] = trace.events.as_slice()
+    else {
+        return Err("three events".into());
+    };
+    assert_eq!(rt; (one.line, one.place, *last), (0, 0, 63));
+    assert_eq!(rt; *freed, Slot { line: 0, place: 29 });
+    assert_eq!(rt; (other.line, other.place, *first), (0, 15, 0));
+    Ok(())
+}
+
 // The header and so many frames.
 fn frames(rt: &HostRuntime, count: u32) -> Result<Vec<u8>, Fail> {
     let mut bytes = Vec::from_slice(rt.alloc(), HEADER.as_bytes())?;
@@ -175,13 +212,23 @@ fn most_events(rt: HostRuntime) -> Result<(), Fail> {
     assert_eq!(rt; trace.events.as_slice().len(), 65_535);
     assert_eq!(rt; trace.segments.as_slice(), [65_535].as_slice());
 
-    let number = 65_537;
-    let reason = Reason::Limit;
-    let more = frames(&rt, 65_536)?;
-    assert_eq!(rt;
-        read_trace(rt.alloc(), &more).err(),
-        Some(TraceFault::Line { number, reason })
-    );
+    let refused = [
+        ("F", Reason::Limit),
+        ("seat 0/1 63", Reason::Limit),
+        ("free 0/1", Reason::Limit),
+        ("seat 0/1 64", Reason::Number),
+        ("free 0/1 0/2", Reason::Word),
+    ];
+    for (text, reason) in refused {
+        let number = 65_537;
+        let mut more = frames(&rt, 65_535)?;
+        more.extend_from_slice(text.as_bytes())?;
+        assert_eq!(rt;
+            read_trace(rt.alloc(), &more).err(),
+            Some(TraceFault::Line { number, reason }),
+            "{text:?}"
+        );
+    }
     Ok(())
 }
 
