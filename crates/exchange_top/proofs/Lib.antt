@@ -1,16 +1,3 @@
-pub mod TraceCuts
-pub mod TraceOctets
-pub mod TraceParts
-pub mod TraceHolds
-pub mod TraceProgress
-pub mod TraceReadings
-pub mod TraceAnswers
-pub mod SlotLemmas
-pub mod TableLemmas
-pub mod ListLemmas
-pub mod HearsLemmas
 pub mod RunLemmas
 pub mod Pending
-pub mod SoundLemmas
-pub mod OrderLemmas
 pub mod CallLemmas

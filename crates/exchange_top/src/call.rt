@@ -1,43 +1,48 @@
-ghost use Rattle.std.specs.Prelude.{◌≡◌, ℕ, ◌≤◌, ◌⊎◌, ◌↔◌, ◌++◌, List, [], ◌∷◌, map, length, string_bytes, IsTrue, IfOk, IfErr, Some, codes, decimal};
+ghost use Rattle.std.specs.Prelude.{◌≡◌, ℕ, ◌≤◌, ◌⊎◌, ◌↔◌, ◌++◌, List, [], map, string_bytes, IsTrue, IsSome, IfOk, None, Some};
 ghost use Rattle.std.specs.Io.KnownBytes.{Appends, Keeps};
 ghost use Rattle.ex_io.specs.Ends.{Rose};
-ghost use Rattle.exchange_top.specs.declared.reader.fault.Reason.{Reason};
-ghost use Rattle.exchange_top.specs.declared.trace.Trace.{Trace};
+ghost use Rattle.trace_text.specs.declared.fault.Reason.{Reason};
+ghost use Rattle.trace_text.specs.TraceGrammar.{IsTrace, IsRefused};
+ghost use Rattle.exchange_core.specs.declared.trace.Trace.{Trace};
+ghost use Rattle.exchange_core.specs.Sound.{IsSound};
 ghost use Rattle.exchange_top.specs.Commands.{IsRun, IsInput, IsDone, IsTurnedDown, IsCutShort, IsUndone, IsWholeInput, Runs, Answers, Ends, reason_name, refusal, words_refusal};
-ghost use Rattle.exchange_top.specs.Outcomes.{IsReported, IsBegun};
-ghost use Rattle.exchange_top.specs.Sound.{IsSound};
+ghost use Rattle.exchange_top.specs.Report.{CarriesIn};
 ghost use Rattle.exchange_top.specs.Streams.{AppendsFront};
-ghost use Rattle.exchange_top.specs.TraceGrammar.{IsTrace, IsRefused};
 
-use crate::reader::{Reason, TraceFault, read_trace};
 use crate::run::{RunFault, run};
 use crate::streams::{ReadFault, read_all, write_all};
-use crate::trace::Trace;
 use ex_io::{Sink, Source};
+use exchange_core::Trace;
+use frame_engine::Carrier;
 use itoa::Buffer;
 use std::alloc::{AllocError, Global};
+use trace_text::{Reason, TraceFault, read_trace};
 
 // How many bytes of an input are looked at: those of the longest trace.
 const MOST_BYTES: usize = 67_108_864;
 
 /// How a call of the exchange ended.
 #[derive(Drop)]
-pub struct Outcome {
+pub struct Outcome<C: Carrier> {
     /// 0 where the trace was run and its report was written, 1 where the input is no trace, 2 where
     /// the words are no command, 3 where a read failed, 4 where a write failed, 5 for want of memory.
     pub status: u8,
     /// The numbers of the events that were done, in the order in which they happened.
     pub order: Vec<u32>,
+    /// The engine that carried the octets, where the status is 0.
+    pub engine: Option<C>,
 }
 
 // An outcome of a call that did no event.
-fn ended(alloc: Global, status: u8) -> Outcome
+fn ended<C: Carrier>(alloc: Global, status: u8) -> Outcome<C>
     ensures status { result.status ≡ status }
     ensures none { result.order.items ≡ [] }
+    ensures engine { result.engine ≡ None }
 {
     Outcome {
         status,
         order: Vec::new(alloc),
+        engine: None,
     }
 }
 
@@ -82,8 +87,14 @@ fn refusal(alloc: Global, number: u32, reason: Reason) -> Result<Vec<u8>, AllocE
 }
 
 // Writes a refusal, which answers with the given status unless a write fails.
-fn refuse<K: Sink>(alloc: Global, sink: &mut K, line: &[u8], status: u8) -> Outcome
+fn refuse<K: Sink, C: Carrier>(
+    alloc: Global,
+    sink: &mut K,
+    line: &[u8],
+    status: u8,
+) -> Outcome<C>
     ensures none { result.order.items ≡ [] }
+    ensures engine { result.engine ≡ None }
     ensures answer { ((result.status ≡ status) × Appends (K.written sink.old) (K.written sink.new) line.now)
         ⊎ ((result.status ≡ 4) × Rose (K.faults sink.old) (K.faults sink.new) × AppendsFront (K.written sink.old) (K.written sink.new) line.now) }
 {
@@ -94,23 +105,37 @@ fn refuse<K: Sink>(alloc: Global, sink: &mut K, line: &[u8], status: u8) -> Outc
 }
 
 // Runs a trace, once there is room for the numbers of its events.
-fn run_trace<K: Sink>(alloc: Global, trace: &Trace, sink: &mut K) -> Outcome
+fn run_trace<K: Sink, C: Carrier>(alloc: Global, trace: &Trace, sink: &mut K) -> Outcome<C>
     requires { IsSound trace.now }
-    ensures { Runs trace.now result.status result.order.items (K.written sink.old) (K.written sink.new) (K.faults sink.old) (K.faults sink.new) }
+    ensures runs { Runs C.plays (CarriesIn C.carries result.engine) trace.now result.status result.order.items (K.written sink.old) (K.written sink.new) (K.faults sink.old) (K.faults sink.new) }
+    ensures engine { IsSome result.engine ↔ (result.status ≡ 0) }
 {
     let Ok(mut order) = Vec::with_capacity(alloc, trace.events.as_slice().len()) else {
         return ended(alloc, 5);
     };
     match run(alloc, trace, &mut order, sink) {
-        Ok(()) => Outcome { status: 0, order },
-        Err(RunFault::Write) => Outcome { status: 4, order },
-        Err(RunFault::Memory) => Outcome { status: 5, order },
+        Ok(engine) => Outcome {
+            status: 0,
+            order,
+            engine: Some(engine),
+        },
+        Err(RunFault::Write) => Outcome {
+            status: 4,
+            order,
+            engine: None,
+        },
+        Err(RunFault::Memory) => Outcome {
+            status: 5,
+            order,
+            engine: None,
+        },
     }
 }
 
 // Answers the bytes that were read.
-fn answer<K: Sink>(alloc: Global, bytes: Vec<u8>, sink: &mut K) -> Outcome
-    ensures { Answers bytes.items result.status result.order.items (K.written sink.old) (K.written sink.new) (K.faults sink.old) (K.faults sink.new) }
+fn answer<K: Sink, C: Carrier>(alloc: Global, bytes: Vec<u8>, sink: &mut K) -> Outcome<C>
+    ensures answers { Answers C.plays (CarriesIn C.carries result.engine) bytes.items result.status result.order.items (K.written sink.old) (K.written sink.new) (K.faults sink.old) (K.faults sink.new) }
+    ensures engine { IsSome result.engine ↔ (result.status ≡ 0) }
 {
     match read_trace(alloc, bytes.as_slice()) {
         Ok(trace) => {
@@ -126,16 +151,17 @@ fn answer<K: Sink>(alloc: Global, bytes: Vec<u8>, sink: &mut K) -> Outcome
 }
 
 // Answers the words and, where they are the command, the input.
-fn answer_words<S: Source, K: Sink>(
+fn answer_words<S: Source, K: Sink, C: Carrier>(
     alloc: Global,
     words: &[String],
     source: &mut S,
     sink: &mut K,
-) -> Outcome
-    ensures ends { Ends (map string_bytes words.now) result.status result.order.items
+) -> Outcome<C>
+    ensures ends { Ends C.plays (CarriesIn C.carries result.engine) (map string_bytes words.now) result.status result.order.items
         (record { left = S.left source.old; reads = S.faults source.old; written = K.written sink.old; writes = K.faults sink.old })
         (record { left = S.left source.new; reads = S.faults source.new; written = K.written sink.new; writes = K.faults sink.new }) }
     ensures unread { ¬ IsRun (map string_bytes words.now) → source.new ≡ source.old }
+    ensures engine { IsSome result.engine ↔ (result.status ≡ 0) }
 {
     if !is_run(words) {
         return refuse(alloc, sink, b"refused words\n", 2);
@@ -154,19 +180,24 @@ fn answer_words<S: Source, K: Sink>(
 /// a line for each (`docs/FORMATS.md`). The causes of another end are met in this order: the words,
 /// reading, the trace, the run, writing.
 ///
+/// The octets of a frame are what the engine of type `C` plays. It is handed out where the status is
+/// 0, and then it carries the frames of `order`.
+///
 /// The source's count of faults rises where a read fails, and the sink's where a write fails; a read
 /// or write that fails ends the call. Want of memory may end it too, at any trace.
-pub fn exchange<S: Source, K: Sink>(
+pub fn exchange<S: Source, K: Sink, C: Carrier>(
     alloc: Global,
     words: &[String],
     source: &mut S,
     sink: &mut K,
-) -> Outcome
+) -> Outcome<C>
     // 0: all of the input was read, it is a trace, its events were done in the order of the file,
-    // which is lawful for it, and their report was written.
+    // which is lawful for it, their report was written, with what the engine plays in each frame,
+    // and the engine carries their frames.
     ensures done { result.status ≡ 0 → (bytes : List ℕ)
         × IsWholeInput (S.left source.old) (S.left source.new) bytes
-        × IsDone bytes result.order.items (K.written sink.old) (K.written sink.new) }
+        × IsDone C.plays (CarriesIn C.carries result.engine) bytes result.order.items (K.written sink.old) (K.written sink.new) }
+    ensures engine { IsSome result.engine ↔ (result.status ≡ 0) }
     // 1: what was read is no trace, and the line that says so was written.
     ensures turned_down { result.status ≡ 1 → (bytes : List ℕ)
         × IsInput (S.left source.old) (S.left source.new) bytes
@@ -182,7 +213,7 @@ pub fn exchange<S: Source, K: Sink>(
     // 4: a write failed. 5: there was no memory. A front of the text was written.
     ensures write_failed { result.status ≡ 4 → Rose (K.faults sink.old) (K.faults sink.new) }
     ensures cut_short { (result.status ≡ 4) ⊎ (result.status ≡ 5)
-        → IsUndone (map string_bytes words.now) (S.left source.old) (S.left source.new) result.order.items (K.written sink.old) (K.written sink.new) }
+        → IsUndone C.plays (map string_bytes words.now) (S.left source.old) (S.left source.new) result.order.items (K.written sink.old) (K.written sink.new) }
     // There is no other status; and where neither count rose, the words and the input decide, but
     // for want of memory.
     ensures statuses { result.status ≤ 5 }

@@ -1,21 +1,24 @@
-ghost use Rattle.std.specs.Prelude.{◌≡◌, ℕ, ◌+◌, ◌<◌, ◌≤◌, ◌^◌, ◌++◌, List, [], length, vec_len, vec_capacity, OnOk, OnErr, IsErrOf};
+ghost use Rattle.std.specs.Prelude.{◌≡◌, ℕ, ◌+◌, ◌<◌, ◌≤◌, ◌++◌, List, [], length, vec_len, vec_capacity, IfOk, OnOk, OnErr, IsErrOf};
 ghost use Rattle.std.specs.declared.option.Option.{Option};
 ghost use Rattle.std.specs.Io.KnownBytes.{Appends};
 ghost use Rattle.ex_io.specs.Ends.{Rose};
 ghost use Rattle.exchange_top.specs.declared.run.RunFault.TheVariants.{Memory, Write};
-ghost use Rattle.exchange_top.specs.Exchange.{World, next, reply};
+ghost use Rattle.circuit_map.specs.Connections.{SameSizes};
+ghost use Rattle.exchange_core.specs.Sound.{IsSound, Fits};
+ghost use Rattle.exchange_core.specs.Standing.{dimensions_of};
+ghost use Rattle.exchange_core.specs.World.{World, next, reply, MovesAtMost};
 ghost use Rattle.exchange_top.specs.Outcomes.{IsReported, IsBegun, IsPending};
-ghost use Rattle.exchange_top.specs.Report.{report_line, sent};
-ghost use Rattle.exchange_top.specs.Sound.{IsSound, Fits};
+ghost use Rattle.exchange_top.specs.Report.{event_line, world_of};
 ghost use Rattle.exchange_top.specs.Streams.{AppendsFront};
-ghost use Rattle.exchange_top.specs.Switching.{Stands};
+ghost use Rattle.exchange_top.specs.Switching.{Works};
 
-use crate::report::append_answer;
 use crate::streams::write_all;
 use crate::switch::Switch;
-use crate::trace::{Event, Trace};
 use circuit_model::IDLE;
 use ex_io::{Failed, Sink};
+use exchange_core::{Event, Trace};
+use frame_engine::Carrier;
+use report_text::append_answer;
 use std::alloc::{AllocError, Global};
 
 // So many bytes of a report are written at once, and the last of them as they are.
@@ -50,28 +53,29 @@ impl From<Failed> for RunFault {
 }
 
 /// Does the events of a trace in the order of the file, writes their report, and notes the numbers
-/// of the events in `order`, which has room for them.
+/// of the events in `order`, which has room for them. Answers the engine that carried the octets.
 ///
 /// # Errors
 ///
 /// [`RunFault::Write`] where a write failed and the sink's count of faults rose, and
 /// [`RunFault::Memory`] for want of memory. A front of the report of the events in `order` was
 /// written by then.
-pub fn run<K: Sink>(
+pub fn run<K: Sink, C: Carrier>(
     alloc: Global,
     trace: &Trace,
     order: &mut Vec<u32>,
     sink: &mut K,
-) -> Result<(), RunFault>
+) -> Result<C, RunFault>
     requires sound { IsSound trace.now }
     requires empty { order.old.items ≡ [] }
     requires room { length trace.now.events ≤ vec_capacity order.old }
-    ensures whole { OnOk result (IsReported trace.now order.new.items (K.written sink.old) (K.written sink.new)) }
-    ensures begun { OnErr result (IsBegun trace.now order.new.items (K.written sink.old) (K.written sink.new)) }
+    ensures whole { OnOk result (IsReported C.plays trace.now order.new.items (K.written sink.old) (K.written sink.new)) }
+    ensures carried { IfOk result (λ e. let w = world_of trace.now order.new.items in C.carries e w.inputs w.held w.seated) }
+    ensures begun { OnErr result (IsBegun C.plays trace.now order.new.items (K.written sink.old) (K.written sink.new)) }
     ensures cause { IsErrOf result RunFault.Write → Rose (K.faults sink.old) (K.faults sink.new) }
     ensures later { K.faults sink.old ≤ K.faults sink.new }
 {
-    let mut switch = Switch::new(alloc, trace.external)?;
+    let mut switch = Switch::<C>::new(alloc, trace.external, trace.bridges)?;
     let mut octets = vec![in alloc; [IDLE; 30]; usize::from(trace.external)]?;
     let mut text = Vec::with_capacity(alloc, PIECE + LONGEST_LINE)?;
     for (index, event) in trace.events.as_slice().iter().enumerate() {
@@ -81,24 +85,25 @@ pub fn run<K: Sink>(
         flush_full(sink, &mut text)?;
     }
     flush(sink, &mut text)?;
-    Ok(())
+    Ok(switch.into_engine())
 }
 
 // Does one event, and appends its line to the text.
-fn report_event(
-    switch: &mut Switch,
+fn report_event<C: Carrier>(
+    switch: &mut Switch<C>,
     octets: &mut [[u8; 30]],
     number: u32,
     event: &Event,
     text: &mut Vec<u8>,
 ) -> Result<(), AllocError>
-    requires fits { Fits switch.old.table.external event.now }
-    requires room { switch.old.table.next + 1 < 2 ^ 32 }
-    requires lines { length octets.old ≡ switch.old.table.external }
-    ensures external { switch.new.table.external ≡ switch.old.table.external }
-    ensures world { (w : World) → Stands switch.old w → Stands switch.new (next w event.now) }
-    ensures line { (w : World) → Stands switch.old w → OnOk result (text.new.items ≡ text.old.items ++ report_line (sent (next w event.now) switch.old.table.external) number (reply w event.now)) }
+    requires fits { Fits switch.old.core.external event.now }
+    requires room { switch.old.core.next < 4294967295 }
+    requires lines { length octets.old ≡ switch.old.core.external }
+    ensures works { (w : World) → Works C.carries switch.old.core switch.old.engine w → Works C.carries switch.new.core switch.new.engine (next (dimensions_of switch.old.core) w event.now) }
+    ensures line { (w : World) → Works C.carries switch.old.core switch.old.engine w → OnOk result (text.new.items ≡ text.old.items ++ event_line C.plays (dimensions_of switch.old.core) w number event.now) }
+    ensures few { (w : World) → Works C.carries switch.old.core switch.old.engine w → MovesAtMost switch.old.core.bound (reply (dimensions_of switch.old.core) w event.now) }
     ensures kept { OnErr result (text.new.items ≡ text.old.items) }
+    ensures sizes { SameSizes switch.old.core switch.new.core }
 {
     let reply = switch.step(event, octets);
     append_answer(text, number, reply, octets)

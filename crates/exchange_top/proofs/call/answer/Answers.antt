@@ -1,19 +1,19 @@
 use Rattle.std.proofs.Common.{◌∙◌, ap, Err}
 use Rattle.exchange_top.proofs.CallLemmas.{answers_run, answers_refused}
-use Rattle.exchange_top.proofs.SoundLemmas.{sound_trace}
+use Rattle.trace_text.proofs.SoundLemmas.{sound_trace}
 use Rattle.exchange_top.proofs.call.answer.Goals as goal
 
 pub run_trace-requires : goal.run_trace-requires
 run_trace-requires g c = sound_trace _ c.in-Ok.trace c.in-Ok.ensures.read
 
-pub returns-in-Ok : goal.returns-in-Ok
-returns-in-Ok g c =
+pub returns-in-Ok-clause-answers : goal.returns-in-Ok-clause-answers
+returns-in-Ok-clause-answers g c =
     let is = rw c.as_slice.ensures.value at c.in-Ok.ensures.read in
-    answers_run c.args.bytes.items c.in-Ok.trace c.run_trace.result.status c.run_trace.result.order.items _ _ _ _ is c.run_trace.ensures
+    answers_run _ _ c.args.bytes.items c.in-Ok.trace c.run_trace.result.status c.run_trace.result.order.items _ _ _ _ is c.run_trace.ensures.runs
 
-pub returns-in-Ok-refusal : goal.returns-in-Ok-refusal
-returns-in-Ok-refusal g c =
+pub returns-in-Ok-refusal-clause-answers : goal.returns-in-Ok-refusal-clause-answers
+returns-in-Ok-refusal-clause-answers g c =
     let told = c.in-Err-Line.ensures.refused c.in-Err-Line.number c.in-Err-Line.reason (ap Err c.in-Err-Line.field-0-is) in
     let refused = rw c.as_slice.ensures.value at told in
-    answers_refused c.args.bytes.items c.in-Err-Line.number c.in-Err-Line.reason c.refuse.result.status c.refuse.result.order.items c.as_slice-in-Ok-refusal.result.now _ _ _ _
+    answers_refused _ _ c.args.bytes.items c.in-Err-Line.number c.in-Err-Line.reason c.refuse.result.status c.refuse.result.order.items c.as_slice-in-Ok-refusal.result.now _ _ _ _
     refused c.refuse.ensures.none (c.as_slice-in-Ok-refusal.ensures.value ∙ c.in-Ok-refusal.ensures) c.refuse.ensures.answer

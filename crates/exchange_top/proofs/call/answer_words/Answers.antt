@@ -6,4 +6,4 @@ use Rattle.exchange_top.proofs.call.answer_words.Goals as goal
 pub returns-in-Ok-clause-ends : goal.returns-in-Ok-clause-ends
 returns-in-Ok-clause-ends g c =
     let yes : c.is_run.result ≡ true = grind (arith, common_steps, c.if-not-is_run.false) in
-    Answered (c.is_run.ensures.0 yes) c.in-Ok.bytes.items (record { front = c.in-Ok.ensures.front; whole = c.in-Ok.ensures.whole }) c.answer.ensures
+    Answered (c.is_run.ensures.0 yes) c.in-Ok.bytes.items (record { front = c.in-Ok.ensures.front; whole = c.in-Ok.ensures.whole }) c.answer.ensures.answers

@@ -3,37 +3,37 @@ use Rattle.exchange_top.proofs.CallLemmas.{done_says, turned_down_says, wrong_wo
 use Rattle.exchange_top.proofs.call.exchange.Goals as goal
 
 pub returns-clause-done : goal.returns-clause-done
-returns-clause-done g c h = done_says _ _ _ _ _ c.answer_words.ensures.ends h
+returns-clause-done g c h = done_says _ _ _ _ _ _ _ c.answer_words.ensures.ends h
 
 pub returns-clause-turned_down : goal.returns-clause-turned_down
-returns-clause-turned_down g c h = turned_down_says _ _ _ _ _ c.answer_words.ensures.ends h
+returns-clause-turned_down g c h = turned_down_says _ _ _ _ _ _ _ c.answer_words.ensures.ends h
 
 pub returns-clause-wrong_words : goal.returns-clause-wrong_words
-returns-clause-wrong_words g c h = wrong_words_says _ _ _ _ _ c.answer_words.ensures.ends h
+returns-clause-wrong_words g c h = wrong_words_says _ _ _ _ _ _ _ c.answer_words.ensures.ends h
 
 pub returns-clause-read_failed : goal.returns-clause-read_failed
-returns-clause-read_failed g c h = (read_failed_says _ _ _ _ _ c.answer_words.ensures.ends h).0
+returns-clause-read_failed g c h = (read_failed_says _ _ _ _ _ _ _ c.answer_words.ensures.ends h).0
 
 pub returns-clause-silent : goal.returns-clause-silent
-returns-clause-silent g c h = let says = read_failed_says _ _ _ _ _ c.answer_words.ensures.ends h in (says.1, says.2)
+returns-clause-silent g c h = let says = read_failed_says _ _ _ _ _ _ _ c.answer_words.ensures.ends h in (says.1, says.2)
 
 pub returns-clause-write_failed : goal.returns-clause-write_failed
-returns-clause-write_failed g c h = write_failed_says _ _ _ _ _ c.answer_words.ensures.ends h
+returns-clause-write_failed g c h = write_failed_says _ _ _ _ _ _ _ c.answer_words.ensures.ends h
 
 pub returns-clause-cut_short : goal.returns-clause-cut_short
-returns-clause-cut_short g c h = cut_short_says _ _ _ _ _ c.answer_words.ensures.ends (elim h [ inl four ↦ omega (arith, four) | inr five ↦ omega (arith, five) ])
+returns-clause-cut_short g c h = cut_short_says _ _ _ _ _ _ _ c.answer_words.ensures.ends (elim h [ inl four ↦ omega (arith, four) | inr five ↦ omega (arith, five) ])
 
 pub returns-clause-statuses : goal.returns-clause-statuses
-returns-clause-statuses g c = statuses_say _ _ _ _ _ c.answer_words.ensures.ends
+returns-clause-statuses g c = statuses_say _ _ _ _ _ _ _ c.answer_words.ensures.ends
 
 pub returns-clause-other_words : goal.returns-clause-other_words
-returns-clause-other_words g c not still = other_words_say _ _ _ _ _ c.answer_words.ensures.ends not still
+returns-clause-other_words g c not still = other_words_say _ _ _ _ _ _ _ c.answer_words.ensures.ends not still
 
 pub returns-clause-command : goal.returns-clause-command
-returns-clause-command g c is reads writes = command_says _ _ _ _ _ c.answer_words.ensures.ends is reads writes
+returns-clause-command g c is reads writes = command_says _ _ _ _ _ _ _ c.answer_words.ensures.ends is reads writes
 
 pub returns-clause-trace : goal.returns-clause-trace
-returns-clause-trace g c bytes t left is run reads writes = trace_says _ _ _ _ _ bytes t c.answer_words.ensures.ends left is run reads writes
+returns-clause-trace g c bytes t left is run reads writes = trace_says _ _ _ _ _ _ _ bytes t c.answer_words.ensures.ends left is run reads writes
 
 pub returns-clause-no_trace : goal.returns-clause-no_trace
-returns-clause-no_trace g c bytes number why left refused run reads writes = no_trace_says _ _ _ _ _ bytes number why c.answer_words.ensures.ends left refused run reads writes
+returns-clause-no_trace g c bytes number why left refused run reads writes = no_trace_says _ _ _ _ _ _ _ _ _ bytes number why c.answer_words.ensures.ends left refused run reads writes

@@ -1,18 +1,24 @@
-use Rattle.std.proofs.Common.{◌≡◌, ◌≤◌, length, take, vec_len, vec_capacity}
-use Rattle.exchange_top.specs.Exchange.{start, world}
-use Rattle.exchange_top.specs.Orders.{file_order}
+use Rattle.std.proofs.Common.{◌≡◌, ◌+◌, ◌-◌, ◌*◌, ◌≤◌, length, take, vec_len, vec_capacity}
+use Rattle.std.specs.Prelude.{All}
+use Rattle.exchange_core.specs.Orders.{file_order}
+use Rattle.exchange_core.specs.World.{MovesAtMost}
 use Rattle.exchange_top.specs.Outcomes.{IsPending}
 use Rattle.exchange_top.specs.Report.{report}
-use Rattle.exchange_top.specs.Switching.{Stands}
+use Rattle.exchange_top.specs.Switching.{Works}
+use Rattle.exchange_top.proofs.Pending.{world_at, replies_at}
 use Rattle.exchange_top.proofs.run.run.Given as goal
 
 abbrev pub invariant-loop-index : goal.invariant-loop-index
 invariant-loop-index g l = record {
   order : l.order.items ≡ file_order l.index;
   room : length l.trace.events ≤ vec_capacity l.order;
-  external : l.switch.table.external ≡ l.trace.external;
+  external : l.switch.core.external ≡ l.trace.external;
+  bridges : l.switch.core.bridges ≡ l.trace.bridges;
+  slots : l.switch.core.slots ≡ 30;
+  bound : l.switch.core.bound ≡ 2 * (l.trace.external + l.trace.bridges) - 2;
   lines : vec_len l.octets ≡ l.trace.external;
-  stands : Stands l.switch (world start (take l.index l.trace.events));
+  works : Works g.C.Carrier.carries l.switch.core l.switch.engine (world_at l.trace l.index);
+  few : All (MovesAtMost (2 * (l.trace.external + l.trace.bridges) - 2)) (replies_at l.trace l.index);
   later : g.K.Sink.faults l.fn.sink ≤ g.K.Sink.faults l.sink;
-  text : IsPending (g.K.Sink.written l.fn.sink) (g.K.Sink.written l.sink) l.text.items (report l.trace (file_order l.index));
+  text : IsPending (g.K.Sink.written l.fn.sink) (g.K.Sink.written l.sink) l.text.items (report g.C.Carrier.plays l.trace (file_order l.index));
 }

@@ -1,0 +1,96 @@
+-- One more line, taken into a draft of a trace.
+use Rattle.std.proofs.Common.{◌≡◌, ◌≢◌, ℕ, List, [], ◌∷◌, ◌++◌, length, Some, None, refl, sym, ap, ◌∙◌, append_assoc}
+use Rattle.std.proofs.lemmas.Bool.{eq-eqb, ne_eqb}
+use Rattle.std.proofs.lemmas.List.{append-nil, length_push}
+use Rattle.exchange_core.specs.declared.trace.Event.{Event}
+use Rattle.trace_text.specs.declared.draft.Draft.{Draft}
+use Rattle.trace_text.specs.declared.said.Sizes.{Sizes}
+use Rattle.trace_text.specs.declared.said.Said.{Said}
+use Rattle.trace_text.specs.declared.said.Said.TheVariants.{Nothing, Header, Happens, Sync}
+use Rattle.trace_text.specs.TraceGrammar.{sizes_in, events_in, ended, ends_after, segment_ends}
+use Rattle.trace_text.specs.TraceDraft.{Holds}
+
+-- the header is the first
+pub sizes_first : (told more : List Said) (sizes : Sizes) → sizes_in told ≡ Some sizes → sizes_in (told ++ more) ≡ Some sizes
+sizes_first [] more sizes e = absurd cc
+sizes_first (Nothing ∷ told) more sizes e = sizes_first told more sizes e
+sizes_first (Header first ∷ told) more sizes e = e
+sizes_first (Happens event ∷ told) more sizes e = sizes_first told more sizes e
+sizes_first (Sync ∷ told) more sizes e = sizes_first told more sizes e
+
+pub sizes_behind : (told more : List Said) → sizes_in told ≡ None → sizes_in (told ++ more) ≡ sizes_in more
+sizes_behind [] more e = refl
+sizes_behind (Nothing ∷ told) more e = sizes_behind told more e
+sizes_behind (Header first ∷ told) more e = absurd cc
+sizes_behind (Happens event ∷ told) more e = sizes_behind told more e
+sizes_behind (Sync ∷ told) more e = sizes_behind told more e
+
+-- what says no sizes changes none
+pub sizes_stay : (told : List Said) (said : Said) → sizes_in (said ∷ []) ≡ None → sizes_in (told ++ said ∷ []) ≡ sizes_in told
+sizes_stay [] said e = e
+sizes_stay (Nothing ∷ told) said e = sizes_stay told said e
+sizes_stay (Header first ∷ told) said e = refl
+sizes_stay (Happens event ∷ told) said e = sizes_stay told said e
+sizes_stay (Sync ∷ told) said e = sizes_stay told said e
+
+pub events-append : (told more : List Said) → events_in (told ++ more) ≡ events_in told ++ events_in more
+events-append [] more = refl
+events-append (Nothing ∷ told) more = events-append told more
+events-append (Header first ∷ told) more = events-append told more
+events-append (Happens event ∷ told) more = ap (λ (es : List Event). event ∷ es) (events-append told more)
+events-append (Sync ∷ told) more = events-append told more
+
+-- the draft of no lines
+pub holds_none : (d : Draft) → d.sizes ≡ None → d.events.items ≡ [] → d.ends.items ≡ [] → d.begun ≡ 0 → Holds d []
+holds_none d a b c e = record { sizes = a; events = b; ends = λ more. rw (b, c, e) refl }
+
+module _ (d n : Draft) (told : List Said) where
+  -- a line that says nothing
+  pub holds_nothing : n.sizes ≡ d.sizes → n.events.items ≡ d.events.items → n.ends.items ≡ d.ends.items → n.begun ≡ d.begun → Holds d told → Holds n (told ++ Nothing ∷ [])
+  holds_nothing a b c e h = record {
+    sizes = a ∙ h.sizes ∙ sym (sizes_stay told Nothing refl);
+    events = b ∙ h.events ∙ sym (events-append told (Nothing ∷ []) ∙ append-nil (events_in told));
+    ends = λ more. rw (b, c, e, append_assoc told (Nothing ∷ []) more) (h.ends (Nothing ∷ more));
+  }
+
+  pub holds_header : (sizes : Sizes) → d.sizes ≡ None → n.sizes ≡ Some sizes → n.events.items ≡ d.events.items → n.ends.items ≡ d.ends.items → n.begun ≡ d.begun → Holds d told → Holds n (told ++ Header sizes ∷ [])
+  holds_header sizes fresh a b c e h = record {
+    sizes = a ∙ sym (sizes_behind told (Header sizes ∷ []) (sym h.sizes ∙ fresh));
+    events = b ∙ h.events ∙ sym (events-append told (Header sizes ∷ []) ∙ append-nil (events_in told));
+    ends = λ more. rw (b, c, e, append_assoc told (Header sizes ∷ []) more) (h.ends (Header sizes ∷ more));
+  }
+
+  pub holds_event : (event : Event) → n.sizes ≡ d.sizes → n.events.items ≡ d.events.items ++ event ∷ [] → n.ends.items ≡ d.ends.items → n.begun ≡ d.begun → Holds d told → Holds n (told ++ Happens event ∷ [])
+  holds_event event a b c e h = record {
+    sizes = a ∙ h.sizes ∙ sym (sizes_stay told (Happens event) refl);
+    events = b ∙ ap (λ es. es ++ event ∷ []) h.events ∙ sym (events-append told (Happens event ∷ []));
+    ends = λ more. rw (b, c, e, append_assoc told (Happens event ∷ []) more, length_push d.events.items event) (h.ends (Happens event ∷ more));
+  }
+
+  -- the end of a segment that has events
+  pub holds_end : n.sizes ≡ d.sizes → n.events.items ≡ d.events.items → n.ends.items ≡ d.ends.items ++ length d.events.items ∷ [] → n.begun ≡ length d.events.items → d.begun ≢ length d.events.items → Holds d told → Holds n (told ++ Sync ∷ [])
+  holds_end a b c e other h = record {
+    sizes = a ∙ h.sizes ∙ sym (sizes_stay told Sync refl);
+    events = b ∙ h.events ∙ sym (events-append told (Sync ∷ []) ∙ append-nil (events_in told));
+    ends = λ more.
+        let count = length d.events.items in
+        let now : ended d.begun count ≡ count ∷ [] = rw (ne_eqb d.begun count other) refl in
+        let told_all : segment_ends (told ++ (Sync ∷ more)) ≡ d.ends.items ++ (ended d.begun count ++ ends_after count count more) = h.ends (Sync ∷ more) in
+        rw (b, c, e, append_assoc told (Sync ∷ []) more) (told_all ∙ ap (λ (front : List ℕ). d.ends.items ++ (front ++ ends_after count count more)) now ∙ sym (append_assoc d.ends.items (count ∷ []) (ends_after count count more)));
+  }
+
+  -- the end of a segment that has none
+  pub holds_empty_end : n.sizes ≡ d.sizes → n.events.items ≡ d.events.items → n.ends.items ≡ d.ends.items → n.begun ≡ d.begun → d.begun ≡ length d.events.items → Holds d told → Holds n (told ++ Sync ∷ [])
+  holds_empty_end a b c e same h = record {
+    sizes = a ∙ h.sizes ∙ sym (sizes_stay told Sync refl);
+    events = b ∙ h.events ∙ sym (events-append told (Sync ∷ []) ∙ append-nil (events_in told));
+    ends = λ more.
+        let count = length d.events.items in
+        let now : ended d.begun count ≡ [] = rw (eq-eqb d.begun count same) refl in
+        let told_all : segment_ends (told ++ (Sync ∷ more)) ≡ d.ends.items ++ (ended d.begun count ++ ends_after count count more) = h.ends (Sync ∷ more) in
+        rw (b, c, e, append_assoc told (Sync ∷ []) more) (told_all ∙ ap (λ (front : List ℕ). d.ends.items ++ (front ++ ends_after count count more)) now ∙ ap (λ k. d.ends.items ++ ends_after k count more) (sym same));
+  }
+
+-- the ends of all segments, once the open one has ended
+pub segments_all : (d : Draft) (told : List Said) → Holds d told → segment_ends told ≡ d.ends.items ++ ended d.begun (length d.events.items)
+segments_all d told h = ap segment_ends (sym (append-nil told)) ∙ h.ends []

@@ -1,0 +1,90 @@
+-- Reading line by line, up to the first line that fails.
+use Rattle.std.proofs.Common.{◌≡◌, ℕ, ◌+◌, ◌<◌, ◌≤◌, List, [], ◌∷◌, ◌++◌, length, None, Ok, Err, refl, sym, ap, ◌∙◌, subst, append_assoc, arith}
+use Rattle.std.proofs.lemmas.List.{append-nil, length_push, nil_from_length}
+use Rattle.trace_text.specs.declared.draft.Draft.{Draft}
+use Rattle.trace_text.specs.declared.fault.Reason.{Reason}
+use Rattle.trace_text.specs.declared.fault.Reason.TheVariants as reason
+use Rattle.trace_text.specs.declared.said.Said.{Said}
+use Rattle.exchange_core.specs.declared.trace.Trace.{Trace}
+use Rattle.trace_text.specs.TraceWords.{lines}
+use Rattle.trace_text.specs.TraceLines.{says}
+use Rattle.trace_text.specs.TraceGrammar.{most_bytes, sizes_in, events_in, EachSays, IsTold, IsTrace, IsRefused, At_line, At_end}
+use Rattle.trace_text.specs.TraceDraft.{Holds}
+
+-- the lines before the rest were read, each met its checks, and the draft holds what they said
+pub record Progress (bytes rest : List ℕ) (number : ℕ) (d : Draft) : Type 0 where
+  pub front : List (List ℕ)
+  pub told : List Said
+  pub parts : lines bytes ≡ front ++ lines rest
+  pub meets : EachSays [] front told
+  pub held : Holds d told
+  pub place : number ≡ length front
+  pub room : number + length rest ≤ length bytes
+
+-- one more line meets its checks
+each_push : (before told : List Said) (front : List (List ℕ)) (line : List ℕ) (said : Said)
+    → EachSays before front told → says (sizes_in (before ++ told)) (length (events_in (before ++ told))) line ≡ Ok said → EachSays before (front ++ line ∷ []) (told ++ said ∷ [])
+each_push before [] [] line said meets e = (rw (append-nil before) at e, tt)
+each_push before (other ∷ told) [] line said meets e = absurd meets
+each_push before [] (first ∷ front) line said meets e = absurd meets
+each_push before (other ∷ told) (first ∷ front) line said meets e =
+    (meets.0, each_push (before ++ other ∷ []) told front line said meets.1 (rw (sym (append_assoc before (other ∷ []) told)) at e))
+
+pub begun : (bytes : List ℕ) (d : Draft) → Holds d [] → Progress bytes bytes 0 d
+begun bytes d held = record { front = []; told = []; parts = refl; meets = tt; held = held; place = refl; room = omega arith }
+
+-- what a line says, by the draft, is what it says behind the lines before it
+says_held : (d : Draft) (told : List Said) (line : List ℕ) → Holds d told → says d.sizes (length d.events.items) line ≡ says (sizes_in told) (length (events_in told)) line
+says_held d told line held = ap (λ s. says s (length d.events.items) line) held.sizes ∙ ap (λ es. says (sizes_in told) (length es) line) held.events
+
+pub goes_on : (bytes rest line others : List ℕ) (number : ℕ) (d n : Draft) (p : Progress bytes rest number d)
+    → lines rest ≡ line ∷ lines others → length others < length rest
+    → (said : Said) × (says d.sizes (length d.events.items) line ≡ Ok said) × Holds n (p.told ++ said ∷ []) → Progress bytes others (number + 1) n
+goes_on bytes rest line others number d n p cut shorter step = record {
+  front = p.front ++ line ∷ [];
+  told = p.told ++ step.0 ∷ [];
+  parts = p.parts ∙ ap (λ (ls : List (List ℕ)). p.front ++ ls) cut ∙ sym (append_assoc p.front (line ∷ []) (lines others));
+  meets = each_push [] p.told p.front line step.0 p.meets (sym (says_held d p.told line p.held) ∙ step.1);
+  held = step.2;
+  place = let e = p.place in omega (arith, length_push p.front line, e);
+  room = let r = p.room in omega (arith, r);
+}
+
+-- the next line is the first that fails
+pub fails_at : (bytes rest line others : List ℕ) (number : ℕ) (d : Draft) (why : Reason) → Progress bytes rest number d
+    → length bytes ≤ most_bytes → lines rest ≡ line ∷ lines others → says d.sizes (length d.events.items) line ≡ Err why → IsRefused bytes (number + 1) why
+fails_at bytes rest line others number d why p few cut e =
+    At_line few (record {
+      before = p.front;
+      line = line;
+      after = lines others;
+      told = p.told;
+      parts = p.parts ∙ ap (λ (ls : List (List ℕ)). p.front ++ ls) cut;
+      meets = p.meets;
+      fails = sym (says_held d p.told line p.held) ∙ e;
+      place = let e = p.place in omega (arith, e);
+    })
+
+-- every line was read
+whole : (bytes rest : List ℕ) (number : ℕ) (d : Draft) (p : Progress bytes rest number d) → length rest ≡ 0 → lines bytes ≡ p.front
+whole bytes rest number d p empty = p.parts ∙ ap (λ (r : List ℕ). p.front ++ lines r) (nil_from_length rest empty) ∙ append-nil p.front
+
+pub is_read : (bytes rest : List ℕ) (number : ℕ) (d : Draft) (t : Trace) (p : Progress bytes rest number d)
+    → length bytes ≤ most_bytes → length rest ≡ 0 → ((told : List Said) → Holds d told → IsTold t told) → IsTrace bytes t
+is_read bytes rest number d t p few empty told = record {
+  few = few;
+  told = p.told;
+  meets = subst (λ ls. EachSays [] ls p.told) (sym (whole bytes rest number d p empty)) p.meets;
+  all = told p.told p.held;
+}
+
+pub lacks_header : (bytes rest : List ℕ) (number last : ℕ) (why : Reason) (d : Draft) (p : Progress bytes rest number d)
+    → length bytes ≤ most_bytes → length rest ≡ 0 → d.sizes ≡ None → last ≡ number + 1 → why ≡ reason.Header → IsRefused bytes last why
+lacks_header bytes rest number last why d p few empty none at named =
+    At_end few (record {
+      told = p.told;
+      meets = subst (λ ls. EachSays [] ls p.told) (sym (whole bytes rest number d p empty)) p.meets;
+      none = sym p.held.sizes ∙ none;
+      place = let e = p.place in omega (arith, e, ap length (whole bytes rest number d p empty));
+      named = named;
+    })

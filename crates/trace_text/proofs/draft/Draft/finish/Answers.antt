@@ -1,0 +1,16 @@
+use Rattle.std.proofs.Common.{◌≡◌, ◌++◌, length, sym, ◌∙◌, arith}
+use Rattle.trace_text.specs.TraceGrammar.{ended}
+use Rattle.trace_text.proofs.TraceHolds.{segments_all}
+use Rattle.trace_text.proofs.draft.Draft.finish.Goals as goal
+
+pub returns-clause-read : goal.returns-clause-read
+returns-clause-read c = λ told h.
+    let d = c.args.self in
+    let n = c.end_segment.new.self in
+    let closed : n.ends.items ≡ d.ends.items ++ ended d.begun (length d.events.items) = grind arith in
+    let kept : n.events.items ≡ d.events.items = grind arith in
+    record {
+      sizes = sym h.sizes ∙ c.in-Some.is;
+      events = c.of.ensures ∙ kept ∙ h.events;
+      segments = c.of-2.ensures ∙ closed ∙ sym (segments_all d told h);
+    }

@@ -1,0 +1,11 @@
+use Rattle.trace_text.proofs.TraceAnswers.{refused, reads_each, refuses_each}
+use Rattle.trace_text.proofs.reader.read_trace.Goals as goal
+
+pub returns-clause-refused : goal.returns-clause-refused
+returns-clause-refused c = refused c.args.bytes.now c.read_lines.result c.read_lines.ensures.refused
+
+pub returns-clause-reads_each : goal.returns-clause-reads_each
+returns-clause-reads_each c = reads_each c.args.bytes.now c.read_lines.result c.read_lines.ensures.read c.read_lines.ensures.refused
+
+pub returns-clause-refuses_each : goal.returns-clause-refuses_each
+returns-clause-refuses_each c = refuses_each c.args.bytes.now c.read_lines.result c.read_lines.ensures.read c.read_lines.ensures.refused

@@ -1,0 +1,5 @@
+pub mod TraceWords
+pub mod TraceFields
+pub mod TraceLines
+pub mod TraceGrammar
+pub mod TraceDraft

@@ -1,0 +1,78 @@
+-- The fields of a trace's lines: lines, slots and rooms of the exchange, octets as hexadecimal digits, sizes. Source: this exchange's own;
+-- the channels are those of ITU-T Q.931 (05/98), section 4.5.13.
+use Rattle.std.specs.Prelude.{ℕ, ◌+◌, ◌-◌, ◌*◌, ◌&&◌, nat_lt, ◌==◌, List, [], ◌∷◌, length, codes, Option, Some, None, option_and_then, Result, Ok, Err, if◌then◌else◌}
+use Rattle.std.specs.Str.{bytes_eq}
+use Rattle.circuit_model.specs.Channels.{between, place_of}
+use Rattle.circuit_model.specs.declared.channel.Slot.{Slot}
+use Rattle.trace_text.specs.declared.fault.Reason.{Reason}
+use Rattle.trace_text.specs.declared.fault.Reason.TheVariants.{Hex, Length}
+use Rattle.trace_text.specs.declared.said.Sizes.{Sizes}
+use Rattle.trace_text.specs.TraceWords.{numeral, cut_at}
+
+-- the second step where the first found something
+infixl 10 ◌>>=◌
+abbrev pub ◌>>=◌ : {A B : Type 0} → Option A → (A → Option B) → Option B
+found >>= step = option_and_then step found
+
+-- the number that a word writes, where it is a numeral and lies between two others, both included
+abbrev pub numeral_in : ℕ → ℕ → List ℕ → Option ℕ
+numeral_in low high word = do
+  number ← numeral word
+  if between low high number then Some number else None
+
+-- the octet `/`
+abbrev pub slash : ℕ
+slash = 47
+
+-- the external line that a word names: the numeral of a line of the exchange
+abbrev pub external_line : ℕ → List ℕ → Option ℕ
+external_line external word = do
+  line ← numeral word
+  if nat_lt line external then Some line else None
+
+-- the slot that a word names: the numeral of an external line, `/`, and the numeral of a bearer channel
+abbrev pub slot : ℕ → List ℕ → Option Slot
+slot external word = do
+  halves ← cut_at slash word
+  line ← external_line external halves.0
+  channel ← numeral halves.1
+  place ← place_of channel
+  Some (record { line = line; place = place })
+
+-- the conference room that a word names: the numeral of one of the 64 rooms
+abbrev pub room : List ℕ → Option ℕ
+room word = numeral_in 0 63 word
+
+-- the value of a hexadecimal digit of either case
+abbrev pub digit_value : ℕ → Option ℕ
+digit_value digit =
+    if between 48 57 digit then Some (digit - 48)
+    else if between 65 70 digit then Some (digit - 55)
+    else if between 97 102 digit then Some (digit - 87)
+    else None
+
+-- the octets that hexadecimal digits write, two digits each
+abbrev pub octets_written : List ℕ → Option (List ℕ)
+octets_written [] = Some []
+octets_written (digit ∷ []) = None
+octets_written (high ∷ low ∷ digits) = do
+  upper ← digit_value high
+  lower ← digit_value low
+  octets ← octets_written digits
+  Some ((upper * 16 + lower) ∷ octets)
+
+-- the octets of a line of one frame: thirty of them
+abbrev pub thirty : Option (List ℕ) → Result (List ℕ) Reason
+thirty None = Err Hex
+thirty (Some octets) = if length octets == 30 then Ok octets else Err Length
+
+-- the sizes that the words of a header give: `exchange`, `1`, and the numbers of external lines, bridge lines and processors
+abbrev pub header : List (List ℕ) → Option Sizes
+header (name ∷ version ∷ external ∷ bridges ∷ processors ∷ []) =
+    if bytes_eq name (codes "exchange") && bytes_eq version (codes "1") then (do
+      e ← numeral_in 1 32 external
+      b ← numeral_in 0 2 bridges
+      p ← numeral_in 1 8 processors
+      Some (record { external = e; bridges = b; processors = p }))
+    else None
+header other = None

@@ -1,0 +1,91 @@
+-- Which bytes are a trace, which trace they are, and why other bytes are none. Source: this exchange's own.
+use Rattle.std.specs.Prelude.{◌≡◌, ℕ, ◌+◌, ◌≤◌, ◌<◌, ◌==◌, List, [], ◌∷◌, ◌++◌, length, Option, Some, None, Ok, Err, if◌then◌else◌}
+use Rattle.exchange_core.specs.declared.trace.Trace.{Trace}
+use Rattle.exchange_core.specs.declared.trace.Event.{Event}
+use Rattle.trace_text.specs.declared.fault.Reason.{Reason}
+use Rattle.trace_text.specs.declared.fault.Reason.TheVariants as reason
+use Rattle.trace_text.specs.declared.said.Sizes.{Sizes}
+use Rattle.trace_text.specs.declared.said.Said.{Said}
+use Rattle.trace_text.specs.declared.said.Said.TheVariants.{Nothing, Header, Happens, Sync}
+use Rattle.trace_text.specs.TraceWords.{lines}
+use Rattle.trace_text.specs.TraceLines.{says}
+
+-- how many bytes a trace has at most
+abbrev pub most_bytes : ℕ
+most_bytes = 67108864
+
+-- the sizes of the header, where there is one
+abbrev pub sizes_in : List Said → Option Sizes
+sizes_in [] = None
+sizes_in (Nothing ∷ others) = sizes_in others
+sizes_in (Header sizes ∷ others) = Some sizes
+sizes_in (Happens event ∷ others) = sizes_in others
+sizes_in (Sync ∷ others) = sizes_in others
+
+-- the events, in file order
+abbrev pub events_in : List Said → List Event
+events_in [] = []
+events_in (Nothing ∷ others) = events_in others
+events_in (Header sizes ∷ others) = events_in others
+events_in (Happens event ∷ others) = event ∷ events_in others
+events_in (Sync ∷ others) = events_in others
+
+-- a segment ends with the last event so far, where it has any
+abbrev pub ended : ℕ → ℕ → List ℕ
+ended begun count = if begun == count then [] else count ∷ []
+
+-- the numbers of the last events of the segments that have any. So many events came before, and so many before the segment that is open
+abbrev pub ends_after : ℕ → ℕ → List Said → List ℕ
+ends_after begun count [] = ended begun count
+ends_after begun count (Nothing ∷ others) = ends_after begun count others
+ends_after begun count (Header sizes ∷ others) = ends_after begun count others
+ends_after begun count (Happens event ∷ others) = ends_after begun (count + 1) others
+ends_after begun count (Sync ∷ others) = ended begun count ++ ends_after count count others
+
+abbrev pub segment_ends : List Said → List ℕ
+segment_ends told = ends_after 0 0 told
+
+-- each line, after those before it, meets all of its checks and says what stands at its place
+abbrev pub EachSays : List Said → List (List ℕ) → List Said → Type 0
+EachSays before [] [] = Unit {0}
+EachSays before [] (said ∷ told) = ⊥
+EachSays before (line ∷ others) [] = ⊥
+EachSays before (line ∷ others) (said ∷ told) = (says (sizes_in before) (length (events_in before)) line ≡ Ok said) × EachSays (before ++ said ∷ []) others told
+
+-- the trace is what the lines say: the sizes of the header, the events, and the ends of the segments
+pub record IsTold (t : Trace) (told : List Said) : Type 0 where
+  pub sizes : sizes_in told ≡ Some (record { external = t.external; bridges = t.bridges; processors = t.processors })
+  pub events : t.events ≡ events_in told
+  pub segments : t.segments ≡ segment_ends told
+
+-- the bytes are the trace: each line meets all of its checks, given the lines before it, and the trace is what the lines say
+pub record IsTrace (bytes : List ℕ) (t : Trace) : Type 0 where
+  pub few : length bytes ≤ most_bytes
+  pub told : List Said
+  pub meets : EachSays [] (lines bytes) told
+  pub all : IsTold t told
+
+-- a line of the bytes is the first that fails, and a check of it is the first that does
+pub record IsFirstFault (bytes : List ℕ) (number : ℕ) (why : Reason) : Type 0 where
+  pub before : List (List ℕ)
+  pub line : List ℕ
+  pub after : List (List ℕ)
+  pub told : List Said
+  pub parts : lines bytes ≡ before ++ line ∷ after
+  pub meets : EachSays [] before told
+  pub fails : says (sizes_in told) (length (events_in told)) line ≡ Err why
+  pub place : number ≡ length before + 1
+
+-- no line fails, and none is the header
+pub record LacksHeader (bytes : List ℕ) (number : ℕ) (why : Reason) : Type 0 where
+  pub told : List Said
+  pub meets : EachSays [] (lines bytes) told
+  pub none : sizes_in told ≡ None
+  pub place : number ≡ length (lines bytes) + 1
+  pub named : why ≡ reason.Header
+
+-- the bytes are no trace, for the reason that is given first: too many bytes, which is line 0; the first line that fails; no header, at the line after the last
+pub data IsRefused (bytes : List ℕ) (number : ℕ) (why : Reason) : Type 0 where
+  Too_long : most_bytes < length bytes → number ≡ 0 → why ≡ reason.Limit → IsRefused bytes number why
+  At_line : length bytes ≤ most_bytes → IsFirstFault bytes number why → IsRefused bytes number why
+  At_end : length bytes ≤ most_bytes → LacksHeader bytes number why → IsRefused bytes number why

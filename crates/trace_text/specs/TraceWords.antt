@@ -1,0 +1,56 @@
+-- The lines, words and numerals of a trace. Source: this exchange's own.
+use Rattle.std.specs.Prelude.{ℕ, ◌+◌, ◌-◌, ◌*◌, Bool, true, false, ◌&&◌, ◌||◌, not, ◌==◌, List, [], ◌∷◌, length, take, drop, filter, fold, position, slice_index, Option, Some, None, option_map, if◌then◌else◌}
+use Rattle.std.specs.List.{list_all, onto_first, slice_split}
+use Rattle.std.specs.Char.{is_ascii_digit}
+use Rattle.circuit_model.specs.Channels.{between}
+
+-- the rows of octets that end before each line feed; octets after the last line feed are a line too
+abbrev pub lines : List ℕ → List (List ℕ)
+lines [] = []
+lines (octet ∷ octets) = if octet == 10 then [] ∷ lines octets else onto_first octet (lines octets)
+
+-- the octet is the given one
+abbrev pub is_octet : ℕ → ℕ → Bool
+is_octet mark octet = octet == mark
+
+abbrev pub is_empty : {A : Type 0} → List A → Bool
+is_empty [] = true
+is_empty (first ∷ others) = false
+
+-- the words of a line: its longest runs of octets other than the space
+abbrev pub words : List ℕ → List (List ℕ)
+words line = filter (λ run. not (is_empty run)) (slice_split (is_octet 32) line)
+
+-- two words, where there are no others
+abbrev pub two : List (List ℕ) → Option (List ℕ × List ℕ)
+two (one ∷ other ∷ []) = Some (one, other)
+two others = None
+
+-- what stands before and after the first octet of a word that is the mark, where it has one
+abbrev pub cut_at : ℕ → List ℕ → Option (List ℕ × List ℕ)
+cut_at mark word = option_map (λ at. (take at word, drop (at + 1) word)) (position (is_octet mark) word)
+
+-- a comment begins with `#`, which is the octet 35
+abbrev pub is_comment : List ℕ → Bool
+is_comment [] = false
+is_comment (octet ∷ octets) = octet == 35
+
+-- a line without words
+abbrev pub is_blank : List ℕ → Bool
+is_blank line = is_empty (words line)
+
+-- an octet from the space to the tilde
+abbrev pub is_printable : ℕ → Bool
+is_printable octet = between 0x20 0x7E octet
+
+-- one to nine decimal digits, of which the first isn't 0 unless it stands alone
+abbrev pub is_numeral : List ℕ → Bool
+is_numeral word = between 1 9 (length word) && list_all is_ascii_digit word && (length word == 1 || not (slice_index word 0 == 48))
+
+-- the number that decimal digits write, the most significant first
+abbrev pub decimal_value : List ℕ → ℕ
+decimal_value digits = fold (λ number digit. number * 10 + (digit - 48)) 0 digits
+
+-- the number that a word writes, where it is a numeral
+abbrev pub numeral : List ℕ → Option ℕ
+numeral word = if is_numeral word then Some (decimal_value word) else None

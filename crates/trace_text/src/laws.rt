@@ -1,0 +1,28 @@
+//! Laws of the trace grammar.
+ghost use Rattle.std.specs.Prelude.{◌≡◌, ◌⊎◌, ℕ, List};
+ghost use Rattle.trace_text.specs.declared.fault.Reason.{Reason};
+ghost use Rattle.exchange_core.specs.declared.trace.Trace.{Trace};
+ghost use Rattle.exchange_core.specs.Sound.{IsSound};
+ghost use Rattle.trace_text.specs.TraceGrammar.{IsTrace, IsRefused};
+
+/// Bytes have one reading: they are one trace, or they are refused for one reason at one line.
+pub fn one_reading()
+    ensures one_trace { (bytes : List ℕ) (t u : Trace) → IsTrace bytes t → IsTrace bytes u → t ≡ u }
+    ensures never_both { (bytes : List ℕ) (t : Trace) (number : ℕ) (why : Reason) →
+        IsTrace bytes t → IsRefused bytes number why → ⊥ }
+    ensures one_fault { (bytes : List ℕ) (m n : ℕ) (why other : Reason) →
+        IsRefused bytes m why → IsRefused bytes n other → (m ≡ n) × (why ≡ other) }
+{}
+
+/// Bytes have a reading: they are a trace, or they are refused.
+pub fn some_reading()
+    ensures { (bytes : List ℕ) →
+        ((t : Trace) × IsTrace bytes t)
+        ⊎ ((number : ℕ) × (why : Reason) × IsRefused bytes number why) }
+{}
+
+/// What bytes say is sound: the sizes are those of an exchange, each event is one of an exchange
+/// with as many external lines as the header gives, and there are not too many of them.
+pub fn traces_are_sound()
+    ensures { (bytes : List ℕ) (t : Trace) → IsTrace bytes t → IsSound t }
+{}

@@ -1,0 +1,44 @@
+use exchange_core::Event;
+
+/// The sizes that the header of a trace gives.
+#[derive(Clone, Copy, Debug, PartialEq, Eq)]
+pub struct Sizes {
+    /// How many external lines there are, 1 to 32.
+    pub external: u8,
+    /// How many conference bridge lines there are, at most 2.
+    pub bridges: u8,
+    /// How many call processors share the work, 1 to 8.
+    pub processors: u8,
+}
+
+/// The kinds of line after the header.
+#[derive(Clone, Copy, Debug, PartialEq, Eq)]
+pub enum Kind {
+    /// Two slots are connected.
+    Nail,
+    /// A slot takes a seat in a conference room.
+    Seat,
+    /// The nail or the seat of a slot is undone.
+    Free,
+    /// A frame arrives.
+    Frame,
+    /// The segment ends.
+    Sync,
+    /// The line is one that this exchange doesn't read yet.
+    Later,
+    /// The line is none of a trace.
+    Unknown,
+}
+
+/// What one line of a trace says.
+#[derive(Drop)]
+pub enum Said {
+    /// The line is blank or a comment.
+    Nothing,
+    /// The line is the header.
+    Header(Sizes),
+    /// An event happens.
+    Happens(Event),
+    /// The segment ends.
+    Sync,
+}
