@@ -31,9 +31,9 @@ module _ (m : Connections) (w : World) (s : Stands m w) where
   clear_stands n x holds layout = record {
     holds = holds;
     layout = layout
-    ∙ ap (λ o. without_both m.layout x (partner m.external m.ports o)) (s.holds.heard x)
-    ∙ ap (λ ports. without_both m.layout x (partner m.external ports (heard_by w.holding.circuits x))) s.holds.members
-    ∙ ap (λ l. without_both l x (partner m.external w.ports (heard_by w.holding.circuits x))) s.layout;
+        ∙ ap (λ o. without_both m.layout x (partner m.external m.ports o)) (s.holds.heard x)
+        ∙ ap (λ ports. without_both m.layout x (partner m.external ports (heard_by w.holding.circuits x))) s.holds.members
+        ∙ ap (λ l. without_both l x (partner m.external w.ports (heard_by w.holding.circuits x))) s.layout;
   }
 
   -- a member that was seated has a port

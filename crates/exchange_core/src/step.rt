@@ -37,12 +37,7 @@ impl<P: PathMap> Model for Core<P> {
 impl<P: PathMap + Drop> Core<P> {
     /// An exchange before its first event, with so many external and bridge lines, over a map of
     /// paths that has none yet.
-    pub fn new(
-        alloc: Global,
-        paths: P,
-        external: u8,
-        bridges: u8,
-    ) -> Result<Core<P>, AllocError>
+    pub fn new(alloc: Global, paths: P, external: u8, bridges: u8) -> Result<Core<P>, AllocError>
         requires external { (1 ≤ external) × (external ≤ 32) }
         requires bridges { bridges ≤ 2 }
         requires lines { P.width paths ≡ external + bridges }

@@ -10,7 +10,7 @@ use Rattle.std.proofs.lemmas.Option.{slice_get_within}
 use Rattle.exchange_core.specs.declared.trace.Event.{Event}
 use Rattle.exchange_core.specs.declared.trace.Trace.{Trace}
 use Rattle.exchange_core.specs.declared.reply.Reply.{Reply}
-use Rattle.exchange_core.specs.World.{World, start, world, next, run, reply, events_of, MovesAtMost}
+use Rattle.exchange_core.specs.World.{World, start, world, next, run, reply, MovesAtMost}
 use Rattle.exchange_core.specs.Orders.{file_order}
 use Rattle.exchange_top.specs.Outcomes.{IsReported, IsBegun, IsPending}
 use Rattle.exchange_top.specs.Report.{Plays, dimensions, report, event_line}

@@ -1,10 +1,9 @@
 -- How a run and its report grow by one event.
-use Rattle.std.proofs.Common.{◌≡◌, ℕ, zero, suc, ◌+◌, ◌-◌, ◌<◌, ◌≤◌, List, [], ◌∷◌, ◌++◌, length, map, take, Some, slice_get, refl, arith, sym, ◌∙◌, ap}
+use Rattle.std.proofs.Common.{◌≡◌, ℕ, zero, suc, ◌+◌, ◌-◌, ◌<◌, ◌≤◌, List, [], ◌∷◌, ◌++◌, length, take, Some, slice_get, refl, arith, sym, ◌∙◌, ap, inl, inr}
 use Rattle.std.specs.List.{range_with_len, cons_option}
-use Rattle.std.specs.Prelude.{All}
 use Rattle.std.proofs.lemmas.Grind.{common_steps}
 use Rattle.std.proofs.lemmas.List.{append_assoc, append-nil, length-take-le}
-use Rattle.std.proofs.lemmas.List.Elements.{filter_map-append, All-append}
+use Rattle.std.proofs.lemmas.List.Elements.{filter_map-append}
 use Rattle.std.proofs.lemmas.Option.{slice_get_within}
 use Rattle.std.proofs.lemmas.List.FromFn.{length-range_with_len}
 use Rattle.circuit_model.specs.declared.channel.Slot.{Slot}
@@ -19,7 +18,7 @@ use Rattle.exchange_core.specs.World.{Dimensions, World, start, next, reply, wor
 use Rattle.report_text.specs.Report.{sent, octet_of, report_line}
 use Rattle.report_text.proofs.Rows.{sent_same}
 use Rattle.frame_engine.specs.Frames.{PlaysOut}
-use Rattle.exchange_top.specs.Report.{Plays, dimensions, played, event_line, event_lines, report, world_of}
+use Rattle.exchange_top.specs.Report.{Plays, dimensions, event_line, event_lines, report, world_of}
 
 -- ---- lists of numbers, and the events that have them
 

@@ -87,12 +87,7 @@ fn refusal(alloc: Global, number: u32, reason: Reason) -> Result<Vec<u8>, AllocE
 }
 
 // Writes a refusal, which answers with the given status unless a write fails.
-fn refuse<K: Sink, C: Carrier>(
-    alloc: Global,
-    sink: &mut K,
-    line: &[u8],
-    status: u8,
-) -> Outcome<C>
+fn refuse<K: Sink, C: Carrier>(alloc: Global, sink: &mut K, line: &[u8], status: u8) -> Outcome<C>
     ensures none { result.order.items ≡ [] }
     ensures engine { result.engine ≡ None }
     ensures answer { ((result.status ≡ status) × Appends (K.written sink.old) (K.written sink.new) line.now)
@@ -106,7 +101,7 @@ fn refuse<K: Sink, C: Carrier>(
 
 // Runs a trace, once there is room for the numbers of its events.
 fn run_trace<K: Sink, C: Carrier>(alloc: Global, trace: &Trace, sink: &mut K) -> Outcome<C>
-    requires { IsSound trace.now }
+    requires sound { IsSound trace.now }
     ensures runs { Runs C.plays (CarriesIn C.carries result.engine) trace.now result.status result.order.items (K.written sink.old) (K.written sink.new) (K.faults sink.old) (K.faults sink.new) }
     ensures engine { IsSome result.engine ↔ (result.status ≡ 0) }
 {

@@ -33,6 +33,7 @@ pub struct Switch<C: Carrier> {
     ghost engine_bridges: { C.bridge_lines engine ≡ core.bridges },
     ghost engine_slots: { C.depth engine ≡ core.slots },
     ghost engine_next: { C.next engine ≡ core.next },
+    ghost works: { ∥ ((w : World) × Works C.carries core engine w) ∥₁ },
     ghost no_ringback: { tones.ringback ≡ [] },
     ghost no_busy: { tones.busy ≡ [] },
 }
@@ -71,7 +72,8 @@ impl<C: Carrier> Switch<C> {
     {
         let reply = self.core.step(event, &mut self.image);
         if let Event::Frame(input) = event {
-            self.engine.frame(&mut self.image, &self.tones, input.as_slice(), octets);
+            self.engine
+                .frame(&mut self.image, &self.tones, input.as_slice(), octets);
         }
         reply
     }

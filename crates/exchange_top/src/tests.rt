@@ -1,6 +1,7 @@
 // Worked traces, from bytes to bytes.
 use crate::call::{Outcome, exchange};
 use ex_io::{MemSink, MemSource};
+use frame_engine::{Carrier, Engine, Marker};
 use std::alloc::{AllocError, Global};
 use std::test::Fail;
 
@@ -20,7 +21,7 @@ fn spelled(alloc: Global, text: &str) -> Result<Vec<u8>, AllocError> {
 }
 
 // How the command `run` ends on an input, and what it writes.
-fn ran(alloc: Global, input: Vec<u8>) -> Result<(Outcome, MemSink), AllocError> {
+fn ran<C: Carrier>(alloc: Global, input: Vec<u8>) -> Result<(Outcome<C>, MemSink), AllocError> {
     let words = vec![in alloc; String::from_str(alloc, "run")?]?;
     let mut source = MemSource::new(input, 4096, Vec::new(alloc));
     let mut sink = MemSink::new(alloc, 1_000_000, 4096, Vec::new(alloc))?;
@@ -54,40 +55,46 @@ fn traces_are_answered_by_their_reports(rt: HostRuntime) -> Result<(), Fail> {
             4,
             "1 granted 0 0\n2 busy\n3 busy\n4 granted 0 0\n",
         ),
-        // A line whose places are all nailed to each other.
+        // A slot that is used again is silent until the newcomer's first octet has come through.
         (
-            "exchange 1 1 0 1\nnail 0/1 0/2\nnail 0/3 0/4\nnail 0/5 0/6\nnail 0/7 0/8\n\
-            nail 0/9 0/10\nnail 0/11 0/12\nnail 0/13 0/14\nnail 0/15 0/17\nnail 0/18 0/19\n\
-            nail 0/20 0/21\nnail 0/22 0/23\nnail 0/24 0/25\nnail 0/26 0/27\nnail 0/28 0/29\n\
-            nail 0/30 0/31\nnail 0/1 0/2\n",
-            16,
-            "1 granted 0 0\n2 granted 0 0\n3 granted 0 0\n4 granted 0 0\n5 granted 0 0\n\
-            6 granted 0 0\n7 granted 0 0\n8 granted 0 0\n9 granted 0 0\n10 granted 0 0\n\
-            11 granted 0 0\n12 granted 0 0\n13 granted 0 0\n14 granted 0 0\n15 granted 0 0\n16 busy\n",
+            "exchange 1 3 0 1\nnail 0/1 1/1\nF 0:01+ 1:81+ 2:C1+\nF 0:02+ 1:82+ 2:C2+\nfree 0/1\nnail 0/1 2/1\n\
+            F 0:03+ 1:83+ 2:C3+\nF 0:04+ 1:84+ 2:C4+\nF 0:05+ 1:85+ 2:C5+\nfree 1/1\n",
+            9,
+            "1 granted 0 0\n2 frame 0\n3 frame 1\n4 freed\n5 granted 0 0\n6 frame 2\n7 frame 3\n\
+            8 frame 4 0:C3+ 2:03+\n9 notnailed\n",
+        ),
+        // Two members hear each other four frames later; without a bridge line there is no port.
+        (
+            "exchange 1 2 1 1\nseat 0/1 5\nseat 1/1 5\nseat 1/1 6\nF 0:11+ 1:91+\nF\nF\nF\nF\n",
+            8,
+            "1 seated 0 0\n2 seated 0 0\n3 busy\n4 frame 0\n5 frame 1\n6 frame 2\n7 frame 3\n\
+            8 frame 4 0:91+ 1:11+\n",
+        ),
+        (
+            "exchange 1 1 0 1\nseat 0/1 0\nfree 0/1\n",
+            2,
+            "1 noport\n2 notnailed\n",
         ),
     ] {
-        let (outcome, sink) = ran(alloc, spelled(alloc, trace)?)?;
+        let (outcome, sink) = ran::<Engine>(alloc, spelled(alloc, trace)?)?;
         assert_eq!(rt; outcome.status, 0, "{trace}");
         assert_eq!(rt; outcome.order.as_slice().last(), Some(&count), "{trace}");
+        assert!(rt; outcome.engine.is_some(), "{trace}");
         assert_eq!(rt; sink.bytes(), spelled(alloc, report)?.as_slice(), "{trace}");
     }
     Ok(())
 }
 
+// The octets of a frame are those of the engine that the call is given.
 #[test]
-fn thirty_channels_are_granted_and_no_more(rt: HostRuntime) -> Result<(), Fail> {
+fn another_engine_is_heard(rt: HostRuntime) -> Result<(), Fail> {
     let alloc = rt.alloc();
-    let mut trace = String::from_str(alloc, "exchange 1 2 0 1\n")?;
-    let mut report = String::new(alloc);
-    for (event, channel) in (1..).zip((1..16).chain(17..32)) {
-        trace.push_str(&format!(in alloc; "nail 0/{channel} 1/{channel}\n")?)?;
-        report.push_str(&format!(in alloc; "{event} granted 0 0\n")?)?;
-    }
-    trace.push_str("nail 0/31 1/31\n")?;
-    report.push_str("31 busy\n")?;
-    let (outcome, sink) = ran(alloc, trace.into_bytes())?;
+    let (outcome, sink) = ran::<Marker>(alloc, spelled(alloc, "exchange 1 1 0 1\nF\n")?)?;
     assert_eq!(rt; outcome.status, 0);
-    assert_eq!(rt; sink.bytes(), report.as_bytes());
+    assert_eq!(rt;
+        sink.bytes(),
+        b"1 frame 0 0:000000000000000000000000000000000000000000000000000000000000\n".as_slice()
+    );
     Ok(())
 }
 
@@ -107,10 +114,11 @@ fn what_is_no_trace_is_refused_at_its_first_fault(rt: HostRuntime) -> Result<(),
         ),
         (b"exchange 1 1 0 1\nnail 0/1 0/16\n", "refused 2 slot\n"),
         (b"exchange 1 1 0 1\n\nhold\n", "refused 3 word\n"),
-        (b"exchange 1 1 1 1\nseat 0/1 0\n", "refused 2 later\n"),
+        (b"exchange 1 1 1 1\nM 0\n", "refused 2 later\n"),
+        (b"exchange 1 1 1 1\nseat 0/1 64\n", "refused 2 number\n"),
         (too_many.as_slice(), "refused 65537 limit\n"),
     ] {
-        let (outcome, sink) = ran(alloc, input.to_vec(alloc)?)?;
+        let (outcome, sink) = ran::<Engine>(alloc, input.to_vec(alloc)?)?;
         assert_eq!(rt; outcome.status, 1, "{refusal}");
         assert!(rt; outcome.order.is_empty(), "{refusal}");
         assert_eq!(rt; sink.bytes(), refusal.as_bytes());
@@ -129,7 +137,7 @@ fn words_other_than_run_are_refused_unread(rt: HostRuntime) -> Result<(), Fail> 
         // The first read would fail.
         let mut source = MemSource::new(Vec::new(alloc), 16, [1].to_vec(alloc)?);
         let mut sink = MemSink::new(alloc, 100, 16, Vec::new(alloc))?;
-        let outcome = exchange(alloc, &given, &mut source, &mut sink);
+        let outcome: Outcome<Engine> = exchange(alloc, &given, &mut source, &mut sink);
         assert_eq!(rt; outcome.status, 2);
         assert_eq!(rt; source.faults(), 0);
         assert_eq!(rt; sink.bytes(), b"refused words\n".as_slice());
@@ -144,13 +152,13 @@ fn a_failing_read_or_write_ends_the_call(rt: HostRuntime) -> Result<(), Fail> {
 
     let mut source = MemSource::new(spelled(alloc, DELAY)?, 16, [3].to_vec(alloc)?);
     let mut sink = MemSink::new(alloc, 1000, 1000, Vec::new(alloc))?;
-    let outcome = exchange(alloc, &words, &mut source, &mut sink);
+    let outcome: Outcome<Engine> = exchange(alloc, &words, &mut source, &mut sink);
     assert_eq!(rt; (outcome.status, source.faults()), (3, 1));
     assert!(rt; sink.bytes().is_empty());
 
     let mut source = MemSource::new(spelled(alloc, DELAY)?, 1000, Vec::new(alloc));
     let mut sink = MemSink::new(alloc, 1000, 10, [2].to_vec(alloc)?)?;
-    let outcome = exchange(alloc, &words, &mut source, &mut sink);
+    let outcome: Outcome<Engine> = exchange(alloc, &words, &mut source, &mut sink);
     assert_eq!(rt; (outcome.status, sink.faults()), (4, 1));
     assert_eq!(rt; sink.bytes(), b"1 granted ".as_slice());
     Ok(())

@@ -3,7 +3,8 @@
 #![tactic(auto)]
 
 use ex_io::{StdSink, StdSource};
-use exchange_top::exchange;
+use exchange_top::{Outcome, exchange};
+use frame_engine::Engine;
 use std::env;
 use std::io::{self, ErrorKind};
 use std::process::ExitCode;
@@ -25,5 +26,6 @@ fn main(rt: HostRuntime) -> ExitCode {
     };
     let mut source = StdSource::new(rt.stdin());
     let mut sink = StdSink::new(rt.stdout());
-    ExitCode::from(exchange(rt.alloc(), &words, &mut source, &mut sink).status)
+    let outcome: Outcome<Engine> = exchange(rt.alloc(), &words, &mut source, &mut sink);
+    ExitCode::from(outcome.status)
 }

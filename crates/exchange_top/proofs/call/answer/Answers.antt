@@ -3,8 +3,8 @@ use Rattle.exchange_top.proofs.CallLemmas.{answers_run, answers_refused}
 use Rattle.trace_text.proofs.SoundLemmas.{sound_trace}
 use Rattle.exchange_top.proofs.call.answer.Goals as goal
 
-pub run_trace-requires : goal.run_trace-requires
-run_trace-requires g c = sound_trace _ c.in-Ok.trace c.in-Ok.ensures.read
+pub run_trace-requires-clause-sound : goal.run_trace-requires-clause-sound
+run_trace-requires-clause-sound g c lifetimes outlive = sound_trace _ c.in-Ok.trace c.in-Ok.ensures.read
 
 pub returns-in-Ok-clause-answers : goal.returns-in-Ok-clause-answers
 returns-in-Ok-clause-answers g c =

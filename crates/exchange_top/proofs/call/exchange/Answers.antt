@@ -36,4 +36,4 @@ pub returns-clause-trace : goal.returns-clause-trace
 returns-clause-trace g c bytes t left is run reads writes = trace_says _ _ _ _ _ _ _ bytes t c.answer_words.ensures.ends left is run reads writes
 
 pub returns-clause-no_trace : goal.returns-clause-no_trace
-returns-clause-no_trace g c bytes number why left refused run reads writes = no_trace_says _ _ _ _ _ _ _ _ _ bytes number why c.answer_words.ensures.ends left refused run reads writes
+returns-clause-no_trace g c bytes number why left refused run reads writes = no_trace_says _ _ _ _ _ _ _ bytes number why c.answer_words.ensures.ends left refused run reads writes

@@ -1,11 +1,12 @@
-use Rattle.std.proofs.Common.{◌≡◌, ℕ, ◌+◌, ◌-◌, ◌*◌, ◌<◌, ◌≤◌, List, length, take, Some, slice_get, refl, sym, arith, ◌∙◌, ap, subst}
+use Rattle.std.proofs.Common.{◌≡◌, ℕ, ◌+◌, ◌-◌, ◌*◌, ◌<◌, ◌≤◌, ◌++◌, List, length, take, Some, slice_get, refl, arith, ◌∙◌, ap, subst}
 use Rattle.std.proofs.lemmas.List.{length-take-le}
 use Rattle.std.proofs.lemmas.List.FromFn.{length-range_with_len}
 use Rattle.std.proofs.lemmas.Option.{slice_get_read}
 use Rattle.exchange_core.specs.Standing.{dimensions_of}
 use Rattle.exchange_core.specs.Orders.{file_order}
-use Rattle.exchange_core.specs.World.{start}
-use Rattle.exchange_top.specs.Report.{dimensions, report}
+use Rattle.exchange_core.specs.World.{start, next, reply, MovesAtMost}
+use Rattle.exchange_top.specs.Report.{dimensions, event_line, report}
+use Rattle.exchange_top.specs.Switching.{Works}
 use Rattle.exchange_top.proofs.Pending.{on_err, begun_none, pending_none, order_more, world_at, world_more, replies_more, pending_event, begun_event, begun_flush, reported}
 use Rattle.exchange_top.proofs.RunLemmas.{world_grows, world_of-file_order}
 use Rattle.exchange_top.proofs.run.run.Goals as goal
@@ -61,7 +62,7 @@ returns-in_err-flush_full-clause-begun g c =
     let found : slice_get trace.events i ≡ Some c.event-item.result =
     rw (← c.as_slice-event-items.ensures) (slice_get_read _ _ _ _ refl c.loop-index-test.true c.event-item.is) in
     let same : dimensions_of c.loop-index.switch.core ≡ dimensions trace = λ j. record { external = inv.external j; bridges = inv.bridges j; slots = inv.slots j } in
-    let line = rw same at (c.in_ok-report_event.ensures.line (world_at trace i) inv.works) in
+    let line = subst (λ d. c.report_event.new.text.items ≡ c.loop-index.text.items ++ event_line g.C.Carrier.plays d (world_at trace i) (i + 1) c.event-item.result) same (c.in_ok-report_event.ensures.line (world_at trace i) inv.works) in
     let pending = pending_event g.C.Carrier.plays trace i c.event-item.result _ _ _ _ found inv.text line in
     on_err c.from_residual-in_err-flush_full.result
     (begun_flush g.C.Carrier.plays trace (i + 1) _ _ _ _ _ (omega (arith, within)) (order_more i _ _ inv.order c.push_reserved.ensures.items) pending c.in_err-flush_full.ensures.front)
@@ -76,9 +77,9 @@ loop-index-preserved g c =
     let w = world_at trace i in
     let same : dimensions_of c.loop-index.switch.core ≡ dimensions trace = λ j. record { external = inv.external j; bridges = inv.bridges j; slots = inv.slots j } in
     let e = c.in_ok-report_event.ensures in
-    let line = rw same at (e.line w inv.works) in
+    let line = subst (λ d. c.report_event.new.text.items ≡ c.loop-index.text.items ++ event_line g.C.Carrier.plays d w (i + 1) c.event-item.result) same (e.line w inv.works) in
     let pending = pending_event g.C.Carrier.plays trace i c.event-item.result (g.K.Sink.written c.args.sink.now) (g.K.Sink.written c.loop-index.sink) c.loop-index.text.items c.report_event.new.text.items found inv.text line in
-    let few = rw (same, inv.bound) at (e.few w inv.works) in
+    let few = rw inv.bound at (subst (λ d. MovesAtMost c.loop-index.switch.core.bound (reply d w c.event-item.result)) same (e.few w inv.works)) in
     record {
       order = order_more i c.loop-index.order.items c.push_reserved.new.self.items inv.order c.push_reserved.ensures.items;
       room = omega (arith, inv.room, c.push_reserved.ensures.capacity);
@@ -87,7 +88,7 @@ loop-index-preserved g c =
       slots = e.sizes.slots ∙ inv.slots;
       bound = e.sizes.bound ∙ inv.bound;
       lines = inv.lines;
-      works = rw (world_more trace i c.event-item.result found) (rw same at (e.works w inv.works));
+      works = rw (world_more trace i c.event-item.result found) (subst (λ d. Works g.C.Carrier.carries c.report_event.new.switch.core c.report_event.new.switch.engine (next d w c.event-item.result)) same (e.works w inv.works));
       few = replies_more trace i (2 * (trace.external + trace.bridges) - 2) c.event-item.result found inv.few few;
       later = omega (arith, inv.later, c.in_ok-flush_full.ensures.later);
       text = c.in_ok-flush_full.ensures.pending (g.K.Sink.written c.args.sink.now) (report g.C.Carrier.plays trace (file_order (i + 1))) pending;
@@ -111,4 +112,4 @@ pub returns-clause-carried : goal.returns-clause-carried
 returns-clause-carried g c =
     let inv = c.loop-index.invariant in
     let within : c.loop-index.index ≤ length c.args.trace.now.events = rw (← c.as_slice-event-items.ensures) c.loop-index.auto.index-end in
-    rw (inv.order, world_of-file_order c.args.trace.now c.loop-index.index within) inv.works.carried
+    rw (c.into_engine.ensures, inv.order, world_of-file_order c.args.trace.now c.loop-index.index within) inv.works.carried

@@ -1,0 +1,115 @@
+use Rattle.std.proofs.Common.{◌≡◌, ℕ, arith, sym, ◌∙◌, ap}
+use Rattle.std.proofs.Math.Logic.{∥∥₁_elim, ∥∥₁_map}
+use Rattle.std.proofs.lemmas.Grind.{not_there}
+use Rattle.std.specs.Coded.{Coded-set, coded_ℕ}
+use Rattle.exchange_core.specs.declared.reply.Reply.TheVariants.{Frame}
+use Rattle.exchange_core.specs.declared.trace.Event.TheVariants.{Frame as Frame_event}
+use Rattle.exchange_core.specs.Standing.{dimensions_of}
+use Rattle.exchange_core.specs.World.{World, next, reply}
+use Rattle.exchange_top.specs.Switching.{Works}
+use Rattle.exchange_top.proofs.Framing.{come, quiet, works_quiet, works_frame}
+use Rattle.exchange_top.proofs.RunLemmas.{sent_played}
+use Rattle.exchange_top.proofs.Silence.{sounds_none, silent}
+use Rattle.exchange_top.proofs.switch.Switch.step.Goals as goal
+
+same_number : (f n : ℕ) → Frame f ≡ Frame n → f ≡ n
+same_number f n e = cc
+
+pub frame-requires-clause-frame : goal.frame-requires-clause-frame
+frame-requires-clause-frame g c =
+    let e = c.step-reply.ensures in
+    ∥∥₁_elim c.args.self.now.works (Coded-set coded_ℕ _ _) (λ p.
+    (e.shows p.0 p.0.holding.next p.1.stands (e.reply p.0 p.1.stands ∙ ap (reply (dimensions_of c.args.self.now.core) p.0) c.in-Frame.is)).1.frame
+    ∙ sym (c.args.self.now.engine_next ∙ p.1.stands.holds.next))
+
+pub frame-requires-clause-tones : goal.frame-requires-clause-tones
+frame-requires-clause-tones g c = λ at line place kind since sounds.
+    let e = c.step-reply.ensures in
+    absurd (not_there c.args.self.now.works (λ p.
+    sounds_none c.step-reply.new.image p.0.holding.circuits p.0.ports p.0.holding.next p.1.made.toneless
+    (e.shows p.0 p.0.holding.next p.1.stands (e.reply p.0 p.1.stands ∙ ap (reply (dimensions_of c.args.self.now.core) p.0) c.in-Frame.is)) at line place kind since sounds))
+
+-- the engine has carried one frame more
+pub returns-in-Frame-clause-works : goal.returns-in-Frame-clause-works
+returns-in-Frame-clause-works g c w works =
+    let e = c.step-reply.ensures in
+    let d = dimensions_of c.args.self.now.core in
+    let now = c.args.self.now.engine_next ∙ works.stands.holds.next in
+    let shows = e.shows w w.holding.next works.stands (e.reply w works.stands ∙ ap (reply d w) c.in-Frame.is) in
+    let came = rw (← c.args.self.now.engine_external, ← c.args.self.now.engine_bridges) at (come d w c.in-Frame.input works.made) in
+    let carried = c.frame.ensures.carries w.inputs w.held w.seated w.holding.circuits w.ports works.carried (rw now shows) came in
+    rw c.in-Frame.is (works_frame g.C.Carrier.carries c.args.self.now.core c.step-reply.new.self c.args.self.now.engine w works e.sizes c.frame.new.self c.in-Frame.input (rw c.in-Frame.is at (e.world w works.stands)) (rw c.as_slice.ensures at carried))
+
+pub invariant_of-self : goal.invariant_of-self
+invariant_of-self g c =
+    let old = c.args.self.now in
+    let e = c.step-reply.ensures in
+    let f = c.frame.ensures in
+    let d = dimensions_of old.core in
+    let goes : (w : World) → Works g.C.Carrier.carries old.core old.engine w → Works g.C.Carrier.carries c.step-reply.new.self c.frame.new.self (next d w (Frame_event c.in-Frame.input)) = λ w works.
+    let now = old.engine_next ∙ works.stands.holds.next in
+    let shows = e.shows w w.holding.next works.stands (e.reply w works.stands ∙ ap (reply d w) c.in-Frame.is) in
+    let came = rw (← old.engine_external, ← old.engine_bridges) at (come d w c.in-Frame.input works.made) in
+    let carried = f.carries w.inputs w.held w.seated w.holding.circuits w.ports works.carried (rw now shows) came in
+    works_frame g.C.Carrier.carries old.core c.step-reply.new.self old.engine w works e.sizes c.frame.new.self c.in-Frame.input (rw c.in-Frame.is at (e.world w works.stands)) (rw c.as_slice.ensures at carried)
+    in
+    record {
+      image_external = omega (arith, f.image.external, e.image.external, e.sizes.external, old.image_external);
+      image_bridges = omega (arith, f.image.bridges, e.image.bridges, e.sizes.bridges, old.image_bridges);
+      image_slots = omega (arith, f.image.slots, e.image.slots, e.sizes.slots, old.image_slots);
+      engine_external = f.external ∙ old.engine_external ∙ sym e.sizes.external;
+      engine_bridges = f.bridges ∙ old.engine_bridges ∙ sym e.sizes.bridges;
+      engine_slots = f.slots ∙ old.engine_slots ∙ sym e.sizes.slots;
+      engine_next = ∥∥₁_elim old.works (Coded-set coded_ℕ _ _) (λ p. let more = goes p.0 p.1 in omega (arith, f.next, old.engine_next, p.1.stands.holds.next, more.stands.holds.next));
+      works = ∥∥₁_map old.works (λ p. (next d p.0 (Frame_event c.in-Frame.input), goes p.0 p.1));
+      no_ringback = old.no_ringback;
+      no_busy = old.no_busy;
+    }
+
+pub invariant_of-self-in_default : goal.invariant_of-self-in_default
+invariant_of-self-in_default g c =
+    let old = c.args.self.now in
+    let e = c.step-reply.ensures in
+    record {
+      image_external = omega (arith, e.image.external, e.sizes.external, old.image_external);
+      image_bridges = omega (arith, e.image.bridges, e.sizes.bridges, old.image_bridges);
+      image_slots = omega (arith, e.image.slots, e.sizes.slots, old.image_slots);
+      engine_external = old.engine_external ∙ sym e.sizes.external;
+      engine_bridges = old.engine_bridges ∙ sym e.sizes.bridges;
+      engine_slots = old.engine_slots ∙ sym e.sizes.slots;
+      engine_next = ∥∥₁_elim old.works (Coded-set coded_ℕ _ _) (λ p.
+          let still = quiet (dimensions_of old.core) p.0 c.args.event.now c.in_default.not-Frame in
+          let more = e.world p.0 p.1.stands in
+          old.engine_next ∙ p.1.stands.holds.next ∙ sym (more.holds.next ∙ still.next));
+      works = ∥∥₁_map old.works (λ p. (
+        next (dimensions_of old.core) p.0 c.args.event.now,
+        works_quiet g.C.Carrier.carries old.core c.step-reply.new.self old.engine p.0 p.1 e.sizes c.args.event.now c.requires.fits c.in_default.not-Frame (e.world p.0 p.1.stands),
+      ));
+      no_ringback = old.no_ringback;
+      no_busy = old.no_busy;
+    }
+
+pub returns-in-Frame-clause-octets : goal.returns-in-Frame-clause-octets
+returns-in-Frame-clause-octets g c w f works told =
+    let e = c.step-reply.ensures in
+    let d = dimensions_of c.args.self.now.core in
+    let now = c.args.self.now.engine_next ∙ works.stands.holds.next in
+    let replied = e.reply w works.stands ∙ ap (reply d w) c.in-Frame.is in
+    let shows = e.shows w w.holding.next works.stands replied in
+    let came = rw (← c.args.self.now.engine_external, ← c.args.self.now.engine_bridges) at (come d w c.in-Frame.input works.made) in
+    let plays = c.frame.ensures.plays w.inputs w.held w.seated w.holding.circuits w.ports works.carried (rw now shows) came in
+    let number : f ≡ w.holding.next = same_number f w.holding.next (sym told ∙ replied) in
+    let octets = rw (c.args.self.now.engine_external, silent c.args.self.now.tones c.args.self.now.no_ringback c.args.self.now.no_busy, c.as_slice.ensures, now) at plays in
+    rw (c.in-Frame.is, number) (sent_played c.args.self.now.core.external _ c.frame.new.out octets)
+
+pub returns-in_default : goal.returns-in_default
+returns-in_default g c =
+    let e = c.step-reply.ensures in
+    let d = dimensions_of c.args.self.now.core in
+    record {
+      works = λ w works. works_quiet g.C.Carrier.carries c.args.self.now.core c.step-reply.new.self c.args.self.now.engine w works e.sizes c.args.event.now c.requires.fits c.in_default.not-Frame (e.world w works.stands);
+      reply = λ w works. e.reply w works.stands;
+      octets = λ w f works told. absurd ((quiet d w c.args.event.now c.in_default.not-Frame).told f (sym (e.reply w works.stands) ∙ told));
+      few = e.few;
+      sizes = e.sizes;
+    }
