@@ -24,6 +24,7 @@ pub struct NoPort;
 ///
 /// Contracts see the circuit by which each external slot hears, the member of each port and the
 /// layout of the paths; `Holds` says of which holding these are. No call but `new` takes memory.
+#[derive(Drop)]
 pub struct CircuitMap<P: PathMap> {
     external: u8,
     bridges: u8,
@@ -96,6 +97,13 @@ impl<P: PathMap + Drop> CircuitMap<P> {
 }
 
 impl<P: PathMap> CircuitMap<P> {
+    /// The number of the next frame.
+    pub fn next_frame(&self) -> u32
+        ensures { result ≡ self.now.next }
+    {
+        self.next
+    }
+
     /// Whether no circuit names an external slot.
     pub fn idle(&self, at: Slot) -> bool
         requires external { IsExternal self.now at }
