@@ -157,7 +157,7 @@ only_there x ports j k once at apart = elim (true_or_false (has x (get_or ports 
         | inr past ↦ let gone = get_or_past ports j None past in let no = ap (has x) gone in let wrong = sym no ∙ mine in cc
         | inl inside ↦ elim (cases_lt j k) [
           | inl before ↦ let two = two_counted (has x) None ports j k before there.0 mine there.1 in omega (arith, two, once)
-          | inr behind ↦ let two = two_counted (has x) None ports k j (let far = apart in elim (cases_lt k j) [ inl l ↦ l | inr n ↦ absurd (apart (omega (arith, n, behind))) ]) inside there.1 mine in omega (arith, two, once)
+          | inr behind ↦ let two = two_counted (has x) None ports k j (elim (cases_lt k j) [ inl l ↦ l | inr n ↦ absurd (apart (omega (arith, n, behind))) ]) inside there.1 mine in omega (arith, two, once)
         ]
       ])
 ]

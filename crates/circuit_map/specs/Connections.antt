@@ -80,7 +80,7 @@ pub record IsShown (external lines : ℕ) (heard : List (Option Circuit)) (ports
   pub hears : EachSlot lines (λ at. entry_at Silent hearing at ≡ heard_as (served_in external heard ports at))
   pub sits : EachSlot lines (λ at. entry_at None sitting at ≡ room_in external heard ports at)
 
--- how large the parts are, that they are those of some holding, and that they are what is kept for the next control memory
+-- how large the parts are, that they are those of some holding, and that what is kept for the next control memory is what they show
 pub record IsSound (m : Connections) (lines first_line bridge_lines : ℕ) (hearing : List Heard) (sitting : List (Option (ℕ × ℕ))) : Type 0 where
   pub few : lines_of m ≤ 34
   pub width : lines ≡ lines_of m

@@ -88,7 +88,7 @@ impl<P: PathMap + Drop> CircuitMap<P> {
     {
         // Any call of a path map tells that its layout is legal.
         let _slots = paths.slots();
-        let slots = usize::from(external + bridges) * 30;
+        let places = usize::from(external + bridges) * 30;
         Ok(CircuitMap {
             external,
             bridges,
@@ -96,8 +96,8 @@ impl<P: PathMap + Drop> CircuitMap<P> {
             heard: vec![in alloc; None; usize::from(external) * 30]?,
             ports: Ports::new(alloc, external, bridges)?,
             paths,
-            hearing: vec![in alloc; Heard::Silent; slots]?,
-            sitting: vec![in alloc; None; slots]?,
+            hearing: vec![in alloc; Heard::Silent; places]?,
+            sitting: vec![in alloc; None; places]?,
         })
     }
 }
