@@ -1,5 +1,5 @@
 -- The connections after a slot is cleared are those of the holding after it.
-use Rattle.std.proofs.Common.{◌≡◌, ℕ, zero, suc, ◌+◌, ◌*◌, ◌<◌, ◌≤◌, Bool, true, false, not, List, [], ◌∷◌, length, get_or, Option, Some, None, refl, sym, ◌∙◌, ap, subst, inl, inr, arith, length-set, if◌then◌else◌}
+use Rattle.std.proofs.Common.{◌≡◌, ℕ, zero, suc, ◌+◌, ◌*◌, ◌<◌, ◌≤◌, Bool, true, false, not, List, [], ◌∷◌, length, Option, Some, None, refl, sym, ◌∙◌, ap, subst, inl, inr, arith, length-set, if◌then◌else◌}
 use Rattle.std.specs.Prelude.{◌↔◌}
 use Rattle.std.specs.List.{count_by, filter, Contains}
 use Rattle.std.proofs.lemmas.Grind.{common_steps}
@@ -357,7 +357,7 @@ still_joined lines first second x y size one in_x in_y apart j = subst (λ l. Jo
 pub seated_in : (m : Connections) (h : Holding) (ports : Ports) (x at : Slot) (room s : ℕ) → Holds m h ports → hears_at m x ≡ Some (Member room at s) → hears_at m x ≡ Some (Member room x s)
 seated_in m h ports x at room s holds e = let own : at ≡ x = (hearing_at m h ports holds).own x (Member room at s) e in e ∙ (λ i. Some (Member room (own i) s))
 
-above_zero : (n : ℕ) → (n ≡ 0 → ⊥) → 0 < n
+pub above_zero : (n : ℕ) → (n ≡ 0 → ⊥) → 0 < n
 above_zero zero never = absurd (never refl)
 above_zero (suc n) never = omega arith
 
@@ -387,16 +387,3 @@ no_member_too o y x at s room t a b = let wrong = sym a ∙ b in cc
 
 pub port_apart : (external : ℕ) (ports : Ports) (x p : Slot) → x.line < external → port_of external ports x ≡ Some p → p ≡ x → ⊥
 port_apart external ports x p near e same = let far = port_line external ports x p e in let line = ap (λ (s : Slot). s.line) same in omega (arith, far, near, line)
-
--- ---- who has a port is an external slot
-pub owner_external : (m : Connections) (h : Holding) (ports : Ports) (k : ℕ) (y : Slot) → Holds m h ports → k < length m.ports → get_or m.ports k None ≡ Some y → (y.line < m.external) × (y.place < 30)
-owner_external m h ports k y holds inside e = go (hears_at m y) refl
-  where
-    go : (o : Option Circuit) → hears_at m y ≡ o → (y.line < m.external) × (y.place < 30)
-    go (Some c) at = (hearing_at m h ports holds).inside y c at
-    go None at =
-        let none = seats_none y h.circuits (λ c stands. not_true (seats y c) (unseated h m.bridges y holds.valid (λ room z s hx. let wrong = sym at ∙ holds.heard y ∙ hx in cc) c stands)) in
-        let fails = none_counted (has y) None m.ports (ap (count_by (has y)) holds.members ∙ holds.ported y ∙ none) k inside in
-        let mine = ap (has y) e in
-        let same = same_slot-refl y in
-        absurd (cc)

@@ -6,4 +6,5 @@ pub mod Paths
 pub mod Clearing
 pub mod Showing
 pub mod Starting
+pub mod Keeping
 pub mod Seating

@@ -10,13 +10,17 @@ use Rattle.circuit_model.specs.Ports.{free_ports, has}
 use Rattle.circuit_model.proofs.Age.{none_in_nil}
 use Rattle.circuit_model.proofs.Validity.{valid-empty}
 use Rattle.conference_ports.specs.Owners.{members}
-use Rattle.control_memory.specs.Layout.{IsBare, number_of}
+use Rattle.control_memory.specs.Layout.{Layout, IsBare, hop_of, number_of}
 use Rattle.circuit_map.specs.Connections.{Connections, hears_in, hears_at, Holds}
 
 pub none_at : {X : Type 0} (n k : ℕ) → get_or (replicate n (let x : Option X = None in x)) k None ≡ None
 none_at zero k = refl
 none_at (suc n) zero = refl
 none_at (suc n) (suc k) = none_at n k
+
+-- a layout of free inlets
+pub bare_rows : (n : ℕ) (layout : Layout) → layout ≡ replicate n None → IsBare layout
+bare_rows n layout free = λ from. ap (λ l. hop_of l from) free ∙ none_at n (number_of from)
 
 one_or_none : (b : Bool) (o : Option Circuit) → o ≡ None → (if b then o else None) ≡ None
 one_or_none true o e = e

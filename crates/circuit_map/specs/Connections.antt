@@ -6,9 +6,12 @@ use Rattle.circuit_model.specs.declared.circuit.Circuit.TheVariants.{Pair, Membe
 use Rattle.circuit_model.specs.Circuits.{same_slot, heard_by, is_member}
 use Rattle.circuit_model.specs.Holding.{Holding, Valid}
 use Rattle.circuit_model.specs.Ports.{Ports, has, port_of}
+use Rattle.control_memory.specs.declared.heard.Heard.{Heard}
+use Rattle.control_memory.specs.declared.heard.Heard.TheVariants.{Silent}
 use Rattle.control_memory.specs.Layout.{Layout, Legal, number_of}
 use Rattle.control_memory.specs.Connecting.{connect, without_path}
-use Rattle.control_memory.specs.Shown.{JoinsCircuits, served_by, seated_as}
+use Rattle.control_memory.specs.Image.{EachSlot}
+use Rattle.control_memory.specs.Shown.{JoinsCircuits, served_by, heard_as, seated_as}
 
 -- for each external slot, line by line, the circuit by which it hears; the member of each conference port; and the layout of the paths
 pub record Connections : Type 0 where
@@ -52,8 +55,33 @@ pub record Holds (m : Connections) (h : Holding) (ports : Ports) : Type 0 where
   pub taken : count_by is_some ports ≡ count_by is_member h.circuits
   pub joined : JoinsCircuits (lines_of m) m.external m.layout h.circuits ports
 
--- how large the parts are, and that they are those of some holding
-pub record IsSound (m : Connections) (lines first_line bridge_lines : ℕ) : Type 0 where
+-- the circuit that a slot serves: an external slot the one by which it hears, a conference port that of its member
+abbrev pub served_in : ℕ → List (Option Circuit) → Ports → Slot → Option Circuit
+served_in external heard ports at = option_and_then (hears_in external heard) (served_by external ports at)
+
+abbrev pub served_at : Connections → Slot → Option Circuit
+served_at m at = served_in m.external m.heard m.ports at
+
+-- the room that a slot shows: that of a port's member
+abbrev pub room_in : ℕ → List (Option Circuit) → Ports → Slot → Option (ℕ × ℕ)
+room_in external heard ports at = if nat_lt at.line external then None else seated_as (served_in external heard ports at)
+
+abbrev pub room_shown : Connections → Slot → Option (ℕ × ℕ)
+room_shown m at = room_in m.external m.heard m.ports at
+
+-- a slot's entry in a table that has one for every place of every line, as a control memory has it
+abbrev pub entry_at : {X : Type 0} → X → List X → Slot → X
+entry_at missing entries at = slice_index_or entries (at.line * 30 + at.place) missing
+
+-- what is kept for the next control memory is what each slot hears by the circuit that it serves, and the room that it shows
+pub record IsShown (external lines : ℕ) (heard : List (Option Circuit)) (ports : Ports) (hearing : List Heard) (sitting : List (Option (ℕ × ℕ))) : Type 0 where
+  pub hearers : length hearing ≡ lines * 30
+  pub sitters : length sitting ≡ lines * 30
+  pub hears : EachSlot lines (λ at. entry_at Silent hearing at ≡ heard_as (served_in external heard ports at))
+  pub sits : EachSlot lines (λ at. entry_at None sitting at ≡ room_in external heard ports at)
+
+-- how large the parts are, that they are those of some holding, and that what is kept for the next control memory is what they show
+pub record IsSound (m : Connections) (lines first_line bridge_lines : ℕ) (hearing : List Heard) (sitting : List (Option (ℕ × ℕ))) : Type 0 where
   pub few : lines_of m ≤ 34
   pub width : lines ≡ lines_of m
   pub first : first_line ≡ m.external
@@ -62,6 +90,7 @@ pub record IsSound (m : Connections) (lines first_line bridge_lines : ℕ) : Typ
   pub sockets : length m.ports ≡ 30 * m.bridges
   pub legal : Legal lines m.slots m.layout
   pub held : (h : Holding) × Holds m h m.ports
+  pub shown : IsShown m.external (lines_of m) m.heard m.ports hearing sitting
 
 -- the sizes are as before
 pub record SameSizes (a b : Connections) : Type 0 where
@@ -98,11 +127,3 @@ is_pathless (Some (Tone kind to since)) = true
 
 abbrev pub parted : Connections → Slot → Layout
 parted m x = without_both m.layout x (partner m.external m.ports (hears_at m x))
-
--- the circuit that a slot serves: an external slot the one by which it hears, a conference port that of its member
-abbrev pub served_at : Connections → Slot → Option Circuit
-served_at m at = option_and_then (hears_at m) (served_by m.external m.ports at)
-
--- the room that a slot shows: that of a port's member
-abbrev pub room_shown : Connections → Slot → Option (ℕ × ℕ)
-room_shown m at = if nat_lt at.line m.external then None else seated_as (served_at m at)

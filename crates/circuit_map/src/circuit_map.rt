@@ -1,14 +1,14 @@
-ghost use Rattle.std.specs.Prelude.{◌≡◌, ◌≢◌, ◌+◌, ◌*◌, ◌<◌, ◌≤◌, ◌↔◌, ℕ, None, Some, IfSome, true, IfOk, IsOk, IsErr, IsTrue, OnErr, OnOk, count_by, is_none, if◌then◌else◌};
+ghost use Rattle.std.specs.Prelude.{◌≡◌, ◌≢◌, ◌+◌, ◌*◌, ◌<◌, ◌≤◌, ◌↔◌, ℕ, None, Some, IfSome, true, IfOk, IsOk, IsErr, IsTrue, OnErr, OnOk, count_by, is_none};
 ghost use Rattle.circuit_model.specs.declared.channel.Slot.{Slot};
 ghost use Rattle.circuit_model.specs.declared.circuit.Circuit.{Circuit};
-ghost use Rattle.circuit_model.specs.Circuits.{is_idle, is_member, same_slot};
+ghost use Rattle.circuit_model.specs.Circuits.{is_idle, is_member};
 ghost use Rattle.circuit_model.specs.Holding.{Holding, empty, Connect, Seat, Give_tone, Clear, Frame, after};
 ghost use Rattle.circuit_model.specs.Ports.{Ports as Members, ports_after, free_ports, port_of};
-ghost use Rattle.control_memory.specs.Layout.{IsBare, slot_numbered};
+ghost use Rattle.control_memory.specs.Layout.{IsBare};
 ghost use Rattle.control_memory.specs.Connecting.{moved};
-ghost use Rattle.control_memory.specs.Shown.{ShowsBy, heard_as, seated_as};
-ghost use Rattle.control_memory.specs.Image.{EachSlot, heard_at, room_at, SameTables, SameSizes as SameImageSizes, lines_of as image_lines};
-ghost use Rattle.circuit_map.specs.Connections.{lines_of, IsExternal, hears_at, Holds, SameSizes, joined_one, joined_both, parted, is_pathless, served_at, room_shown};
+ghost use Rattle.control_memory.specs.Shown.{ShowsBy};
+ghost use Rattle.control_memory.specs.Image.{SameSizes as SameImageSizes};
+ghost use Rattle.circuit_map.specs.Connections.{IsExternal, hears_at, Holds, SameSizes, joined_one, joined_both, parted, is_pathless};
 
 use circuit_model::{Circuit, Kind, Slot};
 use conference_ports::Ports;
@@ -34,6 +34,9 @@ pub struct CircuitMap<P: PathMap> {
     heard: Vec<Option<Circuit>>,
     ports: Ports,
     paths: P,
+    // What each slot hears, and who sits in it where it is a port: for the next control memory.
+    hearing: Vec<Heard>,
+    sitting: Vec<Option<(u8, u32)>>,
 }
 
 impl<P: PathMap> Model for CircuitMap<P> {
@@ -63,7 +66,7 @@ impl<P: PathMap> Model for CircuitMap<P> {
       heard = m.heard.items;
       ports = members m.ports.owners;
       layout = P.layout m.paths;
-    }) (P.width m.paths) m.ports.external m.ports.lines };
+    }) (P.width m.paths) m.ports.external m.ports.lines m.hearing.items m.sitting.items };
 }
 
 impl<P: PathMap + Drop> CircuitMap<P> {
@@ -85,6 +88,7 @@ impl<P: PathMap + Drop> CircuitMap<P> {
     {
         // Any call of a path map tells that its layout is legal.
         let _slots = paths.slots();
+        let places = usize::from(external + bridges) * 30;
         Ok(CircuitMap {
             external,
             bridges,
@@ -92,11 +96,20 @@ impl<P: PathMap + Drop> CircuitMap<P> {
             heard: vec![in alloc; None; usize::from(external) * 30]?,
             ports: Ports::new(alloc, external, bridges)?,
             paths,
+            hearing: vec![in alloc; Heard::Silent; places]?,
+            sitting: vec![in alloc; None; places]?,
         })
     }
 }
 
 impl<P: PathMap> CircuitMap<P> {
+    /// The number of the next frame.
+    pub fn next_frame(&self) -> u32
+        ensures { result ≡ self.now.next }
+    {
+        self.next
+    }
+
     /// Whether no circuit names an external slot.
     pub fn idle(&self, at: Slot) -> bool
         requires external { IsExternal self.now at }
@@ -114,11 +127,10 @@ impl<P: PathMap> CircuitMap<P> {
         ensures layout { self.new.layout ≡ self.old.layout }
         ensures sizes { SameSizes self.old self.new }
     {
-        self.heard[number_of(x)] = Some(Circuit::Tone {
-            kind,
-            to: x,
-            since: self.next,
-        });
+        let at = number_of(x);
+        let since = self.next;
+        self.heard[at] = Some(Circuit::Tone { kind, to: x, since });
+        self.hearing[at] = Heard::Tone { kind, since };
     }
 
     /// Connects two idle slots: x to y, and then y to x.
@@ -139,17 +151,20 @@ impl<P: PathMap> CircuitMap<P> {
     {
         let there = self.paths.connect(x, y);
         let back = self.paths.connect(y, x);
+        let (at_x, at_y) = (number_of(x), number_of(y));
         let since = self.next;
-        self.heard[number_of(x)] = Some(Circuit::Pair {
+        self.heard[at_x] = Some(Circuit::Pair {
             from: y,
             to: x,
             since,
         });
-        self.heard[number_of(y)] = Some(Circuit::Pair {
+        self.heard[at_y] = Some(Circuit::Pair {
             from: x,
             to: y,
             since,
         });
+        self.hearing[at_x] = Heard::Path { since };
+        self.hearing[at_y] = Heard::Path { since };
         (there, back)
     }
 
@@ -174,11 +189,12 @@ impl<P: PathMap> CircuitMap<P> {
         };
         let there = self.paths.connect(x, port);
         let back = self.paths.connect(port, x);
-        self.heard[number_of(x)] = Some(Circuit::Member {
-            room,
-            at: x,
-            since: self.next,
-        });
+        let (at_x, at_port) = (number_of(x), number_of(port));
+        let since = self.next;
+        self.heard[at_x] = Some(Circuit::Member { room, at: x, since });
+        self.hearing[at_x] = Heard::Path { since };
+        self.hearing[at_port] = Heard::Path { since };
+        self.sitting[at_port] = Some((room, since));
         Ok((there, back))
     }
 
@@ -214,55 +230,10 @@ impl<P: PathMap> CircuitMap<P> {
         ensures sizes { SameSizes self.old self.new }
     {
         let frame = self.next;
-        image.clear_all(frame);
+        image.begin(frame, &self.hearing, &self.sitting);
         self.paths.write_tables(image);
-        self.show_slots(image);
         self.next = frame + 1;
         frame
-    }
-
-    // Writes what each slot hears, and who sits in each port, into a control memory without rooms.
-    fn show_slots(&self, image: &mut Image)
-        requires external { image.old.external ≡ self.now.external }
-        requires bridges { image.old.bridges ≡ self.now.bridges }
-        requires vacant { EachSlot (lines_of self.now) (λ at. room_at image.old at ≡ None) }
-        ensures heard { EachSlot (lines_of self.now) (λ at. heard_at image.new at ≡ heard_as (served_at self.now at)) }
-        ensures rooms { EachSlot (lines_of self.now) (λ at. room_at image.new at ≡ room_shown self.now at) }
-        ensures image { SameImageSizes image.old image.new }
-        ensures frame { image.new.frame ≡ image.old.frame }
-        ensures tables { SameTables image.old image.new }
-    {
-        for number in 0..usize::from(self.external + self.bridges) * 30 {
-            let at = slot_at(number);
-            show(image, at, heard_in(self.served(at)), self.room(at));
-        }
-    }
-
-    // The circuit that a slot serves: its own, or that of the member that has the port.
-    fn served(&self, at: Slot) -> Option<Circuit>
-        requires line { at.line < lines_of self.now }
-        requires place { at.place < 30 }
-        ensures { result ≡ served_at self.now at }
-    {
-        if at.line < self.external {
-            return self.hears(at);
-        }
-        let Some((_, member)) = self.ports.room_of(at) else {
-            return None;
-        };
-        self.hears(member)
-    }
-
-    // The room of the member that has a port, and since when it sits there.
-    fn room(&self, at: Slot) -> Option<(u8, u32)>
-        requires line { at.line < lines_of self.now }
-        requires place { at.place < 30 }
-        ensures { result ≡ room_shown self.now at }
-    {
-        if at.line < self.external {
-            return None;
-        }
-        seat_in(self.served(at))
     }
 
     // The circuit by which an external slot hears.
@@ -281,7 +252,9 @@ impl<P: PathMap> CircuitMap<P> {
         ensures layout { self.new.layout ≡ parted self.old x }
         ensures sizes { SameSizes self.old self.new }
     {
-        self.heard[number_of(x)] = None;
+        let at = number_of(x);
+        self.heard[at] = None;
+        self.hearing[at] = Heard::Silent;
     }
 
     // Takes down the connection of x with y, both ways.
@@ -294,8 +267,11 @@ impl<P: PathMap> CircuitMap<P> {
     {
         self.paths.disconnect(x, y);
         self.paths.disconnect(y, x);
-        self.heard[number_of(x)] = None;
-        self.heard[number_of(y)] = None;
+        let (at_x, at_y) = (number_of(x), number_of(y));
+        self.heard[at_x] = None;
+        self.heard[at_y] = None;
+        self.hearing[at_x] = Heard::Silent;
+        self.hearing[at_y] = Heard::Silent;
     }
 
     // Takes a member out of its room, and its port back.
@@ -312,63 +288,17 @@ impl<P: PathMap> CircuitMap<P> {
         self.paths.disconnect(x, port);
         self.paths.disconnect(port, x);
         self.ports.give(x);
-        self.heard[number_of(x)] = None;
+        let (at_x, at_port) = (number_of(x), number_of(port));
+        self.heard[at_x] = None;
+        self.hearing[at_port] = Heard::Silent;
+        self.sitting[at_port] = None;
+        self.hearing[at_x] = Heard::Silent;
     }
 }
 
-// Where an external slot's circuit stands: slots are numbered line by line.
+// Where a slot's circuit and entries stand: slots are numbered line by line.
 fn number_of(at: Slot) -> usize
     ensures { result ≡ 30 * at.line + at.place }
 {
     30 * usize::from(at.line) + usize::from(at.place)
-}
-
-// The slot with a number, counted line by line.
-fn slot_at(number: usize) -> Slot
-    requires { number < 1020 }
-    ensures { result ≡ slot_numbered number }
-{
-    Slot {
-        line: (number / 30) as u8,
-        place: (number % 30) as u8,
-    }
-}
-
-// What a slot hears by a circuit.
-fn heard_in(circuit: Option<Circuit>) -> Heard
-    ensures { result ≡ heard_as circuit }
-{
-    match circuit {
-        None => Heard::Silent,
-        Some(Circuit::Pair { since, .. }) => Heard::Path { since },
-        Some(Circuit::Member { since, .. }) => Heard::Path { since },
-        Some(Circuit::Tone { kind, since, .. }) => Heard::Tone { kind, since },
-    }
-}
-
-// The room in which a circuit seats its member, and since when.
-fn seat_in(circuit: Option<Circuit>) -> Option<(u8, u32)>
-    ensures { result ≡ seated_as circuit }
-{
-    match circuit {
-        Some(Circuit::Member { room, since, .. }) => Some((room, since)),
-        _ => None,
-    }
-}
-
-// Writes what a slot hears, and who sits in it where it is a port; no one did before.
-fn show(image: &mut Image, at: Slot, heard: Heard, room: Option<(u8, u32)>)
-    requires line { at.line < image_lines image.old }
-    requires place { at.place < 30 }
-    requires vacant { room_at image.old at ≡ None }
-    ensures heard { EachSlot (image_lines image.old) (λ x. heard_at image.new x ≡ (if same_slot x at then heard else heard_at image.old x)) }
-    ensures rooms { EachSlot (image_lines image.old) (λ x. room_at image.new x ≡ (if same_slot x at then room else room_at image.old x)) }
-    ensures image { SameImageSizes image.old image.new }
-    ensures frame { image.new.frame ≡ image.old.frame }
-    ensures tables { SameTables image.old image.new }
-{
-    image.set_heard(at, heard);
-    if let Some((room, since)) = room {
-        image.set_room(at, room, since);
-    }
 }

@@ -3,5 +3,7 @@
 #![tactic(auto)]
 
 mod circuit_map;
+#[cfg(test)]
+mod tests;
 
 pub use circuit_map::{CircuitMap, NoPort};

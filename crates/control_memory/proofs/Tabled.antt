@@ -1,5 +1,5 @@
 -- What the lookups of a layout find after a path is added and after one is taken out.
-use Rattle.std.proofs.Common.{◌≡◌, ℕ, ◌*◌, ◌<◌, ◌⊎◌, length, Option, Some, None, refl, sym, ◌∙◌, ap, subst, inl, inr, ⊎_elim, arith}
+use Rattle.std.proofs.Common.{◌≡◌, ℕ, ◌<◌, Option, Some, None, refl, sym, ◌∙◌, ap, subst, ⊎_elim}
 use Rattle.circuit_model.specs.declared.channel.Slot.{Slot}
 use Rattle.control_memory.specs.Layout.{Path, Layout, path_in, path_out, path_to, IsSlot, HasPath, Legal}
 use Rattle.control_memory.specs.Connecting.{with_path, without_path}

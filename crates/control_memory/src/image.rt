@@ -1,4 +1,4 @@
-ghost use Rattle.std.specs.Prelude.{◌≡◌, ◌+◌, ◌<◌, ◌≤◌, ◌*◌, All, Some, None, IfOk, IfSome, if◌then◌else◌};
+ghost use Rattle.std.specs.Prelude.{◌≡◌, ◌+◌, ◌<◌, ◌≤◌, ◌*◌, All, Some, None, IfOk, IfSome, length, if◌then◌else◌};
 ghost use Rattle.circuit_model.specs.Circuits.{same_slot};
 ghost use Rattle.control_memory.specs.Tables.{HasSize, entry, Agree, written};
 ghost use Rattle.control_memory.specs.Image.{lines_of, sent, received, read, heard_at, room_at, IsCleared, IsQuiet, SameSizes, SameTables, EachSlot};
@@ -159,12 +159,41 @@ impl Image {
         ensures paths { IsCleared self.new }
         ensures quiet { IsQuiet self.new }
     {
+        self.take_out_paths(frame);
+        silence(&mut self.heard);
+        vacate(&mut self.rooms);
+    }
+
+    /// Begins the control memory of another frame with what each slot hears and who sits in each
+    /// port, and without paths: one copy for each of the two.
+    ///
+    /// Both have an entry for every place of every line, line after line.
+    pub fn begin(&mut self, frame: u32, hearing: &[Heard], sitting: &[Option<(u8, u32)>])
+        requires hearing { length hearing.now ≡ lines_of self.old * 30 }
+        requires sitting { length sitting.now ≡ lines_of self.old * 30 }
+        ensures frame { self.new.frame ≡ frame }
+        ensures sizes { SameSizes self.old self.new }
+        ensures paths { IsCleared self.new }
+        ensures heard { self.new.heard ≡ hearing.now }
+        ensures rooms { self.new.rooms ≡ sitting.now }
+    {
+        self.take_out_paths(frame);
+        self.heard.copy_from_slice(hearing);
+        self.rooms.copy_from_slice(sitting);
+    }
+
+    // Gives the number of a frame, and takes out every path.
+    fn take_out_paths(&mut self, frame: u32)
+        ensures frame { self.new.frame ≡ frame }
+        ensures sizes { SameSizes self.old self.new }
+        ensures paths { IsCleared self.new }
+        ensures heard { self.new.heard ≡ self.old.heard }
+        ensures rooms { self.new.rooms ≡ self.old.rooms }
+    {
         self.frame = frame;
         self.incoming.clear();
         self.space.clear();
         self.outgoing.clear();
-        silence(&mut self.heard);
-        vacate(&mut self.rooms);
     }
 
     /// Writes the path from an inlet to an outlet in an internal slot into the three tables.

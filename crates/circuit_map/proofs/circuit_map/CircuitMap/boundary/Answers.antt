@@ -1,11 +1,13 @@
-use Rattle.std.proofs.Common.{◌+◌, sym, ◌∙◌, ap, subst}
+use Rattle.std.proofs.Common.{◌+◌, ◌<◌, None, sym, ◌∙◌, ap, subst}
 use Rattle.circuit_model.specs.Holding.{Holding, Frame, after}
 use Rattle.control_memory.specs.Layout.{Legal}
 use Rattle.control_memory.specs.Image.{HasLayout}
-use Rattle.circuit_map.specs.Connections.{Connections, lines_of, Holds}
+use Rattle.control_memory.specs.Shown.{heard_as}
+use Rattle.control_memory.specs.declared.heard.Heard.TheVariants.{Silent}
+use Rattle.circuit_map.specs.Connections.{Connections, lines_of, Holds, served_at, room_shown, entry_at}
 use Rattle.circuit_map.proofs.Holdings.{holds_frame}
 use Rattle.circuit_map.proofs.Paths.{own_ports}
-use Rattle.circuit_map.proofs.Showing.{shows, same_layout}
+use Rattle.circuit_map.proofs.Showing.{shows}
 use Rattle.circuit_map.proofs.circuit_map.CircuitMap.boundary.Goals as goal
 
 pub returns-clause-holds : goal.returns-clause-holds
@@ -33,23 +35,25 @@ invariant_of-self g c =
       sockets = c.self.invariant.sockets;
       legal = c.self.invariant.legal;
       held = (after old.0 Frame, own_ports _ _ _ (returns-clause-holds g c old.0 c.args.self.now.ports old.1));
+      shown = c.self.invariant.shown;
     }
 
 pub returns-clause-shows : goal.returns-clause-shows
 returns-clause-shows g c = λ h ports holds.
     let is = c.self.view_is in
-    let a = c.clear_all.ensures in
+    let a = c.begin.ensures in
     let b = c.write_tables.ensures in
-    let d = c.show_slots.ensures in
     let width = c.self.invariant.width ∙ ap lines_of is in
-    shows c.args.self.now c.show_slots.new.image h ports
+    let lines = ap lines_of is in
+    let shown = c.self.invariant.shown in
+    shows c.args.self.now c.write_tables.new.image h ports
     (record {
-      frame = d.frame ∙ b.frame ∙ a.frame ∙ ap (λ (m : Connections). m.next) is;
-      external = sym (a.sizes.external ∙ b.sizes.external ∙ d.image.external) ∙ c.requires.external;
-      bridges = sym (a.sizes.bridges ∙ b.sizes.bridges ∙ d.image.bridges) ∙ c.requires.bridges;
-      slots = sym (a.sizes.slots ∙ b.sizes.slots ∙ d.image.slots) ∙ c.requires.slots;
+      frame = b.frame ∙ a.frame ∙ ap (λ (m : Connections). m.next) is;
+      external = sym (a.sizes.external ∙ b.sizes.external) ∙ c.requires.external;
+      bridges = sym (a.sizes.bridges ∙ b.sizes.bridges) ∙ c.requires.bridges;
+      slots = sym (a.sizes.slots ∙ b.sizes.slots) ∙ c.requires.slots;
       legal = subst (λ w. Legal w c.args.self.now.slots c.args.self.now.layout) width (subst (λ (m : Connections). Legal (g.P.PathMap.width c.self.inside.paths) m.slots m.layout) is c.self.invariant.legal);
-      tables = subst (λ l. HasLayout c.show_slots.new.image l) (ap (λ (m : Connections). m.layout) is) (same_layout c.write_tables.new.image c.show_slots.new.image _ d.image d.tables b.tables);
-      heard = d.heard;
-      rooms = d.rooms;
+      tables = subst (λ l. HasLayout c.write_tables.new.image l) (ap (λ (m : Connections). m.layout) is) b.tables;
+      heard = λ at line place. ap (λ l. entry_at Silent l at) (b.heard ∙ a.heard ∙ c.deref.ensures.value) ∙ shown.hears at (subst (λ w. at.line < w) (sym lines) line) place ∙ ap (λ (m : Connections). heard_as (served_at m at)) is;
+      rooms = λ at line place. ap (λ l. entry_at None l at) (b.rooms ∙ a.rooms ∙ c.deref-2.ensures.value) ∙ shown.sits at (subst (λ w. at.line < w) (sym lines) line) place ∙ ap (λ (m : Connections). room_shown m at) is;
     }) holds

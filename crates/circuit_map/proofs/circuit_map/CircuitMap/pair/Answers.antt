@@ -1,12 +1,14 @@
-use Rattle.std.proofs.Common.{◌≡◌, ◌+◌, ◌*◌, ◌⊎◌, length, set, Some, sym, ◌∙◌, ap, subst, arith, length-set, ⊎_elim}
+use Rattle.std.proofs.Common.{◌≡◌, ◌+◌, ◌*◌, ◌<◌, ◌⊎◌, length, set, Some, sym, ◌∙◌, ap, subst, arith, length-set, ⊎_elim}
 use Rattle.std.specs.Prelude.{◌↔◌}
 use Rattle.circuit_model.specs.declared.circuit.Circuit.TheVariants.{Pair}
 use Rattle.circuit_model.specs.Holding.{Holding, Connect, after}
 use Rattle.control_memory.specs.Layout.{IsSlot, Joins}
 use Rattle.control_memory.specs.Connecting.{connect}
-use Rattle.circuit_map.specs.Connections.{Connections, lines_of, joined_both, Holds}
+use Rattle.circuit_map.specs.Connections.{Connections, lines_of, joined_both, Holds, hears_at}
 use Rattle.circuit_map.proofs.Holdings.{holds_pair}
 use Rattle.circuit_map.proofs.Paths.{own_ports, no_inlet, no_outlet, idle_joins_none, none_joins_idle, two_more}
+use Rattle.circuit_map.proofs.Seating.{idle_portless}
+use Rattle.circuit_map.proofs.Keeping.{shown_row}
 use Rattle.circuit_map.proofs.circuit_map.CircuitMap.pair.Goals as goal
 
 pub connect-there-requires-clause-inlet : goal.connect-there-requires-clause-inlet
@@ -68,7 +70,7 @@ returns-clause-holds g c = λ h ports holds.
       external = ap (λ (m : Connections). m.external) is;
       bridges = ap (λ (m : Connections). m.bridges) is;
       next = ap (λ (m : Connections). m.next) is;
-      heard = λ i. set (set (is i).heard (c.number_of.ensures i) (Some (Pair c.args.y c.args.x (is i).next))) (c.number_of-2.ensures i) (Some (Pair c.args.x c.args.y (is i).next));
+      heard = λ i. set (set (is i).heard (c.number_of-at_x.ensures i) (Some (Pair c.args.y c.args.x (is i).next))) (c.number_of-at_y.ensures i) (Some (Pair c.args.x c.args.y (is i).next));
       members = ap (λ (m : Connections). m.ports) is;
       joins = λ a b inside.
           let was : IsSlot (g.P.PathMap.width c.self.inside.paths) a = subst (λ w. IsSlot w a) (sym lines) inside in
@@ -78,6 +80,14 @@ returns-clause-holds g c = λ h ports holds.
 
 pub invariant_of-self : goal.invariant_of-self
 invariant_of-self g c =
+    let is = c.self.view_is in
+    let external = ap (λ (m : Connections). m.external) is in
+    let near_x : c.args.x.line < c.self.inside.external = subst (λ e. c.args.x.line < e) (sym external) c.requires.external_x.0 in
+    let near_y : c.args.y.line < c.self.inside.external = subst (λ e. c.args.y.line < e) (sym external) c.requires.external_y.0 in
+    let held = c.self.invariant.held in
+    let none_x = idle_portless _ held.0 _ c.args.x held.1 (ap (λ (m : Connections). hears_at m c.args.x) is ∙ c.requires.idle_x) in
+    let none_y = idle_portless _ held.0 _ c.args.y held.1 (ap (λ (m : Connections). hears_at m c.args.y) is ∙ c.requires.idle_y) in
+    let one = shown_row _ _ _ _ _ _ c.args.x (Some (Pair c.args.y c.args.x c.self.inside.next)) _ c.self.invariant.shown c.self.invariant.listeners (omega arith) near_x c.requires.external_x.1 none_x c.number_of-at_x.ensures in
     let old = subst (λ (m : Connections). (h : Holding) × Holds m h m.ports) c.self.view_is c.self.invariant.held in
     let first = c.connect-there.ensures in
     let second = c.connect-back.ensures in
@@ -90,4 +100,5 @@ invariant_of-self g c =
       sockets = c.self.invariant.sockets;
       legal = second.legal;
       held = (after old.0 (Connect c.args.x c.args.y), own_ports _ _ _ (returns-clause-holds g c old.0 c.args.self.now.ports old.1));
+      shown = shown_row _ _ _ _ _ _ c.args.y (Some (Pair c.args.x c.args.y c.self.inside.next)) _ one (length-set c.self.inside.heard.items _ _ ∙ c.self.invariant.listeners) (omega arith) near_y c.requires.external_y.1 none_y c.number_of-at_y.ensures;
     }

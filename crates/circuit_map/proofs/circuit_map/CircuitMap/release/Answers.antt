@@ -9,6 +9,7 @@ use Rattle.circuit_map.specs.Connections.{Connections, Holds, lines_of, hears_in
 use Rattle.circuit_map.proofs.Rows.{hears_written, row_inside}
 use Rattle.circuit_map.proofs.Paths.{own_ports, external_slot}
 use Rattle.circuit_map.proofs.Clearing.{clear_paths, clears, hearing_at, rows_two, nobody_returns, connected_to, joined_there, joined_back, still_joined, less_two, pair_partner, no_member_too}
+use Rattle.circuit_map.proofs.Keeping.{shown_row, unseated_portless}
 use Rattle.circuit_map.proofs.circuit_map.CircuitMap.release.Goals as goal
 
 pub disconnect-requires-clause-stands : goal.disconnect-requires-clause-stands
@@ -51,7 +52,17 @@ index_mut-requires-2 g c =
     let near = other_end m held.0 c.args.x c.args.y c.requires.connected.1 held.1 hx in
     let inside = row_inside m.external c.args.y near.0 near.1 in
     let external = ap (λ (m : Connections). m.external) c.self.view_is in
-    omega (arith, inside, external, c.number_of-2.ensures, c.self.invariant.listeners, c.self.inside.heard.ok.0)
+    omega (arith, inside, external, c.number_of-at_y.ensures, c.self.invariant.listeners, c.self.inside.heard.ok.0)
+
+pub index_mut-requires-4 : goal.index_mut-requires-4
+index_mut-requires-4 g c =
+    let held = subst (λ (m : Connections). (h : Holding) × Holds m h m.ports) c.self.view_is c.self.invariant.held in
+    let m = c.args.self.now in
+    let hx = connected_to m held.0 m.ports c.args.x c.args.y c.requires.connected.0 c.requires.connected.1 held.1 c.requires.connected.2 in
+    let near = other_end m held.0 c.args.x c.args.y c.requires.connected.1 held.1 hx in
+    let inside = row_inside m.external c.args.y near.0 near.1 in
+    let external = ap (λ (m : Connections). m.external) c.self.view_is in
+    omega (arith, inside, external, c.number_of-at_y.ensures, c.self.invariant.shown.hearers, c.self.inside.hearing.ok.0)
 
 pub returns-clause-holds : goal.returns-clause-holds
 returns-clause-holds g c = λ h ports holds.
@@ -72,7 +83,7 @@ returns-clause-holds g c = λ h ports holds.
       bridges = ap (λ (m : Connections). m.bridges) is;
       next = ap (λ (m : Connections). m.next) is;
       heard = λ z.
-          (λ i. hears_in (is i).external (set (set (is i).heard (c.number_of.ensures i) None) (c.number_of-2.ensures i) None) z)
+          (λ i. hears_in (is i).external (set (set (is i).heard (c.number_of-at_x.ensures i) None) (c.number_of-at_y.ensures i) None) z)
           ∙ hears_written m.external (set m.heard (number_of x) None) y None z (length-set m.heard (number_of x) None ∙ size) near.0 near.1
           ∙ ap (λ r. if same_slot z y then None else r) (hears_written m.external m.heard x None z size c.requires.external.0 c.requires.external.1)
           ∙ rows_two m.external (hears_at m) x y z s k hx;
@@ -83,6 +94,21 @@ returns-clause-holds g c = λ h ports holds.
 
 pub invariant_of-self : goal.invariant_of-self
 invariant_of-self g c =
+    let is = c.self.view_is in
+    let m = c.args.self.now in
+    let x = c.args.x in
+    let y = c.args.y in
+    let s = c.requires.connected.1 in
+    let held = c.self.invariant.held in
+    let external = ap (λ (m : Connections). m.external) is in
+    let near_x : x.line < c.self.inside.external = subst (λ e. x.line < e) (sym external) c.requires.external.0 in
+    let hx = connected_to _ held.0 _ x y c.requires.connected.0 s held.1 (ap (λ (m : Connections). hears_at m x) is ∙ c.requires.connected.2) in
+    let k = hearing_at _ held.0 _ held.1 in
+    let hy = k.both_ways x y s hx in
+    let near_y = k.inside y _ hy in
+    let none_x = unseated_portless _ held.0 _ x (λ room at t e. no_member_too _ y x at s room t hx e) held.1 in
+    let none_y = unseated_portless _ held.0 _ y (λ room at t e. no_member_too _ x y at s room t hy e) held.1 in
+    let one = shown_row _ _ _ _ _ _ x None _ c.self.invariant.shown c.self.invariant.listeners (omega arith) near_x c.requires.external.1 none_x c.number_of-at_x.ensures in
     let old = subst (λ (m : Connections). (h : Holding) × Holds m h m.ports) c.self.view_is c.self.invariant.held in
     let first = c.disconnect.ensures in
     let second = c.disconnect-2.ensures in
@@ -95,4 +121,5 @@ invariant_of-self g c =
       sockets = c.self.invariant.sockets;
       legal = second.legal;
       held = (after old.0 (Clear c.args.x), own_ports _ _ _ (returns-clause-holds g c old.0 c.args.self.now.ports old.1));
+      shown = shown_row _ _ _ _ _ _ y None _ one (length-set c.self.inside.heard.items _ _ ∙ c.self.invariant.listeners) (omega arith) near_y.0 near_y.1 none_y c.number_of-at_y.ensures;
     }

@@ -1,14 +1,18 @@
-use Rattle.std.proofs.Common.{◌≡◌, ◌+◌, ◌*◌, ◌⊎◌, length, set, Some, None, refl, sym, ◌∙◌, ap, subst, length-set, ⊎_elim}
+use Rattle.std.proofs.Common.{◌≡◌, ◌+◌, ◌*◌, ◌<◌, ◌⊎◌, arith, if◌then◌else◌, length, set, Some, None, refl, sym, ◌∙◌, ap, subst, length-set, ⊎_elim}
 use Rattle.std.specs.Prelude.{◌↔◌, position, is_none, IfSome}
 use Rattle.circuit_model.specs.declared.circuit.Circuit.TheVariants.{Member}
 use Rattle.circuit_model.specs.Holding.{Holding, Seat, after}
-use Rattle.circuit_model.specs.Ports.{Ports, port_of, given}
+use Rattle.circuit_model.specs.Ports.{Ports, port_of, port_numbered, given}
 use Rattle.control_memory.specs.Layout.{IsSlot, Joins}
 use Rattle.control_memory.specs.Connecting.{connect, moved}
-use Rattle.circuit_map.specs.Connections.{Connections, lines_of, joined_one, joined_both, Holds}
+use Rattle.circuit_map.specs.Connections.{Connections, lines_of, joined_one, joined_both, hears_in, hears_at, Holds}
 use Rattle.circuit_map.proofs.Paths.{own_ports, no_inlet, no_outlet, idle_joins_none, none_joins_idle, two_more}
 use Rattle.circuit_map.proofs.Sockets.{length-given}
-use Rattle.circuit_map.proofs.Seating.{holds_seat, no_lowest, none_given, free_port, port_joins_none, none_joins_port, idle_portless, full_where, not_full, seated_port, port_beyond}
+use Rattle.circuit_map.proofs.Seating.{lowest_port, free_port_slot, holds_seat, no_lowest, none_given, free_port, port_joins_none, none_joins_port, idle_portless, full_where, not_full, seated_port, port_beyond}
+use Rattle.circuit_map.proofs.Rows.{hears_written}
+use Rattle.circuit_map.proofs.Keeping.{shown_row, shown_given, shown_by}
+use Rattle.circuit_model.proofs.Slots.{same_slot-refl}
+use Rattle.conference_ports.specs.Owners.{members}
 use Rattle.circuit_map.proofs.circuit_map.CircuitMap.seat.Goals as goal
 
 pub take-requires-clause-portless : goal.take-requires-clause-portless
@@ -41,6 +45,7 @@ invariant_of-self g c =
         ports = p;
         layout = g.P.PathMap.layout c.self.inside.paths;
       } in (h : Holding) × Holds v h p) (sym same) c.self.invariant.held;
+      shown = shown_by _ _ _ _ _ _ _ same c.self.invariant.shown;
     }
 
 pub returns-in_default-clause-refused : goal.returns-in_default-clause-refused
@@ -200,7 +205,7 @@ returns-clause-holds g c = λ h ports holds.
       external = ap (λ (m : Connections). m.external) is;
       bridges = ap (λ (m : Connections). m.bridges) is;
       next = ap (λ (m : Connections). m.next) is;
-      heard = λ i. set (is i).heard (c.number_of.ensures i) (Some (Member c.args.room x (is i).next));
+      heard = λ i. set (is i).heard (c.number_of-at_x.ensures i) (Some (Member c.args.room x (is i).next));
       lowest = f.lowest;
       port = f.is;
       members = c.take.ensures.members ∙ ap (given x) (ap (λ (m : Connections). m.ports) is);
@@ -212,6 +217,23 @@ returns-clause-holds g c = λ h ports holds.
 
 pub invariant_of-self-2 : goal.invariant_of-self-2
 invariant_of-self-2 g c =
+    let is = c.self.view_is in
+    let x = c.args.x in
+    let p = c.in-Some.port in
+    let since = c.self.inside.next in
+    let lowest = lowest_port c.self.inside.ports.external c.self.inside.ports.owners p (sym c.take.ensures.lowest ∙ c.in-Some.is) in
+    let at : p ≡ port_numbered c.self.inside.external lowest.0 = lowest.2 ∙ ap (λ e. port_numbered e lowest.0) c.self.invariant.first in
+    let in_p = (free_port_slot c.self.inside.external c.self.inside.bridges _ p lowest.0 lowest.1 c.self.invariant.sockets at).0 in
+    let held = c.self.invariant.held in
+    let near : x.line < c.self.inside.external = subst (λ e. x.line < e) (sym (ap (λ (m : Connections). m.external) is)) c.requires.external.0 in
+    let none = idle_portless _ held.0 _ x held.1 (ap (λ (m : Connections). hears_at m x) is ∙ c.requires.idle) in
+    let one = shown_row _ _ _ _ _ _ x (Some (Member c.args.room x since)) _ c.self.invariant.shown c.self.invariant.listeners (omega arith) near c.requires.external.1 none c.number_of-at_x.ensures in
+    let heard = set c.self.inside.heard.items c.number_of-at_x.result (Some (Member c.args.room x since)) in
+    let hears : hears_in c.self.inside.external heard x ≡ Some (Member c.args.room x since) =
+    (λ i. hears_in c.self.inside.external (set c.self.inside.heard.items (c.number_of-at_x.ensures i) (Some (Member c.args.room x since))) x)
+    ∙ hears_written c.self.inside.external c.self.inside.heard.items x (Some (Member c.args.room x since)) x c.self.invariant.listeners near c.requires.external.1
+    ∙ ap (λ b. if b then Some (Member c.args.room x since) else hears_in c.self.inside.external c.self.inside.heard.items x) (same_slot-refl x) in
+    let two = shown_given c.self.inside.external (c.self.inside.external + c.self.inside.bridges) heard (members c.self.inside.ports.owners) _ _ x p lowest.0 (Some (Member c.args.room x since)) _ one lowest.1 at in_p hears c.number_of-at_port.ensures in
     let old = subst (λ (m : Connections). (h : Holding) × Holds m h m.ports) c.self.view_is c.self.invariant.held in
     let first = c.connect-there.ensures in
     let second = c.connect-back.ensures in
@@ -224,4 +246,5 @@ invariant_of-self-2 g c =
       sockets = ap length c.take.ensures.members ∙ length-given c.args.x _ ∙ c.self.invariant.sockets;
       legal = second.legal;
       held = (after old.0 (Seat c.args.x c.args.room), own_ports _ _ _ (returns-clause-holds g c old.0 c.args.self.now.ports old.1));
+      shown = shown_by _ _ _ _ _ _ _ c.take.ensures.members two;
     }

@@ -1,9 +1,10 @@
-use Rattle.std.proofs.Common.{◌≡◌, ◌*◌, length, set, None, sym, ◌∙◌, ap, subst, length-set}
+use Rattle.std.proofs.Common.{◌≡◌, ◌*◌, ◌<◌, length, set, None, sym, ◌∙◌, ap, subst, length-set, arith}
 use Rattle.circuit_model.specs.Holding.{Holding, Clear, after}
 use Rattle.circuit_map.specs.Connections.{Connections, Holds, hears_in, hears_at}
 use Rattle.circuit_map.proofs.Rows.{hears_written}
 use Rattle.circuit_map.proofs.Paths.{own_ports}
 use Rattle.circuit_map.proofs.Clearing.{clear_pathless, hearing_at, rows_one, pathless_pair, pathless_member, nobody_returns}
+use Rattle.circuit_map.proofs.Keeping.{shown_row, unseated_portless}
 use Rattle.circuit_map.proofs.circuit_map.CircuitMap.silence.Goals as goal
 
 pub returns-clause-holds : goal.returns-clause-holds
@@ -18,13 +19,17 @@ returns-clause-holds g c = λ h ports holds.
       bridges = ap (λ (m : Connections). m.bridges) is;
       next = ap (λ (m : Connections). m.next) is;
       heard = λ z.
-          (λ i. hears_in (is i).external (set (is i).heard (c.number_of.ensures i) None) z) ∙ hears_written m.external m.heard c.args.x None z size c.requires.external.0 c.requires.external.1
+          (λ i. hears_in (is i).external (set (is i).heard (c.number_of-at.ensures i) None) z) ∙ hears_written m.external m.heard c.args.x None z size c.requires.external.0 c.requires.external.1
           ∙ rows_one m.external (hears_at m) c.args.x z k (λ s e. pathless_pair (hears_at m c.args.x) z c.args.x s c.requires.pathless e);
       members = ap (λ (m : Connections). m.ports) is ∙ sym (nobody_returns m h ports c.args.x (λ room at s e. pathless_member (hears_at m c.args.x) room at s c.requires.pathless e) holds);
     }) (ap (λ (m : Connections). m.layout) is) h ports holds
 
 pub invariant_of-self : goal.invariant_of-self
 invariant_of-self g c =
+    let is = c.self.view_is in
+    let near : c.args.x.line < c.self.inside.external = subst (λ e. c.args.x.line < e) (sym (ap (λ (m : Connections). m.external) is)) c.requires.external.0 in
+    let held = c.self.invariant.held in
+    let none = unseated_portless _ held.0 _ c.args.x (λ room at s e. pathless_member (hears_at c.args.self.now c.args.x) room at s c.requires.pathless (sym (ap (λ (m : Connections). hears_at m c.args.x) is) ∙ e)) held.1 in
     let old = subst (λ (m : Connections). (h : Holding) × Holds m h m.ports) c.self.view_is c.self.invariant.held in
     record {
       few = c.self.invariant.few;
@@ -35,4 +40,5 @@ invariant_of-self g c =
       sockets = c.self.invariant.sockets;
       legal = c.self.invariant.legal;
       held = (after old.0 (Clear c.args.x), own_ports _ _ _ (returns-clause-holds g c old.0 c.args.self.now.ports old.1));
+      shown = shown_row _ _ _ _ _ _ c.args.x None _ c.self.invariant.shown c.self.invariant.listeners (omega arith) near c.requires.external.1 none c.number_of-at.ensures;
     }

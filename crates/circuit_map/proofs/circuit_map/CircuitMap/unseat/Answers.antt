@@ -1,4 +1,4 @@
-use Rattle.std.proofs.Common.{◌≡◌, ◌*◌, length, set, None, Some, sym, ◌∙◌, ap, subst, length-set}
+use Rattle.std.proofs.Common.{◌≡◌, ◌+◌, ◌*◌, ◌<◌, length, set, None, Some, sym, ◌∙◌, ap, subst, length-set, arith}
 use Rattle.circuit_model.specs.Circuits.{heard_by}
 use Rattle.circuit_model.specs.Holding.{Holding, Clear, after}
 use Rattle.circuit_model.specs.Ports.{port_of, returned}
@@ -9,6 +9,8 @@ use Rattle.circuit_map.proofs.Rows.{hears_written}
 use Rattle.circuit_map.proofs.Paths.{own_ports, external_slot}
 use Rattle.circuit_map.proofs.Sockets.{length-returned}
 use Rattle.circuit_map.proofs.Clearing.{clear_paths, clears, hearing_at, rows_one, seated_in, member_ported, port_slot, joined_port, port_joined, port_apart, still_joined, less_two, member_partner, no_member_too}
+use Rattle.circuit_map.proofs.Keeping.{shown_row, shown_returned, shown_by, one_port, returned_portless}
+use Rattle.conference_ports.specs.Owners.{members}
 use Rattle.circuit_map.proofs.circuit_map.CircuitMap.unseat.Goals as goal
 
 pub unreachable-requires : goal.unreachable-requires
@@ -81,7 +83,7 @@ returns-clause-holds g c = λ h ports holds.
       bridges = ap (λ (m : Connections). m.bridges) is;
       next = ap (λ (m : Connections). m.next) is;
       heard = λ z.
-          (λ i. hears_in (is i).external (set (is i).heard (c.number_of.ensures i) None) z) ∙ hears_written m.external m.heard x None z size c.requires.external.0 c.requires.external.1
+          (λ i. hears_in (is i).external (set (is i).heard (c.number_of-at_x.ensures i) None) z) ∙ hears_written m.external m.heard x None z size c.requires.external.0 c.requires.external.1
           ∙ rows_one m.external (hears_at m) x z k (λ t e. no_member_too (hears_at m x) z x x t s.0 s.2 e hx);
       members = c.give.ensures.members ∙ ap (returned x) (ap (λ (m : Connections). m.ports) is);
     })
@@ -91,6 +93,15 @@ returns-clause-holds g c = λ h ports holds.
 
 pub invariant_of-self : goal.invariant_of-self
 invariant_of-self g c =
+    let is = c.self.view_is in
+    let x = c.args.x in
+    let p = c.in-Some.port in
+    let held = c.self.invariant.held in
+    let near : x.line < c.self.inside.external = subst (λ e. x.line < e) (sym (ap (λ (m : Connections). m.external) is)) c.requires.external.0 in
+    let at_p : port_of c.self.inside.external (members c.self.inside.ports.owners) x ≡ Some p = ap (λ e. port_of e (members c.self.inside.ports.owners) x) (sym c.self.invariant.first) ∙ sym c.port_of.ensures ∙ c.in-Some.is in
+    let in_p = port_slot c.self.inside.external c.self.inside.bridges (members c.self.inside.ports.owners) x p at_p c.self.invariant.sockets in
+    let one = shown_returned c.self.inside.external (c.self.inside.external + c.self.inside.bridges) _ _ _ _ x p _ c.self.invariant.shown at_p (one_port _ held.0 _ x held.1) in_p c.number_of-at_port.ensures in
+    let two = shown_row _ _ _ _ _ _ x None _ one c.self.invariant.listeners (omega arith) near c.requires.external.1 (returned_portless c.self.inside.external (members c.self.inside.ports.owners) x) c.number_of-at_x.ensures in
     let old = subst (λ (m : Connections). (h : Holding) × Holds m h m.ports) c.self.view_is c.self.invariant.held in
     let first = c.disconnect.ensures in
     let second = c.disconnect-2.ensures in
@@ -103,4 +114,5 @@ invariant_of-self g c =
       sockets = ap length c.give.ensures.members ∙ length-returned c.args.x _ ∙ c.self.invariant.sockets;
       legal = second.legal;
       held = (after old.0 (Clear c.args.x), own_ports _ _ _ (returns-clause-holds g c old.0 c.args.self.now.ports old.1));
+      shown = shown_by _ _ _ _ _ _ _ c.give.ensures.members two;
     }
