@@ -1,3 +1,4 @@
 pub mod Ordering
 pub mod Steps
 pub mod Making
+pub mod Past

@@ -1,5 +1,10 @@
 //! Laws of traces, of the orders of their events, and of the worlds that they make.
-ghost use Rattle.std.specs.Prelude.{ℕ, ◌≤◌, ◌<◌, All, List, length};
+ghost use Rattle.std.specs.Prelude.{◌≡◌, ℕ, ◌≤◌, ◌<◌, ◌++◌, All, List, length};
+ghost use Rattle.circuit_model.specs.declared.channel.Slot.{Slot};
+ghost use Rattle.circuit_model.specs.declared.circuit.Circuit.{Circuit};
+ghost use Rattle.circuit_model.specs.declared.circuit.Kind.{Kind};
+ghost use Rattle.circuit_model.specs.FrameInput.{Input};
+ghost use Rattle.circuit_model.specs.Hears.{hears};
 ghost use Rattle.exchange_core.specs.declared.trace.Event.{Event};
 ghost use Rattle.exchange_core.specs.declared.trace.Trace.{Trace};
 ghost use Rattle.exchange_core.specs.Orders.{IsLawful, IsLawfulPrefix, file_order};
@@ -17,4 +22,9 @@ pub fn file_order_is_lawful()
 /// of which was allowed when its turn came.
 pub fn worlds_are_made()
     ensures { (d : Dimensions) (events : List Event) → All (Fits d.external) events → IsMade d (world d (start d) events) }
+{}
+
+/// What a slot hears in a frame stays as it is, whatever frames come later.
+pub fn later_frames_change_nothing()
+    ensures { (tones : Kind → List ℕ) (inputs more : List Input) (held later : List (List Circuit)) (f : ℕ) (y : Slot) → f < length inputs → f < length held → hears tones (inputs ++ more) (held ++ later) f y ≡ hears tones inputs held f y }
 {}

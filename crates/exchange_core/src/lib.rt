@@ -6,7 +6,7 @@ mod reply;
 mod step;
 mod trace;
 
-pub use laws::{file_order_is_lawful, worlds_are_made};
+pub use laws::{file_order_is_lawful, later_frames_change_nothing, worlds_are_made};
 pub use reply::Reply;
 pub use step::Core;
 pub use trace::{Event, Events, Input, Segments, Trace};
