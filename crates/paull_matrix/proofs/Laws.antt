@@ -183,3 +183,48 @@ row_has_room m i s inside none = count_short (λ t. is_some (row_slot m i t)) m.
 
 pub column_has_room : (m : Matrix) (j s : ℕ) → s < m.slots → column_slot m j s ≡ None → paths_of_column m j < m.slots
 column_has_room m j s inside none = count_short (λ t. is_some (column_slot m j t)) m.slots s inside (ap is_some none)
+
+-- two matrices whose rows have a column in a slot alike have one row of that column there
+same_column : (m n : Matrix) (l t : ℕ) → IsLegal m → IsLegal n → ((k : ℕ) → row_slot m k t ≡ Some l → row_slot n k t ≡ Some l) → ((k : ℕ) → row_slot n k t ≡ Some l → row_slot m k t ≡ Some l) → column_slot m l t ≡ column_slot n l t
+same_column m n l t one other there back = found (column_slot n l t) refl
+  where
+    found : (o : Option ℕ) → column_slot n l t ≡ o → column_slot m l t ≡ o
+    found (Some k) e = column_of_row m k t l one (back k (row_of_column n k t l e))
+    found None e = no_column m l t (λ k f. no_row n k t l other e (there k f))
+
+-- the column and the slot of a new path, and the others
+pub column_with_here : (m : Matrix) (i j s : ℕ) → IsLegal (with_path m i j s) → column_slot (with_path m i j s) j s ≡ Some i
+column_with_here m i j s legal = column_of_row (with_path m i j s) i s j legal (with_path_here m i j s)
+
+pub column_with_other : (m : Matrix) (i j s l t : ℕ) → IsLegal m → IsLegal (with_path m i j s) → row_slot m i s ≡ None → (l ≡ j → t ≡ s → ⊥) → column_slot (with_path m i j s) l t ≡ column_slot m l t
+column_with_other m i j s l t before after missing apart = same_column (with_path m i j s) m l t after before there back
+  where
+    there : (k : ℕ) → row_slot (with_path m i j s) k t ≡ Some l → row_slot m k t ≡ Some l
+    there k e = elim (new_or_old m i j s k t l e) [ inl new ↦ absurd (apart new.2 new.1) | inr old ↦ old ]
+
+    back : (k : ℕ) → row_slot m k t ≡ Some l → row_slot (with_path m i j s) k t ≡ Some l
+    back k e = elim (here_or_other i s k t) [
+      | inl here ↦ let at : row_slot m i s ≡ Some l = rw (here.0, here.1) at e in absurd (cc)
+      | inr other ↦ with_path_other m i j s k t other ∙ e
+    ]
+
+pub column_without_here : (m : Matrix) (i j s : ℕ) → IsLegal m → row_slot m i s ≡ Some j → column_slot (without_path m i s) j s ≡ None
+column_without_here m i j s legal stands = no_column (without_path m i s) j s none
+  where
+    none : (k : ℕ) → row_slot (without_path m i s) k s ≡ Some j → ⊥
+    none k e =
+        let same = legal.column_once k i s j (stood_before m i s k s j e) stands in
+        let lifted : row_slot (without_path m i s) k s ≡ None = rw same (without_path_here m i s) in
+        cc
+
+pub column_without_other : (m : Matrix) (i j s l t : ℕ) → IsLegal m → row_slot m i s ≡ Some j → (l ≡ j → t ≡ s → ⊥) → column_slot (without_path m i s) l t ≡ column_slot m l t
+column_without_other m i j s l t legal stands apart = same_column (without_path m i s) m l t (legal_without m i s legal) legal (λ k. stood_before m i s k t l) back
+  where
+    back : (k : ℕ) → row_slot m k t ≡ Some l → row_slot (without_path m i s) k t ≡ Some l
+    back k e = elim (here_or_other i s k t) [
+      | inl here ↦
+          let at : row_slot m i s ≡ Some l = rw (here.0, here.1) at e in
+          let same : Some l ≡ Some j = sym at ∙ stands in
+          absurd (apart (same_Some l j same) here.1)
+      | inr other ↦ without_path_other m i s k t other ∙ e
+    ]

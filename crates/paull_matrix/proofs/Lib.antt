@@ -1,4 +1,4 @@
 pub mod Bools
 pub mod Numbers
 pub mod Laws
-pub mod Lists
+pub mod Tables

@@ -1,3 +1,3 @@
 pub mod Numbers
 pub mod Matrix
-pub mod Listed
+pub mod Tabled

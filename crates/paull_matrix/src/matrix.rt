@@ -1,6 +1,7 @@
-//! The matrix, kept as the plain list of its paths. Each look scans the list.
+//! The matrix, kept as a table of the columns by row and slot, with a table of the rows by column and
+//! slot as its index. A look reads one entry.
 
-ghost use Rattle.std.specs.Prelude.{◌≡◌, ◌<◌, ◌≤◌, ◌&&◌, nat_eq, find, Some, None, IfOk};
+ghost use Rattle.std.specs.Prelude.{◌≡◌, ◌<◌, ◌≤◌, ◌+◌, ◌*◌, Some, None, IfOk};
 ghost use Rattle.paull_matrix.specs.Matrix.{
   no_paths,
   row_slot as row_slot_of,
@@ -14,18 +15,9 @@ ghost use Rattle.paull_matrix.specs.Matrix.{
   without_path,
   IsLegal,
 };
-ghost use Rattle.std.specs.Option.{option_map};
 
 use std::alloc::{AllocError, Global};
 use std::marker::Model;
-
-/// A path from an incoming line to an outgoing line in an internal slot.
-#[derive(Clone, Copy)]
-struct Path {
-    row: u8,
-    column: u8,
-    slot: u8,
-}
 
 /// The paths of a three-stage switch: each has a row (its incoming line), a column (its outgoing
 /// line) and an internal slot. There are as many rows as columns, 1 to 34, and 1 to 59 slots.
@@ -36,21 +28,21 @@ struct Path {
 pub struct PaullMatrix {
     lines: u8,
     slots: u8,
-    paths: Vec<Path>,
+    columns: Vec<Option<u8>>,
+    rows: Vec<Option<u8>>,
 }
 
 impl Model for PaullMatrix {
-    ghost use Rattle.std.specs.Vec.{vec_capacity};
     ghost use Rattle.paull_matrix.specs.Matrix.{Matrix, matrix_code};
-    ghost use Rattle.paull_matrix.specs.Listed.{listed, IsKept};
+    ghost use Rattle.paull_matrix.specs.Tabled.{tabled, IsKept};
 
     ghost Value = { Matrix };
 
     ghost coded = { matrix_code };
 
-    ghost view = { λ a. listed a.lines a.slots a.paths.items };
+    ghost view = { λ a. tabled a.lines a.slots a.columns.items };
 
-    ghost invariant = { λ a. IsKept a.lines a.slots (vec_capacity a.paths) a.paths.items };
+    ghost invariant = { λ a. IsKept a.lines a.slots a.columns.items a.rows.items };
 }
 
 impl PaullMatrix {
@@ -62,11 +54,12 @@ impl PaullMatrix {
         ensures empty { IfOk result (λ matrix. matrix ≡ no_paths lines slots) }
         ensures legal { IfOk result IsLegal }
     {
-        let paths = Vec::with_capacity(alloc, usize::from(lines) * usize::from(slots))?;
+        let places = usize::from(lines) * usize::from(slots);
         Ok(PaullMatrix {
             lines,
             slots,
-            paths,
+            columns: vec![in alloc; None; places]?,
+            rows: vec![in alloc; None; places]?,
         })
     }
 
@@ -77,7 +70,7 @@ impl PaullMatrix {
         ensures column { result ≡ row_slot_of self.now i s }
         ensures legal { IsLegal self.now }
     {
-        column_of(&self.paths, i, s)
+        self.columns[place_of(self.slots, i, s)]
     }
 
     /// The row of the path of column `j` in slot `s`, `None` exactly where there is no such path.
@@ -87,7 +80,7 @@ impl PaullMatrix {
         ensures row { result ≡ column_slot_of self.now j s }
         ensures legal { IsLegal self.now }
     {
-        row_of(&self.paths, j, s)
+        self.rows[place_of(self.slots, j, s)]
     }
 
     /// The lowest slot that is missing both in row `i` and in column `j`, `None` exactly where every
@@ -146,11 +139,10 @@ impl PaullMatrix {
         ensures placed { self.new ≡ with_path self.old i j s }
         ensures legal { IsLegal self.new }
     {
-        self.paths.push_reserved(Path {
-            row: i,
-            column: j,
-            slot: s,
-        });
+        let in_row = place_of(self.slots, i, s);
+        let in_column = place_of(self.slots, j, s);
+        self.columns[in_row] = Some(j);
+        self.rows[in_column] = Some(i);
     }
 
     /// Takes out the path of row `i` and column `j` that stands in slot `s`.
@@ -159,26 +151,16 @@ impl PaullMatrix {
         ensures lifted { self.new ≡ without_path self.old i s }
         ensures legal { IsLegal self.new }
     {
-        self.paths.retain(|path| !(path.row == i && path.column == j && path.slot == s));
+        let in_row = place_of(self.slots, i, s);
+        let in_column = place_of(self.slots, j, s);
+        self.columns[in_row] = None;
+        self.rows[in_column] = None;
     }
 }
 
-/// The column of the listed path of row `i` in slot `s`.
-fn column_of(paths: &[Path], i: u8, s: u8) -> Option<u8>
-    ensures { result ≡ option_map (λ path. path.column) (find (λ path. nat_eq path.row i && nat_eq path.slot s) paths.now) }
+/// The place of a line and a slot in a table, where each line has `slots` places.
+fn place_of(slots: u8, line: u8, s: u8) -> usize
+    ensures { result ≡ line * slots + s }
 {
-    paths
-        .iter()
-        .find(|path| path.row == i && path.slot == s)
-        .map(|path| path.column)
-}
-
-/// The row of the listed path of column `j` in slot `s`.
-fn row_of(paths: &[Path], j: u8, s: u8) -> Option<u8>
-    ensures { result ≡ option_map (λ path. path.row) (find (λ path. nat_eq path.column j && nat_eq path.slot s) paths.now) }
-{
-    paths
-        .iter()
-        .find(|path| path.column == j && path.slot == s)
-        .map(|path| path.row)
+    usize::from(line) * usize::from(slots) + usize::from(s)
 }

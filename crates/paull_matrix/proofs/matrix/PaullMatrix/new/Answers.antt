@@ -1,10 +1,18 @@
-use Rattle.std.proofs.Common.{arith}
-use Rattle.paull_matrix.proofs.Laws.{legal_empty}
-use Rattle.paull_matrix.proofs.Lists.{kept_empty}
+use Rattle.std.proofs.Common.{◌≡◌, ◌*◌, rules, replicate, None}
+use Rattle.paull_matrix.proofs.Tables.{kept_empty, tabled_empty}
 use Rattle.paull_matrix.proofs.matrix.PaullMatrix.new.Goals as goal
 
+columns : (c : goal.In_ok-vec-2) → c.in_ok-vec.field-0.items ≡ replicate (c.args.lines * c.args.slots) None
+columns c = search rules
+
+rows : (c : goal.In_ok-vec-2) → c.in_ok-vec-2.field-0.items ≡ replicate (c.args.lines * c.args.slots) None
+rows c = search rules
+
 pub invariant_of-result : goal.invariant_of-result
-invariant_of-result c = rw c.in_ok-paths.ensures.items (kept_empty c.args.lines c.args.slots _ c.requires.lines c.requires.slots (rw (c.in_ok-paths.ensures.exact, c.from.ensures, c.from-2.ensures) (omega arith)))
+invariant_of-result c = rw (columns c, rows c) (kept_empty c.args.lines c.args.slots c.requires.lines c.requires.slots)
+
+pub returns-clause-empty : goal.returns-clause-empty
+returns-clause-empty c = rw (columns c) (tabled_empty c.args.lines c.args.slots)
 
 pub returns-clause-legal : goal.returns-clause-legal
-returns-clause-legal c = rw c.in_ok-paths.ensures.items (legal_empty c.args.lines c.args.slots c.requires.lines c.requires.slots)
+returns-clause-legal c = (invariant_of-result c).legal

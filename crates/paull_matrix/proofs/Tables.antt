@@ -1,0 +1,177 @@
+-- A matrix that is kept as a table of columns and a table of rows.
+use Rattle.std.proofs.Common.{◌≡◌, ◌⊎◌, ℕ, zero, suc, ◌+◌, ◌*◌, ◌<◌, ◌≤◌, Option, Some, None, List, length, set, replicate, arith, refl, sym, ap, subst, ◌∙◌, inl, inr, length-set, get_or-set_same, get_or-set_other}
+use Rattle.std.specs.FinMap.{FinMap, get, get-empty, get-insert, same_map}
+use Rattle.std.proofs.lemmas.Bool.{cases_lt, cases_eq}
+use Rattle.std.proofs.lemmas.Nat.{same_from_place, mul-add-lt}
+use Rattle.std.proofs.lemmas.List.{get_or-replicate, length-replicate}
+use Rattle.paull_matrix.specs.Matrix.{by_row_and_slot, row_slot, column_slot, no_paths, with_path, without_path, IsLegal}
+use Rattle.paull_matrix.specs.Tabled.{held, with_held, with_row, rows_below, tabled, IsKept}
+use Rattle.paull_matrix.proofs.Laws.{places_total, places_exact, tied_here, tied_apart, no_column, legal_with, legal_without, legal_empty, here_or_other, with_path_here, with_path_other, without_path_here, without_path_other, column_with_here, column_with_other, column_without_here, column_without_other}
+
+held_here : (m : FinMap by_row_and_slot ℕ) (i s : ℕ) (o : Option ℕ) → get m (i, s) ≡ None → get (with_held m i s o) (i, s) ≡ o
+held_here m i s None none = none
+held_here m i s (Some j) none = get-insert places_total m (i, s) j (i, s) ∙ rw (tied_here (i, s)) refl
+
+held_other : (m : FinMap by_row_and_slot ℕ) (i s k t : ℕ) (o : Option ℕ) → (k ≡ i → t ≡ s → ⊥) → get (with_held m i s o) (k, t) ≡ get m (k, t)
+held_other m i s k t None apart = refl
+held_other m i s k t (Some j) apart = get-insert places_total m (i, s) j (k, t) ∙ rw (tied_apart i s k t apart) refl
+
+-- a row's slots change nothing elsewhere, and have what the table has
+row_other : (table : List (Option ℕ)) (slots i n : ℕ) (m : FinMap by_row_and_slot ℕ) (k t : ℕ) → (k ≡ i → t < n → ⊥) → get (with_row table slots i n m) (k, t) ≡ get m (k, t)
+unfolding with_row
+row_other table slots i zero m k t apart = refl
+row_other table slots i (suc n) m k t apart =
+    held_other (with_row table slots i n m) i n k t (held table slots i n) (λ row slot. apart row (omega arith))
+    ∙ row_other table slots i n m k t (λ row below. apart row (omega arith))
+
+row_here : (table : List (Option ℕ)) (slots i n : ℕ) (m : FinMap by_row_and_slot ℕ) (t : ℕ) → t < n → get m (i, t) ≡ None → get (with_row table slots i n m) (i, t) ≡ held table slots i t
+unfolding with_row
+row_here table slots i zero m t below none = absurd (omega arith)
+row_here table slots i (suc n) m t below none = elim (cases_eq t n) [
+  | inl last ↦ rw last (held_here (with_row table slots i n m) i n (held table slots i n)
+      (row_other table slots i n m i n (λ _ less. omega arith) ∙ rw last at none))
+  | inr other ↦
+      held_other (with_row table slots i n m) i n i t (held table slots i n) (λ _ slot. other slot)
+      ∙ row_here table slots i n m t (omega arith) none
+]
+
+below_beyond : (table : List (Option ℕ)) (slots n k t : ℕ) → (k < n → t < slots → ⊥) → get (rows_below table slots n) (k, t) ≡ None
+unfolding rows_below
+below_beyond table slots zero k t beyond = get-empty by_row_and_slot (k, t)
+below_beyond table slots (suc n) k t beyond =
+    row_other table slots n slots (rows_below table slots n) k t (λ row slot. beyond (omega arith) slot)
+    ∙ below_beyond table slots n k t (λ row slot. beyond (omega arith) slot)
+
+below_here : (table : List (Option ℕ)) (slots n k t : ℕ) → k < n → t < slots → get (rows_below table slots n) (k, t) ≡ held table slots k t
+unfolding rows_below
+below_here table slots zero k t row slot = absurd (omega arith)
+below_here table slots (suc n) k t row slot = elim (cases_eq k n) [
+  | inl last ↦ rw last (row_here table slots n slots (rows_below table slots n) t slot (below_beyond table slots n n t (λ less _. omega arith)))
+  | inr other ↦
+      row_other table slots n slots (rows_below table slots n) k t (λ same _. other same)
+      ∙ below_here table slots n k t (omega arith) slot
+]
+
+-- what the table has at a row and a slot
+pub row_slot_tabled : (lines slots : ℕ) (table : List (Option ℕ)) (i s : ℕ) → i < lines → s < slots → row_slot (tabled lines slots table) i s ≡ held table slots i s
+row_slot_tabled lines slots table i s row slot = below_here table slots lines i s row slot
+
+beyond_tabled : (lines slots : ℕ) (table : List (Option ℕ)) (i s : ℕ) → (i < lines → s < slots → ⊥) → row_slot (tabled lines slots table) i s ≡ None
+beyond_tabled lines slots table i s beyond = below_beyond table slots lines i s beyond
+
+-- a place is within the bounds or beyond them
+within_or_beyond : (lines slots i s : ℕ) → ((i < lines) × (s < slots)) ⊎ (i < lines → s < slots → ⊥)
+within_or_beyond lines slots i s = elim (cases_lt i lines) [
+  | inl row ↦ elim (cases_lt s slots) [ inl slot ↦ inl (row, slot) | inr more ↦ inr (λ _ less. omega arith) ]
+  | inr more ↦ inr (λ less _. omega arith)
+]
+
+-- a place that is written, and the others
+pub written_here : (table : List (Option ℕ)) (lines slots i s : ℕ) (o : Option ℕ) → length table ≡ lines * slots → i < lines → s < slots → held (set table (i * slots + s) o) slots i s ≡ o
+written_here table lines slots i s o places row slot =
+    let inside = mul-add-lt i slots s lines row slot in
+    get_or-set_same table (i * slots + s) o None (omega arith)
+
+pub written_other : (table : List (Option ℕ)) (slots i s k t : ℕ) (o : Option ℕ) → s < slots → t < slots → (k ≡ i → t ≡ s → ⊥) → held (set table (i * slots + s) o) slots k t ≡ held table slots k t
+written_other table slots i s k t o slot below apart =
+    get_or-set_other table (i * slots + s) (k * slots + t) o None
+    (λ same. let parts = same_from_place k t i s slots below slot same in apart parts.0 parts.1)
+
+other_tabled : (lines slots : ℕ) (table : List (Option ℕ)) (i s k t : ℕ) (o : Option ℕ) → s < slots → (k ≡ i → t ≡ s → ⊥) → row_slot (tabled lines slots (set table (i * slots + s) o)) k t ≡ row_slot (tabled lines slots table) k t
+other_tabled lines slots table i s k t o slot apart = elim (within_or_beyond lines slots k t) [
+  | inl within ↦
+      row_slot_tabled lines slots (set table (i * slots + s) o) k t within.0 within.1
+      ∙ written_other table slots i s k t o slot within.1 apart
+      ∙ sym (row_slot_tabled lines slots table k t within.0 within.1)
+  | inr beyond ↦ beyond_tabled lines slots (set table (i * slots + s) o) k t beyond ∙ sym (beyond_tabled lines slots table k t beyond)
+]
+
+-- a path more, and a path less
+pub tabled_place : (lines slots : ℕ) (table : List (Option ℕ)) (i j s : ℕ) → length table ≡ lines * slots → i < lines → s < slots → tabled lines slots (set table (i * slots + s) (Some j)) ≡ with_path (tabled lines slots table) i j s
+tabled_place lines slots table i j s places row slot =
+    ap (λ (columns : FinMap by_row_and_slot ℕ). record { lines = lines; slots = slots; columns = columns })
+    (same_map places_total places_exact (tabled lines slots (set table (i * slots + s) (Some j))).columns (with_path (tabled lines slots table) i j s).columns (λ q. each q.0 q.1))
+  where
+    each : (k t : ℕ) → row_slot (tabled lines slots (set table (i * slots + s) (Some j))) k t ≡ row_slot (with_path (tabled lines slots table) i j s) k t
+    each k t = elim (here_or_other i s k t) [
+      | inl here ↦ rw (here.0, here.1) (row_slot_tabled lines slots (set table (i * slots + s) (Some j)) i s row slot ∙ written_here table lines slots i s (Some j) places row slot ∙ sym (with_path_here (tabled lines slots table) i j s))
+      | inr other ↦ other_tabled lines slots table i s k t (Some j) slot other ∙ sym (with_path_other (tabled lines slots table) i j s k t other)
+    ]
+
+pub tabled_lift : (lines slots : ℕ) (table : List (Option ℕ)) (i s : ℕ) → length table ≡ lines * slots → i < lines → s < slots → tabled lines slots (set table (i * slots + s) None) ≡ without_path (tabled lines slots table) i s
+tabled_lift lines slots table i s places row slot =
+    ap (λ (columns : FinMap by_row_and_slot ℕ). record { lines = lines; slots = slots; columns = columns })
+    (same_map places_total places_exact (tabled lines slots (set table (i * slots + s) None)).columns (without_path (tabled lines slots table) i s).columns (λ q. each q.0 q.1))
+  where
+    each : (k t : ℕ) → row_slot (tabled lines slots (set table (i * slots + s) None)) k t ≡ row_slot (without_path (tabled lines slots table) i s) k t
+    each k t = elim (here_or_other i s k t) [
+      | inl here ↦ rw (here.0, here.1) (row_slot_tabled lines slots (set table (i * slots + s) None) i s row slot ∙ written_here table lines slots i s None places row slot ∙ sym (without_path_here (tabled lines slots table) i s))
+      | inr other ↦ other_tabled lines slots table i s k t None slot other ∙ sym (without_path_other (tabled lines slots table) i s k t other)
+    ]
+
+-- the row that the second table has for a column and a slot
+pub column_slot_tabled : (lines slots : ℕ) (columns rows : List (Option ℕ)) (j s : ℕ) → IsKept lines slots columns rows → j < lines → s < slots → column_slot (tabled lines slots columns) j s ≡ held rows slots j s
+column_slot_tabled lines slots columns rows j s kept column slot = sym (kept.indexed j s column slot)
+
+-- what holds of the tables holds with a path more
+pub kept_place : (lines slots : ℕ) (columns rows : List (Option ℕ)) (i j s : ℕ) → IsKept lines slots columns rows → i < lines → j < lines → s < slots → row_slot (tabled lines slots columns) i s ≡ None → column_slot (tabled lines slots columns) j s ≡ None → IsKept lines slots (set columns (i * slots + s) (Some j)) (set rows (j * slots + s) (Some i))
+kept_place lines slots columns rows i j s kept row column slot row_none column_none =
+    let m = tabled lines slots columns in
+    let same = tabled_place lines slots columns i j s kept.row_places row slot in
+    let legal = legal_with m i j s kept.legal row column slot column_none in
+    record {
+      legal = subst IsLegal (sym same) legal;
+      row_places = length-set columns _ _ ∙ kept.row_places;
+      column_places = length-set rows _ _ ∙ kept.column_places;
+      indexed = λ l t below within. elim (here_or_other j s l t) [
+        | inl here ↦ rw (here.0, here.1) (written_here rows lines slots j s (Some i) kept.column_places column slot ∙ sym (column_with_here m i j s legal) ∙ ap (λ n. column_slot n j s) (sym same))
+        | inr other ↦ written_other rows slots j s l t (Some i) slot within other ∙ kept.indexed l t below within ∙ sym (column_with_other m i j s l t kept.legal legal row_none other) ∙ ap (λ n. column_slot n l t) (sym same)
+      ];
+    }
+
+-- and with a path less
+pub kept_lift : (lines slots : ℕ) (columns rows : List (Option ℕ)) (i j s : ℕ) → IsKept lines slots columns rows → row_slot (tabled lines slots columns) i s ≡ Some j → IsKept lines slots (set columns (i * slots + s) None) (set rows (j * slots + s) None)
+kept_lift lines slots columns rows i j s kept stands =
+    let m = tabled lines slots columns in
+    let row = kept.legal.row_within i s j stands in
+    let column = kept.legal.column_within i s j stands in
+    let slot = kept.legal.slot_within i s j stands in
+    let same = tabled_lift lines slots columns i s kept.row_places row slot in
+    let legal = legal_without m i s kept.legal in
+    record {
+      legal = subst IsLegal (sym same) legal;
+      row_places = length-set columns _ _ ∙ kept.row_places;
+      column_places = length-set rows _ _ ∙ kept.column_places;
+      indexed = λ l t below within. elim (here_or_other j s l t) [
+        | inl here ↦ rw (here.0, here.1) (written_here rows lines slots j s None kept.column_places column slot ∙ sym (column_without_here m i j s kept.legal stands) ∙ ap (λ n. column_slot n j s) (sym same))
+        | inr other ↦ written_other rows slots j s l t None slot within other ∙ kept.indexed l t below within ∙ sym (column_without_other m i j s l t kept.legal stands other) ∙ ap (λ n. column_slot n l t) (sym same)
+      ];
+    }
+
+-- tables without a path
+empty_held : (lines slots i s : ℕ) → i < lines → s < slots → held (replicate (lines * slots) None) slots i s ≡ None
+empty_held lines slots i s row slot = get_or-replicate (lines * slots) (i * slots + s) None None (omega (arith, mul-add-lt i slots s lines row slot))
+
+pub tabled_empty : (lines slots : ℕ) → tabled lines slots (replicate (lines * slots) None) ≡ no_paths lines slots
+tabled_empty lines slots =
+    ap (λ (columns : FinMap by_row_and_slot ℕ). record { lines = lines; slots = slots; columns = columns })
+    (same_map places_total places_exact (tabled lines slots (replicate (lines * slots) None)).columns (no_paths lines slots).columns (λ q. each q.0 q.1))
+  where
+    each : (k t : ℕ) → row_slot (tabled lines slots (replicate (lines * slots) None)) k t ≡ row_slot (no_paths lines slots) k t
+    each k t = elim (within_or_beyond lines slots k t) [
+      | inl within ↦ row_slot_tabled lines slots _ k t within.0 within.1 ∙ empty_held lines slots k t within.0 within.1 ∙ sym (get-empty by_row_and_slot (k, t))
+      | inr beyond ↦ beyond_tabled lines slots _ k t beyond ∙ sym (get-empty by_row_and_slot (k, t))
+    ]
+
+pub kept_empty : (lines slots : ℕ) → (0 < lines) × (lines ≤ 34) → (0 < slots) × (slots ≤ 59) → IsKept lines slots (replicate (lines * slots) None) (replicate (lines * slots) None)
+kept_empty lines slots few_lines few_slots =
+    let same = tabled_empty lines slots in
+    record {
+      legal = subst IsLegal (sym same) (legal_empty lines slots few_lines few_slots);
+      row_places = length-replicate (lines * slots) None;
+      column_places = length-replicate (lines * slots) None;
+      indexed = λ j s column slot. empty_held lines slots j s column slot ∙ sym (no_column (no_paths lines slots) j s (λ i stands. nothing i s j stands)) ∙ ap (λ n. column_slot n j s) (sym same);
+    }
+  where
+    nothing : (i s j : ℕ) → row_slot (no_paths lines slots) i s ≡ Some j → ⊥
+    nothing i s j e = let none : row_slot (no_paths lines slots) i s ≡ None = get-empty by_row_and_slot (i, s) in cc

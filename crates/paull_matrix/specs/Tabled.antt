@@ -1,0 +1,34 @@
+-- A matrix that is kept as a table of columns by row and slot, with a table of rows by column and slot beside it.
+use Rattle.std.specs.Prelude.{◌≡◌, ℕ, zero, suc, ◌+◌, ◌*◌, ◌<◌, Option, Some, None, List, length, get_or}
+use Rattle.std.specs.FinMap.{FinMap, empty, insert}
+use Rattle.paull_matrix.specs.Matrix.{Matrix, by_row_and_slot, column_slot, IsLegal}
+
+-- what a table holds for a line and a slot, where each line has `slots` places
+abbrev pub held : List (Option ℕ) → ℕ → ℕ → ℕ → Option ℕ
+held table slots line s = get_or table (line * slots + s) None
+
+-- a map with what a place holds, if it holds something
+abbrev pub with_held : FinMap by_row_and_slot ℕ → ℕ → ℕ → Option ℕ → FinMap by_row_and_slot ℕ
+with_held columns i s None = columns
+with_held columns i s (Some j) = insert columns (i, s) j
+
+-- a map with what a row holds in the slots below a bound
+unfoldable pub with_row : List (Option ℕ) → ℕ → ℕ → ℕ → FinMap by_row_and_slot ℕ → FinMap by_row_and_slot ℕ
+with_row table slots i zero columns = columns
+with_row table slots i (suc s) columns = with_held (with_row table slots i s columns) i s (held table slots i s)
+
+-- what the rows below a bound hold
+unfoldable pub rows_below : List (Option ℕ) → ℕ → ℕ → FinMap by_row_and_slot ℕ
+rows_below table slots zero = empty
+rows_below table slots (suc i) = with_row table slots i slots (rows_below table slots i)
+
+-- what a table of columns by row and slot stands for
+abbrev pub tabled : ℕ → ℕ → List (Option ℕ) → Matrix
+tabled lines slots columns = record { lines = lines; slots = slots; columns = rows_below columns slots lines }
+
+-- what holds of the two tables: the second has for a column and a slot the row whose path stands there
+pub record IsKept (lines slots : ℕ) (columns rows : List (Option ℕ)) : Type 0 where
+  pub legal : IsLegal (tabled lines slots columns)
+  pub row_places : length columns ≡ lines * slots
+  pub column_places : length rows ≡ lines * slots
+  pub indexed : (j s : ℕ) → j < lines → s < slots → held rows slots j s ≡ column_slot (tabled lines slots columns) j s
