@@ -173,3 +173,12 @@ count_short p (suc n) k below off = elim (to_last k n below) [
     earlier : (c : Bool) → p n ≡ c → count_below p n < n → count_below p (suc n) < suc n
     earlier true here short = rw (count_step p n, here) (omega arith)
     earlier false here short = rw (count_step p n, here) (omega arith)
+
+-- two tests that agree below the bound have one lowest number
+pub lowest_same : (p q : ℕ → Bool) (n : ℕ) → ((k : ℕ) → k < n → p k ≡ q k) → lowest p n ≡ lowest q n
+lowest_same p q zero same = refl
+lowest_same p q (suc n) same =
+    lowest_step p n
+    ∙ ap (λ o. or_this o (p n) n) (lowest_same p q n (λ k below. same k (omega arith)))
+    ∙ ap (λ b. or_this (lowest q n) b n) (same n (omega arith))
+    ∙ sym (lowest_step q n)
