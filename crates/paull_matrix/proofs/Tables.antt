@@ -1,4 +1,4 @@
--- A matrix that is kept as a table of columns and a table of rows.
+-- A matrix that is kept as a table of columns by row and slot, with a table of rows and the words of used slots.
 use Rattle.std.proofs.Common.{◌≡◌, ◌⊎◌, ℕ, zero, suc, ◌+◌, ◌*◌, ◌<◌, ◌≤◌, Option, Some, None, List, length, get_or, set, replicate, arith, refl, sym, ap, subst, ◌∙◌, inl, inr, length-set, get_or-set_same, get_or-set_other}
 use Rattle.std.specs.FinMap.{FinMap, get, get-empty, get-insert, same_map}
 use Rattle.std.proofs.lemmas.Bool.{cases_lt, cases_eq}
@@ -11,6 +11,7 @@ use Rattle.paull_matrix.specs.Tabled.{held, with_held, with_row, rows_below, tab
 use Rattle.paull_matrix.proofs.Marks.{marks_taken, marks_left, marks_none, word_lowest}
 use Rattle.paull_matrix.proofs.Laws.{places_total, places_exact, tied_here, tied_apart, no_column, legal_with, legal_without, legal_empty, here_or_other, with_path_here, with_path_other, without_path_here, without_path_other, column_with_here, column_with_other, column_without_here, column_without_other}
 
+-- what a place holds is in the map there, and the others stay
 held_here : (m : FinMap by_row_and_slot ℕ) (i s : ℕ) (o : Option ℕ) → get m (i, s) ≡ None → get (with_held m i s o) (i, s) ≡ o
 held_here m i s None none = none
 held_here m i s (Some j) none = get-insert places_total m (i, s) j (i, s) ∙ rw (tied_here (i, s)) refl
@@ -38,6 +39,7 @@ row_here table slots i (suc n) m t below none = elim (cases_eq t n) [
       ∙ row_here table slots i n m t (omega arith) none
 ]
 
+-- the rows below a bound have what the table has, and nothing else
 below_beyond : (table : List (Option ℕ)) (slots n k t : ℕ) → (k < n → t < slots → ⊥) → get (rows_below table slots n) (k, t) ≡ None
 unfolding rows_below
 below_beyond table slots zero k t beyond = get-empty by_row_and_slot (k, t)
@@ -55,7 +57,7 @@ below_here table slots (suc n) k t row slot = elim (cases_eq k n) [
       ∙ below_here table slots n k t (omega arith) slot
 ]
 
--- what the table has at a row and a slot
+-- what the matrix of a table has at a row and a slot: nothing beyond its sizes
 pub row_slot_tabled : (lines slots : ℕ) (table : List (Option ℕ)) (i s : ℕ) → i < lines → s < slots → row_slot (tabled lines slots table) i s ≡ held table slots i s
 row_slot_tabled lines slots table i s row slot = below_here table slots lines i s row slot
 
@@ -93,28 +95,34 @@ other_tabled lines slots table i s k t o slot apart = elim (within_or_beyond lin
   | inr beyond ↦ beyond_tabled lines slots (set table (i * slots + s) o) k t beyond ∙ sym (beyond_tabled lines slots table k t beyond)
 ]
 
+-- a table is a matrix of the same sizes that has the same paths
+same_matrix : (lines slots : ℕ) (table : List (Option ℕ)) (m : FinMap by_row_and_slot ℕ) → ((k t : ℕ) → row_slot (tabled lines slots table) k t ≡ get m (k, t)) → tabled lines slots table ≡ record { lines = lines; slots = slots; columns = m }
+same_matrix lines slots table m each =
+    ap (λ (columns : FinMap by_row_and_slot ℕ). record { lines = lines; slots = slots; columns = columns })
+    (same_map places_total places_exact (rows_below table slots lines) m (λ q. each q.0 q.1))
+
+tabled_written : (lines slots : ℕ) (table : List (Option ℕ)) (i s : ℕ) (o : Option ℕ) (m : FinMap by_row_and_slot ℕ) → length table ≡ lines * slots → i < lines → s < slots
+    → get m (i, s) ≡ o
+    → ((k t : ℕ) → (k ≡ i → t ≡ s → ⊥) → get m (k, t) ≡ row_slot (tabled lines slots table) k t)
+    → tabled lines slots (set table (i * slots + s) o) ≡ record { lines = lines; slots = slots; columns = m }
+tabled_written lines slots table i s o m places row slot written others = same_matrix lines slots (set table (i * slots + s) o) m each
+  where
+    each : (k t : ℕ) → row_slot (tabled lines slots (set table (i * slots + s) o)) k t ≡ get m (k, t)
+    each k t = elim (here_or_other i s k t) [
+      | inl here ↦ rw (here.0, here.1) (row_slot_tabled lines slots (set table (i * slots + s) o) i s row slot ∙ written_here table lines slots i s o places row slot ∙ sym written)
+      | inr other ↦ other_tabled lines slots table i s k t o slot other ∙ sym (others k t other)
+    ]
+
 -- a path more, and a path less
 pub tabled_place : (lines slots : ℕ) (table : List (Option ℕ)) (i j s : ℕ) → length table ≡ lines * slots → i < lines → s < slots → tabled lines slots (set table (i * slots + s) (Some j)) ≡ with_path (tabled lines slots table) i j s
 tabled_place lines slots table i j s places row slot =
-    ap (λ (columns : FinMap by_row_and_slot ℕ). record { lines = lines; slots = slots; columns = columns })
-    (same_map places_total places_exact (tabled lines slots (set table (i * slots + s) (Some j))).columns (with_path (tabled lines slots table) i j s).columns (λ q. each q.0 q.1))
-  where
-    each : (k t : ℕ) → row_slot (tabled lines slots (set table (i * slots + s) (Some j))) k t ≡ row_slot (with_path (tabled lines slots table) i j s) k t
-    each k t = elim (here_or_other i s k t) [
-      | inl here ↦ rw (here.0, here.1) (row_slot_tabled lines slots (set table (i * slots + s) (Some j)) i s row slot ∙ written_here table lines slots i s (Some j) places row slot ∙ sym (with_path_here (tabled lines slots table) i j s))
-      | inr other ↦ other_tabled lines slots table i s k t (Some j) slot other ∙ sym (with_path_other (tabled lines slots table) i j s k t other)
-    ]
+    let m = tabled lines slots table in
+    tabled_written lines slots table i s (Some j) (with_path m i j s).columns places row slot (with_path_here m i j s) (with_path_other m i j s)
 
 pub tabled_lift : (lines slots : ℕ) (table : List (Option ℕ)) (i s : ℕ) → length table ≡ lines * slots → i < lines → s < slots → tabled lines slots (set table (i * slots + s) None) ≡ without_path (tabled lines slots table) i s
 tabled_lift lines slots table i s places row slot =
-    ap (λ (columns : FinMap by_row_and_slot ℕ). record { lines = lines; slots = slots; columns = columns })
-    (same_map places_total places_exact (tabled lines slots (set table (i * slots + s) None)).columns (without_path (tabled lines slots table) i s).columns (λ q. each q.0 q.1))
-  where
-    each : (k t : ℕ) → row_slot (tabled lines slots (set table (i * slots + s) None)) k t ≡ row_slot (without_path (tabled lines slots table) i s) k t
-    each k t = elim (here_or_other i s k t) [
-      | inl here ↦ rw (here.0, here.1) (row_slot_tabled lines slots (set table (i * slots + s) None) i s row slot ∙ written_here table lines slots i s None places row slot ∙ sym (without_path_here (tabled lines slots table) i s))
-      | inr other ↦ other_tabled lines slots table i s k t None slot other ∙ sym (without_path_other (tabled lines slots table) i s k t other)
-    ]
+    let m = tabled lines slots table in
+    tabled_written lines slots table i s None (without_path m i s).columns places row slot (without_path_here m i s) (without_path_other m i s)
 
 -- a table that has what each line has, after one place is written
 indexed_after : (lines slots : ℕ) (rows : List (Option ℕ)) (before after : ℕ → ℕ → Option ℕ) (j s : ℕ) (o : Option ℕ) → length rows ≡ lines * slots
@@ -175,9 +183,7 @@ empty_held : (lines slots i s : ℕ) → i < lines → s < slots → held (repli
 empty_held lines slots i s row slot = get_or-replicate (lines * slots) (i * slots + s) None None (omega (arith, mul-add-lt i slots s lines row slot))
 
 pub tabled_empty : (lines slots : ℕ) → tabled lines slots (replicate (lines * slots) None) ≡ no_paths lines slots
-tabled_empty lines slots =
-    ap (λ (columns : FinMap by_row_and_slot ℕ). record { lines = lines; slots = slots; columns = columns })
-    (same_map places_total places_exact (tabled lines slots (replicate (lines * slots) None)).columns (no_paths lines slots).columns (λ q. each q.0 q.1))
+tabled_empty lines slots = same_matrix lines slots (replicate (lines * slots) None) (no_paths lines slots).columns each
   where
     each : (k t : ℕ) → row_slot (tabled lines slots (replicate (lines * slots) None)) k t ≡ row_slot (no_paths lines slots) k t
     each k t = elim (within_or_beyond lines slots k t) [

@@ -1,6 +1,6 @@
-//! The matrix, kept as a table of the columns by row and slot, with a table of the rows by column and
-//! slot as its index, and a word of used slots for each row and each column. A look reads one entry,
-//! and the lowest free slot is the lowest clear bit of a word.
+//! The matrix, kept as a table of the columns by row and slot. A table of the rows by column and slot
+//! and a word of used slots for each line are its indexes. A look reads one entry, and the lowest free
+//! slot is the lowest clear bit of a word.
 
 ghost use Rattle.std.specs.Prelude.{◌≡◌, ◌<◌, ◌≤◌, ◌+◌, ◌*◌, Some, None, IfOk, length};
 ghost use Rattle.paull_matrix.specs.Marks.{lacks, marked, unmarked};
