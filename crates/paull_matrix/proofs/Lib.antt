@@ -1,4 +1,5 @@
 pub mod Bools
 pub mod Numbers
 pub mod Laws
+pub mod Marks
 pub mod Tables

@@ -1,5 +1,5 @@
 -- What the lowest number that passes is, and how a count changes.
-use Rattle.std.proofs.Common.{◌≡◌, ◌≢◌, ℕ, zero, suc, ◌+◌, ◌<◌, ◌≤◌, Bool, true, false, Option, Some, None, arith, add-one, refl, sym, ap, subst, ◌∙◌}
+use Rattle.std.proofs.Common.{◌≡◌, ◌≢◌, ℕ, zero, suc, ◌+◌, ◌<◌, ◌≤◌, Bool, true, false, Option, Some, None, arith, refl, sym, ap, subst, ◌∙◌}
 use Rattle.std.proofs.lemmas.Bool.{cases_lt}
 use Rattle.std.specs.Prelude.{◌⊎◌}
 use mathlib.Core.Logic.{inl, inr}
@@ -95,13 +95,6 @@ or_this_past (Some f) b n e t = absurd (cc)
 or_this_past None true n e t = absurd (cc)
 or_this_past None false n e t = refl
 
--- one number more, where none passed so far
-pub lowest_here : (p : ℕ → Bool) (n : ℕ) → lowest p n ≡ None → p n ≡ true → lowest p (n + 1) ≡ Some n
-lowest_here p n e t = rw add-one (lowest_step p n ∙ or_this_last (lowest p n) (p n) n e t)
-
-pub lowest_past : (p : ℕ → Bool) (n : ℕ) → lowest p n ≡ None → p n ≡ false → lowest p (n + 1) ≡ None
-lowest_past p n e t = rw add-one (lowest_step p n ∙ or_this_past (lowest p n) (p n) n e t)
-
 -- what is lowest below a bound is lowest below a higher one
 pub lowest_stays : (p : ℕ → Bool) (n k : ℕ) → lowest p (suc k) ≡ Some k → k < n → lowest p n ≡ Some k
 lowest_stays p zero k e below = absurd (omega arith)
@@ -129,10 +122,6 @@ lowest_only p n k t below only = lowest_is p n k t below (λ m less. false_unles
 -- where none passes there is no lowest
 pub lowest_of_none : (p : ℕ → Bool) (n : ℕ) → ((m : ℕ) → m < n → p m ≡ true → ⊥) → lowest p n ≡ None
 lowest_of_none p n none = none_lower p n (λ m below. false_unless (p m) (none m below))
-
--- where one passes, there is a lowest
-pub lowest_found : (p : ℕ → Bool) (n k : ℕ) → p k ≡ true → k < n → lowest p n ≡ None → ⊥
-lowest_found p n k t below e = let f = lowest_none p n k e below in cc
 
 -- where none is left over, each counts
 pub count_full : (p left : ℕ → Bool) (n : ℕ) → ((k : ℕ) → left k ≡ false → p k ≡ true) → lowest left n ≡ None → count_below p n ≡ n
@@ -173,3 +162,12 @@ count_short p (suc n) k below off = elim (to_last k n below) [
     earlier : (c : Bool) → p n ≡ c → count_below p n < n → count_below p (suc n) < suc n
     earlier true here short = rw (count_step p n, here) (omega arith)
     earlier false here short = rw (count_step p n, here) (omega arith)
+
+-- two tests that agree below the bound have one lowest number
+pub lowest_same : (p q : ℕ → Bool) (n : ℕ) → ((k : ℕ) → k < n → p k ≡ q k) → lowest p n ≡ lowest q n
+lowest_same p q zero same = refl
+lowest_same p q (suc n) same =
+    lowest_step p n
+    ∙ ap (λ o. or_this o (p n) n) (lowest_same p q n (λ k below. same k (omega arith)))
+    ∙ ap (λ b. or_this (lowest q n) b n) (same n (omega arith))
+    ∙ sym (lowest_step q n)

@@ -1,13 +1,17 @@
--- A matrix that is kept as a table of columns and a table of rows.
-use Rattle.std.proofs.Common.{◌≡◌, ◌⊎◌, ℕ, zero, suc, ◌+◌, ◌*◌, ◌<◌, ◌≤◌, Option, Some, None, List, length, set, replicate, arith, refl, sym, ap, subst, ◌∙◌, inl, inr, length-set, get_or-set_same, get_or-set_other}
+-- A matrix that is kept as a table of columns by row and slot, with a table of rows and the words of used slots.
+use Rattle.std.proofs.Common.{◌≡◌, ◌⊎◌, ℕ, zero, suc, ◌+◌, ◌*◌, ◌<◌, ◌≤◌, Option, Some, None, List, length, get_or, set, replicate, arith, refl, sym, ap, subst, ◌∙◌, inl, inr, length-set, get_or-set_same, get_or-set_other}
 use Rattle.std.specs.FinMap.{FinMap, get, get-empty, get-insert, same_map}
 use Rattle.std.proofs.lemmas.Bool.{cases_lt, cases_eq}
 use Rattle.std.proofs.lemmas.Nat.{same_from_place, mul-add-lt}
 use Rattle.std.proofs.lemmas.List.{get_or-replicate, length-replicate}
-use Rattle.paull_matrix.specs.Matrix.{by_row_and_slot, row_slot, column_slot, no_paths, with_path, without_path, IsLegal}
+use Rattle.paull_matrix.specs.Matrix.{Matrix, by_row_and_slot, row_slot, column_slot, no_paths, with_path, without_path, lowest_in_row, lowest_in_column, IsLegal}
+use Rattle.paull_matrix.specs.Numbers.{lowest}
+use Rattle.paull_matrix.specs.Marks.{marked, unmarked, lacks, IsMarked}
 use Rattle.paull_matrix.specs.Tabled.{held, with_held, with_row, rows_below, tabled, IsKept}
+use Rattle.paull_matrix.proofs.Marks.{marks_taken, marks_left, marks_none, word_lowest}
 use Rattle.paull_matrix.proofs.Laws.{places_total, places_exact, tied_here, tied_apart, no_column, legal_with, legal_without, legal_empty, here_or_other, with_path_here, with_path_other, without_path_here, without_path_other, column_with_here, column_with_other, column_without_here, column_without_other}
 
+-- what a place holds is in the map there, and the others stay
 held_here : (m : FinMap by_row_and_slot ℕ) (i s : ℕ) (o : Option ℕ) → get m (i, s) ≡ None → get (with_held m i s o) (i, s) ≡ o
 held_here m i s None none = none
 held_here m i s (Some j) none = get-insert places_total m (i, s) j (i, s) ∙ rw (tied_here (i, s)) refl
@@ -35,6 +39,7 @@ row_here table slots i (suc n) m t below none = elim (cases_eq t n) [
       ∙ row_here table slots i n m t (omega arith) none
 ]
 
+-- the rows below a bound have what the table has, and nothing else
 below_beyond : (table : List (Option ℕ)) (slots n k t : ℕ) → (k < n → t < slots → ⊥) → get (rows_below table slots n) (k, t) ≡ None
 unfolding rows_below
 below_beyond table slots zero k t beyond = get-empty by_row_and_slot (k, t)
@@ -52,7 +57,7 @@ below_here table slots (suc n) k t row slot = elim (cases_eq k n) [
       ∙ below_here table slots n k t (omega arith) slot
 ]
 
--- what the table has at a row and a slot
+-- what the matrix of a table has at a row and a slot: nothing beyond its sizes
 pub row_slot_tabled : (lines slots : ℕ) (table : List (Option ℕ)) (i s : ℕ) → i < lines → s < slots → row_slot (tabled lines slots table) i s ≡ held table slots i s
 row_slot_tabled lines slots table i s row slot = below_here table slots lines i s row slot
 
@@ -65,6 +70,10 @@ within_or_beyond lines slots i s = elim (cases_lt i lines) [
   | inl row ↦ elim (cases_lt s slots) [ inl slot ↦ inl (row, slot) | inr more ↦ inr (λ _ less. omega arith) ]
   | inr more ↦ inr (λ less _. omega arith)
 ]
+
+-- the place of a line and a slot is one of the table
+pub place_within : (table : List (Option ℕ)) (lines slots i s n : ℕ) → length table ≡ lines * slots → i < lines → s < slots → n ≡ i * slots + s → n < length table
+place_within table lines slots i s n places row slot at = let inside = mul-add-lt i slots s lines row slot in omega arith
 
 -- a place that is written, and the others
 pub written_here : (table : List (Option ℕ)) (lines slots i s : ℕ) (o : Option ℕ) → length table ≡ lines * slots → i < lines → s < slots → held (set table (i * slots + s) o) slots i s ≡ o
@@ -86,66 +95,87 @@ other_tabled lines slots table i s k t o slot apart = elim (within_or_beyond lin
   | inr beyond ↦ beyond_tabled lines slots (set table (i * slots + s) o) k t beyond ∙ sym (beyond_tabled lines slots table k t beyond)
 ]
 
+-- a table is a matrix of the same sizes that has the same paths
+same_matrix : (lines slots : ℕ) (table : List (Option ℕ)) (m : FinMap by_row_and_slot ℕ) → ((k t : ℕ) → row_slot (tabled lines slots table) k t ≡ get m (k, t)) → tabled lines slots table ≡ record { lines = lines; slots = slots; columns = m }
+same_matrix lines slots table m each =
+    ap (λ (columns : FinMap by_row_and_slot ℕ). record { lines = lines; slots = slots; columns = columns })
+    (same_map places_total places_exact (rows_below table slots lines) m (λ q. each q.0 q.1))
+
+tabled_written : (lines slots : ℕ) (table : List (Option ℕ)) (i s : ℕ) (o : Option ℕ) (m : FinMap by_row_and_slot ℕ) → length table ≡ lines * slots → i < lines → s < slots
+    → get m (i, s) ≡ o
+    → ((k t : ℕ) → (k ≡ i → t ≡ s → ⊥) → get m (k, t) ≡ row_slot (tabled lines slots table) k t)
+    → tabled lines slots (set table (i * slots + s) o) ≡ record { lines = lines; slots = slots; columns = m }
+tabled_written lines slots table i s o m places row slot written others = same_matrix lines slots (set table (i * slots + s) o) m each
+  where
+    each : (k t : ℕ) → row_slot (tabled lines slots (set table (i * slots + s) o)) k t ≡ get m (k, t)
+    each k t = elim (here_or_other i s k t) [
+      | inl here ↦ rw (here.0, here.1) (row_slot_tabled lines slots (set table (i * slots + s) o) i s row slot ∙ written_here table lines slots i s o places row slot ∙ sym written)
+      | inr other ↦ other_tabled lines slots table i s k t o slot other ∙ sym (others k t other)
+    ]
+
 -- a path more, and a path less
 pub tabled_place : (lines slots : ℕ) (table : List (Option ℕ)) (i j s : ℕ) → length table ≡ lines * slots → i < lines → s < slots → tabled lines slots (set table (i * slots + s) (Some j)) ≡ with_path (tabled lines slots table) i j s
 tabled_place lines slots table i j s places row slot =
-    ap (λ (columns : FinMap by_row_and_slot ℕ). record { lines = lines; slots = slots; columns = columns })
-    (same_map places_total places_exact (tabled lines slots (set table (i * slots + s) (Some j))).columns (with_path (tabled lines slots table) i j s).columns (λ q. each q.0 q.1))
-  where
-    each : (k t : ℕ) → row_slot (tabled lines slots (set table (i * slots + s) (Some j))) k t ≡ row_slot (with_path (tabled lines slots table) i j s) k t
-    each k t = elim (here_or_other i s k t) [
-      | inl here ↦ rw (here.0, here.1) (row_slot_tabled lines slots (set table (i * slots + s) (Some j)) i s row slot ∙ written_here table lines slots i s (Some j) places row slot ∙ sym (with_path_here (tabled lines slots table) i j s))
-      | inr other ↦ other_tabled lines slots table i s k t (Some j) slot other ∙ sym (with_path_other (tabled lines slots table) i j s k t other)
-    ]
+    let m = tabled lines slots table in
+    tabled_written lines slots table i s (Some j) (with_path m i j s).columns places row slot (with_path_here m i j s) (with_path_other m i j s)
 
 pub tabled_lift : (lines slots : ℕ) (table : List (Option ℕ)) (i s : ℕ) → length table ≡ lines * slots → i < lines → s < slots → tabled lines slots (set table (i * slots + s) None) ≡ without_path (tabled lines slots table) i s
 tabled_lift lines slots table i s places row slot =
-    ap (λ (columns : FinMap by_row_and_slot ℕ). record { lines = lines; slots = slots; columns = columns })
-    (same_map places_total places_exact (tabled lines slots (set table (i * slots + s) None)).columns (without_path (tabled lines slots table) i s).columns (λ q. each q.0 q.1))
-  where
-    each : (k t : ℕ) → row_slot (tabled lines slots (set table (i * slots + s) None)) k t ≡ row_slot (without_path (tabled lines slots table) i s) k t
-    each k t = elim (here_or_other i s k t) [
-      | inl here ↦ rw (here.0, here.1) (row_slot_tabled lines slots (set table (i * slots + s) None) i s row slot ∙ written_here table lines slots i s None places row slot ∙ sym (without_path_here (tabled lines slots table) i s))
-      | inr other ↦ other_tabled lines slots table i s k t None slot other ∙ sym (without_path_other (tabled lines slots table) i s k t other)
-    ]
+    let m = tabled lines slots table in
+    tabled_written lines slots table i s None (without_path m i s).columns places row slot (without_path_here m i s) (without_path_other m i s)
 
--- the row that the second table has for a column and a slot
-pub column_slot_tabled : (lines slots : ℕ) (columns rows : List (Option ℕ)) (j s : ℕ) → IsKept lines slots columns rows → j < lines → s < slots → column_slot (tabled lines slots columns) j s ≡ held rows slots j s
-column_slot_tabled lines slots columns rows j s kept column slot = sym (kept.indexed j s column slot)
+-- a table that has what each line has, after one place is written
+indexed_after : (lines slots : ℕ) (rows : List (Option ℕ)) (before after : ℕ → ℕ → Option ℕ) (j s : ℕ) (o : Option ℕ) → length rows ≡ lines * slots
+    → ((l t : ℕ) → l < lines → t < slots → held rows slots l t ≡ before l t)
+    → j < lines → s < slots → after j s ≡ o
+    → ((l t : ℕ) → (l ≡ j → t ≡ s → ⊥) → after l t ≡ before l t)
+    → (l t : ℕ) → l < lines → t < slots → held (set rows (j * slots + s) o) slots l t ≡ after l t
+indexed_after lines slots rows before after j s o places indexed column slot here others l t below within = elim (here_or_other j s l t) [
+  | inl one ↦ rw (one.0, one.1) (written_here rows lines slots j s o places column slot ∙ sym here)
+  | inr other ↦ written_other rows slots j s l t o slot within other ∙ indexed l t below within ∙ sym (others l t other)
+]
 
--- what holds of the tables holds with a path more
-pub kept_place : (lines slots : ℕ) (columns rows : List (Option ℕ)) (i j s : ℕ) → IsKept lines slots columns rows → i < lines → j < lines → s < slots → row_slot (tabled lines slots columns) i s ≡ None → column_slot (tabled lines slots columns) j s ≡ None → IsKept lines slots (set columns (i * slots + s) (Some j)) (set rows (j * slots + s) (Some i))
-kept_place lines slots columns rows i j s kept row column slot row_none column_none =
+-- what holds of the tables and the words holds with a path more
+pub kept_place : (lines slots : ℕ) (columns rows : List (Option ℕ)) (row_words column_words : List ℕ) (i j s : ℕ) → IsKept lines slots columns rows row_words column_words → i < lines → j < lines → s < slots → row_slot (tabled lines slots columns) i s ≡ None → column_slot (tabled lines slots columns) j s ≡ None → IsKept lines slots (set columns (i * slots + s) (Some j)) (set rows (j * slots + s) (Some i)) (marked row_words i s) (marked column_words j s)
+kept_place lines slots columns rows row_words column_words i j s kept row column slot row_none column_none =
     let m = tabled lines slots columns in
-    let same = tabled_place lines slots columns i j s kept.row_places row slot in
+    let same = sym (tabled_place lines slots columns i j s kept.row_places row slot) in
     let legal = legal_with m i j s kept.legal row column slot column_none in
+    let here = column_with_here m i j s legal in
+    let others : (l t : ℕ) → (l ≡ j → t ≡ s → ⊥) → column_slot (with_path m i j s) l t ≡ column_slot m l t = λ l t other. column_with_other m i j s l t kept.legal legal row_none other in
     record {
-      legal = subst IsLegal (sym same) legal;
+      legal = subst IsLegal same legal;
       row_places = length-set columns _ _ ∙ kept.row_places;
       column_places = length-set rows _ _ ∙ kept.column_places;
-      indexed = λ l t below within. elim (here_or_other j s l t) [
-        | inl here ↦ rw (here.0, here.1) (written_here rows lines slots j s (Some i) kept.column_places column slot ∙ sym (column_with_here m i j s legal) ∙ ap (λ n. column_slot n j s) (sym same))
-        | inr other ↦ written_other rows slots j s l t (Some i) slot within other ∙ kept.indexed l t below within ∙ sym (column_with_other m i j s l t kept.legal legal row_none other) ∙ ap (λ n. column_slot n l t) (sym same)
-      ];
+      indexed = subst (λ n. (l t : ℕ) → l < lines → t < slots → held (set rows (j * slots + s) (Some i)) slots l t ≡ column_slot n l t) same
+          (indexed_after lines slots rows (column_slot m) (column_slot (with_path m i j s)) j s (Some i) kept.column_places kept.indexed column slot here others);
+      row_marks = subst (λ n. IsMarked lines slots (marked row_words i s) (row_slot n)) same
+          (marks_taken lines slots row_words (row_slot m) (row_slot (with_path m i j s)) i s j kept.row_marks row (with_path_here m i j s) (with_path_other m i j s));
+      column_marks = subst (λ n. IsMarked lines slots (marked column_words j s) (column_slot n)) same
+          (marks_taken lines slots column_words (column_slot m) (column_slot (with_path m i j s)) j s i kept.column_marks column here others);
     }
 
 -- and with a path less
-pub kept_lift : (lines slots : ℕ) (columns rows : List (Option ℕ)) (i j s : ℕ) → IsKept lines slots columns rows → row_slot (tabled lines slots columns) i s ≡ Some j → IsKept lines slots (set columns (i * slots + s) None) (set rows (j * slots + s) None)
-kept_lift lines slots columns rows i j s kept stands =
+pub kept_lift : (lines slots : ℕ) (columns rows : List (Option ℕ)) (row_words column_words : List ℕ) (i j s : ℕ) → IsKept lines slots columns rows row_words column_words → row_slot (tabled lines slots columns) i s ≡ Some j → IsKept lines slots (set columns (i * slots + s) None) (set rows (j * slots + s) None) (unmarked row_words i s) (unmarked column_words j s)
+kept_lift lines slots columns rows row_words column_words i j s kept stands =
     let m = tabled lines slots columns in
     let row = kept.legal.row_within i s j stands in
     let column = kept.legal.column_within i s j stands in
     let slot = kept.legal.slot_within i s j stands in
-    let same = tabled_lift lines slots columns i s kept.row_places row slot in
-    let legal = legal_without m i s kept.legal in
+    let few = kept.legal.slots_within.1 in
+    let same = sym (tabled_lift lines slots columns i s kept.row_places row slot) in
+    let here = column_without_here m i j s kept.legal stands in
+    let others : (l t : ℕ) → (l ≡ j → t ≡ s → ⊥) → column_slot (without_path m i s) l t ≡ column_slot m l t = λ l t other. column_without_other m i j s l t kept.legal stands other in
     record {
-      legal = subst IsLegal (sym same) legal;
+      legal = subst IsLegal same (legal_without m i s kept.legal);
       row_places = length-set columns _ _ ∙ kept.row_places;
       column_places = length-set rows _ _ ∙ kept.column_places;
-      indexed = λ l t below within. elim (here_or_other j s l t) [
-        | inl here ↦ rw (here.0, here.1) (written_here rows lines slots j s None kept.column_places column slot ∙ sym (column_without_here m i j s kept.legal stands) ∙ ap (λ n. column_slot n j s) (sym same))
-        | inr other ↦ written_other rows slots j s l t None slot within other ∙ kept.indexed l t below within ∙ sym (column_without_other m i j s l t kept.legal stands other) ∙ ap (λ n. column_slot n l t) (sym same)
-      ];
+      indexed = subst (λ n. (l t : ℕ) → l < lines → t < slots → held (set rows (j * slots + s) None) slots l t ≡ column_slot n l t) same
+          (indexed_after lines slots rows (column_slot m) (column_slot (without_path m i s)) j s None kept.column_places kept.indexed column slot here others);
+      row_marks = subst (λ n. IsMarked lines slots (unmarked row_words i s) (row_slot n)) same
+          (marks_left lines slots row_words (row_slot m) (row_slot (without_path m i s)) i s kept.row_marks row slot few (without_path_here m i s) (without_path_other m i s));
+      column_marks = subst (λ n. IsMarked lines slots (unmarked column_words j s) (column_slot n)) same
+          (marks_left lines slots column_words (column_slot m) (column_slot (without_path m i s)) j s kept.column_marks column slot few here others);
     }
 
 -- tables without a path
@@ -153,9 +183,7 @@ empty_held : (lines slots i s : ℕ) → i < lines → s < slots → held (repli
 empty_held lines slots i s row slot = get_or-replicate (lines * slots) (i * slots + s) None None (omega (arith, mul-add-lt i slots s lines row slot))
 
 pub tabled_empty : (lines slots : ℕ) → tabled lines slots (replicate (lines * slots) None) ≡ no_paths lines slots
-tabled_empty lines slots =
-    ap (λ (columns : FinMap by_row_and_slot ℕ). record { lines = lines; slots = slots; columns = columns })
-    (same_map places_total places_exact (tabled lines slots (replicate (lines * slots) None)).columns (no_paths lines slots).columns (λ q. each q.0 q.1))
+tabled_empty lines slots = same_matrix lines slots (replicate (lines * slots) None) (no_paths lines slots).columns each
   where
     each : (k t : ℕ) → row_slot (tabled lines slots (replicate (lines * slots) None)) k t ≡ row_slot (no_paths lines slots) k t
     each k t = elim (within_or_beyond lines slots k t) [
@@ -163,15 +191,31 @@ tabled_empty lines slots =
       | inr beyond ↦ beyond_tabled lines slots _ k t beyond ∙ sym (get-empty by_row_and_slot (k, t))
     ]
 
-pub kept_empty : (lines slots : ℕ) → (0 < lines) × (lines ≤ 34) → (0 < slots) × (slots ≤ 59) → IsKept lines slots (replicate (lines * slots) None) (replicate (lines * slots) None)
+no_row_slot : (lines slots i s : ℕ) → row_slot (no_paths lines slots) i s ≡ None
+no_row_slot lines slots i s = get-empty by_row_and_slot (i, s)
+
+no_column_slot : (lines slots j s : ℕ) → column_slot (no_paths lines slots) j s ≡ None
+no_column_slot lines slots j s = no_column (no_paths lines slots) j s (λ i stands. let none = no_row_slot lines slots i s in cc)
+
+pub kept_empty : (lines slots : ℕ) → (0 < lines) × (lines ≤ 34) → (0 < slots) × (slots ≤ 59) → IsKept lines slots (replicate (lines * slots) None) (replicate (lines * slots) None) (replicate lines 0) (replicate lines 0)
 kept_empty lines slots few_lines few_slots =
-    let same = tabled_empty lines slots in
+    let same = sym (tabled_empty lines slots) in
     record {
-      legal = subst IsLegal (sym same) (legal_empty lines slots few_lines few_slots);
+      legal = subst IsLegal same (legal_empty lines slots few_lines few_slots);
       row_places = length-replicate (lines * slots) None;
       column_places = length-replicate (lines * slots) None;
-      indexed = λ j s column slot. empty_held lines slots j s column slot ∙ sym (no_column (no_paths lines slots) j s (λ i stands. nothing i s j stands)) ∙ ap (λ n. column_slot n j s) (sym same);
+      indexed = λ j s column slot. empty_held lines slots j s column slot ∙ sym (no_column_slot lines slots j s) ∙ ap (λ n. column_slot n j s) same;
+      row_marks = subst (λ n. IsMarked lines slots (replicate lines 0) (row_slot n)) same (marks_none lines slots (row_slot (no_paths lines slots)) (no_row_slot lines slots));
+      column_marks = subst (λ n. IsMarked lines slots (replicate lines 0) (column_slot n)) same (marks_none lines slots (column_slot (no_paths lines slots)) (no_column_slot lines slots));
     }
-  where
-    nothing : (i s j : ℕ) → row_slot (no_paths lines slots) i s ≡ Some j → ⊥
-    nothing i s j e = let none : row_slot (no_paths lines slots) i s ≡ None = get-empty by_row_and_slot (i, s) in cc
+
+-- the lowest slot that the word of a row lacks, and that of a column
+pub row_word_lowest : (lines slots : ℕ) (columns rows : List (Option ℕ)) (row_words column_words : List ℕ) (m : Matrix) (i n word : ℕ) → IsKept lines slots columns rows row_words column_words → tabled lines slots columns ≡ m → i < m.lines → n ≡ i → word ≡ get_or row_words n word → lowest_in_row m i ≡ lowest (lacks word) slots
+row_word_lowest lines slots columns rows row_words column_words m i n word kept same row at read =
+    ap (λ o. lowest_in_row o i) (sym same)
+    ∙ sym (word_lowest lines slots row_words (row_slot (tabled lines slots columns)) i n word kept.row_marks (subst (λ o. i < o.lines) (sym same) row) at read)
+
+pub column_word_lowest : (lines slots : ℕ) (columns rows : List (Option ℕ)) (row_words column_words : List ℕ) (m : Matrix) (j n word : ℕ) → IsKept lines slots columns rows row_words column_words → tabled lines slots columns ≡ m → j < m.lines → n ≡ j → word ≡ get_or column_words n word → lowest_in_column m j ≡ lowest (lacks word) slots
+column_word_lowest lines slots columns rows row_words column_words m j n word kept same column at read =
+    ap (λ o. lowest_in_column o j) (sym same)
+    ∙ sym (word_lowest lines slots column_words (column_slot (tabled lines slots columns)) j n word kept.column_marks (subst (λ o. j < o.lines) (sym same) column) at read)

@@ -1,3 +1,4 @@
 pub mod Numbers
 pub mod Matrix
+pub mod Marks
 pub mod Tabled

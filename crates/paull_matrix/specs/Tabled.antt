@@ -1,7 +1,9 @@
--- A matrix that is kept as a table of columns by row and slot, with a table of rows by column and slot beside it.
+-- A matrix that is kept as a table of columns by row and slot, with a table of rows by column and slot and words of used
+-- slots beside it.
 use Rattle.std.specs.Prelude.{◌≡◌, ℕ, zero, suc, ◌+◌, ◌*◌, ◌<◌, Option, Some, None, List, length, get_or}
 use Rattle.std.specs.FinMap.{FinMap, empty, insert}
-use Rattle.paull_matrix.specs.Matrix.{Matrix, by_row_and_slot, column_slot, IsLegal}
+use Rattle.paull_matrix.specs.Matrix.{Matrix, by_row_and_slot, row_slot, column_slot, IsLegal}
+use Rattle.paull_matrix.specs.Marks.{IsMarked}
 
 -- what a table holds for a line and a slot, where each line has `slots` places
 abbrev pub held : List (Option ℕ) → ℕ → ℕ → ℕ → Option ℕ
@@ -26,9 +28,12 @@ rows_below table slots (suc i) = with_row table slots i slots (rows_below table 
 abbrev pub tabled : ℕ → ℕ → List (Option ℕ) → Matrix
 tabled lines slots columns = record { lines = lines; slots = slots; columns = rows_below columns slots lines }
 
--- what holds of the two tables: the second has for a column and a slot the row whose path stands there
-pub record IsKept (lines slots : ℕ) (columns rows : List (Option ℕ)) : Type 0 where
+-- What holds of the tables and the words: the second table has for a column and a slot the row whose path stands there,
+-- and the words have a bit for each slot in which a row has a path, or a column
+pub record IsKept (lines slots : ℕ) (columns rows : List (Option ℕ)) (row_words column_words : List ℕ) : Type 0 where
   pub legal : IsLegal (tabled lines slots columns)
   pub row_places : length columns ≡ lines * slots
   pub column_places : length rows ≡ lines * slots
   pub indexed : (j s : ℕ) → j < lines → s < slots → held rows slots j s ≡ column_slot (tabled lines slots columns) j s
+  pub row_marks : IsMarked lines slots row_words (row_slot (tabled lines slots columns))
+  pub column_marks : IsMarked lines slots column_words (column_slot (tabled lines slots columns))

@@ -1,7 +1,10 @@
-//! The matrix, kept as a table of the columns by row and slot, with a table of the rows by column and
-//! slot as its index. A look reads one entry.
+//! The matrix, kept as a table of the columns by row and slot. A table of the rows by column and slot
+//! and a word of used slots for each line are its indexes. A look reads one entry, and the lowest free
+//! slot is the lowest clear bit of a word.
 
-ghost use Rattle.std.specs.Prelude.{◌≡◌, ◌<◌, ◌≤◌, ◌+◌, ◌*◌, Some, None, IfOk};
+ghost use Rattle.std.specs.Prelude.{◌≡◌, ◌<◌, ◌≤◌, ◌+◌, ◌*◌, Some, None, IfOk, length};
+ghost use Rattle.paull_matrix.specs.Marks.{lacks, marked, unmarked};
+ghost use Rattle.paull_matrix.specs.Numbers.{lowest};
 ghost use Rattle.paull_matrix.specs.Matrix.{
   no_paths,
   row_slot as row_slot_of,
@@ -30,6 +33,8 @@ pub struct PaullMatrix {
     slots: u8,
     columns: Vec<Option<u8>>,
     rows: Vec<Option<u8>>,
+    row_words: Vec<u64>,
+    column_words: Vec<u64>,
 }
 
 impl Model for PaullMatrix {
@@ -42,7 +47,7 @@ impl Model for PaullMatrix {
 
     ghost view = { λ a. tabled a.lines a.slots a.columns.items };
 
-    ghost invariant = { λ a. IsKept a.lines a.slots a.columns.items a.rows.items };
+    ghost invariant = { λ a. IsKept a.lines a.slots a.columns.items a.rows.items a.row_words.items a.column_words.items };
 }
 
 impl PaullMatrix {
@@ -60,6 +65,8 @@ impl PaullMatrix {
             slots,
             columns: vec![in alloc; None; places]?,
             rows: vec![in alloc; None; places]?,
+            row_words: vec![in alloc; 0; usize::from(lines)]?,
+            column_words: vec![in alloc; 0; usize::from(lines)]?,
         })
     }
 
@@ -91,12 +98,8 @@ impl PaullMatrix {
         ensures lowest { result ≡ lowest_in_both self.now i j }
         ensures legal { IsLegal self.now }
     {
-        for s in 0..self.slots {
-            if self.row_slot(i, s).is_none() && self.column_slot(j, s).is_none() {
-                return Some(s);
-            }
-        }
-        None
+        let used = self.row_words[usize::from(i)] | self.column_words[usize::from(j)];
+        lowest_missing(used, self.slots)
     }
 
     /// The lowest slot that is missing in row `i`, which has fewer paths than there are slots.
@@ -106,12 +109,10 @@ impl PaullMatrix {
         ensures lowest { lowest_in_row self.now i ≡ Some result }
         ensures legal { IsLegal self.now }
     {
-        for s in 0..self.slots {
-            if self.row_slot(i, s).is_none() {
-                return s;
-            }
+        match lowest_missing(self.row_words[usize::from(i)], self.slots) {
+            Some(s) => s,
+            None => unreachable!(),
         }
-        unreachable!()
     }
 
     /// The lowest slot that is missing in column `j`, which has fewer paths than there are slots.
@@ -121,12 +122,10 @@ impl PaullMatrix {
         ensures lowest { lowest_in_column self.now j ≡ Some result }
         ensures legal { IsLegal self.now }
     {
-        for s in 0..self.slots {
-            if self.column_slot(j, s).is_none() {
-                return s;
-            }
+        match lowest_missing(self.column_words[usize::from(j)], self.slots) {
+            Some(s) => s,
+            None => unreachable!(),
         }
-        unreachable!()
     }
 
     /// Puts a path of row `i` and column `j` into slot `s`, which is missing in both.
@@ -143,6 +142,8 @@ impl PaullMatrix {
         let in_column = place_of(self.slots, j, s);
         self.columns[in_row] = Some(j);
         self.rows[in_column] = Some(i);
+        mark(&mut self.row_words, i, s);
+        mark(&mut self.column_words, j, s);
     }
 
     /// Takes out the path of row `i` and column `j` that stands in slot `s`.
@@ -155,7 +156,40 @@ impl PaullMatrix {
         let in_column = place_of(self.slots, j, s);
         self.columns[in_row] = None;
         self.rows[in_column] = None;
+        unmark(&mut self.row_words, i, s);
+        unmark(&mut self.column_words, j, s);
     }
+}
+
+/// The lowest slot whose bit is clear in a word, `None` exactly where each is set.
+fn lowest_missing(word: u64, slots: u8) -> Option<u8>
+    requires few { slots ≤ 59 }
+    ensures lowest { result ≡ lowest (lacks word) slots }
+{
+    let s = (!word).trailing_zeros();
+    if s < u32::from(slots) {
+        Some(s as u8)
+    } else {
+        None
+    }
+}
+
+/// Sets the bit of a slot in a line's word.
+fn mark(words: &mut Vec<u64>, line: u8, s: u8)
+    requires line { line < length words.old.items }
+    requires slot { s < 59 }
+    ensures set { words.new.items ≡ marked words.old.items line s }
+{
+    words[usize::from(line)] |= 1 << s;
+}
+
+/// Clears the bit of a slot in a line's word.
+fn unmark(words: &mut Vec<u64>, line: u8, s: u8)
+    requires line { line < length words.old.items }
+    requires slot { s < 59 }
+    ensures cleared { words.new.items ≡ unmarked words.old.items line s }
+{
+    words[usize::from(line)] &= !(1 << s);
 }
 
 /// The place of a line and a slot in a table, where each line has `slots` places.

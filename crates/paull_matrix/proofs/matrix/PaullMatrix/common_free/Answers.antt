@@ -1,13 +1,18 @@
-use Rattle.std.proofs.Common.{rules, sym}
-use Rattle.std.specs.Prelude.{◌&&◌}
-use Rattle.paull_matrix.specs.Matrix.{is_free_in_row, is_free_in_column}
-use Rattle.paull_matrix.proofs.Numbers.{found_at, lowest_past}
+use Rattle.std.proofs.Common.{◌<◌, ap, subst, sym, ◌∙◌}
+use Rattle.paull_matrix.specs.Matrix.{row_slot, column_slot, lowest_in_both}
+use Rattle.paull_matrix.specs.Tabled.{tabled}
+use Rattle.paull_matrix.proofs.Marks.{words_lowest}
 use Rattle.paull_matrix.proofs.matrix.PaullMatrix.common_free.Goals as goal
-use Rattle.paull_matrix.proofs.matrix.PaullMatrix.common_free.Goals.{else-is_none-via-then-is_none+else-is_none-2, else-is_none-via-else-is_none}
 
-pub returns-then-is_none-2-clause-lowest : goal.returns-then-is_none-2-clause-lowest
-returns-then-is_none-2-clause-lowest c = sym (found_at (λ s. is_free_in_row c.args.self.now c.args.i s && is_free_in_column c.args.self.now c.args.j s) c.args.self.now.slots c.loop-s.s c.loop-s.invariant (search rules) (search rules))
-
-pub loop-s-preserved : goal.loop-s-preserved
-loop-s-preserved c = lowest_past (λ s. is_free_in_row c.args.self.now c.args.i s && is_free_in_column c.args.self.now c.args.j s) c.loop-s.s c.loop-s.invariant
-    (elim c.else-is_none.branch [ else-is_none-via-then-is_none+else-is_none-2 w ↦ search rules | else-is_none-via-else-is_none w ↦ search rules ])
+pub returns-clause-lowest : goal.returns-clause-lowest
+returns-clause-lowest c =
+    let back = sym c.self.view_is in
+    let kept = c.self.invariant in
+    c.lowest_missing.ensures.lowest
+    ∙ words_lowest c.self.inside.lines c.self.inside.slots c.self.inside.row_words.items c.self.inside.column_words.items
+    (row_slot (tabled c.self.inside.lines c.self.inside.slots c.self.inside.columns.items))
+    (column_slot (tabled c.self.inside.lines c.self.inside.slots c.self.inside.columns.items))
+    c.args.i c.args.j c.from.result c.from-2.result c.index.result.now c.index-2.result.now
+    kept.row_marks (subst (λ m. c.args.i < m.lines) back c.requires.row) c.from.ensures c.index.ensures
+    kept.column_marks (subst (λ m. c.args.j < m.lines) back c.requires.column) c.from-2.ensures c.index-2.ensures
+    ∙ ap (λ m. lowest_in_both m c.args.i c.args.j) c.self.view_is

@@ -6,8 +6,8 @@ use Rattle.paull_matrix.proofs.matrix.PaullMatrix.place.Goals as goal
 pub invariant_of-self : goal.invariant_of-self
 invariant_of-self c =
     let back = sym c.self.view_is in
-    rw (c.place_of-in_row.ensures, c.place_of-in_column.ensures)
-    (kept_place c.self.inside.lines c.self.inside.slots c.self.inside.columns.items c.self.inside.rows.items c.args.i c.args.j c.args.s c.self.invariant
+    rw (c.place_of-in_row.ensures, c.place_of-in_column.ensures, c.mark.ensures.set, c.mark-2.ensures.set)
+    (kept_place c.self.inside.lines c.self.inside.slots c.self.inside.columns.items c.self.inside.rows.items c.self.inside.row_words.items c.self.inside.column_words.items c.args.i c.args.j c.args.s c.self.invariant
     (subst (λ m. c.args.i < m.lines) back c.requires.row)
     (subst (λ m. c.args.j < m.lines) back c.requires.column)
     (subst (λ m. c.args.s < m.slots) back c.requires.slot)
