@@ -1,0 +1,271 @@
+ghost use Rattle.std.specs.Prelude.{◌≡◌, IfOk, length};
+ghost use Rattle.exchange_core.specs.Sound.{Fits};
+
+use circuit_model::{IDLE, PLACES, Slot};
+use exchange_core::Event;
+use frame_buffer::DelayLine;
+use plain_model::Exchange;
+use std::alloc::{AllocError, Global};
+use std::marker::Model;
+
+/// Which events a trace has, and what says the octets that are heard in it.
+#[derive(Clone, Copy)]
+pub enum Kind {
+    /// Nails, frees and frames; a delay line.
+    Nails,
+    /// Seats too; the definitions' own program.
+    Rooms,
+}
+
+/// Two slots that are connected, and the first frame that they are connected in.
+#[derive(Clone, Copy)]
+struct Nail {
+    one: Slot,
+    other: Slot,
+    since: u32,
+}
+
+impl Nail {
+    /// Whom a slot is connected with by this nail.
+    fn partner(&self, x: Slot) -> Option<Slot> {
+        if self.one == x {
+            Some(self.other)
+        } else if self.other == x {
+            Some(self.one)
+        } else {
+            None
+        }
+    }
+}
+
+/// What a plain reading of the events says that a report has to say, but for the numbers of moved
+/// paths.
+///
+/// It lists who is connected with whom and since when, and who has a seat.
+#[derive(Drop)]
+pub struct Yardstick {
+    kind: Kind,
+    external: u8,
+    ports: usize,
+    nails: Vec<Nail>,
+    seats: Vec<Slot>,
+    delay: DelayLine,
+    plain: Exchange,
+    refused: u32,
+    octets: u32,
+}
+
+impl Model for Yardstick {
+    ghost use Rattle.std.specs.Prelude.{◌≡◌, ℕ};
+
+    ghost Value = { ℕ };
+
+    ghost view = { λ y. y.external };
+
+    ghost invariant = { λ y. y.delay.external ≡ y.external };
+}
+
+impl Yardstick {
+    /// Before the first event of an exchange with so many external and bridge lines.
+    pub fn new(
+        alloc: Global,
+        kind: Kind,
+        external: u8,
+        bridges: u8,
+    ) -> Result<Yardstick, AllocError>
+        ensures { IfOk result (λ y. y ≡ external) }
+    {
+        Ok(Yardstick {
+            kind,
+            external,
+            ports: usize::from(bridges) * usize::from(PLACES),
+            nails: Vec::new(alloc),
+            seats: Vec::new(alloc),
+            delay: DelayLine::new(alloc, external)?,
+            plain: Exchange::new(alloc),
+            refused: 0,
+            octets: 0,
+        })
+    }
+
+    /// How many external lines there are.
+    pub fn external(&self) -> u8
+        ensures { result ≡ self.now }
+    {
+        self.external
+    }
+
+    /// How many frames there were.
+    pub fn frames(&self) -> u32 {
+        self.plain.next_frame()
+    }
+
+    /// How many events were refused.
+    pub fn refused(&self) -> u32 {
+        self.refused
+    }
+
+    /// How many octets other than the idle one were heard.
+    pub fn octets(&self) -> u32 {
+        self.octets
+    }
+
+    /// Takes one event, and adds what the report says of it behind its number. `_` stands for a
+    /// number of moved paths.
+    pub fn step(
+        &mut self,
+        alloc: Global,
+        event: &Event,
+        report: &mut String,
+    ) -> Result<(), AllocError>
+        requires { Fits self.old event.now }
+        ensures { self.new ≡ self.old }
+    {
+        match event {
+            Event::Nail(x, y) => report.push_str(self.nail(*x, *y)?),
+            Event::Seat(x, room) => report.push_str(self.seat(*x, *room)?),
+            Event::Free(x) => report.push_str(self.free(*x)),
+            Event::Frame(input) => self.frame(alloc, input.as_slice(), report),
+        }
+    }
+
+    /// Whom a slot is connected with, and since which frame.
+    fn nail_of(&self, x: Slot) -> Option<(Slot, u32)> {
+        for nail in &self.nails {
+            if let Some(other) = nail.partner(x) {
+                return Some((other, nail.since));
+            }
+        }
+        None
+    }
+
+    /// Whether a slot is idle.
+    pub fn is_idle(&self, x: Slot) -> bool {
+        self.nail_of(x).is_none() && !self.seats.contains(&x)
+    }
+
+    fn refuse(&mut self, answer: &'static str) -> &'static str
+        ensures { self.new ≡ self.old }
+    {
+        self.refused = self.refused.saturating_add(1);
+        answer
+    }
+
+    fn nail(&mut self, one: Slot, other: Slot) -> Result<&'static str, AllocError>
+        ensures { self.new ≡ self.old }
+    {
+        if !(self.is_idle(one) && self.is_idle(other)) {
+            return Ok(self.refuse("busy"));
+        }
+        let since = self.plain.next_frame();
+        self.nails.push(Nail { one, other, since })?;
+        self.plain.connect(one, other)?;
+        Ok("granted _ _")
+    }
+
+    fn seat(&mut self, x: Slot, room: u8) -> Result<&'static str, AllocError>
+        ensures { self.new ≡ self.old }
+    {
+        if !self.is_idle(x) {
+            return Ok(self.refuse("busy"));
+        }
+        if self.seats.len() == self.ports {
+            return Ok(self.refuse("noport"));
+        }
+        self.seats.push(x)?;
+        self.plain.seat(x, room)?;
+        Ok("seated _ _")
+    }
+
+    fn free(&mut self, x: Slot) -> &'static str
+        ensures { self.new ≡ self.old }
+    {
+        if self.is_idle(x) {
+            return self.refuse("notnailed");
+        }
+        self.nails.retain(|nail| nail.partner(x).is_none());
+        self.seats.retain(|seat| *seat != x);
+        self.plain.clear(x);
+        "freed"
+    }
+
+    /// A frame. The delay line is read before it takes in what arrives. Past the greatest number
+    /// there is no frame, and nothing is added, which no report agrees with.
+    fn frame(
+        &mut self,
+        alloc: Global,
+        input: &[Option<[u8; 30]>],
+        report: &mut String,
+    ) -> Result<(), AllocError>
+        requires { length input.now ≡ self.old }
+        ensures { self.new ≡ self.old }
+    {
+        let frame = self.plain.next_frame();
+        if frame == u32::MAX {
+            return Ok(());
+        }
+        self.plain.frame(alloc, input)?;
+        write!(report, "frame {frame}")?;
+        for line in 0..self.external {
+            self.line(frame, line, report)?;
+        }
+        self.delay.push(input);
+        Ok(())
+    }
+
+    /// What a line sends, where it isn't idle.
+    fn line(&mut self, frame: u32, line: u8, report: &mut String) -> Result<(), AllocError>
+        ensures { self.new ≡ self.old }
+    {
+        let octets = self.sent(frame, line);
+        let loud = octets.iter().filter(|octet| **octet != IDLE).count();
+        if loud == 0 {
+            return Ok(());
+        }
+        self.octets = self.octets.saturating_add(loud as u32);
+        write!(report, " {line}:")?;
+        append_octets(report, &octets)
+    }
+
+    /// What a line sends in a frame.
+    fn sent(&self, frame: u32, line: u8) -> [u8; 30] {
+        let mut octets = [IDLE; 30];
+        for place in 0..PLACES {
+            octets[usize::from(place)] = self.heard(frame, Slot { line, place });
+        }
+        octets
+    }
+
+    /// What a slot hears in a frame.
+    fn heard(&self, frame: u32, at: Slot) -> u8 {
+        match self.kind {
+            Kind::Nails => self.delayed(frame, at),
+            Kind::Rooms => self.plain.heard(&[], &[], frame, at),
+        }
+    }
+
+    /// What arrived two frames before on the other end of a nail that is two frames old.
+    fn delayed(&self, frame: u32, at: Slot) -> u8 {
+        match self.nail_of(at) {
+            Some((from, since)) if frame >= 2 && since <= frame - 2 => self.back_two(from),
+            _ => IDLE,
+        }
+    }
+
+    /// What arrived on a slot two frames before; a slot of a nail is always one of the exchange.
+    fn back_two(&self, from: Slot) -> u8 {
+        if from.line < self.external && from.place < PLACES {
+            self.delay.back_two(from)
+        } else {
+            IDLE
+        }
+    }
+}
+
+/// Adds the sixty digits of a line's octets.
+pub fn append_octets(text: &mut String, octets: &[u8; 30]) -> Result<(), AllocError> {
+    for octet in octets.iter() {
+        write!(text, "{octet:02X}")?;
+    }
+    Ok(())
+}
