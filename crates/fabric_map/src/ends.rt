@@ -10,6 +10,11 @@ pub struct Ends {
 }
 
 impl Default for Ends {
+    ghost use Rattle.std.specs.Prelude.{◌≡◌};
+
+    // Both are the first slot of all.
+    ghost is_default = { λ ends. (ends.from ≡ record { line = 0; place = 0 }) × (ends.to ≡ record { line = 0; place = 0 }) };
+
     fn default() -> Self {
         let at = Slot { line: 0, place: 0 };
         Ends { from: at, to: at }
