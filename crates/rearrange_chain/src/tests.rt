@@ -41,8 +41,10 @@ fn exchanges_the_slots_of_a_chain(rt: HostRuntime) -> Result<(), Fail> {
                 new
             }
         );
-        assert_eq!(rt; matrix.row_slot(row, new), Some(column));
     }
+    assert_eq!(rt; matrix.row_slot(1, 1), Some(0));
+    assert_eq!(rt; matrix.row_slot(1, 0), Some(1));
+    assert_eq!(rt; matrix.row_slot(2, 1), Some(1));
     assert_eq!(rt; matrix.row_slot(0, 1), Some(2));
     Ok(())
 }
