@@ -107,20 +107,3 @@ impl Carrier for Engine {
         self.next += 1;
     }
 }
-
-#[cfg(test)]
-mod tests {
-    use super::Engine;
-    use crate::carrier::Carrier;
-    use std::alloc::AllocError;
-
-    // That there is memory is beside every contract.
-    #[test]
-    fn a_full_engine_is_made(rt: HostRuntime) -> Result<(), AllocError> {
-        let full = Engine::new(rt.alloc(), 32, 2, 59)?;
-        drop(full);
-        let small = Engine::new(rt.alloc(), 1, 0, 1)?;
-        drop(small);
-        Ok(())
-    }
-}

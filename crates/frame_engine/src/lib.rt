@@ -8,6 +8,8 @@ mod intake;
 mod marker;
 mod play;
 mod rooms;
+#[cfg(test)]
+mod tests;
 
 pub use carrier::Carrier;
 pub use engine::Engine;
