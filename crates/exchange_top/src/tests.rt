@@ -20,13 +20,42 @@ fn spelled(alloc: Global, text: &str) -> Result<Vec<u8>, AllocError> {
     Ok(bytes)
 }
 
+/// What came of a call.
+#[derive(Drop)]
+struct Ended {
+    status: u8,
+    order: Vec<u32>,
+    has_engine: bool,
+    read_faults: u64,
+    write_faults: u64,
+    sink: MemSink,
+}
+
+// One call of the exchange. That it has no clause keeps what a call promises out of the tests, which
+// only look at what came of it.
+fn called<C: Carrier>(
+    alloc: Global,
+    words: &[String],
+    mut source: MemSource,
+    mut sink: MemSink,
+) -> Ended {
+    let outcome: Outcome<C> = exchange(alloc, words, &mut source, &mut sink);
+    Ended {
+        status: outcome.status,
+        order: outcome.order,
+        has_engine: outcome.engine.is_some(),
+        read_faults: source.faults(),
+        write_faults: sink.faults(),
+        sink,
+    }
+}
+
 // How the command `run` ends on an input, and what it writes.
-fn ran<C: Carrier>(alloc: Global, input: Vec<u8>) -> Result<(Outcome<C>, MemSink), AllocError> {
+fn ran<C: Carrier>(alloc: Global, input: Vec<u8>) -> Result<Ended, AllocError> {
     let words = vec![in alloc; String::from_str(alloc, "run")?]?;
-    let mut source = MemSource::new(input, 4096, Vec::new(alloc));
-    let mut sink = MemSink::new(alloc, 1_000_000, 4096, Vec::new(alloc))?;
-    let outcome = exchange(alloc, &words, &mut source, &mut sink);
-    Ok((outcome, sink))
+    let source = MemSource::new(input, 4096, Vec::new(alloc));
+    let sink = MemSink::new(alloc, 1_000_000, 4096, Vec::new(alloc))?;
+    Ok(called::<C>(alloc, &words, source, sink))
 }
 
 const DELAY: &str = "exchange 1 2 0 1\nnail 0/1 1/1\nsync\n\
@@ -76,11 +105,14 @@ fn traces_are_answered_by_their_reports(rt: HostRuntime) -> Result<(), Fail> {
             "1 noport\n2 notnailed\n",
         ),
     ] {
-        let (outcome, sink) = ran::<Engine>(alloc, spelled(alloc, trace)?)?;
-        assert_eq!(rt; outcome.status, 0, "{trace}");
-        assert_eq!(rt; outcome.order.as_slice().last(), Some(&count), "{trace}");
-        assert!(rt; outcome.engine.is_some(), "{trace}");
-        assert_eq!(rt; sink.bytes(), spelled(alloc, report)?.as_slice(), "{trace}");
+        let ended = ran::<Engine>(alloc, spelled(alloc, trace)?)?;
+        assert_eq!(rt; (ended.status, ended.has_engine), (0, true), "{trace}");
+        assert_eq!(rt; ended.order.as_slice().last(), Some(&count), "{trace}");
+        assert_eq!(rt;
+            ended.sink.bytes(),
+            spelled(alloc, report)?.as_slice(),
+            "{trace}"
+        );
     }
     Ok(())
 }
@@ -89,10 +121,10 @@ fn traces_are_answered_by_their_reports(rt: HostRuntime) -> Result<(), Fail> {
 #[test]
 fn another_engine_is_heard(rt: HostRuntime) -> Result<(), Fail> {
     let alloc = rt.alloc();
-    let (outcome, sink) = ran::<Marker>(alloc, spelled(alloc, "exchange 1 1 0 1\nF\n")?)?;
-    assert_eq!(rt; outcome.status, 0);
+    let ended = ran::<Marker>(alloc, spelled(alloc, "exchange 1 1 0 1\nF\n")?)?;
+    assert_eq!(rt; ended.status, 0);
     assert_eq!(rt;
-        sink.bytes(),
+        ended.sink.bytes(),
         b"1 frame 0 0:000000000000000000000000000000000000000000000000000000000000\n".as_slice()
     );
     Ok(())
@@ -118,10 +150,10 @@ fn what_is_no_trace_is_refused_at_its_first_fault(rt: HostRuntime) -> Result<(),
         (b"exchange 1 1 1 1\nseat 0/1 64\n", "refused 2 number\n"),
         (too_many.as_slice(), "refused 65537 limit\n"),
     ] {
-        let (outcome, sink) = ran::<Engine>(alloc, input.to_vec(alloc)?)?;
-        assert_eq!(rt; outcome.status, 1, "{refusal}");
-        assert!(rt; outcome.order.is_empty(), "{refusal}");
-        assert_eq!(rt; sink.bytes(), refusal.as_bytes());
+        let ended = ran::<Engine>(alloc, input.to_vec(alloc)?)?;
+        assert_eq!(rt; (ended.status, ended.has_engine), (1, false), "{refusal}");
+        assert!(rt; ended.order.is_empty(), "{refusal}");
+        assert_eq!(rt; ended.sink.bytes(), refusal.as_bytes());
     }
     Ok(())
 }
@@ -135,12 +167,11 @@ fn words_other_than_run_are_refused_unread(rt: HostRuntime) -> Result<(), Fail> 
             given.push(String::from_str(alloc, word)?)?;
         }
         // The first read would fail.
-        let mut source = MemSource::new(Vec::new(alloc), 16, [1].to_vec(alloc)?);
-        let mut sink = MemSink::new(alloc, 100, 16, Vec::new(alloc))?;
-        let outcome: Outcome<Engine> = exchange(alloc, &given, &mut source, &mut sink);
-        assert_eq!(rt; outcome.status, 2);
-        assert_eq!(rt; source.faults(), 0);
-        assert_eq!(rt; sink.bytes(), b"refused words\n".as_slice());
+        let source = MemSource::new(Vec::new(alloc), 16, [1].to_vec(alloc)?);
+        let sink = MemSink::new(alloc, 100, 16, Vec::new(alloc))?;
+        let ended = called::<Engine>(alloc, &given, source, sink);
+        assert_eq!(rt; (ended.status, ended.read_faults), (2, 0));
+        assert_eq!(rt; ended.sink.bytes(), b"refused words\n".as_slice());
     }
     Ok(())
 }
@@ -149,17 +180,16 @@ fn words_other_than_run_are_refused_unread(rt: HostRuntime) -> Result<(), Fail> 
 fn a_failing_read_or_write_ends_the_call(rt: HostRuntime) -> Result<(), Fail> {
     let alloc = rt.alloc();
     let words = vec![in alloc; String::from_str(alloc, "run")?]?;
-
-    let mut source = MemSource::new(spelled(alloc, DELAY)?, 16, [3].to_vec(alloc)?);
-    let mut sink = MemSink::new(alloc, 1000, 1000, Vec::new(alloc))?;
-    let outcome: Outcome<Engine> = exchange(alloc, &words, &mut source, &mut sink);
-    assert_eq!(rt; (outcome.status, source.faults()), (3, 1));
-    assert!(rt; sink.bytes().is_empty());
-
-    let mut source = MemSource::new(spelled(alloc, DELAY)?, 1000, Vec::new(alloc));
-    let mut sink = MemSink::new(alloc, 1000, 10, [2].to_vec(alloc)?)?;
-    let outcome: Outcome<Engine> = exchange(alloc, &words, &mut source, &mut sink);
-    assert_eq!(rt; (outcome.status, sink.faults()), (4, 1));
-    assert_eq!(rt; sink.bytes(), b"1 granted ".as_slice());
+    // The pieces of reads and writes, the read and the write that fail, and what comes of it.
+    for (read_piece, read, write_piece, write, ends, written) in [
+        (16, 3, 1000, 9, (3, 1, 0), b"".as_slice()),
+        (1000, 9, 10, 2, (4, 0, 1), b"1 granted "),
+    ] {
+        let source = MemSource::new(spelled(alloc, DELAY)?, read_piece, [read].to_vec(alloc)?);
+        let sink = MemSink::new(alloc, 1000, write_piece, [write].to_vec(alloc)?)?;
+        let ended = called::<Engine>(alloc, &words, source, sink);
+        assert_eq!(rt; (ended.status, ended.read_faults, ended.write_faults), ends);
+        assert_eq!(rt; ended.sink.bytes(), written);
+    }
     Ok(())
 }
