@@ -33,18 +33,23 @@ fn connect_all() -> Tables {
     tables
 }
 
-#[inline(never)]
-fn carry(from: &[u8], tables: &Tables, highway: &mut [u8], crossed: &mut [u8], to: &mut [u8]) {
+/// Each entry of a time switch's table names one of a line's octets; an entry that names none gives the idle one.
+fn interchange(from: &[u8], width: usize, table: &[u8], to: &mut [u8], entries: usize) {
     for line in 0..LINES {
-        for slot in 0..SLOTS {
-            let place = tables.incoming[line * SLOTS + slot];
-            highway[line * SLOTS + slot] = if place == NONE {
+        for entry in 0..entries {
+            let named = table[line * entries + entry];
+            to[line * entries + entry] = if named == NONE {
                 IDLE
             } else {
-                from[line * PLACES + usize::from(place)]
+                from[line * width + usize::from(named)]
             };
         }
     }
+}
+
+#[inline(never)]
+fn carry(from: &[u8], tables: &Tables, highway: &mut [u8], crossed: &mut [u8], to: &mut [u8]) {
+    interchange(from, PLACES, &tables.incoming, highway, SLOTS);
     for line in 0..LINES {
         for slot in 0..SLOTS {
             let other = tables.space[line * SLOTS + slot];
@@ -55,16 +60,7 @@ fn carry(from: &[u8], tables: &Tables, highway: &mut [u8], crossed: &mut [u8], t
             };
         }
     }
-    for line in 0..LINES {
-        for place in 0..PLACES {
-            let slot = tables.outgoing[line * PLACES + place];
-            to[line * PLACES + place] = if slot == NONE {
-                IDLE
-            } else {
-                crossed[line * SLOTS + usize::from(slot)]
-            };
-        }
-    }
+    interchange(crossed, SLOTS, &tables.outgoing, to, PLACES);
 }
 
 fn main() {

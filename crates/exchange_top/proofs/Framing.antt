@@ -1,5 +1,5 @@
 -- One event, and what the engine makes of it where it is a frame.
-use Rattle.std.proofs.Common.{◌≡◌, ℕ, ◌++◌, Bool, true, false, not, Option, Some, None, List, [], ◌∷◌, refl, sym, subst, inl, inr, if◌then◌else◌}
+use Rattle.std.proofs.Common.{◌≡◌, ℕ, ◌++◌, Bool, true, false, not, Option, Some, None, List, [], ◌∷◌, refl, sym, subst, inl, inr, if◌then◌else◌, ◌∙◌, ap}
 use Rattle.circuit_model.specs.declared.channel.Slot.{Slot}
 use Rattle.circuit_model.specs.declared.circuit.Circuit.{Circuit}
 use Rattle.circuit_model.specs.Circuits.{is_idle}
@@ -7,6 +7,8 @@ use Rattle.circuit_model.specs.FrameInput.{Input}
 use Rattle.circuit_model.specs.Ports.{Ports, given, port_of}
 use Rattle.circuit_model.proofs.Slots.{true_or_false}
 use Rattle.circuit_map.specs.Connections.{Connections, SameSizes}
+use Rattle.control_memory.specs.Image.{Control}
+use Rattle.control_memory.specs.Shown.{Shows}
 use Rattle.frame_engine.specs.Frames.{Come}
 use Rattle.exchange_core.specs.declared.trace.Event.{Event}
 use Rattle.exchange_core.specs.declared.trace.Event.TheVariants.{Nail, Seat, Free, Frame as Frame_event}
@@ -20,8 +22,21 @@ use Rattle.exchange_core.proofs.Making.{made_start, made_next, made_pass}
 use Rattle.exchange_top.specs.Switching.{Works}
 
 -- the circuits and ports of the frames so far, and of the one that begins, come of one list of commands
-pub come : (d : Dimensions) (w : World) (input : Input) → IsMade d w → Come d.external d.bridges (w.held ++ w.holding.circuits ∷ []) (w.seated ++ w.ports ∷ [])
+come : (d : Dimensions) (w : World) (input : Input) → IsMade d w → Come d.external d.bridges (w.held ++ w.holding.circuits ∷ []) (w.seated ++ w.ports ∷ [])
 come d w input made = let m = made_pass d w made input in record { commands = m.commands; within = m.within; allowed = m.allowed; circuits = m.held; seats = m.seated }
+
+-- what an engine is asked for a frame, which its control memory shows: the circuits and ports at the frame's boundary
+pub record Asked (image : Control) (external bridges next : ℕ) (w : World) : Type 0 where
+  pub shows : Shows image w.holding.circuits w.ports next
+  pub came : Come external bridges (w.held ++ w.holding.circuits ∷ []) (w.seated ++ w.ports ∷ [])
+
+pub asked : {E : Type 0} (carries : E → List Input → List (List Circuit) → List Ports → Type 0) (m : Connections) (engine : E) (w : World) (e : Event) (input : Input) (r : Reply) (image : Control) (external bridges next : ℕ)
+    → Works carries m engine w → e ≡ Frame_event input → r ≡ reply (dimensions_of m) w e → ((v : World) (f : ℕ) → Stands m v → r ≡ Frame f → Shows image v.holding.circuits v.ports f)
+    → external ≡ m.external → bridges ≡ m.bridges → next ≡ m.next → Asked image external bridges next w
+asked carries m engine w e input r image external bridges next works frame replied shows same_external same_bridges same_next = record {
+  shows = subst (Shows image w.holding.circuits w.ports) (sym (same_next ∙ works.stands.holds.next)) (shows w w.holding.next works.stands (replied ∙ ap (reply (dimensions_of m) w) frame));
+  came = rw (same_external, same_bridges) (come (dimensions_of m) w input works.made);
+}
 
 -- an event that is no frame leaves the frames as they are
 pub record IsQuiet (d : Dimensions) (w : World) (e : Event) : Type 0 where

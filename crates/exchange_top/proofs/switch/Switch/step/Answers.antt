@@ -7,7 +7,7 @@ use Rattle.exchange_core.specs.declared.trace.Event.TheVariants.{Frame as Frame_
 use Rattle.exchange_core.specs.Standing.{dimensions_of}
 use Rattle.exchange_core.specs.World.{World, next, reply}
 use Rattle.exchange_top.specs.Switching.{Works}
-use Rattle.exchange_top.proofs.Framing.{come, quiet, works_quiet, works_frame}
+use Rattle.exchange_top.proofs.Framing.{asked, quiet, works_quiet, works_frame}
 use Rattle.exchange_top.proofs.RunLemmas.{sent_played}
 use Rattle.exchange_top.proofs.Silence.{sounds_none, silent}
 use Rattle.exchange_top.proofs.switch.Switch.step.Goals as goal
@@ -19,25 +19,21 @@ pub frame-requires-clause-frame : goal.frame-requires-clause-frame
 frame-requires-clause-frame g c =
     let e = c.step-reply.ensures in
     ∥∥₁_elim c.args.self.now.works (Coded-set coded_ℕ _ _) (λ p.
-    (e.shows p.0 p.0.holding.next p.1.stands (e.reply p.0 p.1.stands ∙ ap (reply (dimensions_of c.args.self.now.core) p.0) c.in-Frame.is)).1.frame
-    ∙ sym (c.args.self.now.engine_next ∙ p.1.stands.holds.next))
+    (asked g.C.Carrier.carries c.args.self.now.core c.args.self.now.engine p.0 c.args.event.now c.in-Frame.input c.step-reply.result c.step-reply.new.image _ _ _ p.1 c.in-Frame.is (e.reply p.0 p.1.stands) e.shows c.args.self.now.engine_external c.args.self.now.engine_bridges c.args.self.now.engine_next).shows.1.frame)
 
 pub frame-requires-clause-tones : goal.frame-requires-clause-tones
 frame-requires-clause-tones g c = λ at line place kind since sounds.
     let e = c.step-reply.ensures in
     absurd (not_there c.args.self.now.works (λ p.
-    sounds_none c.step-reply.new.image p.0.holding.circuits p.0.ports p.0.holding.next p.1.made.toneless
-    (e.shows p.0 p.0.holding.next p.1.stands (e.reply p.0 p.1.stands ∙ ap (reply (dimensions_of c.args.self.now.core) p.0) c.in-Frame.is)) at line place kind since sounds))
+    let a = asked g.C.Carrier.carries c.args.self.now.core c.args.self.now.engine p.0 c.args.event.now c.in-Frame.input c.step-reply.result c.step-reply.new.image _ _ _ p.1 c.in-Frame.is (e.reply p.0 p.1.stands) e.shows c.args.self.now.engine_external c.args.self.now.engine_bridges c.args.self.now.engine_next in
+    sounds_none c.step-reply.new.image p.0.holding.circuits p.0.ports _ p.1.made.toneless a.shows at line place kind since sounds))
 
 -- the engine has carried one frame more
 pub returns-in-Frame-clause-works : goal.returns-in-Frame-clause-works
 returns-in-Frame-clause-works g c w works =
     let e = c.step-reply.ensures in
-    let d = dimensions_of c.args.self.now.core in
-    let now = c.args.self.now.engine_next ∙ works.stands.holds.next in
-    let shows = e.shows w w.holding.next works.stands (e.reply w works.stands ∙ ap (reply d w) c.in-Frame.is) in
-    let came = rw (← c.args.self.now.engine_external, ← c.args.self.now.engine_bridges) at (come d w c.in-Frame.input works.made) in
-    let carried = c.frame.ensures.carries w.inputs w.held w.seated w.holding.circuits w.ports works.carried (rw now shows) came in
+    let a = asked g.C.Carrier.carries c.args.self.now.core c.args.self.now.engine w c.args.event.now c.in-Frame.input c.step-reply.result c.step-reply.new.image _ _ _ works c.in-Frame.is (e.reply w works.stands) e.shows c.args.self.now.engine_external c.args.self.now.engine_bridges c.args.self.now.engine_next in
+    let carried = c.frame.ensures.carries w.inputs w.held w.seated w.holding.circuits w.ports works.carried a.shows a.came in
     rw c.in-Frame.is (works_frame g.C.Carrier.carries c.args.self.now.core c.step-reply.new.self c.args.self.now.engine w works e.sizes c.frame.new.self c.in-Frame.input (rw c.in-Frame.is at (e.world w works.stands)) (rw c.as_slice.ensures at carried))
 
 pub invariant_of-self : goal.invariant_of-self
@@ -47,10 +43,8 @@ invariant_of-self g c =
     let f = c.frame.ensures in
     let d = dimensions_of old.core in
     let goes : (w : World) → Works g.C.Carrier.carries old.core old.engine w → Works g.C.Carrier.carries c.step-reply.new.self c.frame.new.self (next d w (Frame_event c.in-Frame.input)) = λ w works.
-    let now = old.engine_next ∙ works.stands.holds.next in
-    let shows = e.shows w w.holding.next works.stands (e.reply w works.stands ∙ ap (reply d w) c.in-Frame.is) in
-    let came = rw (← old.engine_external, ← old.engine_bridges) at (come d w c.in-Frame.input works.made) in
-    let carried = f.carries w.inputs w.held w.seated w.holding.circuits w.ports works.carried (rw now shows) came in
+    let a = asked g.C.Carrier.carries c.args.self.now.core c.args.self.now.engine w c.args.event.now c.in-Frame.input c.step-reply.result c.step-reply.new.image _ _ _ works c.in-Frame.is (e.reply w works.stands) e.shows c.args.self.now.engine_external c.args.self.now.engine_bridges c.args.self.now.engine_next in
+    let carried = f.carries w.inputs w.held w.seated w.holding.circuits w.ports works.carried a.shows a.came in
     works_frame g.C.Carrier.carries old.core c.step-reply.new.self old.engine w works e.sizes c.frame.new.self c.in-Frame.input (rw c.in-Frame.is at (e.world w works.stands)) (rw c.as_slice.ensures at carried)
     in
     record {
@@ -93,12 +87,10 @@ pub returns-in-Frame-clause-octets : goal.returns-in-Frame-clause-octets
 returns-in-Frame-clause-octets g c w f works told =
     let e = c.step-reply.ensures in
     let d = dimensions_of c.args.self.now.core in
+    let a = asked g.C.Carrier.carries c.args.self.now.core c.args.self.now.engine w c.args.event.now c.in-Frame.input c.step-reply.result c.step-reply.new.image _ _ _ works c.in-Frame.is (e.reply w works.stands) e.shows c.args.self.now.engine_external c.args.self.now.engine_bridges c.args.self.now.engine_next in
+    let plays = c.frame.ensures.plays w.inputs w.held w.seated w.holding.circuits w.ports works.carried a.shows a.came in
+    let number : f ≡ w.holding.next = same_number f w.holding.next (sym told ∙ e.reply w works.stands ∙ ap (reply d w) c.in-Frame.is) in
     let now = c.args.self.now.engine_next ∙ works.stands.holds.next in
-    let replied = e.reply w works.stands ∙ ap (reply d w) c.in-Frame.is in
-    let shows = e.shows w w.holding.next works.stands replied in
-    let came = rw (← c.args.self.now.engine_external, ← c.args.self.now.engine_bridges) at (come d w c.in-Frame.input works.made) in
-    let plays = c.frame.ensures.plays w.inputs w.held w.seated w.holding.circuits w.ports works.carried (rw now shows) came in
-    let number : f ≡ w.holding.next = same_number f w.holding.next (sym told ∙ replied) in
     let octets = rw (c.args.self.now.engine_external, silent c.args.self.now.tones c.args.self.now.no_ringback c.args.self.now.no_busy, c.as_slice.ensures, now) at plays in
     rw (c.in-Frame.is, number) (sent_played c.args.self.now.core.external _ c.frame.new.out octets)
 
