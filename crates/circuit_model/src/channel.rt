@@ -1,4 +1,4 @@
-ghost use Rattle.std.specs.Prelude.{◌≡◌, ◌<◌};
+ghost use Rattle.std.specs.Prelude.{◌≡◌, ◌<◌, ◌+◌, ◌*◌};
 ghost use Rattle.circuit_model.specs.Channels.{place_of, channel_at};
 
 /// How many bearer channels a primary rate line carries: time slots 1 to 15 and 17 to 31 of its
@@ -15,6 +15,16 @@ pub struct Slot {
     pub line: u8,
     /// The place of the bearer channel on its line, 0 to 29.
     pub place: u8,
+}
+
+impl Slot {
+    /// The number of the slot among those of all lines: thirty places to a line, line after line.
+    /// A table with an entry for each slot has it there.
+    pub fn number(self) -> usize
+        ensures { result ≡ 30 * self.line + self.place }
+    {
+        usize::from(PLACES) * usize::from(self.line) + usize::from(self.place)
+    }
 }
 
 /// The place of the bearer channel with the given time slot number.
