@@ -43,3 +43,10 @@ heard_by circuits x = find (λ c. same_slot x (listener c)) circuits
 abbrev pub unless_naming : Slot → Option Circuit → Option Circuit
 unless_naming x None = None
 unless_naming x (Some c) = if names x c then None else Some c
+
+-- by what z hears once a new circuit stands, and once x and y are connected, where it heard by `before`
+abbrev pub with_circuit : Circuit → Option Circuit → Slot → Option Circuit
+with_circuit c before z = if same_slot z (listener c) then Some c else before
+
+abbrev pub with_pair : Slot → Slot → ℕ → Option Circuit → Slot → Option Circuit
+with_pair x y since before z = with_circuit (Pair y x since) (with_circuit (Pair x y since) before z) z

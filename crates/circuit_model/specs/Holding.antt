@@ -1,11 +1,11 @@
 -- The circuits that stand, and what the commands make of them. Source: this exchange's own; the terms connection, room member and tone
 -- are those of circuit switching (ITU-T Q.9).
-use Rattle.std.specs.Prelude.{◌≡◌, ℕ, ◌+◌, ◌*◌, ◌≤◌, ◌<◌, ◌⊎◌, IsTrue, not, List, [], ◌∷◌, ◌++◌, filter, All, count_by, slice_index_or}
+use Rattle.std.specs.Prelude.{◌≡◌, ℕ, ◌+◌, ◌*◌, ◌≤◌, ◌<◌, ◌⊎◌, IsTrue, not, List, [], ◌∷◌, ◌++◌, filter, All, count_by, slice_index_or, Option, Some}
 use Rattle.circuit_model.specs.declared.channel.Slot.{Slot}
 use Rattle.circuit_model.specs.declared.circuit.Kind.{Kind}
 use Rattle.circuit_model.specs.declared.circuit.Circuit.{Circuit}
 use Rattle.circuit_model.specs.declared.circuit.Circuit.TheVariants.{Pair, Member, Tone}
-use Rattle.circuit_model.specs.Circuits.{names, is_idle, is_member, since_of}
+use Rattle.circuit_model.specs.Circuits.{names, is_idle, is_member, since_of, heard_by}
 
 -- the circuits that stand, a list that is read as a set, and the number of the next frame
 pub record Holding : Type 0 where
@@ -47,6 +47,28 @@ frames h (Frame ∷ cs) = h.circuits ∷ frames (after h Frame) cs
 -- the circuits of frame f of those listed; none where there is no such frame
 abbrev pub circuits_of : List (List Circuit) → ℕ → List Circuit
 circuits_of held f = slice_index_or held f []
+
+-- the circuits that stood in frame f of these commands, and the holding that they make at its boundary
+abbrev pub stood : List Command → ℕ → List Circuit
+stood cs f = circuits_of (frames empty cs) f
+
+abbrev pub held_in : List Command → ℕ → Holding
+held_in cs f = record { circuits = stood cs f; next = f }
+
+-- the circuit by which a slot hears in a holding
+abbrev pub hears_by : Holding → Slot → Option Circuit
+hears_by h x = heard_by h.circuits x
+
+-- how many members there are
+abbrev pub members_of : Holding → ℕ
+members_of h = count_by is_member h.circuits
+
+-- a slot is idle, two slots are; a slot hears by no seat
+abbrev pub IsIdle : Holding → Slot → Type 0
+IsIdle h x = IsTrue (is_idle h.circuits x)
+
+abbrev pub IsNoMember : Holding → Slot → Type 0
+IsNoMember h x = (room since : ℕ) → ¬ (hears_by h x ≡ Some (Member room x since))
 
 -- all that names a slot
 abbrev pub naming : List Circuit → Slot → List Circuit

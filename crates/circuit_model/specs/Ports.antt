@@ -1,5 +1,5 @@
 -- The ports of the conference bridges, and which member has which. Source: this exchange's own.
-use Rattle.std.specs.Prelude.{ℕ, ℤ, pos, ◌+◌, ◌+ℤ◌, ◌*◌, ◌/◌, ◌%◌, Bool, false, List, [], ◌∷◌, map, replicate, Option, Some, None, option_map, position, slice_index_or, if◌then◌else◌}
+use Rattle.std.specs.Prelude.{◌≡◌, ◌<◌, Contains, ℕ, ℤ, pos, ◌+◌, ◌+ℤ◌, ◌*◌, ◌/◌, ◌%◌, Bool, false, List, [], ◌∷◌, map, replicate, Option, Some, None, option_map, position, slice_index_or, if◌then◌else◌}
 use Rattle.circuit_model.specs.declared.channel.Slot.{Slot}
 use Rattle.circuit_model.specs.declared.circuit.Circuit.{Circuit}
 use Rattle.circuit_model.specs.declared.circuit.Circuit.TheVariants.{Pair, Member, Tone}
@@ -60,6 +60,24 @@ ports_of ports f = slice_index_or ports f []
 -- the member that the port with a number has, if any
 abbrev pub owner_of : Ports → ℕ → Option Slot
 owner_of ports k = slice_index_or ports k None
+
+-- the ports of frame f of these commands
+abbrev pub ports_in : ℕ → List Command → ℕ → Ports
+ports_in bridges cs f = ports_of (port_frames (free_ports bridges) cs) f
+
+-- a member has one of the ports of so many bridge lines; no two ports have the same member; a member's port is still its own
+abbrev pub HasPort : ℕ → Ports → Slot → Type 0
+HasPort bridges ports x = (k : ℕ) × (k < 30 * bridges) × (owner_of ports k ≡ Some x)
+
+abbrev pub HaveOneEach : Ports → Type 0
+HaveOneEach ports = (j k : ℕ) (x : Slot) → owner_of ports j ≡ Some x → owner_of ports k ≡ Some x → j ≡ k
+
+abbrev pub KeepsPort : Ports → Ports → Slot → Type 0
+KeepsPort before now x = (k : ℕ) → owner_of before k ≡ Some x → owner_of now k ≡ Some x
+
+-- a slot sits in some room
+abbrev pub IsSeated : List Circuit → Slot → Type 0
+IsSeated circuits x = (room since : ℕ) × Contains circuits (Member room x since)
 
 -- what the members who have ports add up to, each by its weight
 abbrev pub sum_of_owners : (Slot → ℤ) → Ports → ℤ

@@ -4,8 +4,8 @@ ghost use Rattle.circuit_model.specs.declared.circuit.Kind.{Kind};
 ghost use Rattle.circuit_model.specs.declared.circuit.Circuit.{Circuit};
 ghost use Rattle.circuit_model.specs.declared.circuit.Kind.TheVariants.{Busy};
 ghost use Rattle.circuit_model.specs.declared.circuit.Circuit.TheVariants.{Pair, Member, Tone};
-ghost use Rattle.circuit_model.specs.Circuits.{same_slot, listener, is_idle, is_member, heard_by, unless_naming};
-ghost use Rattle.circuit_model.specs.Holding.{Holding, empty, Command, Connect, Seat, Give_tone, Clear, Frame, after, after_all, frames, circuits_of, naming, Valid, IsAllowed, AreAllowed};
+ghost use Rattle.circuit_model.specs.Circuits.{listener, is_idle, heard_by, unless_naming, with_circuit, with_pair};
+ghost use Rattle.circuit_model.specs.Holding.{Holding, empty, Command, Connect, Seat, Give_tone, Clear, Frame, after, after_all, frames, held_in, hears_by, members_of, IsIdle, IsNoMember, naming, Valid, IsAllowed, AreAllowed};
 ghost use Rattle.circuit_model.specs.Examples.{first};
 
 /// A holding is valid at the start and after each command that is allowed, and so the circuits of
@@ -13,7 +13,7 @@ ghost use Rattle.circuit_model.specs.Examples.{first};
 pub fn law_of_validity()
     ensures start { (bridges : ℕ) → Valid bridges empty }
     ensures kept { (bridges : ℕ) (h : Holding) (c : Command) → Valid bridges h → IsAllowed bridges h c → Valid bridges (after h c) }
-    ensures recorded { (bridges : ℕ) (cs : List Command) (f : ℕ) → AreAllowed bridges empty cs → f < length (frames empty cs) → Valid bridges (record { circuits = circuits_of (frames empty cs) f; next = f }) }
+    ensures recorded { (bridges : ℕ) (cs : List Command) (f : ℕ) → AreAllowed bridges empty cs → f < length (frames empty cs) → Valid bridges (held_in cs f) }
 {}
 
 /// What a valid holding rules out: a slot connected to itself, a connection that stands one way or
@@ -33,24 +33,24 @@ pub fn worked_holdings()
 /// no circuit.
 pub fn law_of_idle_slots()
     ensures unnamed { (circuits : List Circuit) (x : Slot) → IsTrue (is_idle circuits x) ↔ (naming circuits x ≡ []) }
-    ensures deaf { (bridges : ℕ) (h : Holding) (x : Slot) → Valid bridges h → IsTrue (is_idle h.circuits x) ↔ (heard_by h.circuits x ≡ None) }
+    ensures deaf { (bridges : ℕ) (h : Holding) (x : Slot) → Valid bridges h → IsIdle h x ↔ (hears_by h x ≡ None) }
 {}
 
 /// What a slot hears by stands and is for it. In a valid holding a slot hears by one circuit at most, whatever the order in which they are
 /// listed, and where a slot hears another one, that one hears it, since the same frame.
 pub fn law_of_one_circuit()
     ensures stands { (circuits : List Circuit) (x : Slot) (c : Circuit) → heard_by circuits x ≡ Some c → Contains circuits c × (listener c ≡ x) }
-    ensures alone { (bridges : ℕ) (h : Holding) (c : Circuit) → Valid bridges h → Contains h.circuits c → heard_by h.circuits (listener c) ≡ Some c }
-    ensures mutual { (bridges : ℕ) (h : Holding) (x y : Slot) (since : ℕ) → Valid bridges h → heard_by h.circuits x ≡ Some (Pair y x since) → heard_by h.circuits y ≡ Some (Pair x y since) }
+    ensures alone { (bridges : ℕ) (h : Holding) (c : Circuit) → Valid bridges h → Contains h.circuits c → hears_by h (listener c) ≡ Some c }
+    ensures mutual { (bridges : ℕ) (h : Holding) (x y : Slot) (since : ℕ) → Valid bridges h → hears_by h x ≡ Some (Pair y x since) → hears_by h y ≡ Some (Pair x y since) }
 {}
 
 /// Whom a slot hears after a command. A new connection, member or tone changes only what the slots
 /// hear that it is for; clearing a slot takes away every circuit that names it and nothing else.
 pub fn law_of_commands()
-    ensures connect { (h : Holding) (x y z : Slot) → IsTrue (is_idle h.circuits x) → IsTrue (is_idle h.circuits y) → heard_by (after h (Connect x y)).circuits z ≡ (if same_slot z x then Some (Pair y x h.next) else if same_slot z y then Some (Pair x y h.next) else heard_by h.circuits z) }
-    ensures seat { (h : Holding) (x z : Slot) (room : ℕ) → IsTrue (is_idle h.circuits x) → heard_by (after h (Seat x room)).circuits z ≡ (if same_slot z x then Some (Member room x h.next) else heard_by h.circuits z) }
-    ensures tone { (h : Holding) (x z : Slot) (kind : Kind) → IsTrue (is_idle h.circuits x) → heard_by (after h (Give_tone x kind)).circuits z ≡ (if same_slot z x then Some (Tone kind x h.next) else heard_by h.circuits z) }
-    ensures clear { (bridges : ℕ) (h : Holding) (x z : Slot) → Valid bridges h → heard_by (after h (Clear x)).circuits z ≡ unless_naming x (heard_by h.circuits z) }
+    ensures connect { (h : Holding) (x y z : Slot) → IsIdle h x → IsIdle h y → hears_by (after h (Connect x y)) z ≡ with_pair x y h.next (hears_by h z) z }
+    ensures seat { (h : Holding) (x z : Slot) (room : ℕ) → IsIdle h x → hears_by (after h (Seat x room)) z ≡ with_circuit (Member room x h.next) (hears_by h z) z }
+    ensures tone { (h : Holding) (x z : Slot) (kind : Kind) → IsIdle h x → hears_by (after h (Give_tone x kind)) z ≡ with_circuit (Tone kind x h.next) (hears_by h z) z }
+    ensures clear { (bridges : ℕ) (h : Holding) (x z : Slot) → Valid bridges h → hears_by (after h (Clear x)) z ≡ unless_naming x (hears_by h z) }
 {}
 
 /// Commands one after another: a frame's boundary records the circuits that stand, any other
@@ -65,9 +65,9 @@ pub fn law_of_frames()
 /// How many members there are after a command: a seat is one more, clearing a member one fewer, and
 /// nothing else changes their number.
 pub fn law_of_seats()
-    ensures connect { (h : Holding) (x y : Slot) → count_by is_member (after h (Connect x y)).circuits ≡ count_by is_member h.circuits }
-    ensures seat { (h : Holding) (x : Slot) (room : ℕ) → count_by is_member (after h (Seat x room)).circuits ≡ count_by is_member h.circuits + 1 }
-    ensures tone { (h : Holding) (x : Slot) (kind : Kind) → count_by is_member (after h (Give_tone x kind)).circuits ≡ count_by is_member h.circuits }
-    ensures clear_member { (bridges : ℕ) (h : Holding) (x : Slot) (room since : ℕ) → Valid bridges h → heard_by h.circuits x ≡ Some (Member room x since) → count_by is_member (after h (Clear x)).circuits + 1 ≡ count_by is_member h.circuits }
-    ensures clear_other { (bridges : ℕ) (h : Holding) (x : Slot) → Valid bridges h → ((room since : ℕ) → ¬ (heard_by h.circuits x ≡ Some (Member room x since))) → count_by is_member (after h (Clear x)).circuits ≡ count_by is_member h.circuits }
+    ensures connect { (h : Holding) (x y : Slot) → members_of (after h (Connect x y)) ≡ members_of h }
+    ensures seat { (h : Holding) (x : Slot) (room : ℕ) → members_of (after h (Seat x room)) ≡ members_of h + 1 }
+    ensures tone { (h : Holding) (x : Slot) (kind : Kind) → members_of (after h (Give_tone x kind)) ≡ members_of h }
+    ensures clear_member { (bridges : ℕ) (h : Holding) (x : Slot) (room since : ℕ) → Valid bridges h → hears_by h x ≡ Some (Member room x since) → members_of (after h (Clear x)) + 1 ≡ members_of h }
+    ensures clear_other { (bridges : ℕ) (h : Holding) (x : Slot) → Valid bridges h → IsNoMember h x → members_of (after h (Clear x)) ≡ members_of h }
 {}

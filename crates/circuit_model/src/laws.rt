@@ -1,7 +1,7 @@
 ghost use Rattle.std.specs.Prelude.{◌≡◌, ◌<◌, ◌-◌, ℕ, List, [], ◌∷◌, length, map, pos, negsuc, slice_index, Contains};
 ghost use Rattle.circuit_model.specs.declared.circuit.Circuit.{Circuit};
 ghost use Rattle.circuit_model.specs.Circuits.{since_of};
-ghost use Rattle.circuit_model.specs.Holding.{Command, empty, frames, circuits_of};
+ghost use Rattle.circuit_model.specs.Holding.{Command, empty, frames, stood};
 ghost use Rattle.circuit_model.specs.ALaw.{decision_values, expand, compress};
 ghost use Rattle.circuit_model.specs.Hears.{hears};
 ghost use Rattle.circuit_model.specs.Examples.{first, heard, a_connection, two_lines, a_reused_slot, three_lines, a_room, loud_lines, alone, a_pair_of_members, soft_lines, a_tone, a_late_connection, a_renewed_connection, quiet_lines, a_changing_room, counting_lines, two_rooms, a_full_room, loud_and_low, two_tones};
@@ -11,7 +11,7 @@ ghost use Rattle.circuit_model.specs.Examples.{first, heard, a_connection, two_l
 ///
 /// So an octet that crossed in the frame before, by a circuit that is heard now, was sent by it.
 pub fn law_of_age()
-    ensures { (commands : List Command) (f : ℕ) (c : Circuit) → Contains (circuits_of (frames empty commands) f) c → since_of c < f → Contains (circuits_of (frames empty commands) (f - 1)) c }
+    ensures { (commands : List Command) (f : ℕ) (c : Circuit) → Contains (stood commands f) c → since_of c < f → Contains (stood commands (f - 1)) c }
 {}
 
 /// The definitions of what a slot hears, evaluated on small exchanges: octets pass after exactly

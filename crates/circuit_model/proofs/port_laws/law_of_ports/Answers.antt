@@ -9,10 +9,10 @@ pub returns-clause-owned : goal.returns-clause-owned
 returns-clause-owned c bridges cs f k x allowed owned = owned_in bridges cs f k x (recorded bridges cs f allowed) owned
 
 pub returns-clause-alone : goal.returns-clause-alone
-returns-clause-alone c bridges cs f j k x allowed a b = alone_in bridges cs f j k x (recorded bridges cs f allowed) a b
+returns-clause-alone c bridges cs f allowed j k x a b = alone_in bridges cs f j k x (recorded bridges cs f allowed) a b
 
 pub returns-clause-kept : goal.returns-clause-kept
-returns-clause-kept c bridges cs f k room since x inside older owned = keeps_port (free_ports bridges) cs f k room since x inside older owned
+returns-clause-kept c bridges cs f room since x inside older k owned = keeps_port (free_ports bridges) cs f k room since x inside older owned
 
 pub returns-clause-sums : goal.returns-clause-sums
 returns-clause-sums c bridges cs f weight allowed = sums_in bridges cs f weight (recorded bridges cs f allowed)
