@@ -1,6 +1,6 @@
 -- The connections after a slot is cleared are those of the holding after it.
 use Rattle.std.proofs.Common.{◌≡◌, ℕ, zero, suc, ◌+◌, ◌*◌, ◌<◌, ◌≤◌, Bool, true, false, not, List, [], ◌∷◌, length, Option, Some, None, refl, sym, ◌∙◌, ap, subst, inl, inr, arith, length-set, if◌then◌else◌}
-use Rattle.std.specs.Prelude.{◌↔◌}
+use Rattle.std.specs.Prelude.{◌↔◌, IfSome}
 use Rattle.std.specs.List.{count_by, filter, Contains}
 use Rattle.std.proofs.lemmas.Grind.{common_steps}
 use Rattle.std.proofs.lemmas.List.Quantifiers.{position-Some}
@@ -19,7 +19,7 @@ use Rattle.control_memory.proofs.Steps.{was_there, hop_left}
 use Rattle.circuit_map.specs.Connections.{Connections, lines_of, hears_at, seats, Holds, is_pathless}
 use Rattle.circuit_map.proofs.Needs.{Needs, Paired, To_port, From_port, needed_is, heard_stands}
 use Rattle.circuit_map.proofs.Rows.{Hearing, cleared_row, kept_row}
-use Rattle.circuit_map.proofs.Holdings.{joins_needed}
+use Rattle.circuit_map.proofs.Holdings.{Heeded, joins_needed}
 use Rattle.circuit_map.proofs.Paths.{hearing_in}
 use Rattle.circuit_map.proofs.Sockets.{port_line, count-returned, count-returned_mine, count-returned_other, returned_other, one_member, returned_none, none_counted, ported, port_found}
 
@@ -156,13 +156,6 @@ count-members x [] = refl
 count-members x (c ∷ cs) = members_step x c cs (count-members x cs)
 
 -- ---- the connections
-pub record Cleared (m n : Connections) (x : Slot) : Type 0 where
-  pub external : n.external ≡ m.external
-  pub bridges : n.bridges ≡ m.bridges
-  pub next : n.next ≡ m.next
-  pub heard : (z : Slot) → hears_at n z ≡ unless_naming x (hears_at m z)
-  pub members : n.ports ≡ returned x m.ports
-
 pub clears : (m : Connections) (h : Holding) (ports : Ports) (x : Slot) → x.line < m.external → Holds m h ports → Clears m.external ports (returned x ports) (heard_by h.circuits) (heard_by (after h (Clear x)).circuits) x
 clears m h ports x line holds = record {
   line = line;
@@ -177,7 +170,7 @@ ported_after m h ports x z holds = elim (same_slot_cases z x) [
   | inr away ↦ count-returned_other x z ports away ∙ holds.ported z ∙ sym (count-kept x z h.circuits away)
 ]
 
-pub holds_clear : (m n : Connections) (x : Slot) → Cleared m n x → (h : Holding) (ports : Ports) → Holds m h ports
+pub holds_clear : (m n : Connections) (x : Slot) → Heeded m n (Clear x) → (h : Holding) (ports : Ports) → Holds m h ports
     → ((a b : Slot) → IsSlot (lines_of m) a → Joins n.layout a b ↔ Needs m.external (returned x ports) (heard_by (after h (Clear x)).circuits) a b)
     → Holds n (after h (Clear x)) (returned x ports)
 holds_clear m n x w h ports holds joins =
@@ -185,7 +178,7 @@ holds_clear m n x w h ports holds joins =
     record {
       next = w.next ∙ holds.next;
       valid = subst (λ b. Valid b (after h (Clear x))) (sym w.bridges) valid;
-      heard = λ z. w.heard z ∙ ap (unless_naming x) (holds.heard z) ∙ sym (heard_by-clear h.circuits x z (holds.valid.standing z));
+      heard = λ z. w.hears z ∙ ap (unless_naming x) (holds.heard z) ∙ sym (heard_by-clear h.circuits x z (holds.valid.standing z));
       members = w.members ∙ ap (returned x) holds.members;
       ported = λ z. ported_after m h ports x z holds;
       taken = let a = count-returned x ports in let b = count-members x h.circuits in let c = holds.ported x in let d = holds.taken in omega (arith, a, b, c, d);
@@ -196,7 +189,7 @@ holds_clear m n x w h ports holds joins =
     }
 
 -- no path goes
-pub clear_pathless : (m n : Connections) (x : Slot) → x.line < m.external → is_pathless (hears_at m x) ≡ true → Cleared m n x → n.layout ≡ m.layout → (h : Holding) (ports : Ports) → Holds m h ports → Holds n (after h (Clear x)) (returned x ports)
+pub clear_pathless : (m n : Connections) (x : Slot) → x.line < m.external → is_pathless (hears_at m x) ≡ true → Heeded m n (Clear x) → n.layout ≡ m.layout → (h : Holding) (ports : Ports) → Holds m h ports → Holds n (after h (Clear x)) (returned x ports)
 clear_pathless m n x line quiet w same h ports holds =
     let k = clears m h ports x line holds in
     let silent : is_pathless (heard_by h.circuits x) ≡ true = subst (λ o. is_pathless o ≡ true) (holds.heard x) quiet in
@@ -208,7 +201,7 @@ clear_pathless m n x line quiet w same h ports holds =
     ))
 
 -- the paths to a partner and back go
-pub clear_paths : (m n : Connections) (x q : Slot) → x.line < m.external → Cleared m n x
+pub clear_paths : (m n : Connections) (x q : Slot) → x.line < m.external → Heeded m n (Clear x)
     → ((a b : Slot) → IsSlot (lines_of m) a → Joins n.layout a b ↔ (Joins m.layout a b × (a ≡ x → ⊥) × (a ≡ q → ⊥)))
     → (h : Holding) (ports : Ports) → Holds m h ports → Partner m.external ports (returned x ports) (heard_by h.circuits) (heard_by (after h (Clear x)).circuits) x q → Holds n (after h (Clear x)) (returned x ports)
 clear_paths m n x q line w less h ports holds partner =
@@ -225,6 +218,11 @@ pub hearing_at : (m : Connections) (h : Holding) (ports : Ports) → Holds m h p
 hearing_at m h ports holds =
     let same : heard_by h.circuits ≡ hears_at m = λ i z. sym (holds.heard z) i in
     subst (Hearing m.external) same (hearing_in m h ports holds)
+
+-- who hears by a circuit is its listener
+pub heard_of_own : (m : Connections) (o : Option Circuit) (x : Slot) → Hearing m.external (hears_at m) → o ≡ hears_at m x → IfSome o (λ c. listener c ≡ x)
+heard_of_own m None x k e = tt
+heard_of_own m (Some c) x k e = k.own x c (sym e)
 
 listener_named : (x : Slot) (c : Circuit) → listener c ≡ x → names x c ≡ true
 listener_named x (Pair from to since) e = let same = same_slot-refl x in let is : same_slot x to ≡ true = rw e same in grind (arith, common_steps)

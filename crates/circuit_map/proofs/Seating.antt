@@ -17,7 +17,7 @@ use Rattle.conference_ports.proofs.Positions.{none_passes}
 use Rattle.circuit_model.proofs.Hearing.{heard_by-one}
 use Rattle.circuit_model.proofs.Validity.{count_by-append, valid-seat}
 use Rattle.control_memory.specs.Layout.{IsSlot, Joins, number_of}
-use Rattle.circuit_map.specs.Connections.{Connections, lines_of, hears_in, hears_at, seats, Holds}
+use Rattle.circuit_map.specs.Connections.{Connections, lines_of, hears_at, hears_after, seats, Holds, Obeys}
 use Rattle.circuit_map.proofs.Needs.{Needs, Paired, To_port, From_port, needed_is}
 use Rattle.circuit_map.proofs.Rows.{Hearing, adds, Fresh, Fresh_pair, Fresh_to, Fresh_from, needs_kept, needs_split, hears_written}
 use Rattle.circuit_map.proofs.Holdings.{idle_in, joins_needed}
@@ -29,7 +29,7 @@ pub record Seated (m n : Connections) (x p : Slot) (room k : ℕ) : Type 0 where
   pub external : n.external ≡ m.external
   pub bridges : n.bridges ≡ m.bridges
   pub next : n.next ≡ m.next
-  pub heard : n.heard ≡ set m.heard (number_of x) (Some (Member room x m.next))
+  pub hears : (z : Slot) → hears_at n z ≡ hears_after m (Seat x room) z
   pub lowest : position is_none m.ports ≡ Some k
   pub port : p ≡ port_numbered m.external k
   pub members : n.ports ≡ given x m.ports
@@ -59,9 +59,8 @@ pub idle_seats : (circuits : List Circuit) (x : Slot) → is_idle circuits x ≡
 idle_seats [] x idle = refl
 idle_seats (c ∷ cs) x idle = seated_is_named x c cs (idle_seats cs x) idle
 
-pub holds_seat : (m n : Connections) (x p : Slot) (room k : ℕ) → length m.heard ≡ 30 * m.external → length m.ports ≡ 30 * m.bridges → x.line < m.external → x.place < 30 → hears_at m x ≡ None → Seated m n x p room k
-    → (h : Holding) (ports : Ports) → Holds m h ports → Holds n (after h (Seat x room)) (given x ports)
-holds_seat m n x p room k size sockets line place none w h ports holds =
+pub holds_seat : (m n : Connections) (x p : Slot) (room k : ℕ) → length m.ports ≡ 30 * m.bridges → hears_at m x ≡ None → Seated m n x p room k → Obeys m n (Seat x room)
+holds_seat m n x p room k sockets none w h ports holds =
     let idle = idle_in m h ports x holds none in
     let later : Holding = after h (Seat x room) in
     let lowest : position is_none ports ≡ Some k = subst (λ q. position is_none q ≡ Some k) holds.members w.lowest in
@@ -78,8 +77,7 @@ holds_seat m n x p room k size sockets line place none w h ports holds =
       next = w.next ∙ holds.next;
       valid = subst (λ b. Valid b later) (sym w.bridges) valid;
       heard = λ z.
-          ap (λ e. hears_in e n.heard z) w.external ∙ ap (λ l. hears_in m.external l z) w.heard ∙ hears_written m.external m.heard x (Some (Member room x m.next)) z size line place
-          ∙ ap (λ r. if same_slot z x then Some (Member room x m.next) else r) (holds.heard z) ∙ ap (λ k. if same_slot z x then Some (Member room x k) else heard_by h.circuits z) holds.next
+          w.hears z ∙ ap (λ r. if same_slot z x then Some (Member room x m.next) else r) (holds.heard z) ∙ ap (λ k. if same_slot z x then Some (Member room x k) else heard_by h.circuits z) holds.next
           ∙ sym (one z);
       members = w.members ∙ ap (given x) holds.members;
       ported = λ z. count-given (has z) x ports k refl lowest ∙ ap (λ c. c + count_by (has z) (Some x ∷ [])) (holds.ported z) ∙ sym (count_by-append (seats z) h.circuits (Member room x h.next ∷ []));
@@ -128,7 +126,7 @@ free_in_members owners =
 pub lowest_port : (external : ℕ) (owners : List (Option Owner)) (p : Slot) → option_map (port_numbered external) (position is_none owners) ≡ Some p → (k : ℕ) × (position is_none (members owners) ≡ Some k) × (p ≡ port_numbered external k)
 lowest_port external owners p e = let f = lowest_found external (position is_none owners) p e in (f.0, free_in_members owners ∙ f.1, f.2)
 
-no_number : (external : ℕ) (o : Option ℕ) → option_map (port_numbered external) o ≡ None → o ≡ None
+pub no_number : (external : ℕ) (o : Option ℕ) → option_map (port_numbered external) o ≡ None → o ≡ None
 no_number external None e = refl
 no_number external (Some k) e = absurd (cc)
 
