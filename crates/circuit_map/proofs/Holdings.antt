@@ -1,5 +1,5 @@
 -- The connections after a tone is given and after a connection is made are those of the holding after it.
-use Rattle.std.proofs.Common.{◌≡◌, ℕ, ◌+◌, ◌*◌, ◌<◌, ◌⊎◌, Bool, true, false, [], ◌∷◌, length, set, Option, Some, None, refl, sym, ◌∙◌, ap, subst, inl, inr, arith, length-set, if◌then◌else◌}
+use Rattle.std.proofs.Common.{◌≡◌, ℕ, ◌+◌, ◌⊎◌, Bool, true, false, [], ◌∷◌, Option, Some, None, refl, sym, ◌∙◌, ap, subst, inl, inr, arith, if◌then◌else◌}
 use Rattle.std.specs.Prelude.{◌↔◌, is_none}
 use Rattle.std.proofs.lemmas.Grind.{common_steps}
 use Rattle.circuit_model.specs.declared.channel.Slot.{Slot}
@@ -12,13 +12,13 @@ use Rattle.circuit_model.specs.Ports.{Ports, ports_after}
 use Rattle.circuit_model.proofs.Slots.{same_slot-refl, same_slot-false, same_slot_cases, idle_is_deaf}
 use Rattle.circuit_model.proofs.Hearing.{heard_by-one, heard_by-two}
 use Rattle.circuit_model.proofs.Validity.{deaf_is_idle, count_by-append, valid-tone, valid-connect, valid-frame}
-use Rattle.control_memory.specs.Layout.{IsSlot, Joins, number_of}
-use Rattle.circuit_map.specs.Connections.{Connections, lines_of, hears_in, hears_at, hears_after, seats, Holds, Obeys}
+use Rattle.control_memory.specs.Layout.{IsSlot, Joins}
+use Rattle.circuit_map.specs.Connections.{Connections, lines_of, hears_in, hears_at, hears_after, seats, Represents, Obeys}
 use Rattle.circuit_map.proofs.Needs.{Needs, Paired, needed_is}
-use Rattle.circuit_map.proofs.Rows.{adds, Fresh, Fresh_pair, Fresh_to, Fresh_from, needs_kept, needs_split, hears_written}
+use Rattle.circuit_map.proofs.Rows.{adds, Fresh, Fresh_pair, Fresh_to, Fresh_from, needs_kept, needs_split}
 
 -- ---- by the holding
-pub idle_in : (m : Connections) (h : Holding) (ports : Ports) (x : Slot) → Holds m h ports → hears_at m x ≡ None → is_idle h.circuits x ≡ true
+pub idle_in : (m : Connections) (h : Holding) (ports : Ports) (x : Slot) → Represents m h ports → hears_at m x ≡ None → is_idle h.circuits x ≡ true
 idle_in m h ports x holds none = deaf_is_idle h.circuits x (holds.valid.standing x) (sym (holds.heard x) ∙ none)
 
 one_idle : (a b : Bool) → (a ≡ true → b ≡ true) → (b ≡ true → a ≡ true) → a ≡ b
@@ -30,10 +30,10 @@ silent : (o : Option Circuit) → is_none o ≡ true → o ≡ None
 silent None e = refl
 silent (Some c) e = absurd (cc)
 
-pub idle_is : (m : Connections) (h : Holding) (ports : Ports) (x : Slot) → Holds m h ports → is_none (hears_at m x) ≡ is_idle h.circuits x
+pub idle_is : (m : Connections) (h : Holding) (ports : Ports) (x : Slot) → Represents m h ports → is_none (hears_at m x) ≡ is_idle h.circuits x
 idle_is m h ports x holds = one_idle (is_none (hears_at m x)) (is_idle h.circuits x) (λ e. idle_in m h ports x holds (silent (hears_at m x) e)) (λ e. ap is_none (holds.heard x ∙ idle_is_deaf h.circuits x e))
 
-pub joins_needed : (m : Connections) (h : Holding) (ports : Ports) (a b : Slot) → Holds m h ports → IsSlot (lines_of m) a → Joins m.layout a b ↔ Needs m.external ports (heard_by h.circuits) a b
+pub joins_needed : (m : Connections) (h : Holding) (ports : Ports) (a b : Slot) → Represents m h ports → IsSlot (lines_of m) a → Joins m.layout a b ↔ Needs m.external ports (heard_by h.circuits) a b
 joins_needed m h ports a b holds inside =
     let there = holds.joined a b inside in
     let needed = needed_is m.external ports m.bridges h a b holds.valid in
@@ -86,7 +86,7 @@ pub record Counted (m n : Connections) : Type 0 where
   pub members : n.ports ≡ m.ports
   pub layout : n.layout ≡ m.layout
 
-pub holds_frame : (m n : Connections) → Counted m n → (h : Holding) (ports : Ports) → Holds m h ports → Holds n (after h Frame) ports
+pub holds_frame : (m n : Connections) → Counted m n → (h : Holding) (ports : Ports) → Represents m h ports → Represents n (after h Frame) ports
 holds_frame m n w h ports holds = record {
   next = w.next ∙ ap (λ k. k + 1) holds.next;
   valid = subst (λ b. Valid b (after h Frame)) (sym w.bridges) (valid-frame m.bridges h holds.valid);

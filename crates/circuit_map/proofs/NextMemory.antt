@@ -23,7 +23,7 @@ use Rattle.control_memory.specs.Layout.{IsSlot, number_of}
 use Rattle.control_memory.specs.Image.{port_number, port_entry}
 use Rattle.control_memory.specs.Shown.{heard_as, seated_as, member_at, served_by}
 use Rattle.control_memory.proofs.Steps.{same_number}
-use Rattle.circuit_map.specs.Connections.{Connections, hears_in, hears_at, seats, Holds, served_in, room_in, entry_at, IsShown}
+use Rattle.circuit_map.specs.Connections.{Connections, hears_in, hears_at, seats, Represents, served_in, room_in, entry_at, IsShown}
 use Rattle.circuit_map.proofs.Rows.{hears_written}
 use Rattle.circuit_map.proofs.Sockets.{given_at, portless, none_counted, count-returned_mine, port_found, port_line}
 use Rattle.circuit_map.proofs.Clearing.{nobody_returns, above_zero}
@@ -161,7 +161,7 @@ seats_once x cs (Is_seated room s e) = let same = same_slot-refl x in let all = 
 seats_once x cs (Is_connected y s apart (inl e)) = let all = seats_by_name x cs ∙ ap (count_by (seats x)) e in omega (arith, all)
 seats_once x cs (Is_connected y s apart (inr e)) = let all = seats_by_name x cs ∙ ap (count_by (seats x)) e in omega (arith, all)
 
-pub one_port : (m : Connections) (h : Holding) (ports : Ports) (x : Slot) → Holds m h ports → count_by (has x) m.ports ≤ 1
+pub one_port : (m : Connections) (h : Holding) (ports : Ports) (x : Slot) → Represents m h ports → count_by (has x) m.ports ≤ 1
 one_port m h ports x holds =
     let counted = ap (count_by (has x)) holds.members ∙ holds.ported x in
     let once = seats_once x h.circuits (holds.valid.standing x) in
@@ -331,5 +331,5 @@ shown_returned external bridges heard ports hearing sitting x p n q old at_p onc
 pub returned_portless : (external : ℕ) (ports : Ports) (x : Slot) → port_of external (returned x ports) x ≡ None
 returned_portless external ports x = portless external (returned x ports) x (count-returned_mine x ports)
 
-pub unseated_portless : (m : Connections) (h : Holding) (ports : Ports) (x : Slot) → ((room : ℕ) (at : Slot) (s : ℕ) → hears_at m x ≡ Some (Member room at s) → ⊥) → Holds m h ports → port_of m.external m.ports x ≡ None
+pub unseated_portless : (m : Connections) (h : Holding) (ports : Ports) (x : Slot) → ((room : ℕ) (at : Slot) (s : ℕ) → hears_at m x ≡ Some (Member room at s) → ⊥) → Represents m h ports → port_of m.external m.ports x ≡ None
 unseated_portless m h ports x never holds = ap (λ ps. port_of m.external ps x) (sym (nobody_returns m h ports x never holds)) ∙ returned_portless m.external m.ports x

@@ -1,5 +1,5 @@
 -- The room that each port is owned for follows each change of the connections.
-use Rattle.std.proofs.Common.{◌≡◌, ℕ, ◌<◌, false, List, length, get_or, set, Option, Some, None, sym, ◌∙◌, ap, subst, inl, inr, arith, if◌then◌else◌, get_or-set_same, get_or-set_other}
+use Rattle.std.proofs.Common.{◌≡◌, ℕ, false, List, get_or, set, Option, Some, None, sym, ◌∙◌, ap, subst, inl, inr, arith, if◌then◌else◌, get_or-set_same, get_or-set_other}
 use Rattle.std.specs.Prelude.{is_none, position, replicate}
 use Rattle.std.proofs.Math.ListN.{get_or-map}
 use Rattle.std.proofs.lemmas.Bool.{cases_eq}

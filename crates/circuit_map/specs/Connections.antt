@@ -56,7 +56,7 @@ seats x (Tone kind to since) = false
 
 -- the connections are those of a valid holding and of its ports: each slot hears by its circuit, each member has one port and nobody else
 -- has any, and the paths are those that the circuits need
-pub record Holds (m : Connections) (h : Holding) (ports : Ports) : Type 0 where
+pub record Represents (m : Connections) (h : Holding) (ports : Ports) : Type 0 where
   pub next : m.next ≡ h.next
   pub valid : Valid m.bridges h
   pub heard : (x : Slot) → hears_at m x ≡ heard_by h.circuits x
@@ -67,7 +67,7 @@ pub record Holds (m : Connections) (h : Holding) (ports : Ports) : Type 0 where
 
 -- of whatever holding and ports the first connections are, the second ones are those after the command
 abbrev pub Obeys : Connections → Connections → Command → Type 0
-Obeys m n command = (h : Holding) (ports : Ports) → Holds m h ports → Holds n (after h command) (ports_after ports command)
+Obeys m n command = (h : Holding) (ports : Ports) → Represents m h ports → Represents n (after h command) (ports_after ports command)
 
 -- the circuit that a slot serves: an external slot the one by which it hears, a conference port that of its member
 abbrev pub served_in : ℕ → List (Option Circuit) → Ports → Slot → Option Circuit
@@ -108,7 +108,7 @@ pub record IsSound (m : Connections) (lines first_line bridge_lines : ℕ) (owne
   pub listeners : length m.heard ≡ 30 * m.external
   pub sockets : length m.ports ≡ 30 * m.bridges
   pub legal : Legal lines m.slots m.layout
-  pub held : (h : Holding) × Holds m h m.ports
+  pub held : (h : Holding) × Represents m h m.ports
   pub roomed : AreRoomed (hears_at m) owners
   pub shown : IsShown m.external m.bridges m.heard m.ports hearing sitting
 

@@ -7,7 +7,7 @@ ghost use Rattle.circuit_model.specs.Ports.{Ports as Members, ports_after, free_
 ghost use Rattle.control_memory.specs.Layout.{IsBare};
 ghost use Rattle.control_memory.specs.Shown.{ShowsBy};
 ghost use Rattle.control_memory.specs.Image.{SameSizes as SameImageSizes};
-ghost use Rattle.circuit_map.specs.Connections.{IsExternal, hears_at, hears_after, Holds, Obeys, SameSizes, AreMoves, joined_both, parted, is_pathless};
+ghost use Rattle.circuit_map.specs.Connections.{IsExternal, hears_at, hears_after, Represents, Obeys, SameSizes, AreMoves, joined_both, parted, is_pathless};
 
 use circuit_model::{Circuit, Kind, PLACES, Slot};
 use conference_ports::Ports;
@@ -22,7 +22,7 @@ pub struct NoPort;
 /// The circuits that stand, and the paths and conference ports that carry them.
 ///
 /// Contracts see the circuit by which each external slot hears, the member of each port and the
-/// layout of the paths; `Holds` says of which holding these are. No call but `new` takes memory.
+/// layout of the paths; `Represents` says of which holding these are. No call but `new` takes memory.
 #[derive(Drop)]
 pub struct CircuitMap<P: PathMap> {
     external: u8,
@@ -80,7 +80,7 @@ impl<P: PathMap + Drop> CircuitMap<P> {
         requires few { external + bridges ≤ 34 }
         requires lines { P.width paths ≡ external + bridges }
         requires bare { IsBare (P.layout paths) }
-        ensures holds { IfOk result (λ m. Holds m empty (free_ports bridges)) }
+        ensures holds { IfOk result (λ m. Represents m empty (free_ports bridges)) }
         ensures external { IfOk result (λ m. m.external ≡ external) }
         ensures bridges { IfOk result (λ m. m.bridges ≡ bridges) }
         ensures paths { IfOk result (λ m. (m.layout ≡ P.layout paths) × (m.slots ≡ P.depth paths) × (m.bound ≡ P.bound paths)) }
@@ -113,7 +113,7 @@ impl<P: PathMap> CircuitMap<P> {
     pub fn idle(&self, at: Slot) -> bool
         requires external { IsExternal self.now at }
         ensures silent { result ≡ is_none (hears_at self.now at) }
-        ensures idle { (h : Holding) (ports : Members) → Holds self.now h ports → result ≡ is_idle h.circuits at }
+        ensures idle { (h : Holding) (ports : Members) → Represents self.now h ports → result ≡ is_idle h.circuits at }
     {
         self.hears(at).is_none()
     }
@@ -124,7 +124,7 @@ impl<P: PathMap> CircuitMap<P> {
         requires external { IsExternal self.now at }
         ensures circuit { result ≡ hears_at self.now at }
         ensures listener { IfSome result (λ circuit. listener circuit ≡ at) }
-        ensures stands { (h : Holding) (ports : Members) → Holds self.now h ports → result ≡ heard_by h.circuits at }
+        ensures stands { (h : Holding) (ports : Members) → Represents self.now h ports → result ≡ heard_by h.circuits at }
     {
         self.heard[at.number()]
     }
@@ -195,7 +195,7 @@ impl<P: PathMap> CircuitMap<P> {
         ensures hears { OnOk result ((z : Slot) → hears_at self.new z ≡ hears_after self.old (Seat x room) z) }
         ensures ports { OnOk result (self.new.ports ≡ ports_after self.old.ports (Seat x room)) }
         ensures next { self.new.next ≡ self.old.next }
-        ensures full { (h : Holding) (ports : Members) → Holds self.old h ports → IsErr result ↔ (count_by is_member h.circuits ≡ 30 * self.old.bridges) }
+        ensures full { (h : Holding) (ports : Members) → Represents self.old h ports → IsErr result ↔ (count_by is_member h.circuits ≡ 30 * self.old.bridges) }
         ensures refused { OnErr result (self.new ≡ self.old) }
         ensures layout { IfOk result (λ moves. IfSome (port_of self.old.external self.new.ports x) (λ port. self.new.layout ≡ joined_both self.old x port)) }
         ensures moves { IfOk result (λ moves. IfSome (port_of self.old.external self.new.ports x) (AreMoves moves self.old x)) }
@@ -246,7 +246,7 @@ impl<P: PathMap> CircuitMap<P> {
         requires bridges { image.old.bridges ≡ self.old.bridges }
         requires slots { image.old.slots ≡ self.old.slots }
         ensures number { result ≡ self.old.next }
-        ensures shows { (h : Holding) (ports : Members) → Holds self.old h ports → ShowsBy self.old.layout image.new h.circuits ports h.next }
+        ensures shows { (h : Holding) (ports : Members) → Represents self.old h ports → ShowsBy self.old.layout image.new h.circuits ports h.next }
         ensures image { SameImageSizes image.old image.new }
         ensures holds { Obeys self.old self.new Frame }
         ensures hears { (z : Slot) → hears_at self.new z ≡ hears_after self.old Frame z }

@@ -1,10 +1,10 @@
-use Rattle.std.proofs.Common.{◌+◌, ◌<◌, None, sym, ◌∙◌, ap, subst}
+use Rattle.std.proofs.Common.{◌+◌, ◌<◌, sym, ◌∙◌, ap, subst}
 use Rattle.circuit_model.specs.Holding.{Holding, Frame, after}
 use Rattle.control_memory.specs.Layout.{Legal}
 use Rattle.control_memory.specs.Image.{HasLayout, port_entry}
 use Rattle.control_memory.specs.Shown.{heard_as}
 use Rattle.control_memory.specs.declared.heard.Heard.TheVariants.{Silent}
-use Rattle.circuit_map.specs.Connections.{Connections, lines_of, Holds, served_at, room_shown, entry_at}
+use Rattle.circuit_map.specs.Connections.{Connections, lines_of, Represents, served_at, room_shown, entry_at}
 use Rattle.circuit_map.proofs.Holdings.{holds_frame}
 use Rattle.circuit_map.proofs.Paths.{own_ports}
 use Rattle.circuit_map.proofs.Showing.{shows}
@@ -25,7 +25,7 @@ returns-clause-holds g c = λ h ports holds.
 
 pub invariant_of-self : goal.invariant_of-self
 invariant_of-self g c =
-    let old = subst (λ (m : Connections). (h : Holding) × Holds m h m.ports) c.self.view_is c.self.invariant.held in
+    let old = subst (λ (m : Connections). (h : Holding) × Represents m h m.ports) c.self.view_is c.self.invariant.held in
     record {
       few = c.self.invariant.few;
       width = c.self.invariant.width;

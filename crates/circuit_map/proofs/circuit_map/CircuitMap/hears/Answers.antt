@@ -1,7 +1,7 @@
 use Rattle.std.proofs.Common.{◌<◌, length, get_or, None, refl, sym, ◌∙◌, ap, subst, arith}
 use Rattle.std.proofs.lemmas.List.{get_or_read_under}
 use Rattle.circuit_model.specs.Holding.{Holding}
-use Rattle.circuit_map.specs.Connections.{Connections, Holds, hears_at}
+use Rattle.circuit_map.specs.Connections.{Connections, Represents, hears_at}
 use Rattle.circuit_map.proofs.Rows.{row_inside, hears_inside}
 use Rattle.circuit_map.proofs.Clearing.{hearing_at, heard_of_own}
 use Rattle.circuit_map.proofs.circuit_map.CircuitMap.hears.Goals as goal
@@ -20,7 +20,7 @@ returns-clause-circuit g c =
 
 pub returns-clause-listener : goal.returns-clause-listener
 returns-clause-listener g c =
-    let held = subst (λ (m : Connections). (h : Holding) × Holds m h m.ports) c.self.view_is c.self.invariant.held in
+    let held = subst (λ (m : Connections). (h : Holding) × Represents m h m.ports) c.self.view_is c.self.invariant.held in
     let m = c.args.self.now in
     heard_of_own m _ c.args.at (hearing_at m held.0 m.ports held.1) (returns-clause-circuit g c)
 

@@ -1,11 +1,11 @@
-use Rattle.std.proofs.Common.{◌≡◌, ◌+◌, ◌*◌, ◌<◌, ◌⊎◌, length, set, Some, sym, ◌∙◌, ap, subst, arith, length-set, ⊎_elim, if◌then◌else◌}
+use Rattle.std.proofs.Common.{◌≡◌, ◌+◌, ◌<◌, ◌⊎◌, set, Some, sym, ◌∙◌, ap, subst, arith, length-set, ⊎_elim, if◌then◌else◌}
 use Rattle.std.specs.Prelude.{◌↔◌}
 use Rattle.circuit_model.specs.declared.circuit.Circuit.TheVariants.{Pair}
 use Rattle.circuit_model.specs.Circuits.{same_slot}
 use Rattle.circuit_model.specs.Holding.{Holding, Connect, after}
 use Rattle.control_memory.specs.Layout.{IsSlot, Joins}
 use Rattle.control_memory.specs.Connecting.{connect, moved}
-use Rattle.circuit_map.specs.Connections.{Connections, lines_of, joined_one, joined_both, Holds, AreRoomed, hears_in, hears_at, hears_after}
+use Rattle.circuit_map.specs.Connections.{Connections, lines_of, joined_one, joined_both, Represents, AreRoomed, hears_in, hears_at, hears_after}
 use Rattle.circuit_map.proofs.Rows.{hears_set, two_keep}
 use Rattle.circuit_map.proofs.OwnersRooms.{roomed_on}
 use Rattle.circuit_map.proofs.Holdings.{holds_pair, swapped}
@@ -16,20 +16,20 @@ use Rattle.circuit_map.proofs.circuit_map.CircuitMap.pair.Goals as goal
 
 pub connect-there-requires-clause-inlet : goal.connect-there-requires-clause-inlet
 connect-there-requires-clause-inlet g c =
-    let held = subst (λ (m : Connections). (h : Holding) × Holds m h m.ports) c.self.view_is c.self.invariant.held in
+    let held = subst (λ (m : Connections). (h : Holding) × Represents m h m.ports) c.self.view_is c.self.invariant.held in
     let layout = ap (λ (m : Connections). m.layout) c.self.view_is in
     no_inlet _ c.args.x (λ b j. idle_joins_none c.args.self.now held.0 c.args.self.now.ports c.args.x b held.1 c.requires.external_x.0 c.requires.external_x.1 c.requires.idle_x (subst (λ l. Joins l c.args.x b) layout j))
 
 pub connect-there-requires-clause-outlet : goal.connect-there-requires-clause-outlet
 connect-there-requires-clause-outlet g c =
-    let held = subst (λ (m : Connections). (h : Holding) × Holds m h m.ports) c.self.view_is c.self.invariant.held in
+    let held = subst (λ (m : Connections). (h : Holding) × Represents m h m.ports) c.self.view_is c.self.invariant.held in
     let layout = ap (λ (m : Connections). m.layout) c.self.view_is in
     let lines = c.self.invariant.width ∙ ap lines_of c.self.view_is in
     no_outlet _ _ c.args.y c.self.invariant.legal.inlets (λ a inside j. none_joins_idle c.args.self.now held.0 c.args.self.now.ports a c.args.y held.1 (subst (λ w. IsSlot w a) lines inside) c.requires.external_y.0 c.requires.idle_y (subst (λ l. Joins l a c.args.y) layout j))
 
 pub connect-back-requires-clause-inlet : goal.connect-back-requires-clause-inlet
 connect-back-requires-clause-inlet g c =
-    let held = subst (λ (m : Connections). (h : Holding) × Holds m h m.ports) c.self.view_is c.self.invariant.held in
+    let held = subst (λ (m : Connections). (h : Holding) × Represents m h m.ports) c.self.view_is c.self.invariant.held in
     let layout = ap (λ (m : Connections). m.layout) c.self.view_is in
     let lines = c.self.invariant.width ∙ ap lines_of c.self.view_is in
     let y_in = c.requires.external_y in
@@ -40,7 +40,7 @@ connect-back-requires-clause-inlet g c =
 
 pub connect-back-requires-clause-outlet : goal.connect-back-requires-clause-outlet
 connect-back-requires-clause-outlet g c =
-    let held = subst (λ (m : Connections). (h : Holding) × Holds m h m.ports) c.self.view_is c.self.invariant.held in
+    let held = subst (λ (m : Connections). (h : Holding) × Represents m h m.ports) c.self.view_is c.self.invariant.held in
     let layout = ap (λ (m : Connections). m.layout) c.self.view_is in
     let lines = c.self.invariant.width ∙ ap lines_of c.self.view_is in
     no_outlet _ _ c.args.x c.connect-there.ensures.legal.inlets (λ a inside j.
@@ -116,7 +116,7 @@ invariant_of-self g c =
     let none_x = idle_portless _ held.0 _ c.args.x held.1 (ap (λ (m : Connections). hears_at m c.args.x) is ∙ c.requires.idle_x) in
     let none_y = idle_portless _ held.0 _ c.args.y held.1 (ap (λ (m : Connections). hears_at m c.args.y) is ∙ c.requires.idle_y) in
     let one = shown_row _ _ _ _ _ _ c.args.x (Some (Pair c.args.y c.args.x c.self.inside.next)) _ c.self.invariant.shown c.self.invariant.listeners near_x c.requires.external_x.1 none_x c.number-at_x.ensures in
-    let old = subst (λ (m : Connections). (h : Holding) × Holds m h m.ports) c.self.view_is c.self.invariant.held in
+    let old = subst (λ (m : Connections). (h : Holding) × Represents m h m.ports) c.self.view_is c.self.invariant.held in
     let first = c.connect-there.ensures in
     let second = c.connect-back.ensures in
     record {

@@ -5,7 +5,7 @@ use Rattle.circuit_model.specs.Circuits.{same_slot, heard_by}
 use Rattle.circuit_model.specs.Holding.{Holding, Clear, after}
 use Rattle.control_memory.specs.Layout.{IsSlot, Joins, number_of}
 use Rattle.control_memory.specs.Connecting.{without_path}
-use Rattle.circuit_map.specs.Connections.{Connections, Holds, AreRoomed, lines_of, hears_in, hears_at}
+use Rattle.circuit_map.specs.Connections.{Connections, Represents, AreRoomed, lines_of, hears_in, hears_at}
 use Rattle.circuit_map.proofs.OwnersRooms.{roomed_on, others_hear_on}
 use Rattle.circuit_map.proofs.Rows.{hears_written, row_inside}
 use Rattle.circuit_map.proofs.Paths.{own_ports, external_slot}
@@ -15,19 +15,19 @@ use Rattle.circuit_map.proofs.circuit_map.CircuitMap.release.Goals as goal
 
 pub disconnect-requires-clause-stands : goal.disconnect-requires-clause-stands
 disconnect-requires-clause-stands g c =
-    let held = subst (λ (m : Connections). (h : Holding) × Holds m h m.ports) c.self.view_is c.self.invariant.held in
+    let held = subst (λ (m : Connections). (h : Holding) × Represents m h m.ports) c.self.view_is c.self.invariant.held in
     let m = c.args.self.now in
     let hx = connected_to m held.0 m.ports c.args.x c.args.y c.requires.connected.0 c.requires.connected.1 held.1 c.requires.connected.2 in
     subst (λ l. Joins l c.args.x c.args.y) (sym (ap (λ (m : Connections). m.layout) c.self.view_is))
     (joined_there m held.0 m.ports c.args.x c.args.y c.requires.connected.1 held.1 (external_slot m c.args.x c.requires.external.0 c.requires.external.1) hx)
 
 -- the other end is an external slot too
-other_end : (m : Connections) (h : Holding) (x y : Slot) (s : ℕ) → Holds m h m.ports → hears_at m x ≡ Some (Pair y x s) → (y.line < m.external) × (y.place < 30)
+other_end : (m : Connections) (h : Holding) (x y : Slot) (s : ℕ) → Represents m h m.ports → hears_at m x ≡ Some (Pair y x s) → (y.line < m.external) × (y.place < 30)
 other_end m h x y s holds hx = let k = hearing_at m h m.ports holds in k.inside y _ (k.both_ways x y s hx)
 
 pub disconnect-requires-2-clause-from : goal.disconnect-requires-2-clause-from
 disconnect-requires-2-clause-from g c =
-    let held = subst (λ (m : Connections). (h : Holding) × Holds m h m.ports) c.self.view_is c.self.invariant.held in
+    let held = subst (λ (m : Connections). (h : Holding) × Represents m h m.ports) c.self.view_is c.self.invariant.held in
     let m = c.args.self.now in
     let hx = connected_to m held.0 m.ports c.args.x c.args.y c.requires.connected.0 c.requires.connected.1 held.1 c.requires.connected.2 in
     let near = other_end m held.0 c.args.x c.args.y c.requires.connected.1 held.1 hx in
@@ -35,7 +35,7 @@ disconnect-requires-2-clause-from g c =
 
 pub disconnect-requires-2-clause-stands : goal.disconnect-requires-2-clause-stands
 disconnect-requires-2-clause-stands g c =
-    let held = subst (λ (m : Connections). (h : Holding) × Holds m h m.ports) c.self.view_is c.self.invariant.held in
+    let held = subst (λ (m : Connections). (h : Holding) × Represents m h m.ports) c.self.view_is c.self.invariant.held in
     let m = c.args.self.now in
     let hx = connected_to m held.0 m.ports c.args.x c.args.y c.requires.connected.0 c.requires.connected.1 held.1 c.requires.connected.2 in
     let near = other_end m held.0 c.args.x c.args.y c.requires.connected.1 held.1 hx in
@@ -47,7 +47,7 @@ disconnect-requires-2-clause-stands g c =
 
 pub index_mut-requires-2 : goal.index_mut-requires-2
 index_mut-requires-2 g c =
-    let held = subst (λ (m : Connections). (h : Holding) × Holds m h m.ports) c.self.view_is c.self.invariant.held in
+    let held = subst (λ (m : Connections). (h : Holding) × Represents m h m.ports) c.self.view_is c.self.invariant.held in
     let m = c.args.self.now in
     let hx = connected_to m held.0 m.ports c.args.x c.args.y c.requires.connected.0 c.requires.connected.1 held.1 c.requires.connected.2 in
     let near = other_end m held.0 c.args.x c.args.y c.requires.connected.1 held.1 hx in
@@ -57,7 +57,7 @@ index_mut-requires-2 g c =
 
 pub index_mut-requires-4 : goal.index_mut-requires-4
 index_mut-requires-4 g c =
-    let held = subst (λ (m : Connections). (h : Holding) × Holds m h m.ports) c.self.view_is c.self.invariant.held in
+    let held = subst (λ (m : Connections). (h : Holding) × Represents m h m.ports) c.self.view_is c.self.invariant.held in
     let m = c.args.self.now in
     let hx = connected_to m held.0 m.ports c.args.x c.args.y c.requires.connected.0 c.requires.connected.1 held.1 c.requires.connected.2 in
     let near = other_end m held.0 c.args.x c.args.y c.requires.connected.1 held.1 hx in
@@ -72,7 +72,7 @@ returns-clause-hears g c = λ z.
     let x = c.args.x in
     let y = c.args.y in
     let s = c.requires.connected.1 in
-    let held = subst (λ (m : Connections). (h : Holding) × Holds m h m.ports) is c.self.invariant.held in
+    let held = subst (λ (m : Connections). (h : Holding) × Represents m h m.ports) is c.self.invariant.held in
     let size = subst (λ (m : Connections). length m.heard ≡ 30 * m.external) is c.self.invariant.listeners in
     let k = hearing_at m held.0 m.ports held.1 in
     let hx = connected_to m held.0 m.ports x y c.requires.connected.0 s held.1 c.requires.connected.2 in
@@ -84,13 +84,13 @@ returns-clause-hears g c = λ z.
 
 pub returns-clause-idle : goal.returns-clause-idle
 returns-clause-idle g c =
-    let held = subst (λ (m : Connections). (h : Holding) × Holds m h m.ports) c.self.view_is c.self.invariant.held in
+    let held = subst (λ (m : Connections). (h : Holding) × Represents m h m.ports) c.self.view_is c.self.invariant.held in
     let m = c.args.self.now in
     returns-clause-hears g c c.args.x ∙ row_of_self m.external (hears_at m) c.args.x (hearing_at m held.0 m.ports held.1)
 
 pub returns-clause-ports : goal.returns-clause-ports
 returns-clause-ports g c =
-    let held = subst (λ (m : Connections). (h : Holding) × Holds m h m.ports) c.self.view_is c.self.invariant.held in
+    let held = subst (λ (m : Connections). (h : Holding) × Represents m h m.ports) c.self.view_is c.self.invariant.held in
     let m = c.args.self.now in
     let x = c.args.x in
     let s = c.requires.connected.1 in
@@ -137,7 +137,7 @@ invariant_of-self g c =
     let none_x = unseated_portless _ held.0 _ x (λ room at t e. no_member_too _ y x at s room t hx e) held.1 in
     let none_y = unseated_portless _ held.0 _ y (λ room at t e. no_member_too _ x y at s room t hy e) held.1 in
     let one = shown_row _ _ _ _ _ _ x None _ c.self.invariant.shown c.self.invariant.listeners near_x c.requires.external.1 none_x c.number-at_x.ensures in
-    let old = subst (λ (m : Connections). (h : Holding) × Holds m h m.ports) c.self.view_is c.self.invariant.held in
+    let old = subst (λ (m : Connections). (h : Holding) × Represents m h m.ports) c.self.view_is c.self.invariant.held in
     let first = c.disconnect.ensures in
     let second = c.disconnect-2.ensures in
     record {

@@ -5,7 +5,7 @@ use Rattle.circuit_model.specs.Holding.{Holding, Seat, after}
 use Rattle.circuit_model.specs.Ports.{Ports, port_of, port_numbered, given}
 use Rattle.control_memory.specs.Layout.{IsSlot, Joins}
 use Rattle.control_memory.specs.Connecting.{connect, moved}
-use Rattle.circuit_map.specs.Connections.{Connections, lines_of, joined_one, joined_both, hears_in, hears_at, hears_after, Holds, AreRoomed}
+use Rattle.circuit_map.specs.Connections.{Connections, lines_of, joined_one, joined_both, hears_in, hears_at, hears_after, Represents, AreRoomed}
 use Rattle.circuit_map.proofs.OwnersRooms.{roomed_given}
 use Rattle.circuit_map.proofs.Paths.{own_ports, no_inlet, no_outlet, idle_joins_none, none_joins_idle, two_more}
 use Rattle.circuit_map.proofs.Sockets.{length-given}
@@ -21,7 +21,7 @@ use Rattle.circuit_map.proofs.circuit_map.CircuitMap.seat.Goals as goal
 pub take-requires-clause-portless : goal.take-requires-clause-portless
 take-requires-clause-portless g c =
     let is = c.self.view_is in
-    let held = subst (λ (m : Connections). (h : Holding) × Holds m h m.ports) is c.self.invariant.held in
+    let held = subst (λ (m : Connections). (h : Holding) × Represents m h m.ports) is c.self.invariant.held in
     let m = c.args.self.now in
     (λ i. port_of ((c.self.invariant.first ∙ ap (λ (m : Connections). m.external) is) i) (is i).ports c.args.x) ∙ idle_portless m held.0 m.ports c.args.x held.1 c.requires.idle
 
@@ -47,7 +47,7 @@ invariant_of-self g c =
         heard = c.self.inside.heard.items;
         ports = p;
         layout = g.P.PathMap.layout c.self.inside.paths;
-      } in (h : Holding) × Holds v h p) (sym same) c.self.invariant.held;
+      } in (h : Holding) × Represents v h p) (sym same) c.self.invariant.held;
       roomed = subst (AreRoomed (hears_in c.self.inside.external c.self.inside.heard.items)) (sym (c.take.ensures.owners ∙ owned_none _ c.self.inside.ports.owners (no_number c.self.inside.ports.external _ (sym c.take.ensures.lowest ∙ c.in_default.is)))) c.self.invariant.roomed;
       shown = shown_by _ _ _ _ _ _ _ same c.self.invariant.shown;
     }
@@ -82,7 +82,7 @@ connect-there-requires-clause-inlet g c =
     let p = c.in-Some.port in
     let long = subst (λ (m : Connections). length m.ports ≡ 30 * m.bridges) is c.self.invariant.sockets in
     let f = free_port c.self.inside.ports.external c.self.inside.ports.owners p m (c.self.invariant.first ∙ ap (λ (m : Connections). m.external) is) (ap (λ (m : Connections). m.ports) is) long (sym c.take.ensures.lowest ∙ c.in-Some.is) in
-    let held = subst (λ (m : Connections). (h : Holding) × Holds m h m.ports) is c.self.invariant.held in
+    let held = subst (λ (m : Connections). (h : Holding) × Represents m h m.ports) is c.self.invariant.held in
     let layout = ap (λ (m : Connections). m.layout) is in
     let lines = c.self.invariant.width ∙ ap lines_of is in
     no_inlet _ x (λ b j. idle_joins_none m held.0 m.ports x b held.1 c.requires.external.0 c.requires.external.1 c.requires.idle (subst (λ l. Joins l x b) layout j))
@@ -95,7 +95,7 @@ connect-there-requires-clause-outlet g c =
     let p = c.in-Some.port in
     let long = subst (λ (m : Connections). length m.ports ≡ 30 * m.bridges) is c.self.invariant.sockets in
     let f = free_port c.self.inside.ports.external c.self.inside.ports.owners p m (c.self.invariant.first ∙ ap (λ (m : Connections). m.external) is) (ap (λ (m : Connections). m.ports) is) long (sym c.take.ensures.lowest ∙ c.in-Some.is) in
-    let held = subst (λ (m : Connections). (h : Holding) × Holds m h m.ports) is c.self.invariant.held in
+    let held = subst (λ (m : Connections). (h : Holding) × Represents m h m.ports) is c.self.invariant.held in
     let layout = ap (λ (m : Connections). m.layout) is in
     let lines = c.self.invariant.width ∙ ap lines_of is in
     no_outlet _ _ p c.self.invariant.legal.inlets (λ a inside j. none_joins_port m held.0 m.ports a p f.number held.1 (subst (λ w. IsSlot w a) lines inside) f.far f.lowest f.is (subst (λ l. Joins l a p) layout j))
@@ -108,7 +108,7 @@ connect-back-requires-clause-inlet g c =
     let p = c.in-Some.port in
     let long = subst (λ (m : Connections). length m.ports ≡ 30 * m.bridges) is c.self.invariant.sockets in
     let f = free_port c.self.inside.ports.external c.self.inside.ports.owners p m (c.self.invariant.first ∙ ap (λ (m : Connections). m.external) is) (ap (λ (m : Connections). m.ports) is) long (sym c.take.ensures.lowest ∙ c.in-Some.is) in
-    let held = subst (λ (m : Connections). (h : Holding) × Holds m h m.ports) is c.self.invariant.held in
+    let held = subst (λ (m : Connections). (h : Holding) × Represents m h m.ports) is c.self.invariant.held in
     let layout = ap (λ (m : Connections). m.layout) is in
     let lines = c.self.invariant.width ∙ ap lines_of is in
     no_inlet _ p (λ b j. ⊎_elim
@@ -124,7 +124,7 @@ connect-back-requires-clause-outlet g c =
     let p = c.in-Some.port in
     let long = subst (λ (m : Connections). length m.ports ≡ 30 * m.bridges) is c.self.invariant.sockets in
     let f = free_port c.self.inside.ports.external c.self.inside.ports.owners p m (c.self.invariant.first ∙ ap (λ (m : Connections). m.external) is) (ap (λ (m : Connections). m.ports) is) long (sym c.take.ensures.lowest ∙ c.in-Some.is) in
-    let held = subst (λ (m : Connections). (h : Holding) × Holds m h m.ports) is c.self.invariant.held in
+    let held = subst (λ (m : Connections). (h : Holding) × Represents m h m.ports) is c.self.invariant.held in
     let layout = ap (λ (m : Connections). m.layout) is in
     let lines = c.self.invariant.width ∙ ap lines_of is in
     no_outlet _ _ x c.connect-there.ensures.legal.inlets (λ a inside j.
@@ -152,7 +152,7 @@ returns-clause-layout g c =
     let p = c.in-Some.port in
     let long = subst (λ (m : Connections). length m.ports ≡ 30 * m.bridges) is c.self.invariant.sockets in
     let f = free_port c.self.inside.ports.external c.self.inside.ports.owners p m (c.self.invariant.first ∙ ap (λ (m : Connections). m.external) is) (ap (λ (m : Connections). m.ports) is) long (sym c.take.ensures.lowest ∙ c.in-Some.is) in
-    let held = subst (λ (m : Connections). (h : Holding) × Holds m h m.ports) is c.self.invariant.held in
+    let held = subst (λ (m : Connections). (h : Holding) × Represents m h m.ports) is c.self.invariant.held in
     let at_p = ap (λ q. port_of m.external q x) (c.take.ensures.members ∙ ap (given x) (ap (λ (m : Connections). m.ports) is)) ∙ seated_port m held.0 m.ports x p f.number held.1 c.requires.idle f.lowest f.is in
     let t = c.connect-there.ensures in
     let b = c.connect-back.ensures in
@@ -177,7 +177,7 @@ returns-clause-moves g c =
     let p = c.in-Some.port in
     let long = subst (λ (m : Connections). length m.ports ≡ 30 * m.bridges) is c.self.invariant.sockets in
     let f = free_port c.self.inside.ports.external c.self.inside.ports.owners p m (c.self.invariant.first ∙ ap (λ (m : Connections). m.external) is) (ap (λ (m : Connections). m.ports) is) long (sym c.take.ensures.lowest ∙ c.in-Some.is) in
-    let held = subst (λ (m : Connections). (h : Holding) × Holds m h m.ports) is c.self.invariant.held in
+    let held = subst (λ (m : Connections). (h : Holding) × Represents m h m.ports) is c.self.invariant.held in
     let at_p = ap (λ q. port_of m.external q x) (c.take.ensures.members ∙ ap (given x) (ap (λ (m : Connections). m.ports) is)) ∙ seated_port m held.0 m.ports x p f.number held.1 c.requires.idle f.lowest f.is in
     let t = c.connect-there.ensures in
     let b = c.connect-back.ensures in
@@ -257,7 +257,7 @@ invariant_of-self-2 g c =
     ∙ hears_written c.self.inside.external c.self.inside.heard.items x (Some (Member c.args.room x since)) x c.self.invariant.listeners near c.requires.external.1
     ∙ ap (λ b. if b then Some (Member c.args.room x since) else hears_in c.self.inside.external c.self.inside.heard.items x) (same_slot-refl x) in
     let two = shown_given c.self.inside.external c.self.inside.bridges heard (members c.self.inside.ports.owners) _ _ x p lowest.0 (Some (Member c.args.room x since)) _ _ one lowest.1 at in_p hears c.number-at_port.ensures c.port_index-sits_at.ensures in
-    let old = subst (λ (m : Connections). (h : Holding) × Holds m h m.ports) c.self.view_is c.self.invariant.held in
+    let old = subst (λ (m : Connections). (h : Holding) × Represents m h m.ports) c.self.view_is c.self.invariant.held in
     let first = c.connect-there.ensures in
     let second = c.connect-back.ensures in
     record {

@@ -1,6 +1,6 @@
-use Rattle.std.proofs.Common.{◌≡◌, ◌*◌, ◌<◌, length, set, None, sym, ◌∙◌, ap, subst, length-set, arith}
+use Rattle.std.proofs.Common.{◌≡◌, ◌*◌, ◌<◌, length, set, None, sym, ◌∙◌, ap, subst, length-set}
 use Rattle.circuit_model.specs.Holding.{Holding, Clear, after}
-use Rattle.circuit_map.specs.Connections.{Connections, Holds, AreRoomed, hears_in, hears_at}
+use Rattle.circuit_map.specs.Connections.{Connections, Represents, AreRoomed, hears_in, hears_at}
 use Rattle.circuit_map.proofs.OwnersRooms.{roomed_on, others_hear_on}
 use Rattle.circuit_map.proofs.Rows.{hears_written}
 use Rattle.circuit_map.proofs.Paths.{own_ports}
@@ -12,20 +12,20 @@ pub returns-clause-hears : goal.returns-clause-hears
 returns-clause-hears g c = λ z.
     let is = c.self.view_is in
     let m = c.args.self.now in
-    let held = subst (λ (m : Connections). (h : Holding) × Holds m h m.ports) is c.self.invariant.held in
+    let held = subst (λ (m : Connections). (h : Holding) × Represents m h m.ports) is c.self.invariant.held in
     let size = subst (λ (m : Connections). length m.heard ≡ 30 * m.external) is c.self.invariant.listeners in
     (λ i. hears_in (is i).external (set (is i).heard (c.number-at.ensures i) None) z) ∙ hears_written m.external m.heard c.args.x None z size c.requires.external.0 c.requires.external.1
     ∙ rows_one m.external (hears_at m) c.args.x z (hearing_at m held.0 m.ports held.1) (λ s e. pathless_pair (hears_at m c.args.x) z c.args.x s c.requires.pathless e)
 
 pub returns-clause-idle : goal.returns-clause-idle
 returns-clause-idle g c =
-    let held = subst (λ (m : Connections). (h : Holding) × Holds m h m.ports) c.self.view_is c.self.invariant.held in
+    let held = subst (λ (m : Connections). (h : Holding) × Represents m h m.ports) c.self.view_is c.self.invariant.held in
     let m = c.args.self.now in
     returns-clause-hears g c c.args.x ∙ row_of_self m.external (hears_at m) c.args.x (hearing_at m held.0 m.ports held.1)
 
 pub returns-clause-ports : goal.returns-clause-ports
 returns-clause-ports g c =
-    let held = subst (λ (m : Connections). (h : Holding) × Holds m h m.ports) c.self.view_is c.self.invariant.held in
+    let held = subst (λ (m : Connections). (h : Holding) × Represents m h m.ports) c.self.view_is c.self.invariant.held in
     let m = c.args.self.now in
     ap (λ (m : Connections). m.ports) c.self.view_is ∙ sym (nobody_returns m held.0 m.ports c.args.x (λ room at s e. pathless_member (hears_at m c.args.x) room at s c.requires.pathless e) held.1)
 
@@ -47,7 +47,7 @@ invariant_of-self g c =
     let near : c.args.x.line < c.self.inside.external = subst (λ e. c.args.x.line < e) (sym (ap (λ (m : Connections). m.external) is)) c.requires.external.0 in
     let held = c.self.invariant.held in
     let none = unseated_portless _ held.0 _ c.args.x (λ room at s e. pathless_member (hears_at c.args.self.now c.args.x) room at s c.requires.pathless (sym (ap (λ (m : Connections). hears_at m c.args.x) is) ∙ e)) held.1 in
-    let old = subst (λ (m : Connections). (h : Holding) × Holds m h m.ports) c.self.view_is c.self.invariant.held in
+    let old = subst (λ (m : Connections). (h : Holding) × Represents m h m.ports) c.self.view_is c.self.invariant.held in
     record {
       few = c.self.invariant.few;
       width = c.self.invariant.width;

@@ -1,7 +1,7 @@
-use Rattle.std.proofs.Common.{◌≡◌, ◌*◌, ◌<◌, length, set, Some, sym, ◌∙◌, ap, subst, length-set, arith}
+use Rattle.std.proofs.Common.{◌<◌, Some, sym, ◌∙◌, ap, subst, length-set}
 use Rattle.circuit_model.specs.declared.circuit.Circuit.TheVariants.{Tone}
 use Rattle.circuit_model.specs.Holding.{Holding, Give_tone, after}
-use Rattle.circuit_map.specs.Connections.{Connections, Holds, AreRoomed, hears_at, hears_after}
+use Rattle.circuit_map.specs.Connections.{Connections, Represents, AreRoomed, hears_at, hears_after}
 use Rattle.circuit_map.proofs.Rows.{hears_set, given_keeps}
 use Rattle.circuit_map.proofs.OwnersRooms.{roomed_on}
 use Rattle.circuit_map.proofs.Holdings.{holds_tone}
@@ -36,7 +36,7 @@ invariant_of-self g c =
     let near : c.args.x.line < c.self.inside.external = subst (λ e. c.args.x.line < e) (sym (ap (λ (m : Connections). m.external) is)) c.requires.external.0 in
     let held = c.self.invariant.held in
     let none = idle_portless _ held.0 _ c.args.x held.1 (ap (λ (m : Connections). hears_at m c.args.x) is ∙ c.requires.idle) in
-    let old = subst (λ (m : Connections). (h : Holding) × Holds m h m.ports) c.self.view_is c.self.invariant.held in
+    let old = subst (λ (m : Connections). (h : Holding) × Represents m h m.ports) c.self.view_is c.self.invariant.held in
     record {
       few = c.self.invariant.few;
       width = c.self.invariant.width;

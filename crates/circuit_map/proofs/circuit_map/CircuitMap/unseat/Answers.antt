@@ -1,10 +1,10 @@
-use Rattle.std.proofs.Common.{◌≡◌, ◌+◌, ◌*◌, ◌<◌, length, set, None, Some, sym, ◌∙◌, ap, subst, length-set, arith}
+use Rattle.std.proofs.Common.{◌≡◌, ◌*◌, ◌<◌, length, set, None, Some, sym, ◌∙◌, ap, subst, length-set}
 use Rattle.circuit_model.specs.Circuits.{heard_by}
 use Rattle.circuit_model.specs.Holding.{Holding, Clear, after}
 use Rattle.circuit_model.specs.Ports.{port_of, returned}
 use Rattle.control_memory.specs.Layout.{Joins}
 use Rattle.control_memory.specs.Connecting.{without_path}
-use Rattle.circuit_map.specs.Connections.{Connections, Holds, AreRoomed, lines_of, hears_in, hears_at, without_both, partner, parted}
+use Rattle.circuit_map.specs.Connections.{Connections, Represents, AreRoomed, lines_of, hears_in, hears_at, without_both, partner, parted}
 use Rattle.circuit_map.proofs.OwnersRooms.{roomed_returned}
 use Rattle.circuit_map.proofs.Rows.{hears_written}
 use Rattle.circuit_map.proofs.Paths.{own_ports, external_slot}
@@ -16,7 +16,7 @@ use Rattle.circuit_map.proofs.circuit_map.CircuitMap.unseat.Goals as goal
 
 pub unreachable-requires : goal.unreachable-requires
 unreachable-requires g c =
-    let held = subst (λ (m : Connections). (h : Holding) × Holds m h m.ports) c.self.view_is c.self.invariant.held in
+    let held = subst (λ (m : Connections). (h : Holding) × Represents m h m.ports) c.self.view_is c.self.invariant.held in
     let m = c.args.self.now in
     let s = c.requires.seated in
     let hx = seated_in m held.0 m.ports c.args.x s.1 s.0 s.2 held.1 s.3 in
@@ -26,7 +26,7 @@ unreachable-requires g c =
 
 pub disconnect-requires-clause-stands : goal.disconnect-requires-clause-stands
 disconnect-requires-clause-stands g c =
-    let held = subst (λ (m : Connections). (h : Holding) × Holds m h m.ports) c.self.view_is c.self.invariant.held in
+    let held = subst (λ (m : Connections). (h : Holding) × Represents m h m.ports) c.self.view_is c.self.invariant.held in
     let m = c.args.self.now in
     let s = c.requires.seated in
     let hx = seated_in m held.0 m.ports c.args.x s.1 s.0 s.2 held.1 s.3 in
@@ -38,7 +38,7 @@ disconnect-requires-clause-stands g c =
 
 pub disconnect-requires-2-clause-stands : goal.disconnect-requires-2-clause-stands
 disconnect-requires-2-clause-stands g c =
-    let held = subst (λ (m : Connections). (h : Holding) × Holds m h m.ports) c.self.view_is c.self.invariant.held in
+    let held = subst (λ (m : Connections). (h : Holding) × Represents m h m.ports) c.self.view_is c.self.invariant.held in
     let m = c.args.self.now in
     let s = c.requires.seated in
     let hx = seated_in m held.0 m.ports c.args.x s.1 s.0 s.2 held.1 s.3 in
@@ -53,7 +53,7 @@ disconnect-requires-2-clause-stands g c =
 
 pub returns-clause-layout : goal.returns-clause-layout
 returns-clause-layout g c =
-    let held = subst (λ (m : Connections). (h : Holding) × Holds m h m.ports) c.self.view_is c.self.invariant.held in
+    let held = subst (λ (m : Connections). (h : Holding) × Represents m h m.ports) c.self.view_is c.self.invariant.held in
     let m = c.args.self.now in
     let s = c.requires.seated in
     let hx = seated_in m held.0 m.ports c.args.x s.1 s.0 s.2 held.1 s.3 in
@@ -69,7 +69,7 @@ returns-clause-hears g c = λ z.
     let m = c.args.self.now in
     let x = c.args.x in
     let s = c.requires.seated in
-    let held = subst (λ (m : Connections). (h : Holding) × Holds m h m.ports) is c.self.invariant.held in
+    let held = subst (λ (m : Connections). (h : Holding) × Represents m h m.ports) is c.self.invariant.held in
     let size = subst (λ (m : Connections). length m.heard ≡ 30 * m.external) is c.self.invariant.listeners in
     let hx = seated_in m held.0 m.ports x s.1 s.0 s.2 held.1 s.3 in
     (λ i. hears_in (is i).external (set (is i).heard (c.number-at_x.ensures i) None) z) ∙ hears_written m.external m.heard x None z size c.requires.external.0 c.requires.external.1
@@ -77,7 +77,7 @@ returns-clause-hears g c = λ z.
 
 pub returns-clause-idle : goal.returns-clause-idle
 returns-clause-idle g c =
-    let held = subst (λ (m : Connections). (h : Holding) × Holds m h m.ports) c.self.view_is c.self.invariant.held in
+    let held = subst (λ (m : Connections). (h : Holding) × Represents m h m.ports) c.self.view_is c.self.invariant.held in
     let m = c.args.self.now in
     returns-clause-hears g c c.args.x ∙ row_of_self m.external (hears_at m) c.args.x (hearing_at m held.0 m.ports held.1)
 
@@ -126,7 +126,7 @@ invariant_of-self g c =
     let in_p = port_slot c.self.inside.external c.self.inside.bridges (members c.self.inside.ports.owners) x p at_p c.self.invariant.sockets in
     let one = shown_returned c.self.inside.external c.self.inside.bridges _ _ _ _ x p _ _ c.self.invariant.shown at_p (one_port _ held.0 _ x held.1) in_p c.number-at_port.ensures c.port_index-sits_at.ensures in
     let two = shown_row _ _ _ _ _ _ x None _ one c.self.invariant.listeners near c.requires.external.1 (returned_portless c.self.inside.external (members c.self.inside.ports.owners) x) c.number-at_x.ensures in
-    let old = subst (λ (m : Connections). (h : Holding) × Holds m h m.ports) c.self.view_is c.self.invariant.held in
+    let old = subst (λ (m : Connections). (h : Holding) × Represents m h m.ports) c.self.view_is c.self.invariant.held in
     let first = c.disconnect.ensures in
     let second = c.disconnect-2.ensures in
     record {
