@@ -1,5 +1,5 @@
 // Where bytes come from and go to, and when either may say that it failed.
-ghost use Rattle.std.specs.Prelude.{◌≡◌, ℕ, ◌<◌, ◌≤◌, List, [], length, take, Some, IfOk, OnErr};
+ghost use Rattle.std.specs.Prelude.{◌≡◌, ℕ, ◌<◌, ◌≤◌, List, [], length, take, Some, IfOk, OnOk, OnErr};
 ghost use Rattle.std.specs.declared.option.Option.{Option};
 ghost use Rattle.std.specs.Io.KnownBytes.{Appends, Consumes, IsAtEnd, Keeps};
 ghost use Rattle.ex_io.specs.Ends.{Rose};
@@ -11,7 +11,8 @@ use thiserror::Error;
 #[error("a read or a write failed")]
 pub struct Failed;
 
-/// Where bytes come from (this exchange's own).
+/// Where bytes come from (this exchange's own). Its count of faults tells of each failed read, and of
+/// nothing else.
 pub trait Source {
     /// The bytes that are left to read, where the source tells them.
     ghost left: { Self → Option (List ℕ) };
@@ -32,13 +33,15 @@ pub trait Source {
         ensures next { IfOk result (λ n. Consumes (left self.old) (left self.new) (take n buf.new)) }
         ensures end { IfOk result (λ n. n ≡ 0 → IsAtEnd (left self.new)) }
         ensures no_more { left self.old ≡ Some [] → IfOk result (λ n. n ≡ 0) }
+        ensures steady { OnOk result (faults self.new ≡ faults self.old) }
 
         ensures kept { OnErr result (Keeps (left self.old) (left self.new)) }
         ensures cause { OnErr result (Rose (faults self.old) (faults self.new)) }
         ensures later { faults self.old ≤ faults self.new };
 }
 
-/// Where bytes go (this exchange's own).
+/// Where bytes go (this exchange's own). Its count of faults tells of each failed write, and of nothing
+/// else.
 pub trait Sink {
     /// The bytes written so far, where the sink tells them.
     ghost written: { Self → Option (List ℕ) };
@@ -55,6 +58,7 @@ pub trait Sink {
         ensures bound { IfOk result (λ n. n ≤ length bytes.now) }
         ensures some { 0 < length bytes.now → IfOk result (λ n. 0 < n) }
         ensures appended { IfOk result (λ n. Appends (written self.old) (written self.new) (take n bytes.now)) }
+        ensures steady { OnOk result (faults self.new ≡ faults self.old) }
 
         ensures kept { OnErr result (Keeps (written self.old) (written self.new)) }
         ensures cause { OnErr result (Rose (faults self.old) (faults self.new)) }

@@ -1,7 +1,7 @@
 //! The two ends of the exchange: where its bytes come from, and where they go.
 //!
 //! [`Source`] and [`Sink`] count their faults, so that a caller who answers a fault can be held to
-//! it: a read or a write is answered by [`Failed`] only where that count rose. [`MemSource`] and
+//! it: that count rises where a read or a write is answered by [`Failed`], and at no other. [`MemSource`] and
 //! [`MemSink`] are ends in memory that fail at the calls they are told to. [`StdSource`] and
 //! [`StdSink`] stand on standard input and output.
 #![tactic(auto)]

@@ -1,6 +1,6 @@
 // Standard input and output. What the system gives and takes is outside any proof, so these few
 // lines are trusted for its bytes; they are proved to pass on what they get, and to count.
-ghost use Rattle.std.specs.Prelude.{◌≡◌, ◌<◌, ◌≤◌, [], length, take, Some, IfOk, OnErr};
+ghost use Rattle.std.specs.Prelude.{◌≡◌, ◌<◌, ◌≤◌, [], length, take, Some, IfOk, OnOk, OnErr};
 ghost use Rattle.std.specs.Io.KnownBytes.{Appends, Consumes, IsAtEnd, Keeps};
 ghost use Rattle.ex_io.specs.Ends.{Rose};
 ghost use Rattle.ex_io.specs.Standard.{faults_after};
@@ -55,6 +55,7 @@ impl<R: Read> Source for StdSource<R> {
         ensures next { IfOk result (λ n. Consumes (R.remaining self.old.inner) (R.remaining self.new.inner) (take n buf.new)) }
         ensures end { IfOk result (λ n. n ≡ 0 → IsAtEnd (R.remaining self.new.inner)) }
         ensures no_more { R.remaining self.old.inner ≡ Some [] → IfOk result (λ n. n ≡ 0) }
+        ensures steady { OnOk result (self.new.faults ≡ self.old.faults) }
         ensures kept { OnErr result (Keeps (R.remaining self.old.inner) (R.remaining self.new.inner)) }
         ensures cause { OnErr result (Rose self.old.faults self.new.faults) }
         ensures later { self.old.faults ≤ self.new.faults }
@@ -109,6 +110,7 @@ impl<W: Write> Sink for StdSink<W> {
         ensures bound { IfOk result (λ n. n ≤ length bytes.now) }
         ensures some { 0 < length bytes.now → IfOk result (λ n. 0 < n) }
         ensures appended { IfOk result (λ n. Appends (W.contents self.old.inner) (W.contents self.new.inner) (take n bytes.now)) }
+        ensures steady { OnOk result (self.new.faults ≡ self.old.faults) }
         ensures kept { OnErr result (Keeps (W.contents self.old.inner) (W.contents self.new.inner)) }
         ensures cause { OnErr result (Rose self.old.faults self.new.faults) }
         ensures later { self.old.faults ≤ self.new.faults }

@@ -26,5 +26,6 @@ pub fn worlds_are_made()
 
 /// What a slot hears in a frame stays as it is, whatever frames come later.
 pub fn later_frames_change_nothing()
-    ensures { (tones : Kind → List ℕ) (inputs more : List Input) (held later : List (List Circuit)) (f : ℕ) (y : Slot) → f < length inputs → f < length held → hears tones (inputs ++ more) (held ++ later) f y ≡ hears tones inputs held f y }
+    ensures { (tones : Kind → List ℕ) (inputs more : List Input) (held later : List (List Circuit)) (f : ℕ) (y : Slot)
+        → f < length inputs → f < length held → hears tones (inputs ++ more) (held ++ later) f y ≡ hears tones inputs held f y }
 {}

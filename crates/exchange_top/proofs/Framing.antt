@@ -19,6 +19,7 @@ use Rattle.exchange_core.specs.Sound.{Fits}
 use Rattle.exchange_core.specs.Standing.{Stands, IsMade, dimensions_of}
 use Rattle.exchange_core.specs.World.{Dimensions, World, start, next, reply, can_nail, can_seat, is_nailed, is_full, granted, seated}
 use Rattle.exchange_core.proofs.Making.{made_start, made_next, made_pass}
+use Rattle.exchange_top.specs.Report.{Carrying}
 use Rattle.exchange_top.specs.Switching.{Works}
 
 -- the circuits and ports of the frames so far, and of the one that begins, come of one list of commands
@@ -30,7 +31,7 @@ pub record Asked (image : Control) (external bridges next : ℕ) (w : World) : T
   pub shows : Shows image w.holding.circuits w.ports next
   pub came : Come external bridges (w.held ++ w.holding.circuits ∷ []) (w.seated ++ w.ports ∷ [])
 
-pub asked : {E : Type 0} (carries : E → List Input → List (List Circuit) → List Ports → Type 0) (m : Connections) (engine : E) (w : World) (e : Event) (input : Input) (r : Reply) (image : Control) (external bridges next : ℕ)
+pub asked : {E : Type 0} (carries : Carrying E) (m : Connections) (engine : E) (w : World) (e : Event) (input : Input) (r : Reply) (image : Control) (external bridges next : ℕ)
     → Works carries m engine w → e ≡ Frame_event input → r ≡ reply (dimensions_of m) w e → ((v : World) (f : ℕ) → Stands m v → r ≡ Frame f → Shows image v.holding.circuits v.ports f)
     → external ≡ m.external → bridges ≡ m.bridges → next ≡ m.next → Asked image external bridges next w
 asked carries m engine w e input r image external bridges next works frame replied shows same_external same_bridges same_next = record {
@@ -81,14 +82,14 @@ quiet d w (Free x) other =
 quiet d w (Frame_event input) other = absurd (other input refl)
 
 -- before the first event
-pub works_start : {E : Type 0} (carries : E → List Input → List (List Circuit) → List Ports → Type 0) (m : Connections) (engine : E) (d : Dimensions) → dimensions_of m ≡ d → Stands m (start (dimensions_of m)) → carries engine [] [] []
+pub works_start : {E : Type 0} (carries : Carrying E) (m : Connections) (engine : E) (d : Dimensions) → dimensions_of m ≡ d → Stands m (start (dimensions_of m)) → carries engine [] [] []
     → Works carries m engine (start d)
 works_start carries m engine d same stands carried = record { stands = subst (λ x. Stands m (start x)) same stands; made = subst (λ x. IsMade x (start d)) (sym same) (made_start d); carried = carried }
 
 pub same_dimensions : (m n : Connections) → SameSizes m n → dimensions_of n ≡ dimensions_of m
 same_dimensions m n sizes = λ i. record { external = sizes.external i; bridges = sizes.bridges i; slots = sizes.slots i }
 
-module _ {E : Type 0} (carries : E → List Input → List (List Circuit) → List Ports → Type 0) (m n : Connections) (engine : E) (w : World) (works : Works carries m engine w) (sizes : SameSizes m n) where
+module _ {E : Type 0} (carries : Carrying E) (m n : Connections) (engine : E) (w : World) (works : Works carries m engine w) (sizes : SameSizes m n) where
   pub works_quiet : (e : Event) → Fits m.external e → ((input : Input) → ¬ (e ≡ Frame_event input)) → Stands n (next (dimensions_of m) w e) → Works carries n engine (next (dimensions_of m) w e)
   works_quiet e fits other stands =
       let still = quiet (dimensions_of m) w e other in

@@ -70,15 +70,16 @@ event_lines-snoc plays d w (m ∷ order) (x ∷ es) n e same =
     (sym (append_assoc (event_line plays d w m x) (event_lines plays d (next d w x) order es) (event_line plays d (world d (next d w x) es) n e)))
 
 -- the world of the first events of the file
-pub world_of-file_order : (trace : Trace) (i : ℕ) → i ≤ length trace.events → world_of trace (file_order i) ≡ world (dimensions trace) (start (dimensions trace)) (take i trace.events)
-world_of-file_order trace i within = ap (world (dimensions trace) (start (dimensions trace))) (events_of-file_order trace.events i within)
+pub world_of-file_order : (slots : ℕ) (trace : Trace) (i : ℕ) → i ≤ length trace.events
+    → world_of slots trace (file_order i) ≡ world (dimensions slots trace) (start (dimensions slots trace)) (take i trace.events)
+world_of-file_order slots trace i within = ap (world (dimensions slots trace) (start (dimensions slots trace))) (events_of-file_order trace.events i within)
 
 -- the report grows by the line of the next event
-pub report_more : (plays : Plays) (trace : Trace) (i : ℕ) (e : Event) → slice_get trace.events i ≡ Some e
-    → report plays trace (file_order (suc i)) ≡ report plays trace (file_order i) ++ event_line plays (dimensions trace) (world (dimensions trace) (start (dimensions trace)) (take i trace.events)) (1 + i) e
-report_more plays trace i e found =
+pub report_more : (plays : Plays) (slots : ℕ) (trace : Trace) (i : ℕ) (e : Event) → slice_get trace.events i ≡ Some e
+    → (let d = dimensions slots trace in report plays slots trace (file_order (suc i)) ≡ report plays slots trace (file_order i) ++ event_line plays d (world d (start d) (take i trace.events)) (1 + i) e)
+report_more plays slots trace i e found =
     let within : i < length trace.events = slice_get_within trace.events i e found in
-    let d = dimensions trace in
+    let d = dimensions slots trace in
     let es = take i trace.events in
     let before = events_of-file_order trace.events i (omega (arith, within)) in
     let now : events_of trace.events (file_order (suc i)) ≡ es ++ e ∷ [] = events_of-file_order trace.events (suc i) (omega (arith, within)) ∙ take_snoc trace.events i e found in

@@ -1,5 +1,5 @@
 -- The command, and what its call answers. Source: this exchange's own.
-use Rattle.std.specs.Prelude.{◌≡◌, ℕ, ◌≤◌, List, [], ◌∷◌, ◌++◌, length, codes, decimal}
+use Rattle.std.specs.Prelude.{◌≡◌, ◌⊎◌, ℕ, ◌+◌, ◌-◌, ◌*◌, ◌≤◌, List, [], ◌∷◌, ◌++◌, length, codes, decimal}
 use Rattle.std.specs.Io.KnownBytes.{Appends, Consumes, IsAtEnd, Keeps}
 use Rattle.std.specs.declared.option.Option.{Option}
 use Rattle.ex_io.specs.Ends.{Rose}
@@ -8,9 +8,9 @@ use Rattle.trace_text.specs.declared.fault.Reason.TheVariants as reason
 use Rattle.exchange_core.specs.declared.trace.Trace.{Trace}
 use Rattle.trace_text.specs.TraceGrammar.{IsTrace, IsRefused, most_bytes}
 use Rattle.exchange_core.specs.Orders.{IsLawful, IsLawfulPrefix}
-use Rattle.exchange_top.specs.Outcomes.{IsReported, IsBegun}
-use Rattle.exchange_core.specs.World.{World}
-use Rattle.exchange_top.specs.Report.{Plays, world_of}
+use Rattle.exchange_top.specs.Outcomes.{Fabric, IsReported, IsBegun}
+use Rattle.exchange_core.specs.World.{Dimensions, World}
+use Rattle.exchange_top.specs.Report.{Plays, dimensions, world_of}
 use Rattle.exchange_top.specs.Streams.{AppendsFront}
 
 -- the one command: the word `run`, alone
@@ -37,23 +37,40 @@ refusal number why = codes "refused " ++ decimal number ++ codes " " ++ reason_n
 abbrev pub words_refusal : List ℕ
 words_refusal = codes "refused words\n"
 
+-- so many bytes of an input are read at the most: as many as a trace may have, and one piece of 65,536 more
+abbrev pub most_read : ℕ
+most_read = most_bytes + 65536
+
+-- a read failed, a write failed, or there was no memory
+abbrev pub IsUnfinished : ℕ → Type 0
+IsUnfinished status = (status ≡ 3) ⊎ (status ≡ 4) ⊎ (status ≡ 5)
+
+-- the fabric of every trace: thirty internal slots, and 2r-2 moves for a path at the most, where r is the number of lines
+abbrev pub fabric_of : Trace → Fabric
+fabric_of trace = record { slots = 30; most_moves = 2 * (trace.external + trace.bridges) - 2 }
+
 -- these bytes are all that was left, and they were read
 pub record IsWholeInput (old new : Option (List ℕ)) (bytes : List ℕ) : Type 0 where
   pub front : Consumes old new bytes
   pub ended : IsAtEnd new
 
--- these bytes were read: all that was left, or more than a trace may have
+-- these bytes were read: all that was left, or more than a trace may have, by one piece at the most
 pub record IsInput (old new : Option (List ℕ)) (bytes : List ℕ) : Type 0 where
   pub front : Consumes old new bytes
   pub whole : length bytes ≤ most_bytes → IsAtEnd new
+  pub few : length bytes ≤ most_read
 
--- the bytes were answered by the report of the trace that they are, whole, and the engine carries the frames of its run
-pub record IsDone (plays : Plays) (carried : World → Type 0) (bytes order : List ℕ) (old new : Option (List ℕ)) : Type 0 where
+-- what is said of the engine that is handed out: that it has these dimensions, and carries the frames of this world
+abbrev pub Handing : Type 1
+Handing = Dimensions → World → Type 0
+
+-- the bytes were answered by the report of the trace that they are, whole, and the engine of that size was handed out, which carries the frames of its run
+pub record IsDone (plays : Plays) (handed : Handing) (bytes order : List ℕ) (old new : Option (List ℕ)) : Type 0 where
   pub trace : Trace
   pub is_trace : IsTrace bytes trace
   pub lawful : IsLawful trace order
-  pub report : IsReported plays trace order old new
-  pub frames : carried (world_of trace order)
+  pub report : IsReported plays (fabric_of trace) trace order old new
+  pub engine : let slots = (fabric_of trace).slots in handed (dimensions slots trace) (world_of slots trace order)
 
 -- the bytes were answered by the refusal of the line that they are no trace for
 pub record IsTurnedDown (bytes order : List ℕ) (old new : Option (List ℕ)) : Type 0 where
@@ -67,7 +84,7 @@ pub record IsTurnedDown (bytes order : List ℕ) (old new : Option (List ℕ)) :
 pub data IsCutShort (plays : Plays) (bytes order : List ℕ) (old new : Option (List ℕ)) : Type 0 where
   At_once : order ≡ [] → Keeps old new → IsCutShort plays bytes order old new
   In_refusal : (number : ℕ) (why : Reason) → IsRefused bytes number why → order ≡ [] → AppendsFront old new (refusal number why) → IsCutShort plays bytes order old new
-  In_report : (trace : Trace) → IsTrace bytes trace → IsLawfulPrefix trace order → IsBegun plays trace order old new → IsCutShort plays bytes order old new
+  In_report : (trace : Trace) → IsTrace bytes trace → IsLawfulPrefix trace order → IsBegun plays (fabric_of trace).slots trace order old new → IsCutShort plays bytes order old new
 
 -- the whole call was cut short: it could write no refusal of the words, or it could not read its input, or its answer to the input was cut short
 pub data IsUndone (plays : Plays) (words : List (List ℕ)) (left_old left_new : Option (List ℕ)) (order : List ℕ) (old new : Option (List ℕ)) : Type 0 where
@@ -75,18 +92,24 @@ pub data IsUndone (plays : Plays) (words : List (List ℕ)) (left_old left_new :
   In_input : IsRun words → order ≡ [] → Keeps old new → IsUndone plays words left_old left_new order old new
   In_answer : IsRun words → (bytes : List ℕ) → IsInput left_old left_new bytes → IsCutShort plays bytes order old new → IsUndone plays words left_old left_new order old new
 
+-- how a refusal ends: the line was written and the status is the wanted one, or the write failed; the counts are those of the sink's faults
+-- before and after
+pub data Refuses (wanted : ℕ) (line : List ℕ) (status : ℕ) (old new : Option (List ℕ)) (before after : ℕ) : Type 0 where
+  Told_so : status ≡ wanted → Appends old new line → Refuses wanted line status old new before after
+  Untold : status ≡ 4 → Rose before after → AppendsFront old new line → Refuses wanted line status old new before after
+
 -- how an answer to the bytes that were read ends, by its status; the counts are those of the sink's faults before and after
-pub data Answers (plays : Plays) (carried : World → Type 0) (bytes : List ℕ) (status : ℕ) (order : List ℕ) (old new : Option (List ℕ)) (before after : ℕ) : Type 0 where
-  Done : status ≡ 0 → IsDone plays carried bytes order old new → Answers plays carried bytes status order old new before after
-  Turned_down : status ≡ 1 → IsTurnedDown bytes order old new → Answers plays carried bytes status order old new before after
-  Unwritten : status ≡ 4 → Rose before after → IsCutShort plays bytes order old new → Answers plays carried bytes status order old new before after
-  No_memory : status ≡ 5 → IsCutShort plays bytes order old new → Answers plays carried bytes status order old new before after
+pub data Answers (plays : Plays) (handed : Handing) (bytes : List ℕ) (status : ℕ) (order : List ℕ) (old new : Option (List ℕ)) (before after : ℕ) : Type 0 where
+  Done : status ≡ 0 → IsDone plays handed bytes order old new → Answers plays handed bytes status order old new before after
+  Turned_down : status ≡ 1 → IsTurnedDown bytes order old new → Answers plays handed bytes status order old new before after
+  Unwritten : status ≡ 4 → Rose before after → IsCutShort plays bytes order old new → Answers plays handed bytes status order old new before after
+  No_memory : status ≡ 5 → IsCutShort plays bytes order old new → Answers plays handed bytes status order old new before after
 
 -- how a run of a trace ends
-pub data Runs (plays : Plays) (carried : World → Type 0) (trace : Trace) (status : ℕ) (order : List ℕ) (old new : Option (List ℕ)) (before after : ℕ) : Type 0 where
-  Whole : status ≡ 0 → IsReported plays trace order old new → carried (world_of trace order) → Runs plays carried trace status order old new before after
-  Unwritten_from : status ≡ 4 → Rose before after → IsBegun plays trace order old new → Runs plays carried trace status order old new before after
-  No_memory_from : status ≡ 5 → IsBegun plays trace order old new → Runs plays carried trace status order old new before after
+pub data Runs (plays : Plays) (handed : Handing) (trace : Trace) (status : ℕ) (order : List ℕ) (old new : Option (List ℕ)) (before after : ℕ) : Type 0 where
+  Whole : status ≡ 0 → IsReported plays (fabric_of trace) trace order old new → handed (dimensions (fabric_of trace).slots trace) (world_of (fabric_of trace).slots trace order) → Runs plays handed trace status order old new before after
+  Unwritten_from : status ≡ 4 → Rose before after → IsBegun plays (fabric_of trace).slots trace order old new → Runs plays handed trace status order old new before after
+  No_memory_from : status ≡ 5 → IsBegun plays (fabric_of trace).slots trace order old new → Runs plays handed trace status order old new before after
 
 -- what the source and the sink tell, before and after: the bytes left and written, and their counts of faults
 pub record Told : Type 0 where
@@ -96,9 +119,9 @@ pub record Told : Type 0 where
   pub writes : ℕ
 
 -- how a call ends, by its status
-pub data Ends (plays : Plays) (carried : World → Type 0) (words : List (List ℕ)) (status : ℕ) (order : List ℕ) (old new : Told) : Type 0 where
-  Wrong_words : ¬ IsRun words → status ≡ 2 → order ≡ [] → Appends old.written new.written words_refusal → Ends plays carried words status order old new
-  Words_unwritten : ¬ IsRun words → status ≡ 4 → order ≡ [] → Rose old.writes new.writes → AppendsFront old.written new.written words_refusal → Ends plays carried words status order old new
-  Unread : IsRun words → status ≡ 3 → order ≡ [] → Rose old.reads new.reads → Keeps old.written new.written → Ends plays carried words status order old new
-  No_room : IsRun words → status ≡ 5 → order ≡ [] → Keeps old.written new.written → Ends plays carried words status order old new
-  Answered : IsRun words → (bytes : List ℕ) → IsInput old.left new.left bytes → Answers plays carried bytes status order old.written new.written old.writes new.writes → Ends plays carried words status order old new
+pub data Ends (plays : Plays) (handed : Handing) (words : List (List ℕ)) (status : ℕ) (order : List ℕ) (old new : Told) : Type 0 where
+  Wrong_words : ¬ IsRun words → status ≡ 2 → order ≡ [] → Appends old.written new.written words_refusal → Ends plays handed words status order old new
+  Words_unwritten : ¬ IsRun words → status ≡ 4 → order ≡ [] → Rose old.writes new.writes → AppendsFront old.written new.written words_refusal → Ends plays handed words status order old new
+  Unread : IsRun words → status ≡ 3 → order ≡ [] → Rose old.reads new.reads → Keeps old.written new.written → Ends plays handed words status order old new
+  No_room : IsRun words → status ≡ 5 → order ≡ [] → Keeps old.written new.written → Ends plays handed words status order old new
+  Answered : IsRun words → (bytes : List ℕ) → IsInput old.left new.left bytes → Answers plays handed bytes status order old.written new.written old.writes new.writes → Ends plays handed words status order old new

@@ -5,21 +5,19 @@ ghost use Rattle.trace_text.specs.declared.fault.Reason.{Reason};
 ghost use Rattle.trace_text.specs.TraceGrammar.{IsTrace, IsRefused};
 ghost use Rattle.exchange_core.specs.declared.trace.Trace.{Trace};
 ghost use Rattle.exchange_core.specs.Sound.{IsSound};
-ghost use Rattle.exchange_top.specs.Commands.{IsRun, IsInput, IsDone, IsTurnedDown, IsCutShort, IsUndone, IsWholeInput, Runs, Answers, Ends, reason_name, refusal, words_refusal};
-ghost use Rattle.exchange_top.specs.Report.{CarriesIn};
-ghost use Rattle.exchange_top.specs.Streams.{AppendsFront};
+ghost use Rattle.exchange_top.specs.Commands.{IsRun, IsInput, IsDone, IsTurnedDown, IsUndone, IsUnfinished, IsWholeInput, Refuses, Runs, Answers, Ends, most_read, reason_name, refusal, words_refusal};
+ghost use Rattle.exchange_top.specs.Report.{HandsOut, engine_dimensions};
+ghost use Rattle.exchange_top.specs.Streams.{ConsumesAtMost};
 
 use crate::run::{RunFault, run};
 use crate::streams::{ReadFault, read_all, write_all};
 use ex_io::{Sink, Source};
 use exchange_core::Trace;
+use fabric_map::FabricMap;
 use frame_engine::Carrier;
 use itoa::Buffer;
 use std::alloc::{AllocError, Global};
-use trace_text::{Reason, TraceFault, read_trace};
-
-// How many bytes of an input are looked at: those of the longest trace.
-const MOST_BYTES: usize = 67_108_864;
+use trace_text::{MOST_BYTES, Reason, TraceFault, read_trace};
 
 /// How a call of the exchange ended.
 #[derive(Drop)]
@@ -29,7 +27,7 @@ pub struct Outcome<C: Carrier> {
     pub status: u8,
     /// The numbers of the events that were done, in the order in which they happened.
     pub order: Vec<u32>,
-    /// The engine that carried the octets, where the status is 0.
+    /// The engine that carried the octets, of the trace's sizes, where the status is 0.
     pub engine: Option<C>,
 }
 
@@ -90,8 +88,8 @@ fn refusal(alloc: Global, number: u32, reason: Reason) -> Result<Vec<u8>, AllocE
 fn refuse<K: Sink, C: Carrier>(alloc: Global, sink: &mut K, line: &[u8], status: u8) -> Outcome<C>
     ensures none { result.order.items ≡ [] }
     ensures engine { result.engine ≡ None }
-    ensures answer { ((result.status ≡ status) × Appends (K.written sink.old) (K.written sink.new) line.now)
-        ⊎ ((result.status ≡ 4) × Rose (K.faults sink.old) (K.faults sink.new) × AppendsFront (K.written sink.old) (K.written sink.new) line.now) }
+    ensures answer { Refuses status line.now result.status (K.written sink.old) (K.written sink.new) (K.faults sink.old) (K.faults sink.new) }
+    ensures writes { (result.status ≡ 4) ⊎ (K.faults sink.new ≡ K.faults sink.old) }
 {
     match write_all(sink, line) {
         Ok(()) => ended(alloc, status),
@@ -102,13 +100,18 @@ fn refuse<K: Sink, C: Carrier>(alloc: Global, sink: &mut K, line: &[u8], status:
 // Runs a trace, once there is room for the numbers of its events.
 fn run_trace<K: Sink, C: Carrier>(alloc: Global, trace: &Trace, sink: &mut K) -> Outcome<C>
     requires sound { IsSound trace.now }
-    ensures runs { Runs C.plays (CarriesIn C.carries result.engine) trace.now result.status result.order.items (K.written sink.old) (K.written sink.new) (K.faults sink.old) (K.faults sink.new) }
+    ensures runs { Runs C.plays (HandsOut (engine_dimensions C.external_lines C.bridge_lines C.depth) C.carries result.engine)
+        trace.now result.status result.order.items (K.written sink.old) (K.written sink.new) (K.faults sink.old) (K.faults sink.new) }
     ensures engine { IsSome result.engine ↔ (result.status ≡ 0) }
+    ensures writes { (result.status ≡ 4) ⊎ (K.faults sink.new ≡ K.faults sink.old) }
 {
+    let Ok(paths) = FabricMap::new(alloc, trace.external + trace.bridges) else {
+        return ended(alloc, 5);
+    };
     let Ok(mut order) = Vec::with_capacity(alloc, trace.events.as_slice().len()) else {
         return ended(alloc, 5);
     };
-    match run(alloc, trace, &mut order, sink) {
+    match run(alloc, trace, paths, &mut order, sink) {
         Ok(engine) => Outcome {
             status: 0,
             order,
@@ -129,8 +132,10 @@ fn run_trace<K: Sink, C: Carrier>(alloc: Global, trace: &Trace, sink: &mut K) ->
 
 // Answers the bytes that were read.
 fn answer<K: Sink, C: Carrier>(alloc: Global, bytes: Vec<u8>, sink: &mut K) -> Outcome<C>
-    ensures answers { Answers C.plays (CarriesIn C.carries result.engine) bytes.items result.status result.order.items (K.written sink.old) (K.written sink.new) (K.faults sink.old) (K.faults sink.new) }
+    ensures answers { Answers C.plays (HandsOut (engine_dimensions C.external_lines C.bridge_lines C.depth) C.carries result.engine)
+        bytes.items result.status result.order.items (K.written sink.old) (K.written sink.new) (K.faults sink.old) (K.faults sink.new) }
     ensures engine { IsSome result.engine ↔ (result.status ≡ 0) }
+    ensures writes { (result.status ≡ 4) ⊎ (K.faults sink.new ≡ K.faults sink.old) }
 {
     match read_trace(alloc, bytes.as_slice()) {
         Ok(trace) => {
@@ -152,11 +157,15 @@ fn answer_words<S: Source, K: Sink, C: Carrier>(
     source: &mut S,
     sink: &mut K,
 ) -> Outcome<C>
-    ensures ends { Ends C.plays (CarriesIn C.carries result.engine) (map string_bytes words.now) result.status result.order.items
+    ensures ends { Ends C.plays (HandsOut (engine_dimensions C.external_lines C.bridge_lines C.depth) C.carries result.engine)
+        (map string_bytes words.now) result.status result.order.items
         (record { left = S.left source.old; reads = S.faults source.old; written = K.written sink.old; writes = K.faults sink.old })
         (record { left = S.left source.new; reads = S.faults source.new; written = K.written sink.new; writes = K.faults sink.new }) }
     ensures unread { ¬ IsRun (map string_bytes words.now) → source.new ≡ source.old }
+    ensures stops { ConsumesAtMost most_read (S.left source.old) (S.left source.new) }
     ensures engine { IsSome result.engine ↔ (result.status ≡ 0) }
+    ensures reads { (result.status ≡ 3) ⊎ (S.faults source.new ≡ S.faults source.old) }
+    ensures writes { (result.status ≡ 4) ⊎ (K.faults sink.new ≡ K.faults sink.old) }
 {
     if !is_run(words) {
         return refuse(alloc, sink, b"refused words\n", 2);
@@ -176,10 +185,11 @@ fn answer_words<S: Source, K: Sink, C: Carrier>(
 /// reading, the trace, the run, writing.
 ///
 /// The octets of a frame are what the engine of type `C` plays. It is handed out where the status is
-/// 0, and then it carries the frames of `order`.
+/// 0, and then it has as many lines and internal slots as the exchange had, and carries the frames of
+/// `order`.
 ///
-/// The source's count of faults rises where a read fails, and the sink's where a write fails; a read
-/// or write that fails ends the call. Want of memory may end it too, at any trace.
+/// A read or write that fails ends the call, and then the source's or the sink's count of faults
+/// rises; neither rises otherwise. Want of memory may end the call too, at any trace.
 pub fn exchange<S: Source, K: Sink, C: Carrier>(
     alloc: Global,
     words: &[String],
@@ -188,42 +198,42 @@ pub fn exchange<S: Source, K: Sink, C: Carrier>(
 ) -> Outcome<C>
     // 0: all of the input was read, it is a trace, its events were done in the order of the file,
     // which is lawful for it, their report was written, with what the engine plays in each frame,
-    // and the engine carries their frames.
+    // and the engine has the trace's sizes and carries their frames.
     ensures done { result.status ≡ 0 → (bytes : List ℕ)
         × IsWholeInput (S.left source.old) (S.left source.new) bytes
-        × IsDone C.plays (CarriesIn C.carries result.engine) bytes result.order.items (K.written sink.old) (K.written sink.new) }
+        × IsDone C.plays (HandsOut (engine_dimensions C.external_lines C.bridge_lines C.depth) C.carries result.engine)
+            bytes result.order.items (K.written sink.old) (K.written sink.new) }
     ensures engine { IsSome result.engine ↔ (result.status ≡ 0) }
     // 1: what was read is no trace, and the line that says so was written.
     ensures turned_down { result.status ≡ 1 → (bytes : List ℕ)
         × IsInput (S.left source.old) (S.left source.new) bytes
         × IsTurnedDown bytes result.order.items (K.written sink.old) (K.written sink.new) }
-    // 2: the words are no command, nothing was read, and the line that says so was written.
+    // 2: the words are no command, and the line that says so was written.
     ensures wrong_words { result.status ≡ 2 → ¬ IsRun (map string_bytes words.now)
         × (result.order.items ≡ [])
         × Appends (K.written sink.old) (K.written sink.new) words_refusal }
-    ensures unread { ¬ IsRun (map string_bytes words.now) → source.new ≡ source.old }
     // 3: a read failed, and nothing was written.
     ensures read_failed { result.status ≡ 3 → Rose (S.faults source.old) (S.faults source.new) }
     ensures silent { result.status ≡ 3 → (result.order.items ≡ []) × Keeps (K.written sink.old) (K.written sink.new) }
     // 4: a write failed. 5: there was no memory. A front of the text was written.
     ensures write_failed { result.status ≡ 4 → Rose (K.faults sink.old) (K.faults sink.new) }
     ensures cut_short { (result.status ≡ 4) ⊎ (result.status ≡ 5)
-        → IsUndone C.plays (map string_bytes words.now) (S.left source.old) (S.left source.new) result.order.items (K.written sink.old) (K.written sink.new) }
-    // There is no other status; and where neither count rose, the words and the input decide, but
-    // for want of memory.
+        → IsUndone C.plays (map string_bytes words.now) (S.left source.old) (S.left source.new)
+            result.order.items (K.written sink.old) (K.written sink.new) }
+    // There is no other status, and a fault is answered by its own alone.
     ensures statuses { result.status ≤ 5 }
-    ensures other_words { ¬ IsRun (map string_bytes words.now) → ¬ Rose (K.faults sink.old) (K.faults sink.new) → result.status ≡ 2 }
-    ensures command { IsRun (map string_bytes words.now)
-        → ¬ Rose (S.faults source.old) (S.faults source.new) → ¬ Rose (K.faults sink.old) (K.faults sink.new)
-        → (result.status ≡ 0) ⊎ (result.status ≡ 1) ⊎ (result.status ≡ 5) }
+    ensures reads { (result.status ≡ 3) ⊎ (S.faults source.new ≡ S.faults source.old) }
+    ensures writes { (result.status ≡ 4) ⊎ (K.faults sink.new ≡ K.faults sink.old) }
+    // Of the input no more is read than the longest trace and one piece; for other words, nothing.
+    ensures stops { ConsumesAtMost most_read (S.left source.old) (S.left source.new) }
+    ensures unread { ¬ IsRun (map string_bytes words.now) → source.new ≡ source.old }
+    // The words and the input decide, but for a fault and for want of memory.
+    ensures other_words { ¬ IsRun (map string_bytes words.now) → (result.status ≡ 2) ⊎ (result.status ≡ 4) }
+    ensures command { IsRun (map string_bytes words.now) → (result.status ≡ 0) ⊎ (result.status ≡ 1) ⊎ IsUnfinished result.status }
     ensures trace { (bytes : List ℕ) (t : Trace) → S.left source.old ≡ Some bytes → IsTrace bytes t
-        → IsRun (map string_bytes words.now)
-        → ¬ Rose (S.faults source.old) (S.faults source.new) → ¬ Rose (K.faults sink.old) (K.faults sink.new)
-        → (result.status ≡ 0) ⊎ (result.status ≡ 5) }
+        → IsRun (map string_bytes words.now) → (result.status ≡ 0) ⊎ IsUnfinished result.status }
     ensures no_trace { (bytes : List ℕ) (number : ℕ) (why : Reason) → S.left source.old ≡ Some bytes → IsRefused bytes number why
-        → IsRun (map string_bytes words.now)
-        → ¬ Rose (S.faults source.old) (S.faults source.new) → ¬ Rose (K.faults sink.old) (K.faults sink.new)
-        → (result.status ≡ 1) ⊎ (result.status ≡ 5) }
+        → IsRun (map string_bytes words.now) → (result.status ≡ 1) ⊎ IsUnfinished result.status }
 {
     answer_words(alloc, words, source, sink)
 }

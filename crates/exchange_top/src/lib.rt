@@ -1,11 +1,9 @@
-//! The exchange from trace bytes to report bytes.
+//! The exchange from trace bytes to report bytes. Its tests are those of the program over it, `tst`.
 #![tactic(auto)]
 
 mod call;
 mod run;
 mod streams;
 mod switch;
-#[cfg(test)]
-mod tests;
 
 pub use call::{Outcome, exchange};

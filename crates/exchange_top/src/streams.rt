@@ -2,7 +2,7 @@
 ghost use Rattle.std.specs.Prelude.{◌≡◌, ◌+◌, ◌≤◌, length, IfOk, OnOk, OnErr, IsErrOf};
 ghost use Rattle.std.specs.Io.KnownBytes.{Appends, Consumes, IsAtEnd};
 ghost use Rattle.ex_io.specs.Ends.{Rose};
-ghost use Rattle.exchange_top.specs.Streams.{ConsumesSome, AppendsFront};
+ghost use Rattle.exchange_top.specs.Streams.{ConsumesAtMost, AppendsFront};
 ghost use Rattle.exchange_top.specs.declared.streams.ReadFault.TheVariants.{Memory, Read};
 
 use ex_io::{Failed, Sink, Source};
@@ -41,7 +41,7 @@ impl From<Failed> for ReadFault {
 /// # Errors
 ///
 /// [`ReadFault::Read`] where a read failed and the source's count of faults rose, and
-/// [`ReadFault::Memory`] for want of memory. The bytes read until then are lost.
+/// [`ReadFault::Memory`] for want of memory, where no read failed. The bytes read until then are lost.
 pub fn read_all<S: Source>(
     alloc: Global,
     source: &mut S,
@@ -50,10 +50,11 @@ pub fn read_all<S: Source>(
     ensures front { IfOk result (λ bytes. Consumes (S.left source.old) (S.left source.new) bytes.items) }
     ensures whole { IfOk result (λ bytes. length bytes.items ≤ limit → IsAtEnd (S.left source.new)) }
     ensures most { IfOk result (λ bytes. length bytes.items ≤ limit + 65536) }
+    ensures steady { OnOk result (S.faults source.new ≡ S.faults source.old) }
 
-    ensures lost { OnErr result (ConsumesSome (S.left source.old) (S.left source.new)) }
+    ensures lost { OnErr result (ConsumesAtMost (limit + 65536) (S.left source.old) (S.left source.new)) }
     ensures cause { IsErrOf result ReadFault.Read → Rose (S.faults source.old) (S.faults source.new) }
-    ensures later { S.faults source.old ≤ S.faults source.new }
+    ensures no_fault { IsErrOf result ReadFault.Memory → S.faults source.new ≡ S.faults source.old }
 {
     let mut bytes = Vec::new(alloc);
     let mut piece = [0u8; PIECE];
@@ -75,10 +76,10 @@ pub fn read_all<S: Source>(
 /// none of them, was written by then.
 pub fn write_all<K: Sink>(sink: &mut K, bytes: &[u8]) -> Result<(), Failed>
     ensures whole { OnOk result (Appends (K.written sink.old) (K.written sink.new) bytes.now) }
+    ensures steady { OnOk result (K.faults sink.new ≡ K.faults sink.old) }
 
     ensures front { OnErr result (AppendsFront (K.written sink.old) (K.written sink.new) bytes.now) }
     ensures cause { OnErr result (Rose (K.faults sink.old) (K.faults sink.new)) }
-    ensures later { K.faults sink.old ≤ K.faults sink.new }
 {
     let mut done = 0;
     while done < bytes.len() {
@@ -86,6 +87,3 @@ pub fn write_all<K: Sink>(sink: &mut K, bytes: &[u8]) -> Result<(), Failed>
     }
     Ok(())
 }
-
-#[cfg(test)]
-mod tests;

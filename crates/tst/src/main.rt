@@ -2,6 +2,9 @@
 //! what it did on standard output.
 #![tactic(auto)]
 
+#[cfg(test)]
+mod tests;
+
 use ex_io::{StdSink, StdSource};
 use exchange_top::{Outcome, exchange};
 use frame_engine::Engine;

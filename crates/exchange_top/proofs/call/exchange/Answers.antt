@@ -27,13 +27,13 @@ pub returns-clause-statuses : goal.returns-clause-statuses
 returns-clause-statuses g c = statuses_say _ _ _ _ _ _ _ c.answer_words.ensures.ends
 
 pub returns-clause-other_words : goal.returns-clause-other_words
-returns-clause-other_words g c not still = other_words_say _ _ _ _ _ _ _ c.answer_words.ensures.ends not still
+returns-clause-other_words g c not = other_words_say _ _ _ _ _ _ _ c.answer_words.ensures.ends not
 
 pub returns-clause-command : goal.returns-clause-command
-returns-clause-command g c is reads writes = command_says _ _ _ _ _ _ _ c.answer_words.ensures.ends is reads writes
+returns-clause-command g c is = command_says _ _ _ _ _ _ _ c.answer_words.ensures.ends is
 
 pub returns-clause-trace : goal.returns-clause-trace
-returns-clause-trace g c bytes t left is run reads writes = trace_says _ _ _ _ _ _ _ bytes t c.answer_words.ensures.ends left is run reads writes
+returns-clause-trace g c bytes t left is run  = trace_says _ _ _ _ _ _ _ bytes t c.answer_words.ensures.ends left is run
 
 pub returns-clause-no_trace : goal.returns-clause-no_trace
-returns-clause-no_trace g c bytes number why left refused run reads writes = no_trace_says _ _ _ _ _ _ _ bytes number why c.answer_words.ensures.ends left refused run reads writes
+returns-clause-no_trace g c bytes number why left refused run = no_trace_says _ _ _ _ _ _ _ bytes number why c.answer_words.ensures.ends left refused run

@@ -1,4 +1,4 @@
-use Rattle.std.proofs.Common.{◌≡◌, ◌+◌, ◌-◌, ◌*◌, ◌≤◌, length, vec_len, vec_capacity}
+use Rattle.std.proofs.Common.{◌≡◌, ◌≤◌, length, vec_len, vec_capacity}
 use Rattle.std.specs.Prelude.{All}
 use Rattle.exchange_core.specs.Orders.{file_order}
 use Rattle.exchange_core.specs.World.{MovesAtMost}
@@ -14,11 +14,11 @@ invariant-loop-index g l = record {
   room : length l.trace.events ≤ vec_capacity l.order;
   external : l.switch.core.external ≡ l.trace.external;
   bridges : l.switch.core.bridges ≡ l.trace.bridges;
-  slots : l.switch.core.slots ≡ 30;
-  bound : l.switch.core.bound ≡ 2 * (l.trace.external + l.trace.bridges) - 2;
+  slots : l.switch.core.slots ≡ g.P.PathMap.depth l.fn.paths;
+  bound : l.switch.core.bound ≡ g.P.PathMap.bound l.fn.paths;
   lines : vec_len l.octets ≡ l.trace.external;
-  works : Works g.C.Carrier.carries l.switch.core l.switch.engine (world_at l.trace l.index);
-  few : All (MovesAtMost (2 * (l.trace.external + l.trace.bridges) - 2)) (replies_at l.trace l.index);
-  later : g.K.Sink.faults l.fn.sink ≤ g.K.Sink.faults l.sink;
-  text : IsPending (g.K.Sink.written l.fn.sink) (g.K.Sink.written l.sink) l.text.items (report g.C.Carrier.plays l.trace (file_order l.index));
+  works : Works g.C.Carrier.carries l.switch.core l.switch.engine (world_at (g.P.PathMap.depth l.fn.paths) l.trace l.index);
+  few : All (MovesAtMost (g.P.PathMap.bound l.fn.paths)) (replies_at (g.P.PathMap.depth l.fn.paths) l.trace l.index);
+  steady : g.K.Sink.faults l.sink ≡ g.K.Sink.faults l.fn.sink;
+  text : IsPending (g.K.Sink.written l.fn.sink) (g.K.Sink.written l.sink) l.text.items (report g.C.Carrier.plays (g.P.PathMap.depth l.fn.paths) l.trace (file_order l.index));
 }

@@ -1,4 +1,4 @@
-use Rattle.std.proofs.Common.{arith, take-add, length-drop}
+use Rattle.std.proofs.Common.{arith, take-add, length-drop, ◌∙◌}
 use Rattle.std.proofs.lemmas.List.{take_rest}
 use Rattle.std.proofs.KnownBytes.{Appends-trans}
 use Rattle.exchange_top.proofs.streams.write_all.Goals as goal
@@ -13,6 +13,6 @@ loop-done-preserved g c =
     let more = rw (take_rest all done) at c.in_ok-done.ensures.appended in
     record {
       within = omega (arith, inv.within, bound, length-drop done all);
-      later = omega (arith, inv.later, c.in_ok-done.ensures.later);
+      steady = c.in_ok-done.ensures.steady ∙ inv.steady;
       taken = rw (take-add done c.in_ok-done.field-0 all) (Appends-trans _ _ _ _ _ inv.taken more);
     }

@@ -84,7 +84,7 @@ invariant_of-self-in_default g c =
     }
 
 pub returns-in-Frame-clause-octets : goal.returns-in-Frame-clause-octets
-returns-in-Frame-clause-octets g c w f works told =
+returns-in-Frame-clause-octets g c w works f told =
     let e = c.step-reply.ensures in
     let d = dimensions_of c.args.self.now.core in
     let a = asked g.C.Carrier.carries c.args.self.now.core c.args.self.now.engine w c.args.event.now c.in-Frame.input c.step-reply.result c.step-reply.new.image _ _ _ works c.in-Frame.is (e.reply w works.stands) e.shows c.args.self.now.engine_external c.args.self.now.engine_bridges c.args.self.now.engine_next in
@@ -101,7 +101,7 @@ returns-in_default g c =
     record {
       works = λ w works. works_quiet g.C.Carrier.carries c.args.self.now.core c.step-reply.new.self c.args.self.now.engine w works e.sizes c.args.event.now c.requires.fits c.in_default.not-Frame (e.world w works.stands);
       reply = λ w works. e.reply w works.stands;
-      octets = λ w f works told. absurd ((quiet d w c.args.event.now c.in_default.not-Frame).told f (sym (e.reply w works.stands) ∙ told));
+      octets = λ w works f told. absurd ((quiet d w c.args.event.now c.in_default.not-Frame).told f (sym (e.reply w works.stands) ∙ told));
       few = e.few;
       sizes = e.sizes;
     }

@@ -1,6 +1,6 @@
-// Worked traces, from bytes to bytes.
-use crate::call::{Outcome, exchange};
+// Worked traces, from bytes to bytes, over ends in memory.
 use ex_io::{MemSink, MemSource};
+use exchange_top::{Outcome, exchange};
 use frame_engine::{Carrier, Engine, Marker};
 use std::alloc::{AllocError, Global};
 use std::test::Fail;
@@ -179,17 +179,22 @@ fn words_other_than_run_are_refused_unread(rt: HostRuntime) -> Result<(), Fail> 
 #[test]
 fn a_failing_read_or_write_ends_the_call(rt: HostRuntime) -> Result<(), Fail> {
     let alloc = rt.alloc();
-    let words = vec![in alloc; String::from_str(alloc, "run")?]?;
-    // The pieces of reads and writes, the read and the write that fail, and what comes of it.
-    for (read_piece, read, write_piece, write, ends, written) in [
-        (16, 3, 1000, 9, (3, 1, 0), b"".as_slice()),
-        (1000, 9, 10, 2, (4, 0, 1), b"1 granted "),
+    // The word, the input, the pieces of reads and writes, the read and the write that fail, and what
+    // comes of it. The line that refuses the words, or the input, may fail to be written as well.
+    for (word, input, read_piece, read, write_piece, write, ends, written) in [
+        ("run", DELAY, 16, 3, 1000, 9, (3, 1, 0), b"".as_slice()),
+        ("run", DELAY, 1000, 9, 10, 2, (4, 0, 1), b"1 granted "),
+        ("gen", DELAY, 1000, 9, 1000, 1, (4, 0, 1), b""),
+        ("gen", DELAY, 1000, 9, 8, 2, (4, 0, 1), b"refused "),
+        ("run", "hold\n", 1000, 9, 1000, 1, (4, 0, 1), b""),
+        ("run", "hold\n", 1000, 9, 8, 2, (4, 0, 1), b"refused "),
     ] {
-        let source = MemSource::new(spelled(alloc, DELAY)?, read_piece, [read].to_vec(alloc)?);
+        let words = vec![in alloc; String::from_str(alloc, word)?]?;
+        let source = MemSource::new(spelled(alloc, input)?, read_piece, [read].to_vec(alloc)?);
         let sink = MemSink::new(alloc, 1000, write_piece, [write].to_vec(alloc)?)?;
         let ended = called::<Engine>(alloc, &words, source, sink);
-        assert_eq!(rt; (ended.status, ended.read_faults, ended.write_faults), ends);
-        assert_eq!(rt; ended.sink.bytes(), written);
+        assert_eq!(rt; (ended.status, ended.read_faults, ended.write_faults), ends, "{word}");
+        assert_eq!(rt; ended.sink.bytes(), written, "{word}");
     }
     Ok(())
 }
