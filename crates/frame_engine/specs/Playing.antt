@@ -7,7 +7,7 @@ use Rattle.control_memory.specs.declared.heard.Heard.{Heard}
 use Rattle.control_memory.specs.declared.heard.Heard.TheVariants.{Silent, Path, Tone}
 
 -- in frame f: nothing, the octet that was read out for the slot once its path is two frames old, or the octet of a tone
-abbrev pub played : (Kind → List ℕ) → ℕ → ℕ → Heard → ℕ
-played tones f octet Silent = idle_octet
-played tones f octet (Path since) = if is_through since f then octet else idle_octet
-played tones f octet (Tone kind since) = tone_octet (tones kind) (f - since)
+abbrev pub played_as : (Kind → List ℕ) → ℕ → ℕ → Heard → ℕ
+played_as tones f octet Silent = idle_octet
+played_as tones f octet (Path since) = if is_through since f then octet else idle_octet
+played_as tones f octet (Tone kind since) = tone_octet (tones kind) (f - since)

@@ -16,7 +16,7 @@ use Rattle.circuit_model.proofs.Age.{at_head, in_tail}
 use Rattle.control_memory.specs.Shown.{seated_as}
 use Rattle.conference_mix.specs.Bridge.{present, others, value_of, mixed_for}
 use Rattle.conference_mix.proofs.Sums.{sum_of, sum_of-cons, sum_of_values-others}
-use Rattle.frame_engine.specs.Bridge.{added}
+use Rattle.frame_engine.proofs.PortRows.{added}
 
 -- a weight that leaves one slot out
 abbrev without : Slot → (Slot → ℤ) → Slot → ℤ
@@ -65,7 +65,7 @@ module _ (sent : Slot → ℕ) (circuits : List Circuit) (f room : ℕ) where
   member_adds : (q since : ℕ) (z y : Slot) (rest : ℤ) (others_of : List ℕ) → heard_by circuits z ≡ Some (Member q z since) → sum_of_values others_of ≡ rest
       → sum_of_values (if (q == room) && not (same_slot z y) && is_through since f then sent z ∷ others_of else others_of) ≡ without y weight_of z +ℤ rest
   member_adds q since z y rest others_of heard e =
-      let weight : weight_of z ≡ value_of (if (q == room) && is_through since f then Some (sent z) else None) = ap (λ (by : Option Circuit). value_of (added f room (sent z) (seated_as by))) heard in
+      let weight : weight_of z ≡ value_of (if q == room then (if is_through since f then Some (sent z) else None) else None) = ap (λ (by : Option Circuit). value_of (added f room (sent z) (seated_as by))) heard in
       elim (true_or_false (same_slot z y)) [
         | inl here ↦ rw here (elim (true_or_false (eqb q room)) [ inl same ↦ rw same (omega (arith, ints, e)) | inr other ↦ rw other (omega (arith, ints, e)) ])
         | inr away ↦ rw away (rw weight (elim (true_or_false (eqb q room)) [

@@ -1,5 +1,6 @@
 -- Earlier frames in a list that has grown by one.
-use Rattle.std.proofs.Common.{◌≡◌, ℕ, zero, suc, ◌-◌, ◌<◌, List, [], ◌∷◌, ◌++◌, length, Option, Some, None, refl, sym, ap, ◌∙◌, subst, arith}
+use Rattle.std.proofs.Common.{◌≡◌, ℕ, zero, suc, ◌+◌, ◌-◌, ◌<◌, List, [], ◌∷◌, ◌++◌, length, Option, Some, None, refl, sym, ap, ◌∙◌, subst, arith}
+use Rattle.std.proofs.lemmas.List.{length_push}
 use Rattle.std.proofs.Math.ListN.{get_or-append}
 use Rattle.std.proofs.Math.Seq.{get_or-append_seam}
 use Rattle.std.specs.Prelude.{nat_lt, slice_get, if◌then◌else◌}
@@ -14,8 +15,19 @@ use Rattle.circuit_model.specs.Hears.{mix, is_other, octets_of, sum_of_values}
 use Rattle.circuit_model.specs.Ports.{Ports, ports_of}
 use Rattle.std.specs.List.{filter}
 use Rattle.control_memory.specs.Shown.{member_at}
-use Rattle.frame_engine.specs.Frames.{mixed_for, mixed_at, brought}
+use Rattle.frame_engine.specs.Frames.{AreCounted, mixed_through, mixed_at, brought}
 use Rattle.frame_engine.specs.Carries.{brought_before}
+
+pub length-push : {X : Type 0} (xs : List X) (x : X) → length (xs ++ x ∷ []) ≡ length xs + 1
+length-push xs x = length_push xs x
+
+pub counted-more : (n : ℕ) (inputs : List Input) (held : List (List Circuit)) (ports : List Ports) (input : Input) (circuits : List Circuit) (seats : Ports) → AreCounted n inputs held ports
+    → AreCounted (n + 1) (inputs ++ input ∷ []) (held ++ circuits ∷ []) (ports ++ seats ∷ [])
+counted-more n inputs held ports input circuits seats counted = record {
+  inputs_counted = length-push inputs input ∙ ap (λ k. k + 1) counted.inputs_counted;
+  held_counted = length-push held circuits ∙ ap (λ k. k + 1) counted.held_counted;
+  ports_counted = length-push ports seats ∙ ap (λ k. k + 1) counted.ports_counted;
+}
 
 get-earlier : {X : Type 0} (xs : List X) (x : X) (i : ℕ) → i < length xs → slice_get (xs ++ x ∷ []) i ≡ slice_get xs i
 get-earlier [] x i before = absurd (omega arith)
@@ -53,24 +65,24 @@ octets-earlier inputs input f (c ∷ cs) before =
 pub mix-earlier : (inputs : List Input) (input : Input) (circuits : List Circuit) (room : ℕ) (y : Slot) (f : ℕ) → f < length inputs → mix (inputs ++ input ∷ []) circuits room y f ≡ mix inputs circuits room y f
 mix-earlier inputs input circuits room y f before = ap (λ (octets : List ℕ). compress (sum_of_values octets)) (octets-earlier inputs input (f - 2) (filter (is_other room y f) circuits) (omega (arith, before)))
 
-mixed_for-earlier : (inputs : List Input) (input : Input) (circuits : List Circuit) (f : ℕ) (by : Option Circuit) → f < length inputs → mixed_for (inputs ++ input ∷ []) circuits f by ≡ mixed_for inputs circuits f by
-mixed_for-earlier inputs input circuits f None before = refl
-mixed_for-earlier inputs input circuits f (Some (Pair x y since)) before = refl
-mixed_for-earlier inputs input circuits f (Some (Member room y since)) before = mix-earlier inputs input circuits room y f before
-mixed_for-earlier inputs input circuits f (Some (Tone kind y since)) before = refl
+mixed_through-earlier : (inputs : List Input) (input : Input) (circuits : List Circuit) (f : ℕ) (by : Option Circuit) → f < length inputs → mixed_through (inputs ++ input ∷ []) circuits f by ≡ mixed_through inputs circuits f by
+mixed_through-earlier inputs input circuits f None before = refl
+mixed_through-earlier inputs input circuits f (Some (Pair x y since)) before = refl
+mixed_through-earlier inputs input circuits f (Some (Member room y since)) before = mix-earlier inputs input circuits room y f before
+mixed_through-earlier inputs input circuits f (Some (Tone kind y since)) before = refl
 
 mixed_at-earlier : (inputs : List Input) (input : Input) (circuits : List Circuit) (f : ℕ) (member : Option Slot) → f < length inputs → mixed_at (inputs ++ input ∷ []) circuits f member ≡ mixed_at inputs circuits f member
 mixed_at-earlier inputs input circuits f None before = refl
-mixed_at-earlier inputs input circuits f (Some y) before = mixed_for-earlier inputs input circuits f (heard_by circuits y) before
+mixed_at-earlier inputs input circuits f (Some y) before = mixed_through-earlier inputs input circuits f (heard_by circuits y) before
 
 -- what a frame brought
-module _ (external : ℕ) (inputs : List Input) (held : List (List Circuit)) (ports : List Ports) (input : Input) (circuits : List Circuit) (seats : Ports) (n : ℕ) (inputs_counted : length inputs ≡ n) (held_counted : length held ≡ n) (ports_counted : length ports ≡ n) where
+module _ (external : ℕ) (inputs : List Input) (held : List (List Circuit)) (ports : List Ports) (input : Input) (circuits : List Circuit) (seats : Ports) (n : ℕ) (counted : AreCounted n inputs held ports) where
   pub brought-earlier : (f : ℕ) (at : Slot) → f < n → brought external (inputs ++ input ∷ []) (held ++ circuits ∷ []) (ports ++ seats ∷ []) f at ≡ brought external inputs held ports f at
   brought-earlier f at before =
-      ap (λ octet. if nat_lt at.line external then octet else mixed_at (inputs ++ input ∷ []) (circuits_of (held ++ circuits ∷ []) f) f (member_at external (ports_of (ports ++ seats ∷ []) f) at)) (arrives-earlier inputs input f at (omega arith))
-      ∙ ap (λ (cs : List Circuit). if nat_lt at.line external then arrives inputs f at else mixed_at (inputs ++ input ∷ []) cs f (member_at external (ports_of (ports ++ seats ∷ []) f) at)) (circuits-earlier held circuits f (omega arith))
-      ∙ ap (λ (ps : Ports). if nat_lt at.line external then arrives inputs f at else mixed_at (inputs ++ input ∷ []) (circuits_of held f) f (member_at external ps at)) (ports-earlier ports seats f (omega arith))
-      ∙ ap (λ octet. if nat_lt at.line external then arrives inputs f at else octet) (mixed_at-earlier inputs input (circuits_of held f) f (member_at external (ports_of ports f) at) (omega arith))
+      ap (λ octet. if nat_lt at.line external then octet else mixed_at (inputs ++ input ∷ []) (circuits_of (held ++ circuits ∷ []) f) f (member_at external (ports_of (ports ++ seats ∷ []) f) at)) (arrives-earlier inputs input f at (let i = counted.inputs_counted in let h = counted.held_counted in let p = counted.ports_counted in omega (arith, before, i, h, p)))
+      ∙ ap (λ (cs : List Circuit). if nat_lt at.line external then arrives inputs f at else mixed_at (inputs ++ input ∷ []) cs f (member_at external (ports_of (ports ++ seats ∷ []) f) at)) (circuits-earlier held circuits f (let i = counted.inputs_counted in let h = counted.held_counted in let p = counted.ports_counted in omega (arith, before, i, h, p)))
+      ∙ ap (λ (ps : Ports). if nat_lt at.line external then arrives inputs f at else mixed_at (inputs ++ input ∷ []) (circuits_of held f) f (member_at external ps at)) (ports-earlier ports seats f (let i = counted.inputs_counted in let h = counted.held_counted in let p = counted.ports_counted in omega (arith, before, i, h, p)))
+      ∙ ap (λ octet. if nat_lt at.line external then arrives inputs f at else octet) (mixed_at-earlier inputs input (circuits_of held f) f (member_at external (ports_of ports f) at) (let i = counted.inputs_counted in let h = counted.held_counted in let p = counted.ports_counted in omega (arith, before, i, h, p)))
 
   pub brought_before-earlier : (f : ℕ) (at : Slot) → f ≡ n → brought_before external (inputs ++ input ∷ []) (held ++ circuits ∷ []) (ports ++ seats ∷ []) f at ≡ brought_before external inputs held ports f at
   brought_before-earlier zero at is = refl
