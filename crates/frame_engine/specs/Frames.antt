@@ -74,6 +74,10 @@ brought external inputs held ports f at =
 abbrev pub PlaysOut : ℕ → (Slot → ℕ) → List (List ℕ) → Type 0
 PlaysOut external octet out = (at : Slot) → at.line < external → at.place < 30 → slice_index (slice_index_or out at.line []) at.place ≡ octet at
 
+-- out has, for each external line and place, what is played in the control memory's frame, which begins at the boundary with this input
+abbrev pub PlaysFrame : (List Input → List (List Circuit) → ℕ → Slot → ℕ) → Control → Boundary → Input → List (List ℕ) → Type 0
+PlaysFrame plays m b input out = PlaysOut m.external (plays (inputs_with b input) (held_with b) m.frame) out
+
 -- each tone that a slot hears is given
 abbrev pub TonesGiven : Tones → Control → Type 0
 TonesGiven tones image = EachSlot (lines_of image) (λ at. (kind : Kind) (since : ℕ) → heard_at image at ≡ Sounds kind since → IsGiven tones kind)

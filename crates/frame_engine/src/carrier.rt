@@ -6,7 +6,7 @@ ghost use Rattle.circuit_model.specs.FrameInput.{Input};
 ghost use Rattle.circuit_model.specs.Ports.{Ports};
 ghost use Rattle.control_memory.specs.Image.{SameSizes};
 ghost use Rattle.tone_rules.specs.Tables.{table_of};
-ghost use Rattle.frame_engine.specs.Frames.{AreCounted, Boundary, IsNext, PlaysOut, TonesGiven, held_with, inputs_with, ports_with};
+ghost use Rattle.frame_engine.specs.Frames.{AreCounted, Boundary, IsNext, PlaysFrame, TonesGiven, held_with, inputs_with, ports_with};
 
 use control_memory::Image;
 use std::alloc::{AllocError, Global};
@@ -63,7 +63,7 @@ pub trait Carrier: Sized + Send + Drop {
         requires input { length input.now ≡ external_lines self.old }
         requires out { length out.old ≡ external_lines self.old }
         requires tones { TonesGiven tones.now image.old }
-        ensures plays { (b : Boundary) → IsNext (carries self.old) image.old b → PlaysOut (external_lines self.old) (plays (table_of tones.now) (inputs_with b input.now) (held_with b) (next self.old)) out.new }
+        ensures plays { (b : Boundary) → IsNext (carries self.old) image.old b → PlaysFrame (plays (table_of tones.now)) image.old b input.now out.new }
         ensures carries { (b : Boundary) → IsNext (carries self.old) image.old b → carries self.new (inputs_with b input.now) (held_with b) (ports_with b) }
         ensures next { next self.new ≡ next self.old + 1 }
         ensures external { external_lines self.new ≡ external_lines self.old }

@@ -81,12 +81,11 @@ at_boundary c b next =
 
 pub returns-clause-plays : goal.returns-clause-plays
 returns-clause-plays c b next at line place =
-    let view = c.self.view_is in
     let is = at_boundary c b next in
-    let here : at.line < (stages c).external = subst (λ (s : Stages). at.line < s.external) (sym view) line in
-    c.play.ensures at (let external = (sizes c).external in omega (arith, here, external)) place
+    let here : at.line < (stages c).external = let external = (sizes c).external in omega (arith, line, external) in
+    c.play.ensures at line place
     ∙ plays (stages c) (image c) (octets_read c) (sizes c) b.inputs b.held b.ports c.args.input.now b.circuits b.seats is.carries is.shows.0 is.shows.1 is.come (table_of c.args.tones.now) at here place
-    ∙ ap (λ (s : Stages). hears (table_of c.args.tones.now) (inputs_with b c.args.input.now) (held_with b) s.next at) view
+    ∙ sym (ap (λ f. hears (table_of c.args.tones.now) (inputs_with b c.args.input.now) (held_with b) f at) (sizes c).frame)
 
 pub returns-clause-carries : goal.returns-clause-carries
 returns-clause-carries c b next =
