@@ -1,9 +1,9 @@
 //! The yardstick of `run`: the job of crates/bench_mix in plain Rust, with nothing proved.
 //!
-//! A conference of 60 members is mixed as many times as the one word says: each member hears the
-//! A-law code (ITU-T G.711) of the sum of the others. It takes the same steps as the proved mix, which
-//! were the fastest of those tried here: a table decodes, one total is formed, each member's own value
-//! is taken out of it, and the leading bit gives the segment.
+//! A bridge of 60 members in four rooms is mixed as many times as the one word says: each member hears
+//! the A-law code (ITU-T G.711) of the sum of the others of its room. It takes the same steps as the
+//! proved mix, which were the fastest of those tried here: a table decodes, a total is formed for each
+//! room, each member's own value is taken out of it, and the leading bit gives the segment.
 
 /// Decodes an octet as ITU-T G.711, table 1a, says; evaluated at compile time for the table.
 const fn decoded(octet: u8) -> i16 {
@@ -35,27 +35,43 @@ fn compress(value: i32) -> u8 {
     (sign | number as u8) ^ 0x55
 }
 
-fn mix(members: &[Option<u8>], out: &mut [u8]) {
-    let mut values = [0; 60];
-    let mut total = 0;
-    for (value, member) in values.iter_mut().zip(members) {
-        *value = member.map_or(0, expand);
-        total += *value;
+#[derive(Clone, Copy)]
+struct Seated {
+    room: u8,
+    octet: Option<u8>,
+}
+
+fn value_of(octet: Option<u8>) -> i32 {
+    octet.map_or(0, expand)
+}
+
+fn mix_rooms(places: &[Option<Seated>], out: &mut [u8]) {
+    let mut totals = [0; 256];
+    for member in places.iter().flatten() {
+        totals[usize::from(member.room)] += value_of(member.octet);
     }
-    for (heard, own) in out.iter_mut().zip(&values) {
-        *heard = compress(total - own);
+    for (heard, member) in out.iter_mut().zip(places) {
+        *heard = match member {
+            Some(member) => compress(totals[usize::from(member.room)] - value_of(member.octet)),
+            None => 0xD5,
+        };
     }
+}
+
+fn seated(place: usize, octet: Option<u8>) -> Option<Seated> {
+    Some(Seated { room: (place % 4) as u8, octet })
 }
 
 fn main() {
     let rounds: u32 = std::env::args().nth(1).and_then(|word| word.parse().ok()).unwrap_or(0);
-    let mut members = [Some(0x2A); 60];
+    let mut places: [_; 60] = std::array::from_fn(|place| seated(place, Some(0x2A)));
     let mut out = [0; 60];
     let mut sum = 0u32;
     for round in 0..rounds {
-        mix(&members, &mut out);
+        mix_rooms(&places, &mut out);
         let place = round as usize % 60;
-        members[place] = if round % 7 == 0 { None } else { Some(out[place] ^ (round % 251) as u8) };
+        let octet = if round % 7 == 0 { None } else { Some(out[place] ^ (round % 251) as u8) };
+        places[place] = seated(place, octet);
         sum = sum.wrapping_mul(31).wrapping_add(u32::from(out[0]));
     }
     println!("{sum}");

@@ -1,25 +1,35 @@
-//! Mixes a full conference as many times as its one word says, so that the time of a mix can be
-//! measured, and writes a checksum of what was heard.
+//! Mixes a full bridge of four rooms as many times as its one word says, so that the time of a mix
+//! can be measured, and writes a checksum of what was heard.
 #![tactic(auto)]
 
-use conference_mix::{MAX_MEMBERS, mix};
+use conference_mix::{MAX_MEMBERS, Seated, mix_rooms};
 use std::{env, io};
+
+/// The member in a place: each fourth place is of one room.
+fn seated(place: usize, octet: Option<u8>) -> Option<Seated> {
+    let room = (place % 4) as u8;
+    Some(Seated { room, octet })
+}
 
 /// What place 0 hears in each of so many rounds, folded into a number.
 ///
 /// Each round one member repeats what it heard, so no round can be left out.
 fn heard(rounds: u32) -> u32 {
-    let mut members = [Some(0x2A); MAX_MEMBERS];
+    let mut places = [None; MAX_MEMBERS];
+    for place in 0..MAX_MEMBERS {
+        places[place] = seated(place, Some(0x2A));
+    }
     let mut out = [0; MAX_MEMBERS];
     let mut sum = 0u32;
     for round in 0..rounds {
-        mix(&members, &mut out);
+        mix_rooms(&places, &mut out);
         let place = round as usize % MAX_MEMBERS;
-        members[place] = if round % 7 == 0 {
+        let octet = if round % 7 == 0 {
             None
         } else {
             Some(out[place] ^ (round % 251) as u8)
         };
+        places[place] = seated(place, octet);
         sum = sum.wrapping_mul(31).wrapping_add(u32::from(out[0]));
     }
     sum

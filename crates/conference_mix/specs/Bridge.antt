@@ -3,6 +3,10 @@ use Rattle.std.specs.Prelude.{ℕ, ℤ, pos, List, Option, Some, None, filter_ma
 use Rattle.circuit_model.specs.ALaw.{expand, compress}
 use Rattle.circuit_model.specs.Hears.{sum_of_values}
 
+-- the most members that a bridge mixes: as many as two bridge lines have bearer channels
+abbrev pub most_members : ℕ
+most_members = 60
+
 -- the octets that are there, in the order of their places
 abbrev pub present : List (Option ℕ) → List ℕ
 present members = filter_map (λ octet. octet) members

@@ -8,12 +8,14 @@
 
 ghost use Rattle.std.specs.Prelude.{◌≡◌, ℕ, ◌*◌, ◌≤◌, length, slice_index, map, All, EachIndex, nat_abs};
 ghost use Rattle.circuit_model.specs.Hears.{sum_of_values};
-ghost use Rattle.conference_mix.specs.Bridge.{present, value_of, mixed_for};
+ghost use Rattle.conference_mix.specs.Bridge.{most_members, present, value_of, mixed_for};
 
 mod laws;
+mod rooms;
 
 use alaw_codec::{compress, expand};
 pub use laws::{law_of_order, law_of_small_rooms};
+pub use rooms::{Seated, mix_rooms};
 
 /// The most members that a bridge mixes: as many as two bridge lines have bearer channels. The limit
 /// is this exchange's own.
@@ -27,7 +29,7 @@ pub const MAX_MEMBERS: usize = 60;
 /// within 241,920. The bridge is this exchange's own.
 pub fn mix(members: &[Option<u8>], out: &mut [u8])
     requires same { length out.old ≡ length members.now }
-    requires few { length members.now ≤ MAX_MEMBERS }
+    requires few { length members.now ≤ most_members }
     ensures { EachIndex members.now (λ k. slice_index out.new k ≡ mixed_for k members.now) }
 {
     let mut scratch = [0; MAX_MEMBERS];
@@ -41,11 +43,11 @@ pub fn mix(members: &[Option<u8>], out: &mut [u8])
 /// Writes what each place adds to the sum, and returns the sum over all places.
 fn expand_each(members: &[Option<u8>], values: &mut [i32]) -> i32
     requires same { length values.old ≡ length members.now }
-    requires few { length members.now ≤ MAX_MEMBERS }
+    requires few { length members.now ≤ most_members }
     ensures each { values.new ≡ map value_of members.now }
     ensures small { All (λ value. nat_abs value ≤ 4032) values.new }
     ensures total { result ≡ sum_of_values (present members.now) }
-    ensures within { nat_abs result ≤ 4032 * MAX_MEMBERS }
+    ensures within { nat_abs result ≤ 4032 * most_members }
 {
     let mut total = 0;
     for (k, member) in members.iter().enumerate() {

@@ -74,3 +74,22 @@ fn a_full_room(rt: HostRuntime) {
     mix(&[None; MAX_MEMBERS], &mut out);
     assert_eq!(rt; out, [0xD5; MAX_MEMBERS]);
 }
+
+/// Members of two rooms in turn, and a place where nobody sits: each room sounds as it does alone.
+#[test]
+fn rooms_do_not_hear_each_other(rt: HostRuntime) {
+    for (members, heard) in MIXED {
+        let mut places = [None; 11];
+        for k in 0..5 {
+            let octet = members[k];
+            places[2 * k] = Some(Seated { room: 0, octet });
+            let octet = Some(0xAA);
+            places[2 * k + 1] = Some(Seated { room: 255, octet });
+        }
+        let mut out = [0; 11];
+        mix_rooms(&places, &mut out);
+        let [a, _, b, _, c, _, d, _, e, _, free] = out;
+        assert_eq!(rt; [a, b, c, d, e], heard);
+        assert_eq!(rt; [out[1], out[3], out[5], out[7], out[9], free], [0xAA, 0xAA, 0xAA, 0xAA, 0xAA, 0xD5]);
+    }
+}

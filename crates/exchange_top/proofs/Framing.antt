@@ -9,7 +9,7 @@ use Rattle.circuit_model.proofs.Slots.{true_or_false}
 use Rattle.circuit_map.specs.Connections.{Connections, SameSizes}
 use Rattle.control_memory.specs.Image.{Control}
 use Rattle.control_memory.specs.Shown.{Shows}
-use Rattle.frame_engine.specs.Frames.{Come}
+use Rattle.frame_engine.specs.Frames.{Boundary, Come, IsNext}
 use Rattle.exchange_core.specs.declared.trace.Event.{Event}
 use Rattle.exchange_core.specs.declared.trace.Event.TheVariants.{Nail, Seat, Free, Frame as Frame_event}
 use Rattle.exchange_core.specs.declared.reply.Reply.{Reply}
@@ -37,6 +37,18 @@ pub asked : {E : Type 0} (carries : Carrying E) (m : Connections) (engine : E) (
 asked carries m engine w e input r image external bridges next works frame replied shows same_external same_bridges same_next = record {
   shows = subst (Shows image w.holding.circuits w.ports) (sym (same_next ∙ works.stands.holds.next)) (shows w w.holding.next works.stands (replied ∙ ap (reply (dimensions_of m) w) frame));
   came = rw (same_external, same_bridges) (come (dimensions_of m) w input works.made);
+}
+
+-- the boundary of the frame that begins
+abbrev pub boundary : World → Boundary
+boundary w = record { inputs = w.inputs; held = w.held; ports = w.seated; circuits = w.holding.circuits; seats = w.ports }
+
+pub next_frame : (carried : List Input → List (List Circuit) → List Ports → Type 0) (image : Control) (external bridges next : ℕ) (w : World)
+    → Asked image external bridges next w → image.external ≡ external → image.bridges ≡ bridges → carried w.inputs w.held w.seated → IsNext carried image (boundary w)
+next_frame carried image external bridges next w a same_external same_bridges carries = record {
+  carries = carries;
+  shows = subst (Shows image w.holding.circuits w.ports) (sym a.shows.1.frame) a.shows;
+  came = rw (same_external, same_bridges) a.came;
 }
 
 -- an event that is no frame leaves the frames as they are

@@ -31,15 +31,16 @@ use Rattle.control_memory.proofs.Carrying.{crossing_is}
 use Rattle.control_memory.specs.Image.{Control, lines_of, EachSlot, read, heard_at, room_at, sent, received}
 use Rattle.control_memory.specs.Carrying.{fetched, HoldsCrossing}
 use Rattle.control_memory.specs.Shown.{to_port, joined_by, IsNeeded, member_at, served_by, heard_as, seated_as, circuit_of, room_of, ShowsBy, Shows}
-use Rattle.frame_engine.specs.Frames.{Come, brought, mixed_for, mixed_at}
-use Rattle.frame_engine.specs.Carries.{Stages, CarriesAt, CarriesLast, IsFresh, Carries, brought_before}
-use Rattle.frame_engine.specs.Bridge.{added, added_at, row_of, mixed_to, given_to}
+use Rattle.frame_engine.specs.Frames.{Come, brought, mixed_through, mixed_at}
+use Rattle.frame_engine.specs.Carries.{Stages, CarriesAt, CarriesLast, IsFresh, CarriesFrames, HasSizes, brought_before}
+use Rattle.frame_engine.specs.Ports.{given_to}
 use Rattle.conference_mix.specs.Bridge.{mixed_for as mixed_for_port}
-use Rattle.frame_engine.specs.Playing.{played}
-use Rattle.frame_engine.proofs.Longer.{arrives-earlier, arrives-last, circuits-earlier, circuits-last, ports-earlier, ports-last, mix-earlier, brought_before-earlier}
-use Rattle.frame_engine.proofs.Members.{heard_is, member_at-number, numbered-member_at, port_of-owner}
-use Rattle.frame_engine.proofs.Sums.{entry, mixed_is}
-use Rattle.frame_engine.proofs.Reading.{read_joined, crosses_alike}
+use Rattle.frame_engine.specs.Playing.{played_as}
+use Rattle.frame_engine.proofs.PortRows.{added, added_at, row_of, mixed_to, row_of-ports, given_to-seat}
+use Rattle.frame_engine.proofs.EarlierFrames.{counted-more, length-push, arrives-earlier, arrives-last, circuits-earlier, circuits-last, ports-earlier, ports-last, mix-earlier, brought_before-earlier}
+use Rattle.frame_engine.proofs.MemberPorts.{heard_is, member_at-number, numbered-member_at, port_of-owner}
+use Rattle.frame_engine.proofs.RoomSums.{entry, mixed_is}
+use Rattle.frame_engine.proofs.ReadOut.{read_joined, crosses_alike}
 
 -- an engine and its control memory of the next frame, as `frame` gets them, and what was read out
 pub record IsAt (e : Stages) (m : Control) (out : List ℕ) : Type 0 where
@@ -56,21 +57,15 @@ pub record IsAt (e : Stages) (m : Control) (out : List ℕ) : Type 0 where
 pub record Did (e : Stages) (m : Control) (input : Input) (out taken : List ℕ) (highway crossed : Highways) : Type 0 where
   pub sends : (line slot : ℕ) → line < e.external + e.bridges → slot < e.slots → octet_on highway line slot ≡ fetched (sent m line slot) (λ place. octet_of e.taken (record { line = line; place = place }))
   pub crosses : (line slot : ℕ) → line < e.external + e.bridges → slot < e.slots → octet_on crossed line slot ≡ fetched (received m line slot) (λ from. octet_on highway from slot)
+  pub lines : crossed.lines ≡ e.external + e.bridges
+  pub slots : crossed.slots ≡ e.slots
   pub takes : (at : Slot) → at.line < e.external → at.place < 30 → octet_of taken at ≡ octet_in input at
   pub mixes : (k : ℕ) → k < 30 * e.bridges → octet_of taken (port_numbered m.external k) ≡ given_to m (octet_of out) k
-
-length-push : {X : Type 0} (xs : List X) (x : X) → length (xs ++ x ∷ []) ≡ length xs + 1
-length-push xs x = length_push xs x
 
 not-below : (a b : ℕ) → b ≤ a → nat_lt a b ≡ false
 not-below a b above = elim (leb_tells (suc a) b) [ inl below ↦ absurd (omega (arith, above, below.1)) | inr beyond ↦ beyond.0 ]
 
--- nothing is added before a circuit is through, whatever the octet
-unthrough : (b : Bool) (x y : ℕ) → (if b && false then Some x else None) ≡ (if b && false then Some y else None)
-unthrough true x y = refl
-unthrough false x y = refl
-
-module _ (e : Stages) (m : Control) (out : List ℕ) (is : IsAt e m out) (inputs : List Input) (held : List (List Circuit)) (ports : List Ports) (input : Input) (circuits : List Circuit) (seats : Ports) (carries : Carries e inputs held ports) (layout : Layout) (shows : ShowsBy layout m circuits seats e.next) (come : Come e.external e.bridges (held ++ circuits ∷ []) (ports ++ seats ∷ [])) where
+module _ (e : Stages) (m : Control) (out : List ℕ) (is : IsAt e m out) (inputs : List Input) (held : List (List Circuit)) (ports : List Ports) (input : Input) (circuits : List Circuit) (seats : Ports) (carries : CarriesFrames e inputs held ports) (layout : Layout) (shows : ShowsBy layout m circuits seats e.next) (come : Come e.external e.bridges (held ++ circuits ∷ []) (ports ++ seats ∷ [])) where
   abbrev lines : ℕ
   lines = e.external + e.bridges
 
@@ -88,19 +83,19 @@ module _ (e : Stages) (m : Control) (out : List ℕ) (is : IsAt e m out) (inputs
   ports_in f = ap (λ (p : List Ports). ports_of p f) come.seats
 
   pub circuits_now : circuits ≡ circuits_of (frames empty cs) n
-  circuits_now = sym (circuits-last held circuits n carries.held_counted) ∙ circuits_in n
+  circuits_now = sym (circuits-last held circuits n carries.counted.held_counted) ∙ circuits_in n
 
   seats_now : seats ≡ ports_of (port_frames (free_ports e.bridges) cs) n
-  seats_now = sym (ports-last ports seats n carries.ports_counted) ∙ ports_in n
+  seats_now = sym (ports-last ports seats n carries.counted.ports_counted) ∙ ports_in n
 
   circuits_then : (f : ℕ) → f < n → circuits_of held f ≡ circuits_of (frames empty cs) f
-  circuits_then f before = sym (circuits-earlier held circuits f (let h = carries.held_counted in omega (arith, before, h))) ∙ circuits_in f
+  circuits_then f before = sym (circuits-earlier held circuits f (let h = carries.counted.held_counted in omega (arith, before, h))) ∙ circuits_in f
 
   ports_then : (f : ℕ) → f < n → ports_of ports f ≡ ports_of (port_frames (free_ports e.bridges) cs) f
-  ports_then f before = sym (ports-earlier ports seats f (let p = carries.ports_counted in omega (arith, before, p))) ∙ ports_in f
+  ports_then f before = sym (ports-earlier ports seats f (let p = carries.counted.ports_counted in omega (arith, before, p))) ∙ ports_in f
 
   recorded_now : n < length (frames empty cs)
-  recorded_now = let long = sym (ap (λ (h : List (List Circuit)). length h) come.circuits) ∙ length-push held circuits in let h = carries.held_counted in omega (arith, long, h)
+  recorded_now = let long = sym (ap (λ (h : List (List Circuit)). length h) come.circuits) ∙ length-push held circuits in let h = carries.counted.held_counted in omega (arith, long, h)
 
   standing : (x : Slot) → Stands circuits x
   standing = subst (λ (ds : List Circuit). (x : Slot) → Stands ds x) (sym circuits_now) (valid-frames e.bridges empty cs n (valid-empty e.bridges) come.allowed recorded_now).standing
@@ -126,7 +121,7 @@ module _ (e : Stages) (m : Control) (out : List ℕ) (is : IsAt e m out) (inputs
       let to_kept : IsSlot (lines_of e.kept) y = subst (λ l. IsSlot l y) (sym same_lines) to in
       let needed_kept = subst (λ l. IsNeeded l (circuits_of held (suc k)) (ports_of ports (suc k)) x y) (sym is.kept_external) needed in
       let joins : Joins last.layout x y = (last.shows.paths x y from_kept).1 needed_kept in
-      let holds = subst (λ s. HoldsCrossing (lines_of e.kept) s last.layout (brought_before e.external inputs held ports (suc k)) (octet_on e.crossed)) (sym is.kept_slots) last.crossed in
+      let holds = subst (λ s. HoldsCrossing (lines_of e.kept) s last.layout (brought_before e.external inputs held ports (suc k)) (octet_on e.crossed)) (sym is.kept_slots) (subst (λ l. HoldsCrossing l e.slots last.layout (brought_before e.external inputs held ports (suc k)) (octet_on e.crossed)) (sym same_lines) last.crossed) in
       is.read_out y to.0 to.1 ∙ read_joined (lines_of e.kept) e.kept.slots last.layout (sent e.kept) (received e.kept) (read e.kept) (brought_before e.external inputs held ports (suc k)) (octet_on e.crossed) last.shows.legal last.shows.tables holds x y from_kept to_kept joins
 
   -- before frame 2 nothing is through
@@ -150,7 +145,7 @@ module _ (e : Stages) (m : Control) (out : List ℕ) (is : IsAt e m out) (inputs
   arrived : (k : ℕ) (x : Slot) → n ≡ suc (suc k) → IsExternal e.external x → brought e.external inputs held ports k x ≡ arrives (inputs ++ input ∷ []) (n - 2) x
   arrived k x now external =
       let two : k ≡ n - 2 = omega (arith, now) in
-      let before : k < length inputs = let i = carries.inputs_counted in omega (arith, now, i) in
+      let before : k < length inputs = let i = carries.counted.inputs_counted in omega (arith, now, i) in
       cond-true (nat_lt x.line e.external) _ _ (lt-ltb x.line e.external external.0)
       ∙ sym (arrives-earlier inputs input k x before) ∙ ap (λ f. arrives (inputs ++ input ∷ []) f x) two
 
@@ -242,11 +237,11 @@ module _ (e : Stages) (m : Control) (out : List ℕ) (is : IsAt e m out) (inputs
       let now = t.now in
       let two : t.k ≡ n - 2 = omega (arith, now) in
       let behind : nat_lt (port_numbered e.external k).line e.external ≡ false = not-below (port_numbered e.external k).line e.external (omega arith) in
-      let before : t.k < length inputs = let i = carries.inputs_counted in omega (arith, now, i) in
-      let before_held : t.k < length held = let h = carries.held_counted in omega (arith, now, h) in
+      let before : t.k < length inputs = let i = carries.counted.inputs_counted in omega (arith, now, i) in
+      let before_held : t.k < length held = let h = carries.counted.held_counted in omega (arith, now, h) in
       cond-false (nat_lt (port_numbered e.external k).line e.external) _ _ behind
       ∙ ap (mixed_at inputs (circuits_of held t.k) t.k) (member_at-number e.external (ports_of ports t.k) k ∙ s.had)
-      ∙ ap (mixed_for inputs (circuits_of held t.k) t.k) s.heard
+      ∙ ap (mixed_through inputs (circuits_of held t.k) t.k) s.heard
       ∙ sym (mix-earlier inputs input (circuits_of held t.k) room y t.k before)
       ∙ ap (λ (ds : List Circuit). mix (inputs ++ input ∷ []) ds room y t.k) (sym (circuits-earlier held circuits t.k before_held))
       ∙ ap (λ f. mix (inputs ++ input ∷ []) (circuits_of (held ++ circuits ∷ []) f) room y f) two
@@ -266,7 +261,7 @@ module _ (e : Stages) (m : Control) (out : List ℕ) (is : IsAt e m out) (inputs
   abbrev hears_by : (Kind → List ℕ) → Option Circuit → ℕ
   hears_by tones by = heard_through tones (inputs ++ input ∷ []) (held ++ circuits ∷ []) n by
 
-  played_by : (tones : Kind → List ℕ) (y : Slot) (by : Option Circuit) → ((c : Circuit) → by ≡ Some c → Contains circuits c × (y ≡ listener c)) → played tones n (octet_of out y) (heard_as by) ≡ hears_by tones by
+  played_by : (tones : Kind → List ℕ) (y : Slot) (by : Option Circuit) → ((c : Circuit) → by ≡ Some c → Contains circuits c × (y ≡ listener c)) → played_as tones n (octet_of out y) (heard_as by) ≡ hears_by tones by
   played_by tones y None found = refl
   played_by tones y (Some (Pair x z since)) found =
       let f = found (Pair x z since) refl in
@@ -282,16 +277,16 @@ module _ (e : Stages) (m : Control) (out : List ℕ) (is : IsAt e m out) (inputs
       ]
   played_by tones y (Some (Tone kind z since)) found = refl
 
-  pub plays : (tones : Kind → List ℕ) (y : Slot) → y.line < e.external → y.place < 30 → played tones m.frame (octet_of out y) (heard_at m y) ≡ hears tones (inputs ++ input ∷ []) (held ++ circuits ∷ []) n y
+  pub plays : (tones : Kind → List ℕ) (y : Slot) → y.line < e.external → y.place < 30 → played_as tones m.frame (octet_of out y) (heard_at m y) ≡ hears tones (inputs ++ input ∷ []) (held ++ circuits ∷ []) n y
   plays tones y here near =
       let external_m : y.line < m.external = let a = is.external in omega (arith, here, a) in
       let serves : served_by m.external seats y ≡ Some y = cond-true (nat_lt y.line m.external) (Some y) _ (lt-ltb y.line m.external external_m) in
       let by : circuit_of m.external circuits seats y ≡ heard_by circuits y = ap (option_and_then (heard_by circuits)) serves in
       let heard : heard_at m y ≡ heard_as (heard_by circuits y) = shows.heard y (omega (arith, external_m)) near ∙ ap heard_as by in
-      ap (λ f. played tones f (octet_of out y) (heard_at m y)) is.frame
-      ∙ ap (played tones n (octet_of out y)) heard
+      ap (λ f. played_as tones f (octet_of out y) (heard_at m y)) is.frame
+      ∙ ap (played_as tones n (octet_of out y)) heard
       ∙ played_by tones y (heard_by circuits y) (λ c found. heard_is circuits y c found)
-      ∙ ap (λ (ds : List Circuit). hears_by tones (heard_by ds y)) (sym (circuits-last held circuits n carries.held_counted))
+      ∙ ap (λ (ds : List Circuit). hears_by tones (heard_by ds y)) (sym (circuits-last held circuits n carries.counted.held_counted))
 
   -- ---- what is mixed
   -- who sits in a port
@@ -322,7 +317,7 @@ module _ (e : Stages) (m : Control) (out : List ℕ) (is : IsAt e m out) (inputs
       by_seat (octet_of out (port_numbered e.external k))
       ∙ elim (true_or_false (is_through member.1 n)) [
         | inl old ↦ ap (λ octet. added n room octet (Some (member.0, member.1))) (port_reads k member.0 member.1 z inside old owned)
-        | inr young ↦ rw young (unthrough (eqb member.0 room) _ _)
+        | inr young ↦ rw young refl
       ]
       ∙ sym (by_seat (sent_before z))
 
@@ -332,7 +327,8 @@ module _ (e : Stages) (m : Control) (out : List ℕ) (is : IsAt e m out) (inputs
   row_is : (room : ℕ) → row_of m (octet_of out) room ≡ map (entry sent_before circuits n room) seats
   row_is room =
       let size : length seats ≡ 30 * m.bridges = let s = seats_size in let b = is.bridges in omega (arith, s, b) in
-      ext_get_or None (row_of m (octet_of out) room) (map (entry sent_before circuits n room) seats)
+      row_of-ports m (octet_of out) room
+      ∙ ext_get_or None (map (added_at m (octet_of out) room) (range_with_len 0 (30 * m.bridges))) (map (entry sent_before circuits n room) seats)
       (length-map-range_with_len (added_at m (octet_of out) room) 0 (30 * m.bridges) ∙ sym size ∙ sym (length-map seats (entry sent_before circuits n room)))
       (λ k low.
       let long = length-map-range_with_len (added_at m (octet_of out) room) 0 (30 * m.bridges) in
@@ -358,10 +354,10 @@ module _ (e : Stages) (m : Control) (out : List ℕ) (is : IsAt e m out) (inputs
       ap (λ (by : Option Circuit). mixed_to m (octet_of out) k (seated_as by)) heard
       ∙ ap (mixed_for_port k) (row_is member.0)
       ∙ mixed_is (inputs ++ input ∷ []) circuits n member.0 seats k y owned alone (omega (arith, low, size)) heard_alone sums
-      ∙ sym (ap (mixed_for (inputs ++ input ∷ []) circuits n) heard)
+      ∙ sym (ap (mixed_through (inputs ++ input ∷ []) circuits n) heard)
 
   pub mixes : (k : ℕ) → k < 30 * e.bridges → given_to m (octet_of out) k ≡ mixed_at (inputs ++ input ∷ []) circuits n (owner_of seats k)
-  mixes k low = ap (mixed_to m (octet_of out) k) (room_is k low) ∙ mixed_by k (owner_of seats k) low refl
+  mixes k low = given_to-seat m (octet_of out) k (let b = is.bridges in omega (arith, low, b)) ∙ ap (mixed_to m (octet_of out) k) (room_is k low) ∙ mixed_by k (owner_of seats k) low refl
 
   -- ---- what is taken in, and what crosses
   abbrev brought_now : ℕ → Slot → ℕ
@@ -372,7 +368,7 @@ module _ (e : Stages) (m : Control) (out : List ℕ) (is : IsAt e m out) (inputs
       elim (leb_tells (suc at.line) e.external) [
         | inl here ↦
             did.takes at (omega (arith, here.1)) near
-            ∙ sym (arrives-last inputs input n at carries.inputs_counted)
+            ∙ sym (arrives-last inputs input n at carries.counted.inputs_counted)
             ∙ sym (cond-true (nat_lt at.line e.external) _ _ here.0)
         | inr behind ↦
             let k = 30 * (at.line - e.external) + at.place in
@@ -385,14 +381,14 @@ module _ (e : Stages) (m : Control) (out : List ℕ) (is : IsAt e m out) (inputs
             ∙ did.mixes k low
             ∙ mixes k low
             ∙ ap (mixed_at (inputs ++ input ∷ []) circuits n) owner
-            ∙ ap (λ (ds : List Circuit). mixed_at (inputs ++ input ∷ []) ds n (member_at e.external seats at)) (sym (circuits-last held circuits n carries.held_counted))
-            ∙ ap (λ (ps : Ports). mixed_at (inputs ++ input ∷ []) (circuits_of (held ++ circuits ∷ []) n) n (member_at e.external ps at)) (sym (ports-last ports seats n carries.ports_counted))
+            ∙ ap (λ (ds : List Circuit). mixed_at (inputs ++ input ∷ []) ds n (member_at e.external seats at)) (sym (circuits-last held circuits n carries.counted.held_counted))
+            ∙ ap (λ (ps : Ports). mixed_at (inputs ++ input ∷ []) (circuits_of (held ++ circuits ∷ []) n) n (member_at e.external ps at)) (sym (ports-last ports seats n carries.counted.ports_counted))
             ∙ sym (cond-false (nat_lt at.line e.external) _ _ behind.0)
       ]
 
   took : (f : ℕ) → CarriesAt e inputs held ports f → (x : Slot) → IsSlot lines x → octet_of e.taken x ≡ brought_before e.external inputs held ports f x
-  took zero fresh x inside = let a = is.kept_external in let b = is.kept_bridges in let l = inside.0 in fresh.taken x (omega (arith, a, b, l)) inside.1
-  took (suc f) last x inside = let a = is.kept_external in let b = is.kept_bridges in let l = inside.0 in last.taken x (omega (arith, a, b, l)) inside.1
+  took zero fresh x inside = fresh.taken x inside.0 inside.1
+  took (suc f) last x inside = last.taken x inside.0 inside.1
 
   pub crosses : (highway crossed : Highways) (taken : List ℕ) → Did e m input out taken highway crossed → HoldsCrossing lines e.slots layout (brought_before e.external (inputs ++ input ∷ []) (held ++ circuits ∷ []) (ports ++ seats ∷ []) n) (octet_on crossed)
   crosses highway crossed taken did =
@@ -400,26 +396,24 @@ module _ (e : Stages) (m : Control) (out : List ℕ) (is : IsAt e m out) (inputs
       let legal = subst (λ s. Legal lines s layout) is.slots (subst (λ l. Legal l m.slots layout) same_lines shows.legal) in
       let tables = subst (λ s. HasTables lines s layout (sent m) (received m) (read m)) is.slots (subst (λ l. HasTables l m.slots layout (sent m) (received m) (read m)) same_lines shows.tables) in
       crosses_alike lines e.slots layout (octet_of e.taken) (brought_before e.external (inputs ++ input ∷ []) (held ++ circuits ∷ []) (ports ++ seats ∷ []) n) (octet_on crossed) legal
-      (λ x inside. took n carries.last x inside ∙ sym (brought_before-earlier e.external inputs held ports input circuits seats n carries.inputs_counted carries.held_counted carries.ports_counted n x refl))
+      (λ x inside. took n carries.last x inside ∙ sym (brought_before-earlier e.external inputs held ports input circuits seats n carries.counted n x refl))
       (λ line slot here near. did.crosses line slot here near ∙ crossing_is lines e.slots layout (sent m) (received m) (read m) (octet_of e.taken) legal tables (octet_on highway) did.sends line slot here near)
 
   -- the engine afterwards
   abbrev after_frame : List ℕ → Highways → Stages
   after_frame taken crossed = record { external = e.external; bridges = e.bridges; slots = e.slots; next = n + 1; kept = m; taken = taken; crossed = crossed }
 
-  pub carries_on : (highway crossed : Highways) (taken : List ℕ) → Did e m input out taken highway crossed → Carries (after_frame taken crossed) (inputs ++ input ∷ []) (held ++ circuits ∷ []) (ports ++ seats ∷ [])
+  pub carries_on : (highway crossed : Highways) (taken : List ℕ) → Did e m input out taken highway crossed → CarriesFrames (after_frame taken crossed) (inputs ++ input ∷ []) (held ++ circuits ∷ []) (ports ++ seats ∷ [])
   carries_on highway crossed taken did =
-      let same_lines : lines_of m ≡ lines = let a = is.external in let b = is.bridges in omega (arith, a, b) in
       let last : CarriesLast (after_frame taken crossed) (inputs ++ input ∷ []) (held ++ circuits ∷ []) (ports ++ seats ∷ []) n = record {
         layout = layout;
-        shows = subst (λ (ps : Ports). ShowsBy layout m (circuits_of (held ++ circuits ∷ []) n) ps n) (sym (ports-last ports seats n carries.ports_counted))
-            (subst (λ (ds : List Circuit). ShowsBy layout m ds seats n) (sym (circuits-last held circuits n carries.held_counted)) shows);
-        taken = λ at inside near. takes_in highway crossed taken did at (omega (arith, inside, same_lines)) near;
-        crossed = subst (λ l. HoldsCrossing l e.slots layout (brought_before e.external (inputs ++ input ∷ []) (held ++ circuits ∷ []) (ports ++ seats ∷ []) n) (octet_on crossed)) (sym same_lines) (crosses highway crossed taken did);
+        shows = subst (λ (ps : Ports). ShowsBy layout m (circuits_of (held ++ circuits ∷ []) n) ps n) (sym (ports-last ports seats n carries.counted.ports_counted))
+            (subst (λ (ds : List Circuit). ShowsBy layout m ds seats n) (sym (circuits-last held circuits n carries.counted.held_counted)) shows);
+        taken = takes_in highway crossed taken did;
+        crossed = crosses highway crossed taken did;
       } in
       record {
-        inputs_counted = length-push inputs input ∙ ap (λ k. k + 1) carries.inputs_counted;
-        held_counted = length-push held circuits ∙ ap (λ k. k + 1) carries.held_counted;
-        ports_counted = length-push ports seats ∙ ap (λ k. k + 1) carries.ports_counted;
+        sizes = record { kept_external = is.external; kept_bridges = is.bridges; kept_slots = is.slots; crossed_lines = did.lines; crossed_slots = did.slots };
+        counted = counted-more n inputs held ports input circuits seats carries.counted;
         last = subst (λ f. CarriesAt (after_frame taken crossed) (inputs ++ input ∷ []) (held ++ circuits ∷ []) (ports ++ seats ∷ []) f) (sym (add-one n)) last;
       }

@@ -1,6 +1,6 @@
-pub mod Longer
-pub mod Members
-pub mod Sums
-pub mod Totals
-pub mod Reading
+pub mod EarlierFrames
+pub mod MemberPorts
+pub mod PortRows
+pub mod RoomSums
+pub mod ReadOut
 pub mod Frame

@@ -1,4 +1,4 @@
 pub mod Frames
 pub mod Carries
-pub mod Bridge
+pub mod Ports
 pub mod Playing

@@ -1,13 +1,23 @@
 -- What an engine plays on a slot. Source: this exchange's own.
-use Rattle.std.specs.Prelude.{ℕ, ◌-◌, List, if◌then◌else◌}
+use Rattle.std.specs.Prelude.{◌≡◌, ℕ, ◌<◌, ◌-◌, List, slice_index, if◌then◌else◌}
+use Rattle.circuit_model.specs.declared.channel.Slot.{Slot}
 use Rattle.circuit_model.specs.declared.circuit.Kind.{Kind}
 use Rattle.circuit_model.specs.FrameInput.{idle_octet}
 use Rattle.circuit_model.specs.Hears.{is_through, tone_octet}
 use Rattle.control_memory.specs.declared.heard.Heard.{Heard}
 use Rattle.control_memory.specs.declared.heard.Heard.TheVariants.{Silent, Path, Tone}
+use Rattle.control_memory.specs.Image.{Control, heard_at}
 
--- in frame f: nothing, the octet that was read out for the slot once its path is two frames old, or the octet of a tone
-abbrev pub played : (Kind → List ℕ) → ℕ → ℕ → Heard → ℕ
-played tones f octet Silent = idle_octet
-played tones f octet (Path since) = if is_through since f then octet else idle_octet
-played tones f octet (Tone kind since) = tone_octet (tones kind) (f - since)
+-- what is played on a slot in frame f by what it hears: nothing, the octet that was read out for the slot once its path is two frames old, or the octet of a tone
+abbrev pub played_as : (Kind → List ℕ) → ℕ → ℕ → Heard → ℕ
+played_as tones f octet Silent = idle_octet
+played_as tones f octet (Path since) = if is_through since f then octet else idle_octet
+played_as tones f octet (Tone kind since) = tone_octet (tones kind) (f - since)
+
+-- on each slot, given the tones, the control memory of the frame and the octets that were read out
+abbrev pub played_at : (Kind → List ℕ) → Control → (Slot → ℕ) → Slot → ℕ
+played_at tones m octet at = played_as tones m.frame (octet at) (heard_at m at)
+
+-- thirty octets are those of a line, by place
+abbrev pub HasLine : ℕ → (Slot → ℕ) → List ℕ → Type 0
+HasLine line octet octets = (place : ℕ) → place < 30 → slice_index octets place ≡ octet (record { line = line; place = place })

@@ -1,13 +1,12 @@
-ghost use Rattle.std.specs.Prelude.{◌≡◌, ℕ, ◌+◌, ◌<◌, ◌≤◌, ◌++◌, [], ◌∷◌, List, length, IfOk};
+ghost use Rattle.std.specs.Prelude.{◌≡◌, ℕ, ◌+◌, ◌<◌, ◌≤◌, [], List, length, IfOk};
 ghost use Rattle.circuit_model.specs.declared.channel.Slot.{Slot};
 ghost use Rattle.circuit_model.specs.declared.circuit.Kind.{Kind};
 ghost use Rattle.circuit_model.specs.declared.circuit.Circuit.{Circuit};
 ghost use Rattle.circuit_model.specs.FrameInput.{Input};
 ghost use Rattle.circuit_model.specs.Ports.{Ports};
 ghost use Rattle.control_memory.specs.Image.{SameSizes};
-ghost use Rattle.control_memory.specs.Shown.{Shows};
 ghost use Rattle.tone_rules.specs.Tables.{table_of};
-ghost use Rattle.frame_engine.specs.Frames.{Come, PlaysOut, TonesGiven};
+ghost use Rattle.frame_engine.specs.Frames.{AreCounted, Boundary, IsNext, PlaysFrame, TonesGiven, held_with, inputs_with, ports_with};
 
 use control_memory::Image;
 use std::alloc::{AllocError, Global};
@@ -64,8 +63,8 @@ pub trait Carrier: Sized + Send + Drop {
         requires input { length input.now ≡ external_lines self.old }
         requires out { length out.old ≡ external_lines self.old }
         requires tones { TonesGiven tones.now image.old }
-        ensures plays { (inputs : List Input) (held : List (List Circuit)) (ports : List Ports) (circuits : List Circuit) (seats : Ports) → carries self.old inputs held ports → Shows image.old circuits seats (next self.old) → Come (external_lines self.old) (bridge_lines self.old) (held ++ circuits ∷ []) (ports ++ seats ∷ []) → PlaysOut (external_lines self.old) (plays (table_of tones.now) (inputs ++ input.now ∷ []) (held ++ circuits ∷ []) (next self.old)) out.new }
-        ensures carries { (inputs : List Input) (held : List (List Circuit)) (ports : List Ports) (circuits : List Circuit) (seats : Ports) → carries self.old inputs held ports → Shows image.old circuits seats (next self.old) → Come (external_lines self.old) (bridge_lines self.old) (held ++ circuits ∷ []) (ports ++ seats ∷ []) → carries self.new (inputs ++ input.now ∷ []) (held ++ circuits ∷ []) (ports ++ seats ∷ []) }
+        ensures plays { (b : Boundary) → IsNext (carries self.old) image.old b → PlaysFrame (plays (table_of tones.now)) image.old b input.now out.new }
+        ensures carries { (b : Boundary) → IsNext (carries self.old) image.old b → carries self.new (inputs_with b input.now) (held_with b) (ports_with b) }
         ensures next { next self.new ≡ next self.old + 1 }
         ensures external { external_lines self.new ≡ external_lines self.old }
         ensures bridges { bridge_lines self.new ≡ bridge_lines self.old }
@@ -73,5 +72,5 @@ pub trait Carrier: Sized + Send + Drop {
         ensures image { SameSizes image.old image.new };
 
     /// An engine that carries frames is at the frame after them.
-    ghost counted: { (e : Self) (inputs : List Input) (held : List (List Circuit)) (ports : List Ports) → carries e inputs held ports → length inputs ≡ next e };
+    ghost counted: { (e : Self) (inputs : List Input) (held : List (List Circuit)) (ports : List Ports) → carries e inputs held ports → AreCounted (next e) inputs held ports };
 }

@@ -1,11 +1,11 @@
 ghost use Rattle.std.specs.Prelude.{◌≡◌, ◌+◌, ◌<◌, length};
 ghost use Rattle.circuit_model.specs.Hears.{hears};
-ghost use Rattle.frame_engine.specs.Carries.{Carries};
+ghost use Rattle.frame_engine.specs.Carries.{CarriesFrames};
 
 use crate::carrier::Carrier;
 use crate::intake::take_in;
 use crate::play::play;
-use crate::rooms::mix_rooms;
+use crate::ports::mix_ports;
 use control_memory::Image;
 use frame_buffer::{Crossed, FrameBuffer, Highway};
 use space_stage::cross;
@@ -67,11 +67,11 @@ impl Carrier for Engine {
 
     ghost next = { λ e. e.next };
 
-    ghost carries = { λ e inputs held ports. Carries e inputs held ports };
+    ghost carries = { λ e inputs held ports. CarriesFrames e inputs held ports };
 
     ghost plays = { hears };
 
-    ghost counted = { λ e inputs held ports carried. carried.inputs_counted };
+    ghost counted = { λ e inputs held ports carried. carried.counted };
 
     fn new(alloc: Global, external: u8, bridges: u8, slots: u8) -> Result<Self, AllocError> {
         let lines = external + bridges;
@@ -97,7 +97,7 @@ impl Carrier for Engine {
     ) {
         outgoing(&self.crossed, &self.kept, &mut self.read);
         self.read.swap();
-        mix_rooms(&self.read, image, &mut self.speech);
+        mix_ports(&self.read, image, &mut self.speech);
         incoming(&self.speech, image, &mut self.highway);
         cross(&self.highway, image, &mut self.crossed);
         take_in(input, self.external, &mut self.speech);

@@ -19,12 +19,12 @@ pub(crate) fn take_in(input: &[Option<[u8; 30]>], external: u8, speech: &mut Fra
     ensures readable { speech.new.readable ≡ speech.old.readable }
 {
     for line in 0..external {
-        speech.put_line(line, &sent(&input[usize::from(line)]));
+        speech.put_line(line, &line_octets(&input[usize::from(line)]));
     }
 }
 
 // What a line sends in a frame.
-fn sent(octets: &Option<[u8; 30]>) -> [u8; 30]
+fn line_octets(octets: &Option<[u8; 30]>) -> [u8; 30]
     ensures { (place : ℕ) → place < 30 → slice_index result place ≡ octet_at place octets.now }
 {
     match octets {

@@ -7,7 +7,7 @@ mod engine;
 mod intake;
 mod marker;
 mod play;
-mod rooms;
+mod ports;
 #[cfg(test)]
 mod tests;
 

@@ -1,4 +1,5 @@
-ghost use Rattle.std.specs.Prelude.{◌≡◌, ◌+◌, ◌%◌, ◌<◌, ℕ, [], length, slice_index_or, replicate};
+ghost use Rattle.std.specs.Prelude.{◌≡◌, ◌+◌, ◌%◌, ◌<◌, ℕ, [], IfOk, IsOk, length, slice_index_or, replicate};
+ghost use Rattle.frame_engine.specs.Frames.{AreCounted};
 
 use crate::carrier::Carrier;
 use control_memory::Image;
@@ -8,10 +9,14 @@ use tone_rules::Tones;
 /// An engine for tests: it plays the number of the frame, modulo 256, on every slot.
 #[derive(Drop)]
 pub struct Marker {
-    external: u8,
-    bridges: u8,
-    slots: u8,
-    next: u32,
+    /// How many external lines it has.
+    pub external: u8,
+    /// How many bridge lines it has.
+    pub bridges: u8,
+    /// How many internal slots it has.
+    pub slots: u8,
+    /// The number of its next frame.
+    pub next: u32,
 }
 
 impl Carrier for Marker {
@@ -23,13 +28,21 @@ impl Carrier for Marker {
 
     ghost next = { λ m. m.next };
 
-    ghost carries = { λ m inputs held ports. length inputs ≡ m.next };
+    ghost carries = { λ m inputs held ports. AreCounted m.next inputs held ports };
 
     ghost plays = { λ tones inputs held f at. f % 256 };
 
     ghost counted = { λ e inputs held ports carried. carried };
 
-    fn new(_: Global, external: u8, bridges: u8, slots: u8) -> Result<Self, AllocError> {
+    /// A marker takes no memory, so there is always one.
+    fn new(_: Global, external: u8, bridges: u8, slots: u8) -> Result<Self, AllocError>
+        ensures made { IsOk result }
+        ensures external { IfOk result (λ e. e.external ≡ external) }
+        ensures bridges { IfOk result (λ e. e.bridges ≡ bridges) }
+        ensures slots { IfOk result (λ e. e.slots ≡ slots) }
+        ensures next { IfOk result (λ e. e.next ≡ 0) }
+        ensures carries { IfOk result (λ e. AreCounted e.next [] [] []) }
+    {
         Ok(Marker {
             external,
             bridges,

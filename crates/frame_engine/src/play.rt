@@ -6,7 +6,7 @@ ghost use Rattle.control_memory.specs.declared.heard.Heard.TheVariants.{Tone};
 ghost use Rattle.control_memory.specs.Image.{lines_of, heard_at};
 ghost use Rattle.tone_rules.specs.Tables.{table_of, IsGiven};
 ghost use Rattle.frame_engine.specs.Frames.{PlaysOut, TonesGiven};
-ghost use Rattle.frame_engine.specs.Playing.{played};
+ghost use Rattle.frame_engine.specs.Playing.{HasLine, played_as, played_at};
 
 use crate::age::is_through;
 use circuit_model::{IDLE, PLACES, Slot};
@@ -20,7 +20,7 @@ pub(crate) fn play(read: &FrameBuffer, image: &Image, tones: &Tones, out: &mut [
     requires lines { lines_of image.now ≤ 255 }
     requires out { length out.old ≡ image.now.external }
     requires tones { TonesGiven tones.now image.now }
-    ensures { PlaysOut image.now.external (λ at. played (table_of tones.now) image.now.frame (octet_of read.now.readable at) (heard_at image.now at)) out.new }
+    ensures { PlaysOut image.now.external (played_at (table_of tones.now) image.now (octet_of read.now.readable)) out.new }
 {
     for line in 0..image.external() {
         out[usize::from(line)] = play_line(read, image, tones, line);
@@ -32,7 +32,7 @@ fn play_line(read: &FrameBuffer, image: &Image, tones: &Tones, line: u8) -> [u8;
     requires read { read.now.lines ≡ lines_of image.now }
     requires line { line < image.now.external }
     requires tones { TonesGiven tones.now image.now }
-    ensures { (place : ℕ) → place < 30 → let at : Slot = record { line = line; place = place } in slice_index result place ≡ played (table_of tones.now) image.now.frame (octet_of read.now.readable at) (heard_at image.now at) }
+    ensures { HasLine line (played_at (table_of tones.now) image.now (octet_of read.now.readable)) result }
 {
     let mut octets = [IDLE; 30];
     for place in 0..PLACES {
@@ -50,7 +50,7 @@ fn play_line(read: &FrameBuffer, image: &Image, tones: &Tones, line: u8) -> [u8;
 // What is heard of an octet that was read out, or the octet of a tone.
 fn play_octet(heard: Heard, octet: u8, tones: &Tones, frame: u32) -> u8
     requires { (kind : Kind) (since : ℕ) → heard ≡ Tone kind since → IsGiven tones.now kind }
-    ensures { result ≡ played (table_of tones.now) frame octet heard }
+    ensures { result ≡ played_as (table_of tones.now) frame octet heard }
 {
     match heard {
         Heard::Silent => IDLE,

@@ -4,8 +4,8 @@ use Rattle.frame_buffer.specs.Speech.{octet_of}
 use Rattle.control_memory.specs.Image.{heard_at}
 use Rattle.tone_rules.specs.Tables.{table_of}
 use Rattle.frame_engine.specs.Frames.{PlaysOut}
-use Rattle.frame_engine.specs.Playing.{played}
+use Rattle.frame_engine.specs.Playing.{played_at}
 use Rattle.frame_engine.proofs.play.play.Given as goal
 
 abbrev pub invariant-loop-line : goal.invariant-loop-line
-invariant-loop-line l = PlaysOut l.line (λ at. played (table_of l.tones) l.image.frame (octet_of l.read.readable at) (heard_at l.image at)) l.out
+invariant-loop-line l = PlaysOut l.line (played_at (table_of l.tones) l.image (octet_of l.read.readable)) l.out

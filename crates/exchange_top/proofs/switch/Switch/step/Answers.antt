@@ -7,7 +7,7 @@ use Rattle.exchange_core.specs.declared.trace.Event.TheVariants.{Frame as Frame_
 use Rattle.exchange_core.specs.Standing.{dimensions_of}
 use Rattle.exchange_core.specs.World.{World, next, reply}
 use Rattle.exchange_top.specs.Switching.{Works}
-use Rattle.exchange_top.proofs.Framing.{asked, quiet, works_quiet, works_frame}
+use Rattle.exchange_top.proofs.Framing.{asked, boundary, next_frame, quiet, works_quiet, works_frame}
 use Rattle.exchange_top.proofs.RunLemmas.{sent_played}
 use Rattle.exchange_top.proofs.Silence.{sounds_none, silent}
 use Rattle.exchange_top.proofs.switch.Switch.step.Goals as goal
@@ -33,7 +33,7 @@ pub returns-in-Frame-clause-works : goal.returns-in-Frame-clause-works
 returns-in-Frame-clause-works g c w works =
     let e = c.step-reply.ensures in
     let a = asked g.C.Carrier.carries c.args.self.now.core c.args.self.now.engine w c.args.event.now c.in-Frame.input c.step-reply.result c.step-reply.new.image _ _ _ works c.in-Frame.is (e.reply w works.stands) e.shows c.args.self.now.engine_external c.args.self.now.engine_bridges c.args.self.now.engine_next in
-    let carried = c.frame.ensures.carries w.inputs w.held w.seated w.holding.circuits w.ports works.carried a.shows a.came in
+    let carried = c.frame.ensures.carries (boundary w) (next_frame (g.C.Carrier.carries c.args.self.now.engine) c.step-reply.new.image _ _ _ w a (omega (arith, e.image.external, c.args.self.now.image_external, c.args.self.now.engine_external)) (omega (arith, e.image.bridges, c.args.self.now.image_bridges, c.args.self.now.engine_bridges)) works.carried) in
     rw c.in-Frame.is (works_frame g.C.Carrier.carries c.args.self.now.core c.step-reply.new.self c.args.self.now.engine w works e.sizes c.frame.new.self c.in-Frame.input (rw c.in-Frame.is at (e.world w works.stands)) (rw c.as_slice.ensures at carried))
 
 pub invariant_of-self : goal.invariant_of-self
@@ -44,7 +44,7 @@ invariant_of-self g c =
     let d = dimensions_of old.core in
     let goes : (w : World) → Works g.C.Carrier.carries old.core old.engine w → Works g.C.Carrier.carries c.step-reply.new.self c.frame.new.self (next d w (Frame_event c.in-Frame.input)) = λ w works.
     let a = asked g.C.Carrier.carries c.args.self.now.core c.args.self.now.engine w c.args.event.now c.in-Frame.input c.step-reply.result c.step-reply.new.image _ _ _ works c.in-Frame.is (e.reply w works.stands) e.shows c.args.self.now.engine_external c.args.self.now.engine_bridges c.args.self.now.engine_next in
-    let carried = f.carries w.inputs w.held w.seated w.holding.circuits w.ports works.carried a.shows a.came in
+    let carried = f.carries (boundary w) (next_frame (g.C.Carrier.carries old.engine) c.step-reply.new.image _ _ _ w a (omega (arith, e.image.external, old.image_external, old.engine_external)) (omega (arith, e.image.bridges, old.image_bridges, old.engine_bridges)) works.carried) in
     works_frame g.C.Carrier.carries old.core c.step-reply.new.self old.engine w works e.sizes c.frame.new.self c.in-Frame.input (rw c.in-Frame.is at (e.world w works.stands)) (rw c.as_slice.ensures at carried)
     in
     record {
@@ -88,10 +88,11 @@ returns-in-Frame-clause-octets g c w works f told =
     let e = c.step-reply.ensures in
     let d = dimensions_of c.args.self.now.core in
     let a = asked g.C.Carrier.carries c.args.self.now.core c.args.self.now.engine w c.args.event.now c.in-Frame.input c.step-reply.result c.step-reply.new.image _ _ _ works c.in-Frame.is (e.reply w works.stands) e.shows c.args.self.now.engine_external c.args.self.now.engine_bridges c.args.self.now.engine_next in
-    let plays = c.frame.ensures.plays w.inputs w.held w.seated w.holding.circuits w.ports works.carried a.shows a.came in
+    let plays = c.frame.ensures.plays (boundary w) (next_frame (g.C.Carrier.carries c.args.self.now.engine) c.step-reply.new.image _ _ _ w a (omega (arith, e.image.external, c.args.self.now.image_external, c.args.self.now.engine_external)) (omega (arith, e.image.bridges, c.args.self.now.image_bridges, c.args.self.now.engine_bridges)) works.carried) in
     let number : f ≡ w.holding.next = same_number f w.holding.next (sym told ∙ e.reply w works.stands ∙ ap (reply d w) c.in-Frame.is) in
     let now = c.args.self.now.engine_next ∙ works.stands.holds.next in
-    let octets = rw (c.args.self.now.engine_external, silent c.args.self.now.tones c.args.self.now.no_ringback c.args.self.now.no_busy, c.as_slice.ensures, now) at plays in
+    let external : c.step-reply.new.image.external ≡ c.args.self.now.core.external = omega (arith, e.image.external, c.args.self.now.image_external) in
+    let octets = rw (external, silent c.args.self.now.tones c.args.self.now.no_ringback c.args.self.now.no_busy, c.as_slice.ensures, a.shows.1.frame ∙ now) at plays in
     rw (c.in-Frame.is, number) (sent_played c.args.self.now.core.external _ c.frame.new.out octets)
 
 pub returns-in_default : goal.returns-in_default

@@ -1,0 +1,33 @@
+-- What a conference bridge gives the members of many rooms at once. Source: this exchange's own.
+use Rattle.std.specs.Prelude.{ℕ, ◌==◌, ℤ, pos, ◌-ℤ◌, List, Option, Some, None, map, slice_index_or, if◌then◌else◌}
+use Rattle.circuit_model.specs.ALaw.{compress}
+use Rattle.circuit_model.specs.FrameInput.{idle_octet}
+use Rattle.circuit_model.specs.Hears.{sum_of_values}
+use Rattle.conference_mix.specs.declared.rooms.Seated.{Seated}
+use Rattle.conference_mix.specs.Bridge.{present, value_of, mixed_for}
+
+-- what counts of a place in a room: the octet of its member, where the member sits in that room
+abbrev pub counted_in : ℕ → Option Seated → Option ℕ
+counted_in room None = None
+counted_in room (Some member) = if member.room == room then member.octet else None
+
+-- a room, place by place
+abbrev pub room_row : ℕ → List (Option Seated) → List (Option ℕ)
+room_row room places = map (counted_in room) places
+
+-- the sum of the values of all members of a room
+abbrev pub room_total : ℕ → List (Option Seated) → ℤ
+room_total room places = sum_of_values (present (room_row room places))
+
+-- what a place is given: its member hears the others of its room; where nobody sits it is the idle octet
+abbrev pub given_to_member : List (Option Seated) → ℕ → Option Seated → ℕ
+given_to_member places k None = idle_octet
+given_to_member places k (Some member) = mixed_for k (room_row member.room places)
+
+abbrev pub given_at : ℕ → List (Option Seated) → ℕ
+given_at k places = given_to_member places k (slice_index_or places k None)
+
+-- the total of a member's room without the member's own value, coded once, given the total of each room
+abbrev pub coded_without : List ℤ → Option Seated → ℕ
+coded_without totals None = idle_octet
+coded_without totals (Some member) = compress (slice_index_or totals member.room (pos 0) -ℤ value_of member.octet)

@@ -1,0 +1,26 @@
+use Rattle.std.proofs.Common.{◌≡◌, ℕ, ◌*◌, ◌-◌, ◌<◌, ◌≤◌, List, Option, length, take, drop, get_or, sym, ap, ◌∙◌, subst, arith, rules}
+use Rattle.std.proofs.Math.ListN.{get_or-append}
+use Rattle.std.proofs.lemmas.List.{length-take-le}
+use Rattle.conference_mix.specs.declared.rooms.Seated.{Seated}
+use Rattle.conference_mix.specs.Rooms.{given_at}
+use Rattle.frame_buffer.specs.Speech.{octet_of}
+use Rattle.frame_engine.specs.Ports.{members, given_to}
+use Rattle.frame_engine.proofs.PortRows.{members-filled}
+use Rattle.frame_engine.proofs.ports.mixed.Goals as goal
+
+pub returns : goal.returns
+returns c k low =
+    let m = c.args.image.now in
+    let octet = octet_of c.args.read.now.readable in
+    let n = c.from-ports.result in
+    let is : n ≡ 30 * m.bridges = let b = c.bridges.ensures in let f = c.from-ports.ensures in let few = c.requires.few in omega (arith, b, f, few) in
+    let size : length c.members-places.result ≡ 60 = search rules in
+    let few = c.requires.few in
+    let inside : n ≤ length c.members-places.result = omega (arith, is, size, few) in
+    let places : take n c.members-places.result ≡ members m octet = members-filled m octet c.members-places.result n is inside c.members-places.ensures in
+    let near : k < n = omega (arith, is, low) in
+    let asked : k < length (take n c.members-places.result) = let e = length-take-le n c.members-places.result inside in omega (arith, e, near) in
+    let wide : length c.mix_rooms.new.out ≡ n = search rules in
+    get_or-append c.mix_rooms.new.out _ 0 k (omega (arith, wide, near))
+    ∙ c.mix_rooms.ensures k asked
+    ∙ ap (given_at k) places

@@ -1,0 +1,109 @@
+ghost use Rattle.std.specs.Prelude.{◌≡◌, ℕ, ◌+◌, ◌*◌, ◌≤◌, ◌<◌, None, slice_index, slice_index_or};
+ghost use Rattle.circuit_model.specs.Ports.{port_numbered};
+ghost use Rattle.frame_buffer.specs.Speech.{octet_of};
+ghost use Rattle.control_memory.specs.Image.{lines_of};
+ghost use Rattle.frame_engine.specs.Ports.{counted, member_in, given_to};
+
+use crate::age::is_through;
+use circuit_model::{IDLE, PLACES, Slot};
+use conference_mix::{MAX_MEMBERS, Seated, mix_rooms};
+use control_memory::Image;
+use frame_buffer::FrameBuffer;
+
+// Gives each conference port its member's room without the member.
+pub(crate) fn mix_ports(read: &FrameBuffer, image: &Image, speech: &mut FrameBuffer)
+    requires few { image.now.bridges ≤ 2 }
+    requires lines { lines_of image.now ≤ 255 }
+    requires read { read.now.lines ≡ lines_of image.now }
+    requires speech { speech.old.lines ≡ lines_of image.now }
+    ensures lines { speech.new.lines ≡ speech.old.lines }
+    ensures ports { (k : ℕ) → k < 30 * image.now.bridges → octet_of speech.new.filled (port_numbered image.now.external k) ≡ given_to image.now (octet_of read.now.readable) k }
+    ensures readable { speech.new.readable ≡ speech.old.readable }
+{
+    let octets = mixed(read, image);
+    for bridge in 0..image.bridges() {
+        speech.put_line(image.external() + bridge, &line_of(&octets, bridge));
+    }
+}
+
+// What each port is given, port by port.
+fn mixed(read: &FrameBuffer, image: &Image) -> [u8; MAX_MEMBERS]
+    requires few { image.now.bridges ≤ 2 }
+    requires lines { lines_of image.now ≤ 255 }
+    requires read { read.now.lines ≡ lines_of image.now }
+    ensures { (k : ℕ) → k < 30 * image.now.bridges → slice_index result k ≡ given_to image.now (octet_of read.now.readable) k }
+{
+    let places = members(read, image);
+    let ports = usize::from(image.bridges() * PLACES);
+    let mut octets = [IDLE; MAX_MEMBERS];
+    mix_rooms(&places[..ports], &mut octets[..ports]);
+    octets
+}
+
+// The member in each port, and what counts of it.
+fn members(read: &FrameBuffer, image: &Image) -> [Option<Seated>; MAX_MEMBERS]
+    requires few { image.now.bridges ≤ 2 }
+    requires lines { lines_of image.now ≤ 255 }
+    requires read { read.now.lines ≡ lines_of image.now }
+    ensures { (k : ℕ) → k < 30 * image.now.bridges → slice_index_or result k None ≡ member_in image.now (octet_of read.now.readable) k }
+{
+    let mut places = [None; MAX_MEMBERS];
+    for port in 0..image.bridges() * PLACES {
+        places[usize::from(port)] = member(read, image, port);
+    }
+    places
+}
+
+// The member in a port, and what counts of it: the octet that was read out for it, and nothing
+// before it has sat there for two frames.
+fn member(read: &FrameBuffer, image: &Image, port: u8) -> Option<Seated>
+    requires lines { lines_of image.now ≤ 255 }
+    requires read { read.now.lines ≡ lines_of image.now }
+    requires port { port < 30 * image.now.bridges }
+    ensures { result ≡ member_in image.now (octet_of read.now.readable) port }
+{
+    let at = slot_of_port(image, port);
+    match image.room(at) {
+        Some((room, since)) => Some(Seated {
+            room,
+            octet: counted(read.get(at), since, image.frame()),
+        }),
+        None => None,
+    }
+}
+
+// An octet that was read out, where who sent it has sat in its port for two frames.
+fn counted(octet: u8, since: u32, frame: u32) -> Option<u8>
+    ensures { result ≡ counted frame octet since }
+{
+    if is_through(since, frame) {
+        Some(octet)
+    } else {
+        None
+    }
+}
+
+// The slot of a conference port: ports are numbered by bridge line and place.
+fn slot_of_port(image: &Image, port: u8) -> Slot
+    requires lines { lines_of image.now ≤ 255 }
+    requires port { port < 30 * image.now.bridges }
+    ensures slot { result ≡ port_numbered image.now.external port }
+    ensures line { result.line < lines_of image.now }
+    ensures place { result.place < 30 }
+{
+    Slot {
+        line: image.external() + port / PLACES,
+        place: port % PLACES,
+    }
+}
+
+// What the ports of one bridge line are given.
+fn line_of(octets: &[u8; MAX_MEMBERS], bridge: u8) -> [u8; 30]
+    requires bridge { bridge < 2 }
+    ensures { (place : ℕ) → place < 30 → slice_index result place ≡ slice_index octets.now (30 * bridge + place) }
+{
+    let start = usize::from(bridge * PLACES);
+    let mut line = [IDLE; 30];
+    line.copy_from_slice(&octets[start..start + 30]);
+    line
+}
