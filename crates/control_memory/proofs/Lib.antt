@@ -3,3 +3,4 @@ pub mod Entries
 pub mod Lookups
 pub mod Steps
 pub mod Tabled
+pub mod TableRows

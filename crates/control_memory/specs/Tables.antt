@@ -1,6 +1,6 @@
 -- The control tables of a time-space-time fabric: which place, line or slot an octet is fetched from. Source: this exchange's own; each
 -- stage of a digital switch has its control memory.
-use Rattle.std.specs.Prelude.{◌≡◌, ℕ, ◌+◌, ◌*◌, ◌<◌, ◌&&◌, ◌==◌, List, Option, Some, None, slice_index_or, if◌then◌else◌}
+use Rattle.std.specs.Prelude.{◌≡◌, ℕ, ◌+◌, ◌*◌, ◌<◌, ◌&&◌, ◌==◌, List, Option, Some, None, IfSome, length, slice_index, slice_index_or, if◌then◌else◌}
 use Rattle.control_memory.specs.Layout.{Layout, place_sent, line_received, slot_read}
 
 -- a table: rows of entries, each a number below the limit or none
@@ -52,3 +52,9 @@ pub record HasNoPaths (lines slots : ℕ) (places crossed read : ℕ → ℕ →
 -- how a byte of a table is read: 255 is no number
 abbrev pub number_in : ℕ → Option ℕ
 number_in byte = if byte == 255 then None else Some byte
+
+-- the bytes of one row of so many columns: each is the number that the table has there, below the limit, or 255 where it has none
+pub record IsRow (columns limit : ℕ) (numbers : ℕ → Option ℕ) (bytes : List ℕ) : Type 0 where
+  pub width : length bytes ≡ columns
+  pub entries : (column : ℕ) → column < columns → number_in (slice_index bytes column) ≡ numbers column
+  pub within : (column : ℕ) → column < columns → IfSome (numbers column) (λ number. number < limit)
