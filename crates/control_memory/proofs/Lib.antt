@@ -4,3 +4,4 @@ pub mod Lookups
 pub mod Steps
 pub mod LookupsAfter
 pub mod TablesAfter
+pub mod TableRows

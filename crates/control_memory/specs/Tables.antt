@@ -1,6 +1,6 @@
 -- The control tables of a time-space-time fabric: which place, line or slot an octet is fetched from. Source: this exchange's own; each
 -- stage of a digital switch has its control memory.
-use Rattle.std.specs.Prelude.{◌≡◌, ◌≢◌, ℕ, ◌+◌, ◌*◌, ◌<◌, ◌&&◌, ◌==◌, List, length, Option, Some, None, slice_index, slice_index_or, if◌then◌else◌}
+use Rattle.std.specs.Prelude.{◌≡◌, ◌≢◌, ℕ, ◌+◌, ◌*◌, ◌<◌, ◌&&◌, ◌==◌, List, Option, Some, None, IfSome, length, slice_index, slice_index_or, if◌then◌else◌}
 use Rattle.control_memory.specs.Layout.{Layout, place_sent, line_received, slot_read}
 
 -- a table: rows of entries, each a number below the limit or none
@@ -57,3 +57,9 @@ number_in byte = if byte == 255 then None else Some byte
 pub record AreBytesOf (rows columns limit : ℕ) (bytes : List ℕ) : Type 0 where
   pub size : length bytes ≡ rows * columns
   pub below : (i : ℕ) → i < length bytes → slice_index bytes i ≢ 255 → slice_index bytes i < limit
+
+-- the bytes of one row of so many columns: each is the number that the table has there, below the limit, or 255 where it has none
+pub record IsRow (columns limit : ℕ) (numbers : ℕ → Option ℕ) (bytes : List ℕ) : Type 0 where
+  pub width : length bytes ≡ columns
+  pub entries : (column : ℕ) → column < columns → number_in (slice_index bytes column) ≡ numbers column
+  pub within : (column : ℕ) → column < columns → IfSome (numbers column) (λ number. number < limit)

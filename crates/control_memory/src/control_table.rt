@@ -1,5 +1,5 @@
 ghost use Rattle.std.specs.Prelude.{◌≡◌, ◌<◌, Some, None, IfOk, IfSome};
-ghost use Rattle.control_memory.specs.Tables.{entry, HasSize, SameSize, Agree, written, nothing};
+ghost use Rattle.control_memory.specs.Tables.{entry, HasSize, SameSize, Agree, IsRow, written, nothing};
 
 use std::alloc::{AllocError, Global};
 use std::marker::Model;
@@ -55,6 +55,16 @@ impl ControlTable {
             NONE => None,
             number => Some(number),
         }
+    }
+
+    /// The bytes of a row, one for each column: its number, or 255 where it has none.
+    pub fn row(&self, row: u8) -> &[u8]
+        requires { row < self.now.rows }
+        ensures { IsRow self.now.columns self.now.limit (entry self.now row) result.now }
+    {
+        let columns = usize::from(self.columns);
+        let start = usize::from(row) * columns;
+        &self.bytes[start..start + columns]
     }
 
     /// Writes a number into a column of a row.

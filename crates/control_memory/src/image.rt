@@ -1,6 +1,6 @@
 ghost use Rattle.std.specs.Prelude.{◌≡◌, ◌+◌, ◌<◌, ◌≤◌, ◌*◌, All, Some, None, IfOk, IfSome, length, if◌then◌else◌};
 ghost use Rattle.circuit_model.specs.Circuits.{same_slot};
-ghost use Rattle.control_memory.specs.Tables.{HasSize, entry, Agree, written};
+ghost use Rattle.control_memory.specs.Tables.{HasSize, entry, Agree, IsRow, written};
 ghost use Rattle.control_memory.specs.Image.{lines_of, port_number, sent, received, read, heard_at, room_at, IsCleared, IsQuiet, SameSizes, SameTables, EachSlot};
 
 use crate::control_table::ControlTable;
@@ -134,6 +134,33 @@ impl Image {
         ensures within { IfSome result (λ slot. slot < self.now.slots) }
     {
         self.outgoing.get(line, place)
+    }
+
+    /// The row of the incoming table of a line, by internal slot: the place that the line sends, or
+    /// 255 where it sends none.
+    pub fn incoming_row(&self, line: u8) -> &[u8]
+        requires { line < lines_of self.now }
+        ensures { IsRow self.now.slots 30 (sent self.now line) result.now }
+    {
+        self.incoming.row(line)
+    }
+
+    /// The row of the space table of an outgoing line, by internal slot: the incoming line whose
+    /// octet it gets, or 255 where it gets none.
+    pub fn space_row(&self, line: u8) -> &[u8]
+        requires { line < lines_of self.now }
+        ensures { IsRow self.now.slots (lines_of self.now) (received self.now line) result.now }
+    {
+        self.space.row(line)
+    }
+
+    /// The row of the outgoing table of a line, by place: the internal slot that the place reads,
+    /// or 255 where it reads none.
+    pub fn outgoing_row(&self, line: u8) -> &[u8]
+        requires { line < lines_of self.now }
+        ensures { IsRow 30 self.now.slots (read self.now line) result.now }
+    {
+        self.outgoing.row(line)
     }
 
     /// What a slot hears.

@@ -1,7 +1,7 @@
 -- Two places of a list that is cut into rows.
-use Rattle.std.proofs.Common.{◌≡◌, ℕ, ◌+◌, ◌-◌, ◌*◌, ◌<◌, ◌≤◌, List, length, length-take-le, get_or, set, take, get_or-set_other, get_or-take, get_or-drop, sym, ap, ◌∙◌, inl, inr, arith}
+use Rattle.std.proofs.Common.{◌≡◌, ℕ, ◌+◌, ◌-◌, ◌*◌, ◌<◌, ◌≤◌, List, ◌++◌, length, length-take-le, length-append, length-drop, drop_at, slice_range, get_or, set, take, drop, get_or-set_other, get_or-take, get_or-drop, sym, ap, ◌∙◌, inl, inr, arith}
 use Rattle.std.proofs.lemmas.Nat.{same_from_place}
-use Rattle.std.proofs.lemmas.List.{get_or_append_left}
+use Rattle.std.proofs.lemmas.List.{get_or_append_left, drop-take, take-append-le, take_all}
 use Rattle.std.proofs.lemmas.Bool.{cases_lt}
 use Rattle.std.proofs.lemmas.Slice.{drop-put_mid}
 use borrow.Rule.Slice.PartMut.{put_mid}
@@ -10,9 +10,38 @@ use borrow.Rule.Slice.PartMut.{put_mid}
 pub other_place : (octets : List ℕ) (slots line slot l s octet : ℕ) → slot < slots → s < slots → (l ≡ line → s ≡ slot → ⊥) → get_or (set octets (line * slots + slot) octet) (l * slots + s) 0 ≡ get_or octets (l * slots + s) 0
 other_place octets slots line slot l s octet a b apart = get_or-set_other octets (line * slots + slot) (l * slots + s) octet 0 (λ e. let p = same_from_place l s line slot slots b a e in apart p.0 p.1)
 
+-- and so it does behind a row that stands before all others
+pub other_place_behind : (octets : List ℕ) (slots line slot l s octet : ℕ) → slot < slots → s < slots → (l ≡ line → s ≡ slot → ⊥) → get_or (drop slots (set octets ((line + 1) * slots + slot) octet)) (l * slots + s) 0 ≡ get_or (drop slots octets) (l * slots + s) 0
+other_place_behind octets slots line slot l s octet a b apart =
+    let at : slots + (l * slots + s) ≡ (l + 1) * slots + s = grind arith in
+    get_or-drop slots (set octets ((line + 1) * slots + slot) octet) (l * slots + s) 0
+    ∙ ap (λ i. get_or (set octets ((line + 1) * slots + slot) octet) i 0) at
+    ∙ other_place octets slots (line + 1) slot (l + 1) s octet a b (λ e. apart (omega (arith, e)))
+    ∙ ap (λ i. get_or octets i 0) (sym at)
+    ∙ sym (get_or-drop slots octets (l * slots + s) 0)
+
+-- what is written from s on, seen from there
+pub drop_refilled : (xs w : List ℕ) (s n : ℕ) → n ≡ length xs → s ≤ length xs → let tail = w ++ drop (length w) (drop s xs) in let ws = take s xs ++ tail in drop s (take n (ws ++ drop (length ws) xs)) ≡ take (length (drop s xs)) tail
+drop_refilled xs w s n size inside =
+    let tail = w ++ drop (length w) (drop s xs) in
+    let ws = take s xs ++ tail in
+    let front = length-take-le s xs inside in
+    let long : n ≤ length ws = omega (arith, size, inside, front, length-append (take s xs) tail, length-append w (drop (length w) (drop s xs)), length-drop (length w) (drop s xs), length-drop s xs) in
+    let split : n ≡ s + (n - s) = omega (arith, size, inside) in
+    let rest : n - s ≡ length (drop s xs) = omega (arith, size, length-drop s xs) in
+    ap (drop s) (take-append-le n ws (drop (length ws) xs) long)
+    ∙ ap (λ k. drop s (take k ws)) split
+    ∙ drop-take s (n - s) ws
+    ∙ ap (take (n - s)) (drop_at (take s xs) tail s front)
+    ∙ ap (λ k. take k tail) rest
+
+pub slice_range_rest : (xs : List ℕ) (start end s : ℕ) → start ≡ s → end ≡ length xs → slice_range xs start end ≡ drop s xs
+slice_range_rest xs start end s at size =
+    take_all (end - start) (drop start xs) (omega (arith, size, length-drop start xs)) ∙ ap (λ k. drop k xs) at
+
 module _ (a k : ℕ) (xs ys : List ℕ) (room : a + k ≤ length xs) (fits : length ys ≡ k) where
   -- a row written from a on leaves what is before it
-  put_row-below : (j : ℕ) → j < a → get_or (put_mid a k xs ys) j 0 ≡ get_or xs j 0
+  pub put_row-below : (j : ℕ) → j < a → get_or (put_mid a k xs ys) j 0 ≡ get_or xs j 0
   put_row-below j below =
       let inside : j < length (take a xs) = omega (arith, length-take-le a xs (omega arith)) in
       get_or_append_left _ _ 0 j inside ∙ get_or-take a xs j 0 below

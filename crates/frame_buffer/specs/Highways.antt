@@ -1,6 +1,6 @@
 -- The octets on the highways of a time-space-time exchange: one for each line and internal time slot of a frame. Source: this
 -- exchange's own; the terms are those of C. Clos, "A study of non-blocking switching networks" (1953), carried over to time slots.
-use Rattle.std.specs.Prelude.{◌≡◌, ℕ, ◌+◌, ◌*◌, List, slice_index}
+use Rattle.std.specs.Prelude.{◌≡◌, ℕ, ◌+◌, ◌*◌, ◌<◌, ◌≤◌, List, ◌++◌, length, take, drop, slice_index}
 
 -- the octets, line after line, one for each internal slot
 pub record Highways : Type 0 where
@@ -16,3 +16,17 @@ octet_on h line slot = slice_index h.octets (line * h.slots + slot)
 pub record SameSize (a b : Highways) : Type 0 where
   pub lines : a.lines ≡ b.lines
   pub slots : a.slots ≡ b.slots
+
+-- the highways with these octets over theirs, as many as there are
+abbrev pub refilled : Highways → List ℕ → Highways
+refilled h ws = record { lines = h.lines; slots = h.slots; octets = take (length h.octets) (ws ++ drop (length ws) h.octets) }
+
+-- so many octets are the whole rows of some lines, from line `first` on, out of so many lines with rows of so many octets
+pub record IsPart (lines width first octets : ℕ) : Type 0 where
+  pub rows : ℕ
+  pub whole : octets ≡ rows * width
+  pub within : first + rows ≤ lines
+
+-- each row of such a part holds these octets of its line
+abbrev pub RowsHold : ℕ → (ℕ → ℕ → ℕ) → ℕ → List ℕ → Type 0
+RowsHold width octet first part = (row at : ℕ) → row * width < length part → at < width → slice_index part (row * width + at) ≡ octet (first + row) at

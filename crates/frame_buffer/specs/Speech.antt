@@ -1,6 +1,6 @@
 -- A speech memory of two halves: the octets of one frame are read while those of the next are written, as in a time slot
 -- interchanger with a double-buffered store. Source: this exchange's own.
-use Rattle.std.specs.Prelude.{◌≡◌, ℕ, ◌+◌, ◌*◌, ◌<◌, List, slice_index}
+use Rattle.std.specs.Prelude.{◌≡◌, ℕ, ◌+◌, ◌*◌, ◌<◌, List, ◌++◌, length, take, drop, slice_index}
 use Rattle.circuit_model.specs.declared.channel.Slot.{Slot}
 use Rattle.circuit_model.specs.FrameInput.{idle_octet}
 
@@ -17,6 +17,10 @@ octet_of octets at = slice_index octets (at.line * 30 + at.place)
 -- each slot of so many lines holds the idle octet
 abbrev pub IsIdle : ℕ → List ℕ → Type 0
 IsIdle lines octets = (at : Slot) → at.line < lines → at.place < 30 → octet_of octets at ≡ idle_octet
+
+-- the memory with these octets over those of the half that is filled, as many as there are
+abbrev pub refilled : Speech → List ℕ → Speech
+refilled b ws = record { lines = b.lines; filled = take (length b.filled) (ws ++ drop (length ws) b.filled); readable = b.readable }
 
 -- the octets of one line are these, by place, and those of the other lines are as before
 pub record PutsLine (line : ℕ) (row old new : List ℕ) : Type 0 where

@@ -1,24 +1,31 @@
-ghost use Rattle.std.specs.Prelude.{◌≡◌, ℕ, ◌<◌, IfOk};
+ghost use Rattle.std.specs.Prelude.{◌≡◌, ℕ, ◌*◌, ◌<◌, ◌≤◌, length, slice_index, IfOk};
+ghost use Rattle.std.specs.Borrow.{Lends, Array, sem, u8 as octet_row};
 ghost use Rattle.circuit_model.specs.FrameInput.{idle_octet};
-ghost use Rattle.frame_buffer.specs.Highways.{Highways, octet_on, SameSize};
+ghost use Rattle.frame_buffer.specs.Highways.{Highways, octet_on, SameSize, refilled};
+ghost use Rattle.frame_buffer.specs.contracts.crossed.Crossed.{the_row};
 
-use crate::grid::Grid;
+use circuit_model::IDLE;
 use std::alloc::{AllocError, Global};
 use std::marker::Model;
 
 /// What the space stage has crossed: for each outgoing line an octet in every internal slot of the
-/// frame.
+/// frame, line after line.
 #[derive(Drop)]
 pub struct Crossed {
-    grid: Grid,
+    lines: u8,
+    slots: u8,
+    octets: Vec<u8>,
 }
 
 impl Model for Crossed {
+    ghost use Rattle.std.specs.Prelude.{◌≡◌, ◌*◌, length};
     ghost use Rattle.frame_buffer.specs.Highways.{Highways};
 
     ghost Value = { Highways };
 
-    ghost view = { λ h. h.grid };
+    ghost view = { λ h. record { lines = h.lines; slots = h.slots; octets = h.octets.items } };
+
+    ghost invariant = { λ h. length h.octets.items ≡ h.lines * h.slots };
 }
 
 impl Crossed {
@@ -28,8 +35,11 @@ impl Crossed {
         ensures slots { IfOk result (λ h. h.slots ≡ slots) }
         ensures idle { IfOk result (λ h. (line slot : ℕ) → line < lines → slot < slots → octet_on h line slot ≡ idle_octet) }
     {
+        let octets = usize::from(lines) * usize::from(slots);
         Ok(Crossed {
-            grid: Grid::new(alloc, lines, slots)?,
+            lines,
+            slots,
+            octets: vec![in alloc; IDLE; octets]?,
         })
     }
 
@@ -37,14 +47,14 @@ impl Crossed {
     pub fn lines(&self) -> u8
         ensures { result ≡ self.now.lines }
     {
-        self.grid.lines()
+        self.lines
     }
 
     /// How many internal slots a frame of a line has.
     pub fn slots(&self) -> u8
         ensures { result ≡ self.now.slots }
     {
-        self.grid.slots()
+        self.slots
     }
 
     /// The octet of a line in an internal slot.
@@ -53,7 +63,7 @@ impl Crossed {
         requires slot { slot < self.now.slots }
         ensures { result ≡ octet_on self.now line slot }
     {
-        self.grid.get(line, slot)
+        self.octets[usize::from(line) * usize::from(self.slots) + usize::from(slot)]
     }
 
     /// Writes the octet of a line in an internal slot, and no other.
@@ -64,6 +74,28 @@ impl Crossed {
         ensures here { octet_on self.new line slot ≡ octet }
         ensures others { (l s : ℕ) → s < self.old.slots → (l ≡ line → s ≡ slot → ⊥) → octet_on self.new l s ≡ octet_on self.old l s }
     {
-        self.grid.set(line, slot, octet);
+        let at = usize::from(line) * usize::from(self.slots) + usize::from(slot);
+        self.octets[at] = octet;
+    }
+
+    /// The octets of all lines, line after line, to be written.
+    pub fn parts(&mut self) -> &mut [u8]
+        ensures* writes_back { sem 𝓛 (Lends the_row (Array octet_row 0) self.entry result (refilled self.old)) }
+        ensures octets { result.now ≡ self.old.octets }
+        ensures size { length result.now ≡ self.old.lines * self.old.slots }
+    {
+        self.octets.as_mut_slice()
+    }
+
+    /// The octets of a line by internal slot.
+    pub fn row(&self, line: u8) -> &[u8]
+        requires { line < self.now.lines }
+        ensures size { length result.now ≡ self.now.slots }
+        ensures short { length result.now ≤ 255 }
+        ensures octets { (slot : ℕ) → slot < self.now.slots → slice_index result.now slot ≡ octet_on self.now line slot }
+    {
+        let slots = usize::from(self.slots);
+        let start = usize::from(line) * slots;
+        &self.octets[start..start + slots]
     }
 }

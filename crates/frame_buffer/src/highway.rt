@@ -1,24 +1,35 @@
-ghost use Rattle.std.specs.Prelude.{◌≡◌, ℕ, ◌<◌, IfOk};
+ghost use Rattle.std.specs.Prelude.{◌≡◌, ℕ, ◌+◌, ◌*◌, ◌<◌, length, slice_index, IfOk};
+ghost use Rattle.std.specs.Borrow.{Lends, Array, sem, u8 as octet_row};
 ghost use Rattle.circuit_model.specs.FrameInput.{idle_octet};
-ghost use Rattle.frame_buffer.specs.Highways.{Highways, octet_on, SameSize};
+ghost use Rattle.frame_buffer.specs.Highways.{Highways, octet_on, SameSize, refilled};
+ghost use Rattle.frame_buffer.specs.contracts.highway.Highway.{the_row};
 
-use crate::grid::Grid;
+use circuit_model::IDLE;
 use std::alloc::{AllocError, Global};
 use std::marker::Model;
 
 /// What the incoming time stage puts on the highways: for each incoming line an octet in every
 /// internal slot of the frame.
+///
+/// Before the rows of the lines stands an idle one: what crosses where a control table names no
+/// line.
 #[derive(Drop)]
 pub struct Highway {
-    grid: Grid,
+    lines: u8,
+    slots: u8,
+    octets: Vec<u8>,
 }
 
 impl Model for Highway {
+    ghost use Rattle.std.specs.Prelude.{◌≡◌, ℕ, ◌+◌, ◌*◌, ◌<◌, length, drop, slice_index};
+    ghost use Rattle.circuit_model.specs.FrameInput.{idle_octet};
     ghost use Rattle.frame_buffer.specs.Highways.{Highways};
 
     ghost Value = { Highways };
 
-    ghost view = { λ h. h.grid };
+    ghost view = { λ h. record { lines = h.lines; slots = h.slots; octets = drop h.slots h.octets.items } };
+
+    ghost invariant = { λ h. (length h.octets.items ≡ (h.lines + 1) * h.slots) × ((slot : ℕ) → slot < h.slots → slice_index h.octets.items slot ≡ idle_octet) };
 }
 
 impl Highway {
@@ -28,8 +39,11 @@ impl Highway {
         ensures slots { IfOk result (λ h. h.slots ≡ slots) }
         ensures idle { IfOk result (λ h. (line slot : ℕ) → line < lines → slot < slots → octet_on h line slot ≡ idle_octet) }
     {
+        let octets = (usize::from(lines) + 1) * usize::from(slots);
         Ok(Highway {
-            grid: Grid::new(alloc, lines, slots)?,
+            lines,
+            slots,
+            octets: vec![in alloc; IDLE; octets]?,
         })
     }
 
@@ -37,14 +51,14 @@ impl Highway {
     pub fn lines(&self) -> u8
         ensures { result ≡ self.now.lines }
     {
-        self.grid.lines()
+        self.lines
     }
 
     /// How many internal slots a frame of a line has.
     pub fn slots(&self) -> u8
         ensures { result ≡ self.now.slots }
     {
-        self.grid.slots()
+        self.slots
     }
 
     /// The octet of a line in an internal slot.
@@ -53,7 +67,7 @@ impl Highway {
         requires slot { slot < self.now.slots }
         ensures { result ≡ octet_on self.now line slot }
     {
-        self.grid.get(line, slot)
+        self.octets[(usize::from(line) + 1) * usize::from(self.slots) + usize::from(slot)]
     }
 
     /// Writes the octet of a line in an internal slot, and no other.
@@ -64,6 +78,26 @@ impl Highway {
         ensures here { octet_on self.new line slot ≡ octet }
         ensures others { (l s : ℕ) → s < self.old.slots → (l ≡ line → s ≡ slot → ⊥) → octet_on self.new l s ≡ octet_on self.old l s }
     {
-        self.grid.set(line, slot, octet);
+        let at = (usize::from(line) + 1) * usize::from(self.slots) + usize::from(slot);
+        self.octets[at] = octet;
+    }
+
+    /// The octets of all lines, line after line, to be written.
+    pub fn parts(&mut self) -> &mut [u8]
+        ensures* writes_back { sem 𝓛 (Lends the_row (Array octet_row 0) self.entry result (refilled self.old)) }
+        ensures octets { result.now ≡ self.old.octets }
+        ensures size { length result.now ≡ self.old.lines * self.old.slots }
+    {
+        let slots = usize::from(self.slots);
+        self.octets.slice_mut(slots..)
+    }
+
+    /// A row of idle octets, and behind it the octets of all lines, line after line.
+    pub fn rows_behind_idle(&self) -> &[u8]
+        ensures size { length result.now ≡ (self.now.lines + 1) * self.now.slots }
+        ensures idle { (slot : ℕ) → slot < self.now.slots → slice_index result.now slot ≡ idle_octet }
+        ensures lines { (line slot : ℕ) → slot < self.now.slots → slice_index result.now ((line + 1) * self.now.slots + slot) ≡ octet_on self.now line slot }
+    {
+        &self.octets
     }
 }

@@ -3,7 +3,6 @@
 
 mod crossed;
 mod delay_line;
-mod grid;
 mod highway;
 mod memory;
 

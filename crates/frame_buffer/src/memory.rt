@@ -1,5 +1,7 @@
-ghost use Rattle.std.specs.Prelude.{◌≡◌, ◌+◌, ◌*◌, ◌<◌, ◌≤◌, length, IfOk};
-ghost use Rattle.frame_buffer.specs.Speech.{Speech, octet_of, IsIdle, PutsLine};
+ghost use Rattle.std.specs.Prelude.{◌≡◌, ℕ, ◌+◌, ◌*◌, ◌<◌, ◌≤◌, length, slice_index, IfOk};
+ghost use Rattle.std.specs.Borrow.{Lends, Array, sem, u8 as octet_row};
+ghost use Rattle.frame_buffer.specs.Speech.{Speech, octet_of, IsIdle, PutsLine, refilled};
+ghost use Rattle.frame_buffer.specs.contracts.memory.FrameBuffer.{the_row};
 
 use circuit_model::{IDLE, PLACES, Slot};
 use std::alloc::{AllocError, Global};
@@ -55,6 +57,25 @@ impl FrameBuffer {
         ensures readable { self.new.readable ≡ self.old.readable }
     {
         put_row(&mut self.filled, line, octets);
+    }
+
+    /// The octets of the half that is filled, line after line and thirty to a line, to be written.
+    pub fn filled(&mut self) -> &mut [u8]
+        ensures* writes_back { sem 𝓛 (Lends the_row (Array octet_row 0) self.entry result (refilled self.old)) }
+        ensures octets { result.now ≡ self.old.filled }
+        ensures size { length result.now ≡ self.old.lines * 30 }
+    {
+        self.filled.as_mut_slice()
+    }
+
+    /// The thirty octets of a line, by place, in the half that is read.
+    pub fn row(&self, line: u8) -> &[u8]
+        requires { line < self.now.lines }
+        ensures size { length result.now ≡ 30 }
+        ensures octets { (place : ℕ) → place < 30 → slice_index result.now place ≡ octet_of self.now.readable (record { line = line; place = place }) }
+    {
+        let start = usize::from(line) * usize::from(PLACES);
+        &self.readable[start..start + usize::from(PLACES)]
     }
 
     /// The octet of a slot in the half that is read.

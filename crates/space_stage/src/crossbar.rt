@@ -1,10 +1,8 @@
-ghost use Rattle.std.specs.Prelude.{◌≡◌, ℕ, ◌<◌};
-ghost use Rattle.frame_buffer.specs.Highways.{octet_on, SameSize};
-ghost use Rattle.control_memory.specs.Image.{lines_of, received};
-ghost use Rattle.control_memory.specs.Carrying.{fetched};
-ghost use Rattle.space_stage.specs.Crossing.{IsCrossed};
+ghost use Rattle.std.specs.Prelude.{◌≡◌, ℕ, ◌<◌, length, slice_index};
+ghost use Rattle.frame_buffer.specs.Highways.{SameSize, IsPart};
+ghost use Rattle.control_memory.specs.Image.{lines_of};
+ghost use Rattle.space_stage.specs.Crossing.{gets, IsCrossedPart, IsCrossed};
 
-use circuit_model::IDLE;
 use control_memory::Image;
 use frame_buffer::{Crossed, Highway};
 
@@ -17,26 +15,44 @@ pub fn cross(highway: &Highway, image: &Image, crossed: &mut Crossed)
     ensures size { SameSize crossed.old crossed.new }
     ensures octets { IsCrossed image.now highway.now crossed.new }
 {
-    for line in 0..crossed.lines() {
-        cross_line(highway, image, crossed, line);
+    let slots = crossed.slots();
+    cross_part(highway, image, slots, 0, crossed.parts());
+}
+
+/// Crosses to some outgoing lines, from line `first` on: `part` holds their rows, of `slots` octets
+/// each, and gets what `cross` gives these lines.
+pub fn cross_part(highway: &Highway, image: &Image, slots: u8, first: u8, part: &mut [u8])
+    requires lines { highway.now.lines ≡ lines_of image.now }
+    requires highway { highway.now.slots ≡ slots }
+    requires image { image.now.slots ≡ slots }
+    requires part { IsPart (lines_of image.now) slots first (length part.old) }
+    ensures size { length part.new ≡ length part.old }
+    ensures octets { IsCrossedPart image.now highway.now first part.new }
+{
+    let slots = usize::from(slots);
+    for line in first..highway.lines() {
+        let start = usize::from(line - first) * slots;
+        if start < part.len() {
+            cross_row(highway, image, line, &mut part[start..start + slots]);
+        }
     }
 }
 
-// Crosses to one outgoing line.
-fn cross_line(highway: &Highway, image: &Image, crossed: &mut Crossed, line: u8)
+// Crosses to one outgoing line. A byte that names no line is 255, which comes after wrapping to the
+// idle row.
+fn cross_row(highway: &Highway, image: &Image, line: u8, row: &mut [u8])
     requires lines { highway.now.lines ≡ lines_of image.now }
     requires slots { highway.now.slots ≡ image.now.slots }
-    requires size { SameSize highway.now crossed.old }
-    requires line { line < crossed.old.lines }
-    ensures size { SameSize crossed.old crossed.new }
-    ensures here { (slot : ℕ) → slot < crossed.new.slots → octet_on crossed.new line slot ≡ fetched (received image.now line slot) (λ l. octet_on highway.now l slot) }
-    ensures others { (l s : ℕ) → s < crossed.old.slots → ¬ (l ≡ line) → octet_on crossed.new l s ≡ octet_on crossed.old l s }
+    requires line { line < lines_of image.now }
+    requires row { length row.old ≡ image.now.slots }
+    ensures size { length row.new ≡ length row.old }
+    ensures octets { (slot : ℕ) → slot < length row.new → slice_index row.new slot ≡ gets image.now highway.now line slot }
 {
-    for slot in 0..crossed.slots() {
-        let octet = match image.space(line, slot) {
-            Some(from) => highway.get(from, slot),
-            None => IDLE,
-        };
-        crossed.set(line, slot, octet);
+    let rows = highway.rows_behind_idle();
+    let table = image.space_row(line);
+    let slots = row.len();
+    for (slot, octet) in row.iter_mut().enumerate() {
+        let behind_idle = usize::from(table[slot].wrapping_add(1));
+        *octet = rows[behind_idle * slots + slot];
     }
 }

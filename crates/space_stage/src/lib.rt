@@ -4,4 +4,4 @@
 
 mod crossbar;
 
-pub use crossbar::cross;
+pub use crossbar::{cross, cross_part};

@@ -15,18 +15,10 @@ sends control speech line slot = fetched (sent control line slot) (λ place. oct
 abbrev pub reads : Control → Highways → ℕ → ℕ → ℕ
 reads control crossed line place = fetched (read control line place) (octet_on crossed line)
 
--- each of the first `lines` incoming lines sends by its table in every internal slot
-abbrev pub IsSentBelow : ℕ → Control → Speech → Highways → Type 0
-IsSentBelow lines control speech highway = (line slot : ℕ) → line < lines → slot < highway.slots → octet_on highway line slot ≡ sends control speech line slot
-
--- so does every incoming line
+-- every incoming line sends by its table in every internal slot
 abbrev pub IsSent : Control → Speech → Highways → Type 0
-IsSent control speech highway = IsSentBelow highway.lines control speech highway
+IsSent control speech highway = (line slot : ℕ) → line < highway.lines → slot < highway.slots → octet_on highway line slot ≡ sends control speech line slot
 
--- each of the first `lines` outgoing lines has in every place of the half that is filled what its table reads
-abbrev pub IsReadBelow : ℕ → Control → Highways → Speech → Type 0
-IsReadBelow lines control crossed out = (at : Slot) → at.line < lines → at.place < 30 → octet_of out.filled at ≡ reads control crossed at.line at.place
-
--- so has every outgoing line
+-- every outgoing line has in every place of the half that is filled what its table reads
 abbrev pub IsRead : Control → Highways → Speech → Type 0
-IsRead control crossed out = IsReadBelow out.lines control crossed out
+IsRead control crossed out = (at : Slot) → at.line < out.lines → at.place < 30 → octet_of out.filled at ≡ reads control crossed at.line at.place

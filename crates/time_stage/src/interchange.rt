@@ -1,9 +1,10 @@
-ghost use Rattle.std.specs.Prelude.{◌≡◌, ℕ, ◌<◌, EachIndex, slice_index};
-ghost use Rattle.frame_buffer.specs.Highways.{octet_on, SameSize};
+ghost use Rattle.std.specs.Prelude.{◌≡◌, ℕ, ◌<◌, length, slice_index};
+ghost use Rattle.frame_buffer.specs.Highways.{SameSize, IsPart, RowsHold};
 ghost use Rattle.control_memory.specs.Image.{lines_of};
 ghost use Rattle.time_stage.specs.Interchange.{sends, reads, IsSent, IsRead};
 
-use circuit_model::{IDLE, PLACES, Slot};
+use crate::store::Store;
+use circuit_model::PLACES;
 use control_memory::Image;
 use frame_buffer::{Crossed, FrameBuffer, Highway};
 
@@ -17,28 +18,44 @@ pub fn incoming(buffer: &FrameBuffer, image: &Image, highway: &mut Highway)
     ensures size { SameSize highway.old highway.new }
     ensures octets { IsSent image.now buffer.now highway.new }
 {
-    for line in 0..highway.lines() {
-        send_line(buffer, image, highway, line);
+    let slots = highway.slots();
+    send_part(buffer, image, slots, 0, highway.parts());
+}
+
+// What some lines send, from line `first` on: `part` holds their rows, of `slots` octets each.
+fn send_part(buffer: &FrameBuffer, image: &Image, slots: u8, first: u8, part: &mut [u8])
+    requires buffer { buffer.now.lines ≡ lines_of image.now }
+    requires slots { image.now.slots ≡ slots }
+    requires part { IsPart (lines_of image.now) slots first (length part.old) }
+    ensures size { length part.new ≡ length part.old }
+    ensures octets { RowsHold slots (sends image.now buffer.now) first part.new }
+{
+    let mut store = Store::new();
+    let slots = usize::from(slots);
+    for line in first..buffer.lines() {
+        let start = usize::from(line - first) * slots;
+        if start < part.len() {
+            send_row(
+                buffer,
+                image,
+                line,
+                &mut store,
+                &mut part[start..start + slots],
+            );
+        }
     }
 }
 
-// What one incoming line sends.
-fn send_line(buffer: &FrameBuffer, image: &Image, highway: &mut Highway, line: u8)
+// What one line sends.
+fn send_row(buffer: &FrameBuffer, image: &Image, line: u8, store: &mut Store, row: &mut [u8])
     requires buffer { buffer.now.lines ≡ lines_of image.now }
-    requires lines { highway.old.lines ≡ lines_of image.now }
-    requires slots { highway.old.slots ≡ image.now.slots }
-    requires line { line < highway.old.lines }
-    ensures size { SameSize highway.old highway.new }
-    ensures here { (slot : ℕ) → slot < highway.new.slots → octet_on highway.new line slot ≡ sends image.now buffer.now line slot }
-    ensures others { (l s : ℕ) → s < highway.old.slots → ¬ (l ≡ line) → octet_on highway.new l s ≡ octet_on highway.old l s }
+    requires line { line < lines_of image.now }
+    requires row { length row.old ≡ image.now.slots }
+    ensures size { length row.new ≡ length row.old }
+    ensures octets { (slot : ℕ) → slot < length row.new → slice_index row.new slot ≡ sends image.now buffer.now line slot }
 {
-    for slot in 0..highway.slots() {
-        let octet = match image.incoming(line, slot) {
-            Some(place) => buffer.get(Slot { line, place }),
-            None => IDLE,
-        };
-        highway.set(line, slot, octet);
-    }
+    store.load(buffer.row(line));
+    store.fetch(image.incoming_row(line), row);
 }
 
 /// The outgoing time stage of one frame: each place of a line reads the octet of the internal slot
@@ -54,25 +71,42 @@ pub fn outgoing(crossed: &Crossed, table: &Image, out: &mut FrameBuffer)
     ensures octets { IsRead table.now crossed.now out.new }
     ensures readable { out.new.readable ≡ out.old.readable }
 {
-    for line in 0..out.lines() {
-        let octets = read_line(crossed, table, line);
-        out.put_line(line, &octets);
+    read_part(crossed, table, 0, out.filled());
+}
+
+// What some lines read, from line `first` on: `part` holds their rows, of thirty octets each.
+fn read_part(crossed: &Crossed, table: &Image, first: u8, part: &mut [u8])
+    requires crossed { crossed.now.lines ≡ lines_of table.now }
+    requires slots { crossed.now.slots ≡ table.now.slots }
+    requires part { IsPart (lines_of table.now) 30 first (length part.old) }
+    ensures size { length part.new ≡ length part.old }
+    ensures octets { RowsHold 30 (reads table.now crossed.now) first part.new }
+{
+    let mut store = Store::new();
+    let places = usize::from(PLACES);
+    for line in first..crossed.lines() {
+        let start = usize::from(line - first) * places;
+        if start < part.len() {
+            read_row(
+                crossed,
+                table,
+                line,
+                &mut store,
+                &mut part[start..start + places],
+            );
+        }
     }
 }
 
-// What one outgoing line reads.
-fn read_line(crossed: &Crossed, table: &Image, line: u8) -> [u8; 30]
+// What one line reads.
+fn read_row(crossed: &Crossed, table: &Image, line: u8, store: &mut Store, row: &mut [u8])
     requires crossed { crossed.now.lines ≡ lines_of table.now }
     requires slots { crossed.now.slots ≡ table.now.slots }
-    requires line { line < crossed.now.lines }
-    ensures { (place : ℕ) → place < 30 → slice_index result place ≡ reads table.now crossed.now line place }
+    requires line { line < lines_of table.now }
+    requires row { length row.old ≡ 30 }
+    ensures size { length row.new ≡ length row.old }
+    ensures octets { (place : ℕ) → place < length row.new → slice_index row.new place ≡ reads table.now crossed.now line place }
 {
-    let mut octets = [IDLE; 30];
-    for place in 0..PLACES {
-        octets[usize::from(place)] = match table.outgoing(line, place) {
-            Some(slot) => crossed.get(line, slot),
-            None => IDLE,
-        };
-    }
-    octets
+    store.load(crossed.row(line));
+    store.fetch(table.outgoing_row(line), row);
 }

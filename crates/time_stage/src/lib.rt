@@ -4,6 +4,7 @@
 
 mod fabric;
 mod interchange;
+mod store;
 
 pub use fabric::carry;
 pub use interchange::{incoming, outgoing};

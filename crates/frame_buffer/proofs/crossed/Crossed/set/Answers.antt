@@ -1,7 +1,7 @@
 use Rattle.std.proofs.Common.{ap, ◌<◌, rules}
 use Rattle.frame_buffer.specs.Highways.{Highways}
 use Rattle.frame_buffer.proofs.Rows.{other_place}
-use Rattle.frame_buffer.proofs.grid.Grid.set.Goals as goal
+use Rattle.frame_buffer.proofs.crossed.Crossed.set.Goals as goal
 
 pub returns-clause-others : goal.returns-clause-others
 returns-clause-others c l s inside apart =
