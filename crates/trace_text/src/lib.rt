@@ -15,4 +15,4 @@ mod tests;
 
 pub use fault::{Reason, TraceFault};
 pub use laws::{one_reading, some_reading, traces_are_sound};
-pub use reader::read_trace;
+pub use reader::{MOST_BYTES, read_trace};
