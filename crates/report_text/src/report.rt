@@ -1,6 +1,6 @@
-ghost use Rattle.std.specs.Prelude.{◌≡◌, ◌==◌, ℕ, ◌++◌, length, take, codes, decimal, slice_index, [], OnOk, OnErr};
+ghost use Rattle.std.specs.Prelude.{◌≡◌, ◌==◌, ℕ, ◌++◌, ◌<◌, length, take, codes, decimal, slice_index, replicate, [], OnOk, OnErr};
 ghost use Rattle.std.specs.List.{list_all};
-ghost use Rattle.hex.specs.Hex.{encode_upper};
+ghost use Rattle.hex.specs.Hex.{encode_upper, upper_digits};
 ghost use Rattle.circuit_model.specs.FrameInput.{idle_octet};
 ghost use Rattle.exchange_core.specs.declared.reply.Reply.TheVariants.{Granted, Busy, Seated, NoPort, Freed, NotNailed, Frame};
 ghost use Rattle.report_text.specs.Report.{line_octets, sent, octet_of, part, parts, report_line};
@@ -10,8 +10,8 @@ use exchange_core::Reply;
 use itoa::Buffer;
 use std::alloc::AllocError;
 
-// The hexadecimal digits, in upper case.
-const DIGITS: &[u8; 16] = b"0123456789ABCDEF";
+// A row of idle octets.
+const IDLE_ROW: [u8; 32] = [IDLE; 32];
 
 /// Appends a report's line for one event: its number, what it was answered, and for a frame the
 /// thirty octets of each line that sends an octet other than idle. `octets` holds what each external
@@ -160,31 +160,70 @@ fn put_part(out: &mut Vec<u8>, line: usize, octets: &[u8; 30]) -> Result<(), All
     if is_idle(octets) {
         return Ok(());
     }
+    put_line(out, line)?;
+    put_digits(out, octets)
+}
+
+// The number of a line, before its octets.
+fn put_line(out: &mut Vec<u8>, line: usize) -> Result<(), AllocError>
+    ensures line { OnOk result (out.new.items ≡ out.old.items ++ codes " " ++ decimal line ++ codes ":") }
+    ensures front { take (length out.old.items) out.new.items ≡ out.old.items }
+{
     let mut buffer = Buffer::new();
     out.extend_from_slice(b" ")?;
     out.extend_from_slice(buffer.format(line).as_bytes())?;
-    out.extend_from_slice(b":")?;
-    out.extend_from_slice(&hex_digits(octets))
+    out.extend_from_slice(b":")
+}
+
+// The thirty octets of a line and two idle ones, so that whole vectors are worked on.
+fn wide_row(octets: &[u8; 30]) -> [u8; 32]
+    ensures { result ≡ octets.now ++ replicate 2 idle_octet }
+{
+    let mut row = IDLE_ROW;
+    row[..30].copy_from_slice(octets);
+    row
 }
 
 // Whether a line sends nothing but idle octets.
 fn is_idle(octets: &[u8; 30]) -> bool
     ensures { result ≡ list_all (λ octet. octet == idle_octet) octets.now }
 {
-    octets.iter().all(|octet| *octet == IDLE)
+    wide_row(octets) == IDLE_ROW
+}
+
+fn put_digits(out: &mut Vec<u8>, octets: &[u8; 30]) -> Result<(), AllocError>
+    ensures digits { OnOk result (out.new.items ≡ out.old.items ++ encode_upper octets.now) }
+    ensures front { take (length out.old.items) out.new.items ≡ out.old.items }
+{
+    out.extend_from_slice(front(&hex_digits(&wide_row(octets))))
+}
+
+// The digits of a line's own octets.
+fn front(digits: &[u8; 64]) -> &[u8]
+    ensures { result.now ≡ take 60 digits.now }
+{
+    &digits[..60]
 }
 
 // The octets as hexadecimal digits, two each.
-fn hex_digits(octets: &[u8; 30]) -> [u8; 60]
-    ensures { result ≡ encode_upper octets.now }
+fn hex_digits(row: &[u8; 32]) -> [u8; 64]
+    ensures { result ≡ encode_upper row.now }
 {
-    let mut digits = [0; 60];
-    for place in 0..30 {
-        let octet = octets[place];
-        digits[2 * place] = DIGITS[usize::from(octet >> 4)];
-        digits[2 * place + 1] = DIGITS[usize::from(octet & 0x0F)];
+    let mut digits = [0; 64];
+    for place in 0..32 {
+        let octet = row[place];
+        digits[2 * place] = digit(octet >> 4);
+        digits[2 * place + 1] = digit(octet & 0x0F);
     }
     digits
+}
+
+// The hexadecimal digit of a value, in upper case. It is reckoned: a table would be read digit by digit.
+fn digit(value: u8) -> u8
+    requires { value < 16 }
+    ensures { result ≡ slice_index upper_digits value }
+{
+    value + if value > 9 { b'A' - 10 } else { b'0' }
 }
 
 fn put_number(out: &mut Vec<u8>, number: u32) -> Result<(), AllocError>

@@ -1,52 +1,16 @@
 -- Hexadecimal digits in pairs.
-use Rattle.std.proofs.Common.{◌≡◌, ◌≢◌, ℕ, zero, suc, ◌+◌, ◌*◌, ◌%◌, ◌<◌, ◌≤◌, Bool, true, false, cond, ltb, eqb, List, [], ◌∷◌, ◌++◌, length, get_or, set, take, drop, Option, Some, None, is_some, option_map, unwrap_or, Ok, Err, refl, sym, ap, subst, ◌∙◌, arith, ◌⊎◌, inl, inr, append_assoc}
+use Rattle.std.proofs.Common.{◌≡◌, ◌≢◌, ℕ, zero, suc, ◌+◌, ◌*◌, ◌-◌, ◌/◌, ◌%◌, ◌<◌, ◌≤◌, Bool, true, false, cond, ◌&&◌, eqb, List, [], ◌∷◌, ◌++◌, length, get_or, set, take, drop, map, replicate, Option, Some, None, is_some, option_map, Ok, Err, refl, sym, ap, subst, ◌∙◌, arith, ◌⊎◌, inl, inr, append_assoc}
 use Rattle.std.specs.Prelude.{option_and_then, IfSome}
 use Rattle.std.specs.List.{list_all}
-use Rattle.std.proofs.lemmas.Bool.{cases_eq, cases_lt, eqb-true, eq-eqb, ne_eqb, lt-ltb, le-ltb}
-use Rattle.std.proofs.lemmas.List.{append-nil, take_more_set, drop_more, drop_all, take_all}
+use Rattle.std.proofs.lemmas.Bool.{eq-eqb, ne_eqb}
+use Rattle.std.proofs.lemmas.List.{append-nil, take_more, take_more_set, drop_more, drop_all, take_all, length-map, map-append}
+use Rattle.std.proofs.lemmas.List.Folds.{list_all-append, list_all_at}
 use Rattle.std.proofs.lemmas.Bool.Decides.{nat_tests}
 use Rattle.circuit_model.specs.Channels.{between}
 use Rattle.trace_text.specs.declared.fault.Reason.TheVariants.{Hex, Length}
-use Rattle.trace_text.specs.TraceFields.{digit_value, octets_written, thirty}
+use Rattle.trace_text.specs.TraceFields.{digit_value, is_digit, octets_written, thirty}
 
 -- ---- one digit
-
--- the value of a digit, or 16
-abbrev pub value_or : ℕ → ℕ
-value_or octet = unwrap_or (digit_value octet) 16
-
--- the table agrees with the definition below n
-abbrev pub agrees : List ℕ → ℕ → Bool
-agrees table zero = true
-agrees table (suc n) = cond (eqb (get_or table n 0) (value_or n)) (agrees table n) false
-
-both_of : (a b : Bool) → cond a b false ≡ true → (a ≡ true) × (b ≡ true)
-both_of true b h = (refl, h)
-both_of false b h = absurd cc
-
-pub table_at : (table : List ℕ) (n : ℕ) → agrees table n ≡ true → (octet : ℕ) → octet < n → get_or table octet 0 ≡ value_or octet
-table_at table zero h octet lt = absurd (omega arith)
-table_at table (suc n) h octet lt =
-    let both = both_of (eqb (get_or table n 0) (value_or n)) (agrees table n) h in
-    elim (cases_eq octet n) [
-      | inl same ↦ subst (λ k. get_or table k 0 ≡ value_or k) (sym same) (eqb-true (get_or table n 0) (value_or n) both.0)
-      | inr other ↦ table_at table n both.1 octet (omega arith)
-    ]
-
-found_in : (o : Option ℕ) → unwrap_or o 16 < 16 → o ≡ Some (unwrap_or o 16)
-found_in None lt = absurd (omega arith)
-found_in (Some v) lt = refl
-
-pub digit_found : (octet : ℕ) → value_or octet < 16 → digit_value octet ≡ Some (value_or octet)
-digit_found octet lt = found_in (digit_value octet) lt
-
--- what the table gives below 16 is the digit's value
-pub digit_as : (octet h : ℕ) → h ≡ value_or octet → h < 16 → digit_value octet ≡ Some h
-digit_as octet h e lt = digit_found octet (omega arith) ∙ ap (λ (v : ℕ). Some v) (sym e)
-
-lost_in : (o : Option ℕ) → IfSome o (λ v. v < 16) → 16 ≤ unwrap_or o 16 → o ≡ None
-lost_in None small le = refl
-lost_in (Some v) small le = absurd (omega arith)
 
 picked : (P : Option ℕ → Type 0) (b : Bool) (x y : Option ℕ) → (b ≡ true → P x) → P y → P (cond b x y)
 picked P true x y p q = p refl
@@ -55,15 +19,28 @@ picked P false x y p q = q
 pub in_range : (low high n : ℕ) → between low high n ≡ true → (low ≤ n) × (n ≤ high)
 in_range low high n h = grind (arith, nat_tests)
 
-digit_small : (octet : ℕ) → IfSome (digit_value octet) (λ v. v < 16)
-digit_small octet =
-    let P : Option ℕ → Type 0 = λ o. IfSome o (λ v. v < 16) in
-    picked P (between 48 57 octet) _ _ (λ h. let r = in_range 48 57 octet h in omega (arith, r.0, r.1))
-    (picked P (between 65 70 octet) _ _ (λ h. let r = in_range 65 70 octet h in omega (arith, r.0, r.1))
-    (picked P (between 97 102 octet) _ _ (λ h. let r = in_range 97 102 octet h in omega (arith, r.0, r.1)) tt))
+-- a property of a digit's value, shown for each kind of digit
+by_kind : (octet : ℕ) (P : ℕ → Type 0) → (48 ≤ octet → octet ≤ 57 → P (octet - 48)) → (65 ≤ octet → octet ≤ 70 → P (octet - 55))
+    → (97 ≤ octet → octet ≤ 102 → P (octet - 87)) → IfSome (digit_value octet) P
+by_kind octet P numeral upper lower =
+    let Q : Option ℕ → Type 0 = λ o. IfSome o P in
+    picked Q (between 48 57 octet) _ _ (λ h. let r = in_range 48 57 octet h in numeral r.0 r.1)
+    (picked Q (between 65 70 octet) _ _ (λ h. let r = in_range 65 70 octet h in upper r.0 r.1)
+    (picked Q (between 97 102 octet) _ _ (λ h. let r = in_range 97 102 octet h in lower r.0 r.1) tt))
 
-pub digit_lost : (octet : ℕ) → 16 ≤ value_or octet → digit_value octet ≡ None
-digit_lost octet le = lost_in (digit_value octet) (digit_small octet) le
+some_is : (o : Option ℕ) (P : ℕ → Type 0) → IfSome o P → (v : ℕ) → o ≡ Some v → P v
+some_is None P p v e = absurd cc
+some_is (Some w) P p v e = let same : w ≡ v = cc in subst P same p
+
+-- the value of a digit is below 16
+pub digit_small : (octet v : ℕ) → digit_value octet ≡ Some v → v < 16
+digit_small octet v e = some_is (digit_value octet) (λ v. v < 16) (by_kind octet (λ v. v < 16) (λ l h. omega arith) (λ l h. omega arith) (λ l h. omega arith)) v e
+
+-- the low half of a digit's octet, and nine more for a letter
+pub digit_reckoned : (octet v : ℕ) → digit_value octet ≡ Some v → octet % 16 + 9 * (octet / 64) ≡ v
+digit_reckoned octet v e =
+    let P : ℕ → Type 0 = λ v. octet % 16 + 9 * (octet / 64) ≡ v in
+    some_is (digit_value octet) P (by_kind octet P (λ l h. omega arith) (λ l h. omega arith) (λ l h. omega arith)) v e
 
 -- ---- pairs of digits
 
@@ -104,16 +81,16 @@ both_none (Some u) (Some w) = refl
 
 -- ---- all digits
 
--- the octet is a hexadecimal digit
-abbrev pub is_digit : ℕ → Bool
-is_digit octet = ltb (value_or octet) 16
+found : (o : Option ℕ) → (is_some o ≡ true × ((v : ℕ) × (o ≡ Some v))) ⊎ (is_some o ≡ false × (o ≡ None))
+found None = inr (refl, refl)
+found (Some v) = inl (refl, (v, refl))
 
-either : (octet : ℕ) → (is_digit octet ≡ true × (digit_value octet ≡ Some (value_or octet))) ⊎ (is_digit octet ≡ false × (digit_value octet ≡ None))
-either octet =
-    elim (cases_lt (value_or octet) 16) [
-      | inl lt ↦ inl (lt-ltb _ _ lt, digit_found octet lt)
-      | inr le ↦ inr (le-ltb _ _ le, digit_lost octet le)
-    ]
+either : (octet : ℕ) → (is_digit octet ≡ true × ((v : ℕ) × (digit_value octet ≡ Some v))) ⊎ (is_digit octet ≡ false × (digit_value octet ≡ None))
+either octet = found (digit_value octet)
+
+and_false : (b : Bool) → (b && true) ≡ false → b ≡ false
+and_false true e = absurd cc
+and_false false e = refl
 
 some_behind : (front : List ℕ) (o : Option (List ℕ)) → is_some (behind front o) ≡ is_some o
 some_behind front None = refl
@@ -129,7 +106,7 @@ all_digits (x ∷ y ∷ rest) even =
       | inr lost ↦ rw (lost.0, none_first x y rest lost.1) refl
       | inl found ↦ elim (either y) [
         | inr lost ↦ rw (found.0, lost.0, none_second x y rest lost.1) refl
-        | inl both ↦ rw (found.0, both.0, pair_then x y rest (value_or x) (value_or y) found.1 both.1, some_behind ((value_or x * 16 + value_or y) ∷ []) (octets_written rest), again) refl
+        | inl both ↦ rw (found.0, both.0, pair_then x y rest found.1.0 both.1.0 found.1.1 both.1.1, some_behind ((found.1.0 * 16 + both.1.0) ∷ []) (octets_written rest), again) refl
       ]
     ]
 
@@ -153,7 +130,7 @@ written_length (x ∷ y ∷ rest) =
       | inr lost ↦ subst P (sym (none_first x y rest lost.1)) tt
       | inl found ↦ elim (either y) [
         | inr lost ↦ subst P (sym (none_second x y rest lost.1)) tt
-        | inl both ↦ subst P (sym (pair_then x y rest (value_or x) (value_or y) found.1 both.1)) (behind_length (value_or x * 16 + value_or y) rest (octets_written rest) (written_length rest))
+        | inl both ↦ subst P (sym (pair_then x y rest found.1.0 both.1.0 found.1.1 both.1.1)) (behind_length (found.1.0 * 16 + both.1.0) rest (octets_written rest) (written_length rest))
       ]
     ]
 
@@ -199,27 +176,119 @@ pair_read digits octets i h l lt room e f so_far =
     ap (λ o. behind (take i octets) o) (ap octets_written (pair_at digits i lt) ∙ one) ∙ behind-behind (take i octets) (h * 16 + l) (octets_written (drop (2 * (i + 1)) digits)) in
     rw (take_more_set octets i (h * 16 + l) room) (sym stepped ∙ so_far)
 
--- an octet of a pair is no digit
-pub pair_lost : (digits octets : List ℕ) (i : ℕ) → 2 * i + 1 < length digits
-    → (16 ≤ value_or (get_or digits (2 * i) 0)) ⊎ (16 ≤ value_or (get_or digits (2 * i + 1) 0))
-    → behind (take i octets) (octets_written (drop (2 * i) digits)) ≡ octets_written digits → octets_written digits ≡ None
-pair_lost digits octets i lt bad so_far =
-    let x = get_or digits (2 * i) 0 in
-    let y = get_or digits (2 * i + 1) 0 in
-    let rest = drop (2 * (i + 1)) digits in
-    let none : octets_written (x ∷ y ∷ rest) ≡ None = elim bad [
-      | inl first ↦ none_first x y rest (digit_lost x first)
-      | inr second ↦ none_second x y rest (digit_lost y second)
-    ] in
-    sym so_far ∙ ap (λ o. behind (take i octets) o) (ap octets_written (pair_at digits i lt) ∙ none)
-
--- all thirty pairs are read
-pub pairs_read : (digits octets : List ℕ) → length digits ≡ 60 → length octets ≡ 30 → behind (take 30 octets) (octets_written (drop 60 digits)) ≡ octets_written digits → thirty (octets_written digits) ≡ Ok octets
-pairs_read digits octets d o so_far =
-    let whole : octets_written digits ≡ Some octets = sym so_far ∙ rw (drop_all 60 digits (omega arith), take_all 30 octets (omega arith)) (ap (λ (l : List ℕ). Some l) (append-nil octets)) in
-    let full : eqb (length octets) 30 ≡ true = eq-eqb (length octets) 30 o in
-    rw (whole, full) refl
-
 pub behind_nothing : (o : Option (List ℕ)) → behind [] o ≡ o
 behind_nothing None = refl
 behind_nothing (Some octets) = refl
+
+-- ---- sixty digits, and four behind them
+
+abbrev pub AreValues : List ℕ → List ℕ → Type 0
+AreValues values digits = map digit_value digits ≡ map (λ v. Some v) values
+
+-- the value of one of the digits
+pub value_at : (values digits : List ℕ) (k : ℕ) → AreValues values digits → k < length values → digit_value (get_or digits k 0) ≡ Some (get_or values k 0)
+value_at [] digits k same lt = absurd (omega arith)
+value_at (v ∷ values) [] k same lt = absurd cc
+value_at (v ∷ values) (d ∷ digits) zero same lt = cc
+value_at (v ∷ values) (d ∷ digits) (suc k) same lt = let rest : AreValues values digits = cc in value_at values digits k rest (omega arith)
+
+-- as many digits as values
+pub as_many : (values digits : List ℕ) → AreValues values digits → length digits ≡ length values
+as_many values digits same = sym (length-map digits digit_value) ∙ ap length same ∙ length-map values (λ v. Some v)
+
+-- one more digit has its value
+pub value_more : (values digits : List ℕ) (k v : ℕ) → k < length values → k < length digits → digit_value (get_or digits k 0) ≡ Some v
+    → AreValues (take k values) (take k digits) → AreValues (take (k + 1) (set values k v)) (take (k + 1) digits)
+value_more values digits k v room within e so_far =
+    rw (take_more_set values k v room, take_more digits k 0 within, map-append, map-append, e, so_far) refl
+
+-- one more pair of digits with these values is read
+pub values_read : (digits values octets : List ℕ) (i octet : ℕ) → AreValues values digits → 2 * i + 1 < length values → i < length octets
+    → octet ≡ (get_or values (2 * i) 0 * 16 % 256 + get_or values (2 * i + 1) 0) % 256
+    → behind (take i octets) (octets_written (drop (2 * i) digits)) ≡ octets_written digits
+    → behind (take (i + 1) (set octets i octet)) (octets_written (drop (2 * (i + 1)) digits)) ≡ octets_written digits
+values_read digits values octets i octet same lt room e so_far =
+    let h = get_or values (2 * i) 0 in
+    let l = get_or values (2 * i + 1) 0 in
+    let high : digit_value (get_or digits (2 * i) 0) ≡ Some h = value_at values digits (2 * i) same (omega arith) in
+    let low : digit_value (get_or digits (2 * i + 1) 0) ≡ Some l = value_at values digits (2 * i + 1) same lt in
+    let small = digit_small (get_or digits (2 * i) 0) h high in
+    let small_low = digit_small (get_or digits (2 * i + 1) 0) l low in
+    let whole : octet ≡ h * 16 + l = omega (arith, e, small, small_low) in
+    let many = as_many values digits same in
+    rw whole (pair_read digits octets i h l (omega (arith, many)) room high low so_far)
+
+-- all pairs of digits with these values are read
+pub values_done : (digits values octets : List ℕ) → AreValues values digits → length values ≡ 64 → length octets ≡ 32
+    → behind (take 32 octets) (octets_written (drop 64 digits)) ≡ octets_written digits → octets_written digits ≡ Some octets
+values_done digits values octets same v o so_far =
+    let many = as_many values digits same in
+    sym so_far ∙ rw (drop_all 64 digits (omega (arith, many, v)), take_all 32 octets (omega (arith, o))) (ap (λ (l : List ℕ). Some l) (append-nil octets))
+
+-- what digits write does not depend on digits behind them
+tail_of : (h : ℕ) (o : Option (List ℕ)) (octet : ℕ) (octets : List ℕ) → behind (h ∷ []) o ≡ Some (octet ∷ octets) → (h ≡ octet) × (o ≡ Some octets)
+tail_of h None octet octets e = absurd cc
+tail_of h (Some rest) octet octets e = (cc, cc)
+
+head_none : (h : ℕ) (o : Option (List ℕ)) → behind (h ∷ []) o ≡ Some [] → ⊥
+head_none h None e = cc
+head_none h (Some rest) e = cc
+
+front_pair : (n x y : ℕ) (digits more octets : List ℕ) (h l : ℕ) → digit_value x ≡ Some h → digit_value y ≡ Some l
+    → ((os : List ℕ) → octets_written (digits ++ more) ≡ Some os → octets_written digits ≡ Some (take n os))
+    → octets_written (x ∷ y ∷ digits ++ more) ≡ Some octets → octets_written (x ∷ y ∷ digits) ≡ Some (take (suc n) octets)
+front_pair n x y digits more [] h l e f again w =
+    absurd (head_none (h * 16 + l) (octets_written (digits ++ more)) (sym (pair_then x y (digits ++ more) h l e f) ∙ w))
+front_pair n x y digits more (o ∷ os) h l e f again w =
+    let parts = tail_of (h * 16 + l) (octets_written (digits ++ more)) o os (sym (pair_then x y (digits ++ more) h l e f) ∙ w) in
+    pair_then x y digits h l e f ∙ rw (parts.0, again os parts.1) refl
+
+pub front_written : (n : ℕ) (digits more octets : List ℕ) → length digits ≡ 2 * n → octets_written (digits ++ more) ≡ Some octets → octets_written digits ≡ Some (take n octets)
+front_written zero [] more octets d e = refl
+front_written zero (x ∷ digits) more octets d e = absurd (omega arith)
+front_written (suc n) [] more octets d e = absurd (omega arith)
+front_written (suc n) (x ∷ []) more octets d e = absurd (omega arith)
+front_written (suc n) (x ∷ y ∷ digits) more octets d e =
+    elim (either x) [
+      | inr lost ↦ let none : octets_written (x ∷ y ∷ digits ++ more) ≡ None = none_first x y (digits ++ more) lost.1 in absurd cc
+      | inl first ↦ elim (either y) [
+        | inr lost ↦ let none : octets_written (x ∷ y ∷ digits ++ more) ≡ None = none_second x y (digits ++ more) lost.1 in absurd cc
+        | inl second ↦ front_pair n x y digits more octets first.1.0 second.1.0 first.1.1 second.1.1 (λ os f. front_written n digits more os (omega arith) f) e
+      ]
+    ]
+
+-- ---- reading them
+
+-- each of some digits has a value
+pub value_found : (digits : List ℕ) (k : ℕ) → list_all is_digit digits ≡ true → k < length digits → (v : ℕ) × (digit_value (get_or digits k 0) ≡ Some v)
+value_found digits k all within =
+    elim (either (get_or digits k 0)) [
+      | inl found ↦ found.1
+      | inr lost ↦ let none = list_all_at is_digit digits k 0 within lost.0 in absurd cc
+    ]
+
+abbrev pub four_more : List ℕ → List ℕ
+four_more digits = digits ++ replicate 4 48
+
+-- digits behind others don't tell whether these are digits
+pub lost_wide : (digits : List ℕ) → length digits ≡ 60 → list_all is_digit (four_more digits) ≡ false → thirty (octets_written digits) ≡ Err Hex
+lost_wide digits sixty lost =
+    let front : (list_all is_digit digits && true) ≡ false = sym (list_all-append is_digit digits (replicate 4 48)) ∙ lost in
+    let some : is_some (octets_written digits) ≡ false = all_digits digits (omega arith) ∙ and_false (list_all is_digit digits) front in
+    refused_digits digits some
+
+is_thirty : (digits octets : List ℕ) (o : Option (List ℕ)) → o ≡ Some octets → length digits ≡ 60 → IfSome o (λ octets. length digits ≡ 2 * length octets) → thirty o ≡ Ok octets
+is_thirty digits octets None e sixty half = absurd cc
+is_thirty digits octets (Some others) e sixty half =
+    let same : others ≡ octets = cc in
+    let full : eqb (length others) 30 ≡ true = eq-eqb (length others) 30 (omega arith) in
+    rw (full, same) refl
+
+-- the first thirty of the octets that sixty digits and four more write
+pub thirty_wide : (digits octets : List ℕ) → length digits ≡ 60 → octets_written (four_more digits) ≡ Some octets → thirty (octets_written digits) ≡ Ok (take 30 octets)
+thirty_wide digits octets sixty e =
+    is_thirty digits (take 30 octets) (octets_written digits) (front_written 30 digits (replicate 4 48) octets (omega arith) e) sixty (written_length digits)
+
+-- all digits have their values
+pub values_all : (values digits : List ℕ) (k : ℕ) → 64 ≤ k → length values ≡ 64 → length digits ≡ 64 → AreValues (take k values) (take k digits) → AreValues values digits
+values_all values digits k all v d so_far = rw (take_all k values (omega arith), take_all k digits (omega arith)) at so_far

@@ -1,37 +1,88 @@
 // Octets, written as hexadecimal digits.
-ghost use Rattle.std.specs.Prelude.{◌≡◌, is_some, unwrap_or};
-ghost use Rattle.trace_text.specs.TraceFields.{digit_value, octets_written, thirty};
+//
+// Sixty digits are read by loops of fixed length, without a table and with one test at their end, so
+// that many are read at once. Four more digits behind them fill whole vectors.
+ghost use Rattle.std.specs.Prelude.{◌≡◌, ◌++◌, ℕ, List, length, take, true, Some, is_some, map, replicate};
+ghost use Rattle.std.specs.List.{list_all};
+ghost use Rattle.trace_text.specs.TraceFields.{digit_value, is_digit, octets_written, thirty};
 
 use crate::fault::Reason;
 
-// Stands in the table for an octet that is no digit.
-const X: u8 = 16;
-
-// The value of each octet as a hexadecimal digit of either case.
-static DIGITS: [u8; 256] = [
-    X, X, X, X, X, X, X, X, X, X, X, X, X, X, X, X, X, X, X, X, X, X, X, X, X, X, X, X, X, X, X, X,
-    X, X, X, X, X, X, X, X, X, X, X, X, X, X, X, X, 0, 1, 2, 3, 4, 5, 6, 7, 8, 9, X, X, X, X, X, X,
-    X, 10, 11, 12, 13, 14, 15, X, X, X, X, X, X, X, X, X, X, X, X, X, X, X, X, X, X, X, X, X, X, X,
-    X, X, X, 10, 11, 12, 13, 14, 15, X, X, X, X, X, X, X, X, X, X, X, X, X, X, X, X, X, X, X, X, X,
-    X, X, X, X, X, X, X, X, X, X, X, X, X, X, X, X, X, X, X, X, X, X, X, X, X, X, X, X, X, X, X, X,
-    X, X, X, X, X, X, X, X, X, X, X, X, X, X, X, X, X, X, X, X, X, X, X, X, X, X, X, X, X, X, X, X,
-    X, X, X, X, X, X, X, X, X, X, X, X, X, X, X, X, X, X, X, X, X, X, X, X, X, X, X, X, X, X, X, X,
-    X, X, X, X, X, X, X, X, X, X, X, X, X, X, X, X, X, X, X, X, X, X, X, X, X, X, X, X, X, X, X, X,
-    X, X, X, X,
-];
-
-// The value of a hexadecimal digit; 16 for any other octet.
-fn digit(octet: u8) -> u8
-    ensures { result ≡ unwrap_or (digit_value octet) 16 }
+// Whether an octet is a hexadecimal digit of either case.
+fn is_digit(octet: u8) -> bool
+    ensures { result ≡ is_digit octet }
 {
-    DIGITS[octet as usize]
+    matches!(octet, b'0'..=b'9' | b'A'..=b'F' | b'a'..=b'f')
+}
+
+// The value of a digit: the low half of its octet, and nine more for a letter. That of any other octet
+// says nothing.
+fn value(digit: u8) -> u8
+    ensures { (v : ℕ) → digit_value digit ≡ Some v → result ≡ v }
+{
+    digit % 16 + 9 * (digit / 64)
 }
 
 // Whether these are pairs of hexadecimal digits.
 fn are_pairs(digits: &[u8]) -> bool
     ensures { result ≡ is_some (octets_written digits.now) }
 {
-    digits.len() % 2 == 0 && digits.iter().all(|octet| digit(*octet) < 16)
+    digits.len() % 2 == 0 && digits.iter().all(|octet| is_digit(*octet))
+}
+
+// Sixty digits, and four behind them.
+fn wide(digits: &[u8]) -> [u8; 64]
+    requires { length digits.now ≡ 60 }
+    ensures { result ≡ digits.now ++ replicate 4 48 }
+{
+    let mut text = [b'0'; 64];
+    text[..60].copy_from_slice(digits);
+    text
+}
+
+// Whether all of these are digits. Every octet is looked at.
+fn are_digits(text: &[u8; 64]) -> bool
+    ensures { result ≡ list_all is_digit text.now }
+{
+    let mut all = true;
+    for octet in text {
+        all &= is_digit(*octet);
+    }
+    all
+}
+
+// The values of digits.
+fn values_of(digits: &[u8; 64]) -> [u8; 64]
+    requires { list_all is_digit digits.now ≡ true }
+    ensures { map digit_value digits.now ≡ map Some result }
+{
+    let mut values = [0; 64];
+    for place in 0..64 {
+        values[place] = value(digits[place]);
+    }
+    values
+}
+
+// The octets that digits with these values write.
+fn octets_of(values: &[u8; 64]) -> [u8; 32]
+    ensures { (digits : List ℕ) → map digit_value digits ≡ map Some values.now → octets_written digits ≡ Some result }
+{
+    let mut octets = [0; 32];
+    for place in 0..32 {
+        let high = values[2 * place];
+        let low = values[2 * place + 1];
+        octets[place] = high.wrapping_mul(16).wrapping_add(low);
+    }
+    octets
+}
+
+// The octets of a line's own digits.
+fn front(row: &[u8; 32]) -> [u8; 30]
+    ensures { result ≡ take 30 row.now }
+{
+    let mut octets = [0; 30];
+    octets.copy_from_slice(&row[..30]);
+    octets
 }
 
 /// The thirty octets of a line of one frame, which sixty hexadecimal digits write.
@@ -45,14 +96,9 @@ pub(crate) fn thirty_octets(digits: &[u8]) -> Result<[u8; 30], Reason>
             Reason::Hex
         });
     }
-    let mut octets = [0; 30];
-    for i in 0..30 {
-        let high = digit(digits[2 * i]);
-        let low = digit(digits[2 * i + 1]);
-        if high.max(low) > 15 {
-            return Err(Reason::Hex);
-        }
-        octets[i] = high * 16 + low;
+    let text = wide(digits);
+    if !are_digits(&text) {
+        return Err(Reason::Hex);
     }
-    Ok(octets)
+    Ok(front(&octets_of(&values_of(&text))))
 }

@@ -9,7 +9,7 @@ use crate::fault::{Reason, TraceFault};
 use exchange_core::Trace;
 use std::alloc::Global;
 
-/// How many bytes a trace has at most: 64 MiB.
+/// How many bytes a trace has at most: 64 MiB (this exchange's own).
 pub const MOST_BYTES: usize = 67_108_864;
 
 // Reads a trace line by line.

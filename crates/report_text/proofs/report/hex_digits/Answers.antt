@@ -8,15 +8,15 @@ use Rattle.report_text.proofs.report.hex_digits.Goals as goal
 pub loop-place-preserved : goal.loop-place-preserved
 loop-place-preserved c =
     let done = c.loop-place.invariant in
-    let thirty : length c.args.octets.now ≡ 30 = c.told-octets in
-    let octet : ℕ = slice_index c.args.octets.now c.loop-place.place in
+    let whole : length c.args.row.now ≡ 32 = c.told-row in
+    let octet : ℕ = slice_index c.args.row.now c.loop-place.place in
     record {
-      sixty = length-set _ _ _ ∙ length-set _ _ _ ∙ done.sixty;
-      done = encode_step upper_digits c.args.octets.now c.loop-place.digits c.loop-place.place _ _ (omega (arith, thirty, c.loop-place-test.true)) (omega (arith, done.sixty, c.loop-place-test.true)) (ap (λ (k : ℕ). slice_index upper_digits k) c.from.ensures) (ap (λ (k : ℕ). slice_index upper_digits k) (c.from-in-loop-place.ensures ∙ and_mask octet 4)) done.done;
+      wide = length-set _ _ _ ∙ length-set _ _ _ ∙ done.wide;
+      done = encode_step upper_digits c.args.row.now c.loop-place.digits c.loop-place.place _ _ (omega (arith, whole, c.loop-place-test.true)) (omega (arith, done.wide, c.loop-place-test.true)) c.digit.ensures (c.digit-in-loop-place.ensures ∙ ap (λ (k : ℕ). slice_index upper_digits k) (and_mask octet 4)) done.done;
     }
 
 pub returns : goal.returns
 returns c =
     let done = c.loop-place.invariant in
-    let thirty : length c.args.octets.now ≡ 30 = c.told-octets in
-    encode_done upper_digits _ _ c.loop-place.place (omega (arith, thirty, c.loop-place-test.false)) (omega (arith, thirty, done.sixty)) done.done
+    let whole : length c.args.row.now ≡ 32 = c.told-row in
+    encode_done upper_digits _ _ c.loop-place.place (omega (arith, whole, c.loop-place-test.false)) (omega (arith, whole, done.wide)) done.done

@@ -4,6 +4,6 @@ use Rattle.report_text.proofs.report.hex_digits.Given as goal
 
 abbrev pub invariant-loop-place : goal.invariant-loop-place
 invariant-loop-place l = record {
-  sixty : length l.digits ≡ 60;
-  done : take (2 * l.place) l.digits ++ encode_upper (drop l.place l.octets) ≡ encode_upper l.octets;
+  wide : length l.digits ≡ 64;
+  done : take (2 * l.place) l.digits ++ encode_upper (drop l.place l.row) ≡ encode_upper l.row;
 }

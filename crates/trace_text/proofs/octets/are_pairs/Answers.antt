@@ -3,7 +3,8 @@ use Rattle.std.specs.List.{list_all}
 use Rattle.std.proofs.lemmas.Bool.Decides.{nat_tests}
 use Rattle.std.proofs.lemmas.Iterator.{YieldsList-from_slice}
 use Rattle.std.proofs.lemmas.Iterator.Search.{all_from_yields_List}
-use Rattle.trace_text.proofs.TraceOctets.{is_digit, all_digits, odd_digits}
+use Rattle.trace_text.specs.TraceFields.{is_digit}
+use Rattle.trace_text.proofs.TraceOctets.{all_digits, odd_digits}
 use Rattle.trace_text.proofs.octets.are_pairs.Goals as goal
 
 pub returns-then-digits-eq0 : goal.returns-then-digits-eq0

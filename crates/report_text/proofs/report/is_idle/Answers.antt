@@ -1,0 +1,7 @@
+use Rattle.std.proofs.Common.{◌≡◌, ◌∙◌, ◌==◌, ◌++◌, length, replicate, refl}
+use Rattle.circuit_model.specs.FrameInput.{idle_octet}
+use Rattle.report_text.proofs.Wide.{is_same_row, idle_wide}
+use Rattle.report_text.proofs.report.is_idle.Goals as goal
+
+pub returns : goal.returns
+returns c = is_same_row c.args.octets.now c.told-octets _ _ c.wide_row.ensures c.eq.ensures
