@@ -11,8 +11,14 @@ use Rattle.turn_lock.specs.declared.board.Stage.TheVariants.{Idle, Waits, Served
 use Rattle.turn_lock.specs.History.{StartsWith, Every, Once, IsWhole, unseen, entries_of}
 use Rattle.turn_lock.specs.Views.{HoldsTicket, IsServed, tickets_of, Sits, Pairs, total, NoneServed, ticket, serving}
 use Rattle.turn_lock.specs.Rule.{Reserves, IsAt, TurnRule}
-use Rattle.turn_lock.specs.Moves.{IsPast, Foreign}
+use Rattle.turn_lock.specs.Moves.{Foreign}
 use Rattle.turn_lock.proofs.Histories.{every_map, every_both, every_swap, unseen_front}
+
+-- one of the made seats that were joined
+pub record IsPast (log : List Entry) (number made : ℕ) (k : Kept) : Type 0 where
+  pub own_is : k.own ≡ entries_of k.number log
+  pub other : k.number ≢ number
+  pub made_so : k.number ≤ made
 
 module _ {C : Type 0} where
   -- two seats have two numbers, one ticket is held by one, one holds the baton, and no number is kept that a seat has

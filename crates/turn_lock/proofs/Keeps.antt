@@ -16,8 +16,9 @@ use Rattle.turn_lock.specs.declared.board.Stage.{Stage}
 use Rattle.turn_lock.specs.declared.board.Stage.TheVariants.{Idle, Waits, Served}
 use Rattle.turn_lock.specs.Views.{HoldsTicket, IsServed, tickets_of, IsLive, Sits, Pairs, NoneServed}
 use Rattle.turn_lock.specs.Rule.{Reserves, IsAt, TurnRule}
-use Rattle.turn_lock.specs.Moves.{IsPast, Foreign, newcomer, spent, gave, got, joined, rested, passed_on, drew, Gets, looked, passed, met, KnowsAll, Closes}
-use Rattle.turn_lock.proofs.Facts.{Apart, Knows, SeatOk, Facts, facts, ruled, ticket_below}
+use Rattle.turn_lock.specs.Moves.{Foreign, newcomer, spent, gave, got, joined, rested, passed_on, drew, Gets, looked, passed, met, KnowsAll, Closes}
+use Rattle.turn_lock.proofs.Facts.{IsPast, Apart, Knows, SeatOk, Facts, facts, ruled, ticket_below}
+use Rattle.turn_lock.proofs.Numbers.{all_kept}
 use Rattle.turn_lock.proofs.Histories.{every_more, every_left, every_right, every_map, every_both, every_swap, entries_none, entries_same, entries_else, entries_front, starts_more, starts_same, both_begin, squeezed}
 use Rattle.turn_lock.proofs.Views.{total_set, total_spent, total_one, total_two, total_more, total_alone, set_at, seats_set, seats_more, seats_spent, sits_else, pairs_at, pairs_set, pairs_spent, pairs_more}
 
@@ -533,18 +534,21 @@ module _ {S C : Type 0} (setting : S → C) (journal : S → List Entry) (room :
       (λ other. absurd (alone s r id v sits first all l.0 l.1 l.2 other))
 
   settles : (s : St) → Full s → (id : ℕ) (v : V) → Sits s.views id v → v.stage ≡ Idle → v.number ≡ 0 → KnowsAll v
-  settles s r id v sits idle first =
+  settles s r id v sits idle first lock =
       let ok = r.seats id v sits in
       let made_is : v.made ≡ r.made = ok.chief first in
       let none_held : tickets_of v.stage ≡ 0 = ap tickets_of idle in
       let behind = every_swap (λ (e : Entry) (k : Kept). e.by ≢ k.number) ok.rest v.kept (every_map ok.rest (λ e f. f.kept_are) ok.foreign) in
+      let born : Every (λ (e : Entry). e.by ≤ v.made) v.seen = subst (λ (m : ℕ). Every (λ (e : Entry). e.by ≤ m) v.seen) (sym made_is) (every_left _ v.seen ok.rest (subst (Every (λ (e : Entry). e.by ≤ r.made)) ok.whole r.born)) in
+      let others : Every (λ (k : Kept). (k.number ≢ v.number) × (k.number ≤ v.made)) v.kept = every_map v.kept (λ k p. let low = p.made_so in (p.other, omega arith)) ok.kept_is in
       record {
-        own_is = ok.own_is ∙ (ap (entries_of v.number) ok.whole ∙ entries_front v.number v.seen ok.rest (every_map ok.rest (λ e f. f.number_is) ok.foreign));
-        kept_is = subst (λ (m : ℕ). Every (IsPast v.seen v.number m) v.kept) (sym made_is)
-            (every_both v.kept (λ k p none. record { own_is = p.own_is ∙ (ap (entries_of k.number) ok.whole ∙ entries_front k.number v.seen ok.rest none); other = p.other; made_so = p.made_so }) ok.kept_is behind);
+        own = ok.own_is ∙ (ap (entries_of v.number) ok.whole ∙ entries_front v.number v.seen ok.rest (every_map ok.rest (λ e f. f.number_is) ok.foreign));
+        kept = every_both v.kept (λ k p none. p.own_is ∙ (ap (entries_of k.number) ok.whole ∙ entries_front k.number v.seen ok.rest none)) ok.kept_is behind;
+        others = others;
         once = ok.once;
-        born = subst (λ (m : ℕ). Every (λ (e : Entry). e.by ≤ m) v.seen) (sym made_is) (every_left _ v.seen ok.rest (subst (Every (λ (e : Entry). e.by ≤ r.made)) ok.whole r.born));
+        entries_made = born;
         within = let a = total_one left_of s.views id v sits in let g = r.given in let b = ok.budget_is in omega arith;
+        accounted = λ all. every_map v.seen (λ e low. all_kept v.number v.made v.kept first all others ok.once e.by low) born;
         whole = λ all. let only = alone s r id v sits first all in
             let a = total_alone left_of s.views id v sits only in let b = total_alone held_of s.views id v sits only in
             let seen_is = seen_whole s r id v sits first all in

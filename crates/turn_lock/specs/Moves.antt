@@ -1,20 +1,16 @@
 -- What each of the eight moves makes of a view, and what it tells its seat. Source: this exchange's own.
-use Rattle.std.specs.Prelude.{◌≡◌, ◌≢◌, ℕ, ◌+◌, ◌-◌, ◌<◌, ◌≤◌, ◌||◌, Bool, true, false, IsTrue, if◌then◌else◌, List, [], ◌∷◌, ◌++◌, length, Option, Some, None}
+use Rattle.std.specs.Prelude.{◌≡◌, ◌≢◌, ℕ, ◌+◌, ◌-◌, ◌<◌, ◌^◌, ◌||◌, Bool, true, false, IsTrue, if◌then◌else◌, List, [], ◌∷◌, ◌++◌, length, Option, Some, None}
 use Rattle.atomic_table.specs.Table.{Me, Step}
+use Rattle.atomic_table.specs.Seated.{TableId}
 use Rattle.turn_lock.specs.declared.history.Entry.{Entry}
 use Rattle.turn_lock.specs.declared.history.Kept.{Kept}
 use Rattle.turn_lock.specs.declared.board.View.{View}
 use Rattle.turn_lock.specs.declared.board.Stage.{Stage}
 use Rattle.turn_lock.specs.declared.board.Stage.TheVariants.{Idle, Waits, Served}
-use Rattle.turn_lock.specs.History.{entry, StartsWith, Every, Once, longer, entries_of}
+use Rattle.turn_lock.specs.History.{entry, StartsWith, Every, longer, entries_of}
 use Rattle.turn_lock.specs.Views.{Under, IsLive}
 use Rattle.turn_lock.specs.Rule.{IsAt, Reserves}
-
--- what seat 0 knows of one of the seats that were joined
-pub record IsPast (log : List Entry) (number made : ℕ) (k : Kept) : Type 0 where
-  pub own_is : k.own ≡ entries_of k.number log
-  pub other : k.number ≢ number
-  pub made_so : k.number ≤ made
+use Rattle.turn_lock.specs.Seats.{Settled, known}
 
 module _ {C : Type 0} where
   -- seat 0's view where the lock is opened
@@ -49,14 +45,9 @@ module _ {C : Type 0} where
   abbrev pub passed_on : View C → View C
   passed_on v = record v { seen = v.seen ++ entry v.number v.event ∷ []; own = v.own ++ entry v.number v.event ∷ []; stage = Idle }
 
-  -- what seat 0 knows when it has met the others' histories
-  pub record KnowsAll (v : View C) : Type 0 where
-    pub own_is : v.own ≡ entries_of v.number v.seen
-    pub kept_is : Every (IsPast v.seen v.number v.made) v.kept
-    pub once : Once v.kept
-    pub born : Every (λ (e : Entry). e.by ≤ v.made) v.seen
-    pub within : v.left ≤ v.budget
-    pub whole : v.made ≡ length v.kept → length v.seen + v.left ≡ v.budget
+  -- what seat 0 knows when it has met the others' histories, of whichever lock it is
+  abbrev pub KnowsAll : View C → Type 0
+  KnowsAll v = (lock : TableId) → Settled (known lock v)
 
 module _ {C : Type 0} (reserved : C → ℕ → Type 0) where
   -- an entry that a seat need not have seen: neither its own nor one that it keeps, and no reserved one where the seat holds the baton
@@ -124,3 +115,13 @@ module _ {S C : Type 0} (setting : S → C) (journal : S → List Entry) where
     pub setting_is : v.setting ≡ Some (setting x)
     pub journal_is : journal x ≡ v.seen
     pub settled : KnowsAll v
+
+module _ {S C : Type 0} where
+  -- The seat is in no call, and the numbers in its hand are its view's
+  pub record IsSeated (me : Me (Option S) (View C)) (number left : ℕ) (baton : Bool) (made : ℕ) : Type 0 where
+    pub free : IsFree me
+    pub number_is : me.0.number ≡ number
+    pub left_is : me.0.left ≡ left
+    pub baton_is : me.0.baton ≡ baton
+    pub made_is : me.0.number ≡ 0 → me.0.made ≡ made
+    pub small : me.0.budget < 2 ^ 32

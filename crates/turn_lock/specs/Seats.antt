@@ -1,12 +1,11 @@
 -- A lock and its seats as a caller knows them. Source: this exchange's own.
-use Rattle.std.specs.Prelude.{◌≡◌, ◌≢◌, ℕ, ◌+◌, ◌-◌, ◌<◌, ◌≤◌, ◌^◌, ◌||◌, Bool, true, false, if◌then◌else◌, List, [], ◌∷◌, ◌++◌, length, Option, Some, None}
-use Rattle.atomic_table.specs.Table.{Me}
+use Rattle.std.specs.Prelude.{◌≡◌, ◌≢◌, ℕ, ◌+◌, ◌-◌, ◌≤◌, ◌||◌, nat_eq, Bool, true, false, IsTrue, if◌then◌else◌, List, [], ◌∷◌, ◌++◌, map, length, Option, Some}
+use Rattle.std.specs.List.{list_any}
 use Rattle.atomic_table.specs.Seated.{TableId}
 use Rattle.turn_lock.specs.declared.history.Entry.{Entry}
 use Rattle.turn_lock.specs.declared.history.Kept.{Kept}
 use Rattle.turn_lock.specs.declared.board.View.{View}
 use Rattle.turn_lock.specs.History.{entry, Every, Once, longer, entries_of}
-use Rattle.turn_lock.specs.Moves.{IsFree}
 
 -- a lock: which one it is, and the setting and the budget that it was opened with
 pub record Lock (C : Type 0) : Type 0 where
@@ -57,9 +56,13 @@ module _ {C : Type 0} where
   abbrev pub joining : Known C → Known C → Known C
   joining seat other = record seat { left = seat.left + other.left; baton = seat.baton || other.baton; seen = longer seat.seen other.seen; kept = keeping other ∷ seat.kept }
 
-  -- What a seat has seen and the seats made account for each other: the seat's own entries are those with its number, what it keeps for a seat that
-  -- was joined are those with that number, and every number is 0 or that of a seat made. Where all others were joined, each entry is its own or kept,
-  -- and with the turns left they make up the budget.
+  -- the number is the seat's own, or one that it keeps
+  abbrev pub Accounts : Known C → ℕ → Type 0
+  Accounts seat n = IsTrue (nat_eq n seat.number || list_any (nat_eq n) (map (λ (k : Kept). k.number) seat.kept))
+
+  -- Seat 0 where it has met what all that it joined had seen. Its own entries are those with its number, and what it keeps for a seat that was joined
+  -- are those with that number; the numbers kept differ from each other and from its own, and like all numbers of entries they are at most how many
+  -- seats were made. Where all others were joined, each entry is its own or kept, and the entries and the turns left make up the budget.
   pub record Settled (seat : Known C) : Type 0 where
     pub own : seat.own ≡ entries_of seat.number seat.seen
     pub kept : Every (λ (k : Kept). k.own ≡ entries_of k.number seat.seen) seat.kept
@@ -67,19 +70,9 @@ module _ {C : Type 0} where
     pub once : Once seat.kept
     pub entries_made : Every (λ (e : Entry). e.by ≤ seat.made) seat.seen
     pub within : seat.left ≤ seat.budget
+    pub accounted : seat.made ≡ length seat.kept → Every (λ (e : Entry). Accounts seat e.by) seat.seen
     pub whole : seat.made ≡ length seat.kept → length seat.seen + seat.left ≡ seat.budget
 
-module _ {C : Type 0} where
-  -- what a caller knows of a seat, by its token at the table
+  -- what a caller knows of a seat: its view, but for what only a call in progress needs
   abbrev pub known : TableId → View C → Known C
   known lock v = record { lock = lock; setting = v.setting; budget = v.budget; number = v.number; left = v.left; baton = v.baton; seen = v.seen; own = v.own; made = v.made; kept = v.kept }
-
-module _ {S C : Type 0} where
-  -- the seat is in no call, and the numbers in its hand are its view's
-  pub record IsSeated (me : Me (Option S) (View C)) (number left : ℕ) (baton : Bool) (made : ℕ) : Type 0 where
-    pub free : IsFree me
-    pub number_is : me.0.number ≡ number
-    pub left_is : me.0.left ≡ left
-    pub baton_is : me.0.baton ≡ baton
-    pub made_is : me.0.number ≡ 0 → me.0.made ≡ made
-    pub small : me.0.budget < 2 ^ 32

@@ -34,7 +34,8 @@ pub struct Seat<S: Stepper> {
 }
 
 impl<S: Stepper> Model for Seat<S> {
-    ghost use Rattle.turn_lock.specs.Seats.{Known, IsSeated, known};
+    ghost use Rattle.turn_lock.specs.Seats.{Known, known};
+    ghost use Rattle.turn_lock.specs.Moves.{IsSeated};
 
     ghost Value = { Known S.Setting };
 
@@ -91,7 +92,9 @@ impl<S: Stepper> TurnLock<S> {
         // The holder of the baton had seen every reserved entry of the history before.
         ensures reserved { IsTrue seat.old.baton → Every (λ e. S.reserved self.now.setting e.event → ⊥) (unseen seat.old.seen (before result.0 seat.new.seen)) }
     {
-        let (place, reply) = self.board.step(rt, &mut seat.token, seat.number, event, tool);
+        let (place, reply) = self
+            .board
+            .step(rt, &mut seat.token, seat.number, event, tool);
         seat.left -= 1;
         (place as u32, reply)
     }

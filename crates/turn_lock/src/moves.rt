@@ -86,6 +86,7 @@ impl<S: Stepper> Board<S> {
         ensures first { StartsWith seat.new.me.0.seen seat.old.me.0.seen }
         ensures second { StartsWith seat.new.me.0.seen other.me.0.seen }
         ensures settled { KnowsAll seat.new.me.0 }
+        ensures within { seat.new.me.0.left ≤ seat.new.me.0.budget }
     {
         self.table.shared.join_seat::<Glue>(seat, other);
         self.table.shared.load::<Meet<S>>(seat, 0);
