@@ -28,9 +28,11 @@ pub record Known (C : Type 0) : Type 0 where
   pub kept : List Kept
 
 module _ {C : Type 0} where
-  -- the seat is one of this lock's
-  abbrev pub IsSeatOf : Lock C → Known C → Type 0
-  IsSeatOf lock seat = (seat.lock ≡ lock.id) × (seat.setting ≡ Some lock.setting) × (seat.budget ≡ lock.budget)
+  -- the seat is one of this lock's, and knows its setting and its budget
+  pub record IsSeatOf (lock : Lock C) (seat : Known C) : Type 0 where
+    pub lock_is : seat.lock ≡ lock.id
+    pub setting_is : seat.setting ≡ Some lock.setting
+    pub budget_is : seat.budget ≡ lock.budget
 
   -- seat 0 of a lock that was opened: it has all turns and the baton
   abbrev pub first_seat : Lock C → Known C

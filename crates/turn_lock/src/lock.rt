@@ -55,6 +55,7 @@ impl<S: Stepper> TurnLock<S> {
         requires empty { S.journal state ≡ [] }
         requires room { budget ≤ S.room state }
         ensures lock { IfOk result (λ r. (r.0.setting ≡ S.setting state) × (r.0.budget ≡ budget)) }
+        ensures of { IfOk result (λ r. IsSeatOf r.0 r.1) }
         ensures seat { IfOk result (λ r. r.1 ≡ first_seat r.0) }
         ensures refused { IfErr result (λ e. e.0 ≡ state) }
     {
@@ -82,6 +83,7 @@ impl<S: Stepper> TurnLock<S> {
         requires turn { 0 < seat.old.left }
         requires baton { S.reserved self.now.setting event → IsTrue seat.old.baton }
         requires ready { S.ready self.now.setting event tool.old }
+        ensures of { IsSeatOf self.now seat.new }
         // One turn less, and its entry behind the history before it and among its own. The rest of what the seat knows is as it was.
         ensures seat { seat.new ≡ stepping (before result.0 seat.new.seen) event seat.old }
         ensures place { length seat.new.seen ≡ result.0 + 1 }
@@ -149,6 +151,7 @@ impl<S: Stepper> Seat<S> {
         requires turns { budget ≤ self.old.left }
         requires baton { IsTrue baton → IsTrue self.old.baton }
         requires numbers { self.old.made + 1 < 2 ^ 32 }
+        ensures of { IsSeatOf lock.now self.new × IsSeatOf lock.now result }
         ensures old { self.new ≡ giving budget baton self.old }
         ensures new { result ≡ getting budget baton self.old }
     {
@@ -171,6 +174,7 @@ impl<S: Stepper> Seat<S> {
     pub fn join(&mut self, lock: &TurnLock<S>, other: Seat<S>)
         requires of { IsSeatOf lock.now self.old × IsSeatOf lock.now other }
         requires chief { self.old.number ≡ 0 }
+        ensures of { IsSeatOf lock.now self.new }
         ensures seat { self.new ≡ joining self.old other }
         ensures first { StartsWith self.new.seen self.old.seen }
         ensures second { StartsWith self.new.seen other.seen }
