@@ -1,0 +1,96 @@
+-- The rule of the lock: what holds between any two moves. It has seven parts.
+-- Source: this exchange's own. The two words are those of the ticket lock: J. M. Mellor-Crummey and M. L. Scott, "Algorithms for
+-- scalable synchronization on shared-memory multiprocessors", ACM Transactions on Computer Systems 9 (1), 1991, section 2.2.
+use Rattle.std.specs.Prelude.{◌≡◌, ◌≢◌, ℕ, ◌+◌, ◌<◌, ◌≤◌, ◌^◌, IsTrue, List, length, Option, Some}
+use mathlib.Core.Option.{some}
+use lib.ListN.{get_elem?}
+use Rattle.atomic_table.specs.Table.{State}
+use Rattle.turn_lock.specs.declared.history.Entry.{Entry}
+use Rattle.turn_lock.specs.declared.history.Kept.{Kept}
+use Rattle.turn_lock.specs.declared.board.View.{View}
+use Rattle.turn_lock.specs.History.{StartsWith, Every, Once, IsWhole, unseen}
+use Rattle.turn_lock.specs.Views.{HoldsTicket, IsServed, tickets_of, Under, Sits, Each, Pairs, total, NoneServed, ticket, serving}
+
+module _ {X C : Type 0} where
+  -- 1. One history. Some seat has seen all of it, what each seat has seen begins it, and `serving` is its length.
+  pub record OneHistory (log : List Entry) (s : State X (View C)) : Type 0 where
+    pub length_is : serving s ≡ length log
+    pub longest : (j : ℕ) × (v : View C) × Sits s.views j v × (v.seen ≡ log)
+    pub begun : Each s.views (λ v. StartsWith log v.seen)
+
+  -- 2. Tickets. Those that were drawn and the turns left make up the budget. The tickets held are the numbers from `serving` up to `ticket`,
+  -- each held by one seat.
+  pub record Tickets (budget : ℕ) (s : State X (View C)) : Type 0 where
+    pub budget_is : ticket s + total (λ (v : View C). v.left) s.views ≡ budget
+    pub held : serving s + total (λ (v : View C). tickets_of v.stage) s.views ≡ ticket s
+    pub between : Each s.views (λ v. (t : ℕ) → HoldsTicket v.stage t → (serving s ≤ t) × (t < ticket s))
+    pub one_each : Pairs (λ v w. (t : ℕ) → HoldsTicket v.stage t → HoldsTicket w.stage t → ⊥) s.views
+
+module _ {C : Type 0} where
+  -- 3. Own entries. A seat's own are the history's entries with its number, and it has seen them all; the same holds of the entries that seat 0
+  -- keeps for each seat that was joined. No two of these numbers are the same, and none is above the number of seats made. A number that was not
+  -- made has no entry.
+  pub record OwnEntries (log : List Entry) (made : ℕ) (views : List (View C)) : Type 0 where
+    pub own : Each views (λ v. IsWhole log v.seen v.number v.own)
+    pub kept : Each views (λ v. Every (λ (k : Kept). IsWhole log v.seen k.number k.own) v.kept)
+    pub differ : Pairs (λ v w. v.number ≢ w.number) views
+    pub gone : Pairs (λ v w. Every (λ (k : Kept). k.number ≢ w.number) v.kept) views
+    pub not_mine : Each views (λ v. Every (λ (k : Kept). k.number ≢ v.number) v.kept)
+    pub kept_once : Each views (λ v. Once v.kept)
+    pub number_made : Each views (λ v. v.number ≤ made)
+    pub kept_made : Each views (λ v. Every (λ (k : Kept). k.number ≤ made) v.kept)
+    pub entries_made : Every (λ (e : Entry). e.by ≤ made) log
+
+module _ {S C : Type 0} (setting : S → C) (journal : S → List Entry) (room : S → ℕ) where
+  -- the state is at this history, and has room for the steps that may still come
+  pub record IsAt (opening : Option C) (budget : ℕ) (log : List Entry) (x : S) : Type 0 where
+    pub setting_is : opening ≡ Some (setting x)
+    pub journal_is : journal x ≡ log
+    pub roomy : budget ≤ room x + length log
+
+  -- 4. The slot's way. It is out with the one seat whose turn it is: that seat's ticket is `serving`, and the seat has seen the whole history.
+  -- Where it is no seat's turn, the slot is at home and holds the state, whose journal is the history. Every view has the setting and the budget
+  -- of the opening, and no move changes these.
+  pub record SlotsWay (opening : C) (budget : ℕ) (log : List Entry) (s : State (Option S) (View C)) : Type 0 where
+    pub turn : Each s.views (λ v. IsServed v.stage → HoldsTicket v.stage (serving s) × (v.seen ≡ log))
+    pub home : NoneServed s.views → (x : S) × (get_elem? s.homes 0 ≡ some (some (Some x))) × IsAt (Some opening) budget log x
+    pub opened : Each s.views (λ v. (v.setting ≡ Some opening) × (v.budget ≡ budget))
+
+module _ {C : Type 0} (reserved : C → ℕ → Type 0) where
+  -- the setting reserves the event
+  abbrev pub Reserves : Option C → ℕ → Type 0
+  Reserves setting event = Under setting (λ c. reserved c event)
+
+  -- 5. The baton. One seat at most holds it. Who holds a ticket for a reserved event holds the baton, and its holder has seen every reserved
+  -- entry of the history.
+  pub record Baton (log : List Entry) (views : List (View C)) : Type 0 where
+    pub one : Pairs (λ v w. IsTrue v.baton → IsTrue w.baton → ⊥) views
+    pub asked : Each views (λ v. (t : ℕ) → HoldsTicket v.stage t → Reserves v.setting v.event → IsTrue v.baton)
+    pub seen : Each views (λ v. IsTrue v.baton → Every (λ (e : Entry). Reserves v.setting e.event → ⊥) (unseen v.seen log))
+
+module _ {C : Type 0} where
+  -- 6. How many seats. Seat 0, the seats that it made and the seats that were joined add up; seat 0 counts those made, and it alone keeps entries.
+  pub record HowMany (made : ℕ) (views : List (View C)) : Type 0 where
+    pub count : total (λ (v : View C). 1) views + total (λ (v : View C). length v.kept) views ≡ made + 1
+    pub counts : Each views (λ v. v.number ≡ 0 → v.made ≡ made)
+    pub keeps : Each views (λ v. v.number ≢ 0 → length v.kept ≡ 0)
+
+  -- 7. Old histories. What seat 0 and the seat that it joins had seen begins what seat 0 has seen.
+  abbrev pub OldHistories : List (View C) → Type 0
+  OldHistories views = Each views (λ v. StartsWith v.seen v.first × StartsWith v.seen v.second)
+
+module _ {S C : Type 0} (setting : S → C) (journal : S → List Entry) (room : S → ℕ) (reserved : C → ℕ → Type 0) where
+  -- The rule of a lock that was opened with this setting and this budget: there are a history and a number of seats made, of which all seven parts hold
+  pub record TurnRule (opening : C) (budget : ℕ) (s : State (Option S) (View C)) : Type 0 where
+    pub log : List Entry
+    pub made : ℕ
+    pub small : budget < 2 ^ 32
+    pub words : length s.words ≡ 2
+    pub slots : length s.homes ≡ 1
+    pub one_history : OneHistory log s
+    pub tickets : Tickets budget s
+    pub own_entries : OwnEntries log made s.views
+    pub slots_way : SlotsWay setting journal room opening budget log s
+    pub baton : Baton reserved log s.views
+    pub how_many : HowMany made s.views
+    pub old_histories : OldHistories s.views

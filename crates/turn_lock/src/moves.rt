@@ -1,0 +1,235 @@
+//! The moves of the lock, each one step on a word of its table or on its slot.
+ghost use Rattle.std.specs.Prelude.{◌≡◌, ℕ, ◌+◌, ◌-◌, ◌<◌, ◌++◌, [], ◌∷◌, ◌≤◌, length, Some, None, IfOk, IfErr, IsTrue};
+ghost use Rattle.turn_lock.specs.declared.board.Stage.TheVariants.{Idle, Waits, Served};
+ghost use Rattle.turn_lock.specs.History.{entry, StartsWith};
+ghost use Rattle.turn_lock.specs.Views.{IsLive, Under};
+ghost use Rattle.turn_lock.specs.Rule.{IsAt, Reserves};
+ghost use Rattle.turn_lock.specs.Moves.{Gets, IsFree, Closes, KnowsAll, Steps, newcomer, gave, got, joined, rested, passed_on};
+
+use crate::board::{Aim, Gift, Opening, Token, Turns, View};
+use crate::plays::{Cut, Draw, Glue, Look, Meet, Pass};
+use crate::stepper::Stepper;
+use atomic_table::{Refused, Table};
+use std::alloc::{AllocError, AllocFailed, Global};
+use std::marker::Brand;
+use std::snapshot::Snapshot;
+use std::sync::Wait;
+use std::thread;
+
+/// The table of a lock: two words and one slot.
+#[derive(Drop)]
+pub struct Board<S: Stepper> {
+    table: Table<Option<S>, View<S::Setting>, Opening<S>, Turns<S>, Global>,
+    ghost sized: { (table.shared.table_id.words ≡ 2) × (table.shared.table_id.slots ≡ 1) },
+}
+
+impl<S: Stepper> Board<S> {
+    // The table with the state at home, and seat 0. A refusal hands the state back.
+    pub(crate) fn open(
+        alloc: Global,
+        state: S,
+        budget: u32,
+    ) -> Result<(Board<S>, Token<S>), (S, AllocError)>
+        requires empty { S.journal state ≡ [] }
+        requires room { budget ≤ S.room state }
+        ensures lock { IfOk result (λ r. (r.1.table_id ≡ r.0.table.shared.table_id) × (r.0.table.shared.key.state.value ≡ state) × (r.0.table.shared.key.budget ≡ budget)) }
+        ensures seat { IfOk result (λ r. r.1.me ≡ (newcomer (S.setting state) budget, [])) }
+        ensures refused { IfErr result (λ e. e.0 ≡ state) }
+    {
+        let opening = Opening {
+            state: Snapshot::of(&state),
+            budget: u64::from(budget),
+        };
+        let slots = match one_slot(alloc, state) {
+            Ok(slots) => slots,
+            Err(state) => return Err((state, AllocError)),
+        };
+        match Table::new(alloc, &[0, 0], slots, &opening) {
+            Ok((table, seat)) => Ok((Board { table }, seat)),
+            Err(Refused { slots }) => Err((only(slots), AllocError)),
+        }
+    }
+
+    // Split: what `G` names goes over to a new seat.
+    fn cut<G: Gift>(&self, seat: &mut Token<S>, turns: u32, baton: bool) -> Token<S>
+        requires lock { seat.old.table_id ≡ self.now.table.shared.table_id }
+        requires chief { IsFree seat.old.me × (seat.old.me.0.number ≡ 0) }
+        requires turns { (G.turns ≡ turns) × (turns ≤ seat.old.me.0.left) }
+        requires baton { (G.baton ≡ baton) × (IsTrue baton → IsTrue seat.old.me.0.baton) }
+        ensures lock { (seat.new.table_id ≡ seat.old.table_id) × (result.table_id ≡ seat.old.table_id) }
+        ensures old { seat.new.me ≡ (gave turns baton seat.old.me.0, seat.old.me.1) }
+        ensures new { result.me ≡ (got turns baton seat.old.me.0, []) }
+    {
+        self.table.shared.split_seat::<Cut<G>>(seat)
+    }
+
+    // Split: some of the turns go over to a new seat, and the baton where asked.
+    pub(crate) fn split(&self, seat: &mut Token<S>, turns: u32, baton: bool) -> Token<S>
+        requires lock { seat.old.table_id ≡ self.now.table.shared.table_id }
+        requires chief { IsFree seat.old.me × (seat.old.me.0.number ≡ 0) }
+        requires turns { turns ≤ seat.old.me.0.left }
+        requires baton { IsTrue baton → IsTrue seat.old.me.0.baton }
+        ensures lock { (seat.new.table_id ≡ seat.old.table_id) × (result.table_id ≡ seat.old.table_id) }
+        ensures old { seat.new.me ≡ (gave turns baton seat.old.me.0, seat.old.me.1) }
+        ensures new { result.me ≡ (got turns baton seat.old.me.0, []) }
+    {
+        self.cut::<Brand>(seat, turns, baton)
+    }
+
+    // Join and meet: seat 0 takes another seat in and keeps its entries, and learns that both histories begin what it has seen.
+    pub(crate) fn join(&self, seat: &mut Token<S>, other: Token<S>)
+        requires lock { (seat.old.table_id ≡ self.now.table.shared.table_id) × (other.table_id ≡ self.now.table.shared.table_id) }
+        requires chief { IsFree seat.old.me × (seat.old.me.0.number ≡ 0) }
+        requires other { IsFree other.me }
+        ensures lock { seat.new.table_id ≡ seat.old.table_id }
+        ensures view { seat.new.me ≡ (rested (joined seat.old.me.0 other.me.0), []) }
+        ensures first { StartsWith seat.new.me.0.seen seat.old.me.0.seen }
+        ensures second { StartsWith seat.new.me.0.seen other.me.0.seen }
+        ensures settled { KnowsAll seat.new.me.0 }
+        ensures within { seat.new.me.0.left ≤ seat.new.me.0.budget }
+    {
+        self.table.shared.join_seat::<Glue>(seat, other);
+        self.table.shared.load::<Meet<S>>(seat, 0);
+    }
+
+    // Draw: a ticket for the event that `E` names.
+    fn draw<E: Aim>(&self, seat: &mut Token<S>) -> u64
+        requires lock { seat.old.table_id ≡ self.now.table.shared.table_id }
+        requires turn { IsFree seat.old.me × (0 < seat.old.me.0.left) }
+        requires baton { Reserves S.reserved seat.old.me.0.setting E.event → IsTrue seat.old.me.0.baton }
+        ensures lock { seat.new.table_id ≡ seat.old.table_id }
+        ensures view { seat.new.me.0 ≡ record seat.old.me.0 { left = seat.old.me.0.left - 1; stage = Waits result; event = E.event } }
+        ensures slots { seat.new.me.1 ≡ seat.old.me.1 }
+    {
+        self.table.shared.fetch_add::<Draw<S, E>>(seat, 0, 1)
+    }
+
+    // Draw: a ticket for an event.
+    fn draw_for<E: Aim>(&self, seat: &mut Token<S>, event: u32) -> u64
+        requires lock { seat.old.table_id ≡ self.now.table.shared.table_id }
+        requires turn { IsFree seat.old.me × (0 < seat.old.me.0.left) }
+        requires aim { E.event ≡ event }
+        requires baton { Reserves S.reserved seat.old.me.0.setting E.event → IsTrue seat.old.me.0.baton }
+        ensures lock { seat.new.table_id ≡ seat.old.table_id }
+        ensures view { seat.new.me.0 ≡ record seat.old.me.0 { left = seat.old.me.0.left - 1; stage = Waits result; event = event } }
+        ensures slots { seat.new.me.1 ≡ seat.old.me.1 }
+    {
+        self.draw::<E>(seat)
+    }
+
+    // Look: again and again, until the turn of the ticket has come.
+    fn wait<R: Wait>(&self, rt: &R, seat: &mut Token<S>, ticket: u64)
+        requires lock { seat.old.table_id ≡ self.now.table.shared.table_id }
+        requires ticket { IsLive seat.old.me.0.setting × (seat.old.me.0.stage ≡ Waits ticket) × (seat.old.me.1 ≡ []) }
+        ensures lock { seat.new.table_id ≡ seat.old.table_id }
+        ensures gets { Gets S.setting S.journal S.room S.reserved ticket seat.old.me seat.new.me }
+    {
+        for _ in rt.forever() {
+            if self.table.shared.load::<Look<S>>(seat, 1) == ticket {
+                return;
+            }
+            thread::yield_now();
+        }
+        unreachable!()
+    }
+
+    // Take and give: the state leaves its slot, is stepped, and comes back into it.
+    fn serve(&self, seat: &mut Token<S>, by: u32, event: u32, tool: &mut S::Tool) -> S::Reply
+        requires lock { seat.old.table_id ≡ self.now.table.shared.table_id }
+        requires state { (x : S) × (seat.old.me.1 ≡ (0, Some x) ∷ []) × IsAt S.setting S.journal S.room seat.old.me.0.setting seat.old.me.0.budget seat.old.me.0.seen x }
+        requires turn { length seat.old.me.0.seen < seat.old.me.0.budget }
+        requires ready { Under seat.old.me.0.setting (λ c. S.ready c event tool.old) }
+        ensures lock { seat.new.table_id ≡ seat.old.table_id }
+        ensures view { seat.new.me.0 ≡ seat.old.me.0 }
+        ensures state { (x : S) × (seat.new.me.1 ≡ (0, Some x) ∷ []) × IsAt S.setting S.journal S.room seat.old.me.0.setting seat.old.me.0.budget (seat.old.me.0.seen ++ entry by event ∷ []) x }
+        ensures answers { Under seat.old.me.0.setting (λ c. S.answers c seat.old.me.0.seen by event result tool.new) }
+    {
+        let Some(mut state) = self.table.shared.exchange(seat, 0, None) else {
+            unreachable!()
+        };
+        let reply = state.step(by, event, tool);
+        match self.table.shared.exchange(seat, 0, Some(state)) {
+            None => {}
+            Some(_) => unreachable!(),
+        }
+        reply
+    }
+
+    // Pass: the turn goes on to the next ticket, and the call's entry behind the history.
+    fn pass(&self, seat: &mut Token<S>)
+        requires lock { seat.old.table_id ≡ self.now.table.shared.table_id }
+        requires served { IsLive seat.old.me.0.setting × ((t : ℕ) × (seat.old.me.0.stage ≡ Served t)) }
+        requires state { (x : S) × (seat.old.me.1 ≡ (0, Some x) ∷ []) × IsAt S.setting S.journal S.room seat.old.me.0.setting seat.old.me.0.budget (seat.old.me.0.seen ++ entry seat.old.me.0.number seat.old.me.0.event ∷ []) x }
+        ensures lock { seat.new.table_id ≡ seat.old.table_id }
+        ensures view { seat.new.me ≡ (passed_on seat.old.me.0, []) }
+    {
+        self.table.shared.fetch_add::<Pass<S>>(seat, 1, 1);
+    }
+
+    // The five moves of a step. It answers the ticket, which is the place in the history, and the reply.
+    pub(crate) fn step<R: Wait>(
+        &self,
+        rt: &R,
+        seat: &mut Token<S>,
+        by: u32,
+        event: u32,
+        tool: &mut S::Tool,
+    ) -> (u64, S::Reply)
+        requires lock { seat.old.table_id ≡ self.now.table.shared.table_id }
+        requires turn { IsFree seat.old.me × (0 < seat.old.me.0.left) }
+        requires number { seat.old.me.0.number ≡ by }
+        requires baton { Reserves S.reserved seat.old.me.0.setting event → IsTrue seat.old.me.0.baton }
+        requires ready { Under seat.old.me.0.setting (λ c. S.ready c event tool.old) }
+        ensures lock { seat.new.table_id ≡ seat.old.table_id }
+        ensures history { Steps S.reserved S.answers seat.old.me.0 event result.0 result.1 tool.new seat.new.me.0 }
+        ensures free { IsFree seat.new.me }
+    {
+        let ticket = self.draw_for::<Brand>(seat, event);
+        self.wait(rt, seat, ticket);
+        let reply = self.serve(seat, by, event, tool);
+        self.pass(seat);
+        (ticket, reply)
+    }
+
+    // The state, where all other seats were joined.
+    pub(crate) fn close(self, seat: Token<S>) -> S
+        requires lock { seat.table_id ≡ self.table.shared.table_id }
+        requires chief { IsFree seat.me × (seat.me.0.number ≡ 0) }
+        requires all { seat.me.0.made ≡ length seat.me.0.kept }
+        ensures state { Closes S.setting S.journal seat.me.0 result }
+    {
+        let Board { table } = self;
+        let mut closed = table.close_with(seat);
+        let state = closed.take(0);
+        closed.free();
+        match state {
+            Some(state) => state,
+            None => unreachable!(),
+        }
+    }
+}
+
+// A list of the one state.
+fn one_slot<S>(alloc: Global, state: S) -> Result<Vec<Option<S>>, S>
+    ensures ok { IfOk result (λ v. v.items ≡ Some state ∷ []) }
+    ensures err { IfErr result (λ s. s ≡ state) }
+{
+    let mut slots = Vec::new(alloc);
+    match slots.push(Some(state)) {
+        Ok(()) => Ok(slots),
+        Err(AllocFailed { value }) => {
+            slots.destroy_empty();
+            Err(value.unwrap())
+        }
+    }
+}
+
+// The one state of such a list.
+fn only<S>(mut slots: Vec<Option<S>>) -> S
+    requires { (s : S) × (slots.items ≡ Some s ∷ []) }
+    ensures { slots.items ≡ Some result ∷ [] }
+{
+    let last = slots.pop();
+    slots.destroy_empty();
+    last.unwrap().unwrap()
+}

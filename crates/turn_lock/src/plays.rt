@@ -1,0 +1,57 @@
+//! The moves, as the table asks for them: what each tells its seat, and how a view is cut in two and two are made one.
+ghost use Rattle.turn_lock.specs.Moves.{drew, looked, passed, met, gave, got, joined, spent};
+
+use crate::board::{Aim, Gift, View};
+use crate::stepper::Stepper;
+use atomic_table::{Join, Play, Split};
+use std::marker::PhantomData;
+
+pub(crate) struct Cut<G> {
+    marker: PhantomData<G>,
+}
+
+impl<C, G: Gift> Split<View<C>> for Cut<G> {
+    ghost left = { gave G.turns G.baton };
+
+    ghost right = { got G.turns G.baton };
+}
+
+pub(crate) struct Glue;
+
+impl<C> Join<View<C>> for Glue {
+    ghost both = { joined };
+
+    ghost spent = { spent };
+}
+
+pub(crate) struct Meet<S> {
+    marker: PhantomData<S>,
+}
+
+impl<S: Stepper> Play<Option<S>, View<S::Setting>> for Meet<S> {
+    ghost then = { met };
+}
+
+pub(crate) struct Draw<S, E> {
+    marker: PhantomData<(S, E)>,
+}
+
+impl<S: Stepper, E: Aim> Play<Option<S>, View<S::Setting>> for Draw<S, E> {
+    ghost then = { drew S.setting S.journal S.room S.reserved E.event };
+}
+
+pub(crate) struct Look<S> {
+    marker: PhantomData<S>,
+}
+
+impl<S: Stepper> Play<Option<S>, View<S::Setting>> for Look<S> {
+    ghost then = { looked S.setting S.journal S.room S.reserved };
+}
+
+pub(crate) struct Pass<S> {
+    marker: PhantomData<S>,
+}
+
+impl<S: Stepper> Play<Option<S>, View<S::Setting>> for Pass<S> {
+    ghost then = { passed };
+}
