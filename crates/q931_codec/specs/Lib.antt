@@ -4,3 +4,5 @@ pub mod Reading
 pub mod Contents
 pub mod Outgoing
 pub mod Fields
+pub mod CallStates
+pub mod Causes

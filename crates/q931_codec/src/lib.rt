@@ -2,6 +2,7 @@
 //! it, and [`write`] encodes an outgoing one, always in the same way. Nothing here takes memory.
 #![tactic(auto)]
 
+pub mod causes;
 pub mod codes;
 mod contents;
 mod encoding;
@@ -9,6 +10,7 @@ mod kind;
 mod laws;
 mod message;
 mod outgoing;
+pub mod states;
 
 pub use contents::ChannelIdentification;
 pub use encoding::write;

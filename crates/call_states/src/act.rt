@@ -1,0 +1,22 @@
+/// What the exchange does for a message. The number is a cause value (Q.931, 4.5.12).
+#[derive(Clone, Copy, Debug, PartialEq, Eq)]
+pub enum Act {
+    /// Nothing.
+    Nothing,
+    /// The message isn't one of this state: a STATUS says so.
+    Unexpected,
+    /// A STATUS tells the leg's state.
+    Enquiry,
+    /// The called user has all that is needed to set up the call.
+    Proceeding,
+    /// The called user is being alerted.
+    Alerting,
+    /// The called user has answered.
+    Answer,
+    /// The user asks for the call to be cleared.
+    Disconnect(u8),
+    /// The user has released the channel, and waits for the exchange to do so.
+    Released(u8),
+    /// The user has released the channel and the call reference.
+    Gone(u8),
+}

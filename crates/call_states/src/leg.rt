@@ -1,0 +1,49 @@
+use circuit_model::Slot;
+
+/// The two sides of a call.
+#[derive(Clone, Copy, Debug, PartialEq, Eq)]
+pub enum Side {
+    /// The line that asked for the call. It chose the call reference value.
+    Caller,
+    /// The line that the call is for. The exchange chose the call reference value.
+    Called,
+}
+
+impl Side {
+    ghost use Rattle.std.specs.Prelude.{◌≡◌};
+    ghost use Rattle.call_states.specs.Status.{flag_to};
+
+    /// The call reference flag of messages to a leg of this side (Q.931, 4.3): true towards the side that
+    /// chose the call reference value.
+    pub fn flag(self) -> bool
+        ensures { result ≡ flag_to self }
+    {
+        self == Side::Caller
+    }
+}
+
+/// What a leg is in a call with.
+#[derive(Clone, Copy, Debug, PartialEq, Eq)]
+pub enum Peer {
+    /// Nothing: the call is being cleared.
+    Alone,
+    /// The leg that holds this slot.
+    Leg(Slot),
+    /// A conference room.
+    Room(u8),
+}
+
+/// A leg of a call: what the exchange keeps of the call on one line, as long as it holds a slot of it.
+#[derive(Clone, Copy, Debug, PartialEq, Eq)]
+pub struct Leg {
+    /// The call state value (Q.931, 4.5.7), one of [`states`](q931_codec::states).
+    pub state: u8,
+    /// The call reference value (4.3), below 32,768.
+    pub reference: u16,
+    /// Which side of the call the leg is.
+    pub side: Side,
+    /// What the leg is in a call with.
+    pub peer: Peer,
+    /// The cause value (4.5.12) that the leg was cleared with, 0 until then.
+    pub cause: u8,
+}

@@ -1,0 +1,21 @@
+//! The call table: what each message of ITU-T Q.931 (05/98) asks of a leg of a call, by the leg's state.
+//!
+//! The table is a definition in `specs/`, one line for each message type, and [`on_message`] is proved to
+//! give what stands there. Which messages are answered by what is this exchange's own profile of the
+//! recommendation's basic call control. Nothing here takes memory.
+#![tactic(auto)]
+
+mod act;
+mod laws;
+mod leg;
+mod status_message;
+mod table;
+
+pub use act::Act;
+pub use laws::{law_of_causes, law_of_status};
+pub use leg::{Leg, Peer, Side};
+pub use status_message::{status, unexpected};
+pub use table::on_message;
+
+#[cfg(test)]
+mod tests;

@@ -1,0 +1,73 @@
+ghost use Rattle.std.specs.Prelude.{◌≡◌};
+ghost use Rattle.call_states.specs.Acts.{act_of, act_on, is_among, unreleased};
+
+use crate::act::Act;
+use crate::leg::Leg;
+use q931_codec::causes::{NORMAL_CALL_CLEARING, TEMPORARY_FAILURE};
+use q931_codec::states::{
+    ACTIVE, CALL_DELIVERED, CALL_PRESENT, CALL_RECEIVED, DISCONNECT_INDICATION,
+    INCOMING_CALL_PROCEEDING, NULL, OUTGOING_CALL_PROCEEDING, RELEASE_REQUEST,
+};
+use q931_codec::{Message, MessageKind};
+
+/// What a message asks of a leg, by the call table. A message without a readable cause counts as one
+/// with cause 16, normal call clearing.
+pub fn on_message(leg: &Leg, message: &Message) -> Act
+    ensures { result ≡ act_on leg.now.state message.now }
+{
+    let cause = message.cause().unwrap_or(NORMAL_CALL_CLEARING);
+    let tells_null = message.call_state() == Some(NULL);
+    act_of(leg.state, message.kind, cause, tells_null)
+}
+
+// The call table. A message in a state in which it isn't expected is answered with STATUS.
+fn act_of(state: u8, kind: MessageKind, cause: u8, tells_null: bool) -> Act
+    ensures { result ≡ act_of state kind cause tells_null }
+{
+    let unreleased = is_unreleased(state);
+    let releasing = state == RELEASE_REQUEST;
+    match kind {
+        MessageKind::CallProceeding if state == CALL_PRESENT => Act::Proceeding,
+        MessageKind::Alerting if matches!(state, CALL_PRESENT | INCOMING_CALL_PROCEEDING) => {
+            Act::Alerting
+        }
+        MessageKind::Connect
+            if matches!(
+                state,
+                CALL_PRESENT | CALL_RECEIVED | INCOMING_CALL_PROCEEDING
+            ) => { Act::Answer }
+        MessageKind::ConnectAcknowledge if state == ACTIVE => Act::Nothing,
+        MessageKind::Disconnect if unreleased => Act::Disconnect(cause),
+        MessageKind::Release if unreleased => Act::Released(cause),
+        MessageKind::Release if releasing => Act::Gone(cause),
+        MessageKind::ReleaseComplete if unreleased || releasing => Act::Gone(cause),
+        MessageKind::Status if (unreleased || releasing) && tells_null => {
+            Act::Gone(TEMPORARY_FAILURE)
+        }
+        MessageKind::Status if unreleased || releasing => Act::Nothing,
+        MessageKind::StatusEnquiry if unreleased || releasing => Act::Enquiry,
+        MessageKind::Progress
+        | MessageKind::Notify
+        | MessageKind::Facility
+        | MessageKind::UserInformation
+        | MessageKind::Setup
+            if unreleased || releasing => { Act::Nothing }
+        _ => Act::Unexpected,
+    }
+}
+
+// Whether a leg in this state was not asked to release its channel.
+fn is_unreleased(state: u8) -> bool
+    ensures { result ≡ is_among unreleased state }
+{
+    matches!(
+        state,
+        OUTGOING_CALL_PROCEEDING
+            | CALL_DELIVERED
+            | CALL_PRESENT
+            | CALL_RECEIVED
+            | INCOMING_CALL_PROCEEDING
+            | ACTIVE
+            | DISCONNECT_INDICATION
+    )
+}

@@ -1,0 +1,4 @@
+pub mod Side
+pub mod Ordered
+pub mod Looks
+pub mod Searches

@@ -1,0 +1,82 @@
+-- The number plan: its numbers in the order of their digits, and what digits lead to. Source: this exchange's own.
+use Rattle.std.specs.Prelude.{◌≡◌, ℕ, ◌≤◌, Bool, true, false, IsTrue, not, ◌==◌, ◌&&◌, ◌||◌, if◌then◌else◌, List, [], ◌∷◌, length, Option, Some}
+use Rattle.std.specs.List.{list_all, list_any, slice_get, AllPass}
+use Rattle.std.specs.Char.{is_ascii_digit}
+use Rattle.std.specs.Ordering.{is_lt, nat_cmp, ordering_then}
+use Rattle.std.specs.declared.cmp.Ordering.{Ordering}
+use Rattle.std.specs.declared.cmp.Ordering.TheVariants.{Equal}
+use Rattle.number_plan.specs.declared.plan.Number.{Number}
+use Rattle.number_plan.specs.declared.target.Target.{Target}
+use Rattle.number_plan.specs.declared.target.Target.TheVariants as target
+use Rattle.number_plan.specs.declared.target.Found.{Found}
+use Rattle.number_plan.specs.declared.target.Found.TheVariants as answer
+
+-- ---- digits, as IA5 characters
+
+-- what a number of a plan may be
+pub record IsNumber (digits : List ℕ) : Type 0 where
+  pub some : 1 ≤ length digits
+  pub few : length digits ≤ 20
+  pub digits_are : AllPass is_ascii_digit digits
+
+-- the digits begin with the front, or are the front
+abbrev pub begins : List ℕ → List ℕ → Bool
+begins [] digits = true
+begins (d ∷ front) [] = false
+begins (d ∷ front) (e ∷ digits) = d == e && begins front digits
+
+-- the first place in which two strings of digits differ decides which is lower; they are equal where one begins the other
+abbrev pub side_by_side : List ℕ → List ℕ → Ordering
+side_by_side [] others = Equal
+side_by_side (d ∷ digits) [] = Equal
+side_by_side (d ∷ digits) (e ∷ others) = ordering_then (nat_cmp d e) (side_by_side digits others)
+
+-- ---- plans
+
+abbrev pub precedes : Number → Number → Bool
+precedes m n = is_lt (side_by_side m.digits n.digits)
+
+-- each number stands before all those that follow
+abbrev pub in_order : List Number → Bool
+in_order [] = true
+in_order (n ∷ ns) = list_all (precedes n) ns && in_order ns
+
+-- the plan with one more number, in its place
+abbrev pub with_number : List Number → Number → List Number
+with_number [] n = n ∷ []
+with_number (m ∷ ms) n = if precedes n m then n ∷ m ∷ ms else m ∷ with_number ms n
+
+-- no number of the plan begins another one
+abbrev pub AreApart : List Number → Type 0
+AreApart plan = (j k : ℕ) (m n : Number) → slice_get plan j ≡ Some m → slice_get plan k ≡ Some n → IsTrue (begins m.digits n.digits) → j ≡ k
+
+-- some number of the plan equals, begins or continues the digits
+abbrev pub is_taken : List Number → List ℕ → Bool
+is_taken plan digits = list_any (λ n. begins n.digits digits || begins digits n.digits) plan
+
+-- ---- what digits lead to
+
+abbrev pub found_at : Target → Found
+found_at (target.Line line) = answer.Line line
+found_at (target.Room room) = answer.Room room
+
+-- the target of the number that begins the digits, More where a number begins with them, and else Nothing
+abbrev pub found : List Number → List ℕ → Found
+found [] digits = answer.Nothing
+found (n ∷ ns) digits = if begins n.digits digits then found_at n.target else if begins digits n.digits then answer.More else found ns digits
+
+-- a number of the plan begins the digits, and it stands for this target
+pub record LeadsTo (plan : List Number) (digits : List ℕ) (goal : Target) : Type 0 where
+  pub place : ℕ
+  pub number : Number
+  pub is_held : slice_get plan place ≡ Some number
+  pub is_begun : IsTrue (begins number.digits digits)
+  pub target_is : number.target ≡ goal
+
+-- the digits are the beginning of a number of the plan, and not the whole of it
+pub record IsUnfinished (plan : List Number) (digits : List ℕ) : Type 0 where
+  pub place : ℕ
+  pub number : Number
+  pub is_held : slice_get plan place ≡ Some number
+  pub is_begun : IsTrue (begins digits number.digits)
+  pub is_longer : IsTrue (not (begins number.digits digits))

@@ -1,0 +1,148 @@
+use crate::digits::{Digits, side_by_side};
+use crate::target::{Found, Target};
+use std::alloc::{AllocError, Global};
+use std::cmp::Ordering;
+use std::marker::Model;
+use thiserror::Error;
+
+/// The most numbers of a plan. Source: this exchange's own.
+pub const MOST_NUMBERS: usize = 256;
+
+/// A number and what it stands for.
+#[derive(Debug, Drop)]
+pub struct Number {
+    /// The digits.
+    pub digits: Digits,
+    /// What the number stands for.
+    pub target: Target,
+}
+
+/// Why a number can't be added to a plan.
+#[derive(Clone, Copy, Debug, PartialEq, Eq, Error)]
+pub enum PlanFault {
+    /// The number equals, begins or continues one that is held.
+    #[error("the number equals, begins or continues another")]
+    Prefix = 1,
+    /// 256 numbers are held.
+    #[error("the plan is full")]
+    TooMany = 2,
+    /// Want of memory.
+    #[error("out of memory")]
+    Memory = 3,
+}
+
+impl From<AllocError> for PlanFault {
+    ghost use Rattle.std.specs.Prelude.{◌≡◌};
+    ghost use Rattle.number_plan.specs.declared.plan.PlanFault.TheVariants.{Memory};
+
+    ghost from_gives = { λ _ fault. fault ≡ Memory };
+
+    fn from(_: AllocError) -> PlanFault {
+        PlanFault::Memory
+    }
+}
+
+/// A number plan. Contracts see the list of its numbers, in the order of their digits.
+#[derive(Debug, Drop)]
+pub struct Plan {
+    numbers: Vec<Number>,
+}
+
+impl Model for Plan {
+    ghost use Rattle.std.specs.Prelude.{List, ◌≡◌, true, ◌≤◌, length};
+    ghost use Rattle.number_plan.specs.declared.plan.Number.{Number};
+    ghost use Rattle.number_plan.specs.Plan.{in_order};
+
+    ghost Value = { List Number };
+
+    ghost view = { λ p. p.numbers.items };
+
+    ghost invariant = { λ p. (in_order p.numbers.items ≡ true) × (length p.numbers.items ≤ 256) };
+}
+
+impl Plan {
+    ghost use Rattle.std.specs.Prelude.{◌≡◌, ◌↔◌, ◌<◌, ◌≤◌, [], true, false, IsTrue, length, OnOk, OnErr, IfOk, IfErr, IsErrOf};
+    ghost use Rattle.number_plan.specs.Plan.{side_by_side, in_order, with_number, found, is_taken, IsNumber, AreApart};
+    ghost use Rattle.number_plan.specs.Search.{IsBesideAt, IsPlaceFor};
+
+    /// A plan without numbers.
+    pub fn new(alloc: Global) -> Plan
+        ensures { result ≡ [] }
+    {
+        Plan {
+            numbers: Vec::new(alloc),
+        }
+    }
+
+    /// Adds a number of 1 to 20 digits `0` to `9`.
+    ///
+    /// # Errors
+    ///
+    /// - [`PlanFault::Prefix`] exactly where the number equals, begins or continues one that is held.
+    /// - [`PlanFault::TooMany`] exactly where it doesn't, and 256 numbers are held.
+    /// - [`PlanFault::Memory`] for want of memory.
+    ///
+    /// The plan stays as it was then.
+    pub fn add(&mut self, digits: &[u8], target: Target) -> Result<(), PlanFault>
+        requires { IsNumber digits.now }
+        ensures added { OnOk result (self.new ≡ with_number self.old (record { digits = digits.now; target = target })) }
+        ensures refused { OnErr result (self.new ≡ self.old) }
+        ensures prefix { IsErrOf result PlanFault.Prefix ↔ IsTrue (is_taken self.old digits.now) }
+        ensures too_many { IsErrOf result PlanFault.TooMany ↔ ((is_taken self.old digits.now ≡ false) × (length self.old ≡ 256)) }
+        ensures apart { AreApart self.new }
+    {
+        match self.search(digits) {
+            Ok(_) => Err(PlanFault::Prefix),
+            Err(_) if self.numbers.len() == MOST_NUMBERS => Err(PlanFault::TooMany),
+            Err(place) => {
+                let digits = Digits::of(digits);
+                Ok(self.insert(place, Number { digits, target })?)
+            }
+        }
+    }
+
+    /// What the digits lead to.
+    pub fn look(&self, digits: &[u8]) -> Found
+        ensures found { result ≡ found self.now digits.now }
+        ensures apart { AreApart self.now }
+    {
+        match self.search(digits) {
+            Ok(place) => {
+                let number = &self.numbers[place];
+                if number.digits.as_slice().len() <= digits.len() {
+                    Found::from(number.target)
+                } else {
+                    Found::More
+                }
+            }
+            Err(_) => Found::Nothing,
+        }
+    }
+
+    // Where a number begins the digits or begins with them, or else where the digits have their place.
+    fn search(&self, digits: &[u8]) -> Result<usize, usize>
+        ensures beside { IfOk result (IsBesideAt self.now digits.now) }
+        ensures taken { IfOk result (λ _. IsTrue (is_taken self.now digits.now)) }
+        ensures place { IfErr result (IsPlaceFor self.now digits.now) }
+        ensures free { IfErr result (λ _. is_taken self.now digits.now ≡ false) }
+        ensures order { in_order self.now ≡ true }
+        ensures apart { AreApart self.now }
+        ensures few { length self.now ≤ 256 }
+    {
+        self.numbers.binary_search_by(
+            |number: &Number| -> Ordering
+                ensures { result ≡ side_by_side number.now.digits digits.entry.now }
+            { side_by_side(number.digits.as_slice(), digits) },
+        )
+    }
+
+    fn insert(&mut self, place: usize, number: Number) -> Result<(), AllocError>
+        requires place { IsPlaceFor self.old number.digits place }
+        requires few { length self.old < 256 }
+        ensures added { OnOk result (self.new ≡ with_number self.old number) }
+        ensures refused { OnErr result (self.new ≡ self.old) }
+        ensures apart { AreApart self.new }
+    {
+        Ok(self.numbers.insert(place, number)?)
+    }
+}
