@@ -2,3 +2,4 @@ pub mod Ordering
 pub mod Steps
 pub mod Making
 pub mod Past
+pub mod Refusals
