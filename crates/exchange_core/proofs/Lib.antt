@@ -3,3 +3,5 @@ pub mod Steps
 pub mod Making
 pub mod Past
 pub mod Refusals
+pub mod Named
+pub mod Answering

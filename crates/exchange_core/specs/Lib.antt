@@ -12,3 +12,4 @@ pub mod Calls
 pub mod LegStanding
 pub mod Happenings
 pub mod WorkedCalls
+pub mod Answered
