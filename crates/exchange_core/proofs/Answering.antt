@@ -25,10 +25,11 @@ use Rattle.call_states.specs.declared.leg.Peer.TheVariants as peer
 use Rattle.call_states.specs.declared.leg.Side.{Side}
 use Rattle.call_states.specs.declared.leg.Side.TheVariants.{Caller, Called}
 use Rattle.exchange_core.specs.LegStanding.{LegStands, LegsStand, HasPeer, MayHear, IsInCall, AreOneCall, are_matched, alone}
+use Rattle.exchange_core.specs.declared.leg_table.Held.{Held}
 use Rattle.exchange_core.specs.Acts.{course_of, answer}
 use Rattle.exchange_core.specs.Answered.{AreConnected}
 use Rattle.exchange_core.specs.Calls.{Received, For_leg, received, course_for, made_by, after_message}
-use Rattle.exchange_core.specs.Legs.{Legs, Held, leg_at, held_at}
+use Rattle.exchange_core.specs.Legs.{Legs, leg_at, held_at}
 use Rattle.exchange_core.specs.Setup.{Setting}
 use Rattle.exchange_core.specs.World.{World}
 use Rattle.exchange_core.proofs.Named.{received_stands}

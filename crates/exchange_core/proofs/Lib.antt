@@ -5,3 +5,4 @@ pub mod Past
 pub mod Refusals
 pub mod Named
 pub mod Answering
+pub mod Looking

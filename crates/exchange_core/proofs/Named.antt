@@ -10,8 +10,9 @@ use Rattle.q931_codec.specs.declared.message.Discard.{Discard}
 use Rattle.q931_codec.specs.declared.message.Message.{Message}
 use Rattle.q931_codec.specs.Reading.{reading}
 use Rattle.call_states.specs.declared.leg.Leg.{Leg}
+use Rattle.exchange_core.specs.declared.leg_table.Held.{Held}
 use Rattle.exchange_core.specs.Calls.{Received, For_leg, New_call, Unanswered, without_leg, with_leg_named, received_from, received}
-use Rattle.exchange_core.specs.Legs.{Legs, Held, leg_at, held_at, legs_of, slots_of, is_for, leg_named}
+use Rattle.exchange_core.specs.Legs.{Legs, leg_at, held_at, legs_of, slots_of, is_for, leg_named}
 
 -- a slot of the line
 abbrev pub IsOn : ℕ → Slot → Type 0

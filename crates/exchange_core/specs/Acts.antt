@@ -13,8 +13,9 @@ use Rattle.call_states.specs.declared.leg.Leg.{Leg}
 use Rattle.call_states.specs.declared.leg.Peer.{Peer}
 use Rattle.call_states.specs.declared.leg.Peer.TheVariants as peer
 use Rattle.call_states.specs.Status.{flag_to, status, unexpected_cause}
+use Rattle.exchange_core.specs.declared.leg_table.Held.{Held}
 use Rattle.exchange_core.specs.Course.{Course, only, nothing}
-use Rattle.exchange_core.specs.Legs.{Legs, Held, held_at}
+use Rattle.exchange_core.specs.Legs.{Legs, held_at}
 use Rattle.exchange_core.specs.Operations.{Operation, Clear, Pair, Put, Remove, Send}
 
 -- ---- messages to the user of a leg

@@ -21,9 +21,10 @@ use Rattle.exchange_core.specs.declared.record.CallRecord.{CallRecord}
 use Rattle.exchange_core.specs.declared.record.Party.{Party}
 use Rattle.exchange_core.specs.declared.record.Party.TheVariants as party
 use Rattle.exchange_core.specs.declared.signal.Signal.{Signal}
+use Rattle.exchange_core.specs.declared.leg_table.Held.{Held}
 use Rattle.exchange_core.specs.Acts.{course_of}
 use Rattle.exchange_core.specs.Course.{Course, nothing}
-use Rattle.exchange_core.specs.Legs.{Legs, Held, leg_at, held_at, leg_named, same_side}
+use Rattle.exchange_core.specs.Legs.{Legs, leg_at, held_at, leg_named, same_side}
 use Rattle.exchange_core.specs.Operations.{Making, begun, performed_all}
 use Rattle.exchange_core.specs.Setup.{Setting, refusal, course_of_setup}
 use Rattle.exchange_core.specs.World.{World}

@@ -7,6 +7,7 @@ use Rattle.control_memory.specs.Layout.{number_of}
 use Rattle.call_states.specs.declared.leg.Leg.{Leg}
 use Rattle.call_states.specs.declared.leg.Side.{Side}
 use Rattle.call_states.specs.declared.leg.Side.TheVariants.{Caller, Called}
+use Rattle.exchange_core.specs.declared.leg_table.Held.{Held}
 
 -- for each external slot, by its number, the leg that holds it
 abbrev pub Legs : Type 0
@@ -28,11 +29,7 @@ without_leg legs x = slice_set legs (number_of x) None
 unfoldable pub slots_of : ℕ → List Slot
 slots_of line = map (λ place. record { line = line; place = place }) (range_with_len 0 30)
 
--- a leg and the slot that it holds
-pub record Held : Type 0 where
-  pub slot : Slot
-  pub leg : Leg
-
+-- the leg of a slot, with the slot
 abbrev pub held_at : Legs → Slot → Option Held
 held_at legs x = option_map (λ leg. record { slot = x; leg = leg }) (leg_at legs x)
 

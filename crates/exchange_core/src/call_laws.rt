@@ -10,7 +10,7 @@ ghost use Rattle.call_states.specs.declared.leg.Peer.TheVariants as peer;
 ghost use Rattle.exchange_core.specs.Answered.{AreConnected};
 ghost use Rattle.exchange_core.specs.Calls.{For_leg, received, after_message, answer_to, refused_with};
 ghost use Rattle.exchange_core.specs.LegStanding.{LegsStand};
-ghost use Rattle.exchange_core.specs.Legs.{Held};
+ghost use Rattle.exchange_core.specs.declared.leg_table.Held.{Held};
 ghost use Rattle.exchange_core.specs.Setup.{Setting};
 ghost use Rattle.exchange_core.specs.World.{World};
 ghost use Rattle.exchange_core.specs.WorkedCalls.{two_lines, one_line, answers, whole_call, whole_call_answered, refused_or_moved, refused_or_moved_answered, clear_collision, clear_collision_answered, lenient_reading, lenient_reading_answered, call_to_room, call_to_room_answered, no_port_answered, unexpected, unexpected_answered, line_full, line_full_answered};

@@ -3,6 +3,7 @@
 
 mod call_laws;
 mod laws;
+mod leg_table;
 mod record;
 mod reply;
 mod signal;
@@ -11,6 +12,7 @@ mod trace;
 
 pub use call_laws::{law_of_answered_calls, law_of_paths, law_of_refused_calls, worked_calls};
 pub use laws::{file_order_is_lawful, later_frames_change_nothing, worlds_are_made};
+pub use leg_table::{Held, LegTable};
 pub use record::{CallRecord, Party};
 pub use reply::Reply;
 pub use signal::{Encoded, Signal};
