@@ -66,3 +66,11 @@ is_null (Some state) = state == null
 -- the act that a message asks of a leg in this state
 abbrev pub act_on : ℕ → Message → Act
 act_on state m = act_of state m.kind (clearing_cause m.elements) (is_null (call_state_in m.elements))
+
+-- ---- the cause that an act has
+
+abbrev pub cause_of_act : Act → Option ℕ
+cause_of_act (act.Disconnect cause) = Some cause
+cause_of_act (act.Released cause) = Some cause
+cause_of_act (act.Gone cause) = Some cause
+cause_of_act _ = None

@@ -1,14 +1,22 @@
 // Laws about the definitions alone: these functions do nothing, and their contracts are the laws.
-ghost use Rattle.std.specs.Prelude.{◌<◌, ℕ, List};
-ghost use Rattle.q931_elements.specs.InformationElement.{InformationElement};
+ghost use Rattle.std.specs.Prelude.{◌≡◌, ◌<◌, ℕ, IfSome, is_some};
+ghost use Rattle.circuit_model.specs.Channels.{place_of};
+ghost use Rattle.q931_codec.specs.declared.message.Message.{Message};
+ghost use Rattle.q931_codec.specs.Contents.{is_bearer_channel};
 ghost use Rattle.q931_codec.specs.Outgoing.{IsWritable};
 ghost use Rattle.call_states.specs.declared.leg.Leg.{Leg};
-ghost use Rattle.call_states.specs.Acts.{clearing_cause};
+ghost use Rattle.call_states.specs.Acts.{act_on, cause_of_act};
 ghost use Rattle.call_states.specs.Status.{status, IsTold};
 
-/// The cause of every message fits a message of this exchange.
+/// The cause that a message asks to be passed on fits a message.
 pub fn law_of_causes()
-    ensures { (elements : List InformationElement) → clearing_cause elements < 128 }
+    ensures { (state : ℕ) (m : Message) → IfSome (cause_of_act (act_on state m)) (λ cause. cause < 128) }
+{}
+
+/// The channels that a channel identification can name are those that have a place among the thirty of
+/// their line.
+pub fn law_of_channels()
+    ensures { (channel : ℕ) → is_bearer_channel channel ≡ is_some (place_of channel) }
 {}
 
 /// The STATUS to a leg can be written.

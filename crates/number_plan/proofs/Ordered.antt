@@ -101,7 +101,7 @@ order_with (n ∷ ns) y order free =
 
 -- ---- no number begins another
 
-all_at : (p : Number → Bool) (xs : List Number) → list_all p xs ≡ true → (k : ℕ) (n : Number) → slice_get xs k ≡ Some n → p n ≡ true
+pub all_at : (p : Number → Bool) (xs : List Number) → list_all p xs ≡ true → (k : ℕ) (n : Number) → slice_get xs k ≡ Some n → p n ≡ true
 all_at p [] all k n is = absurd cc
 all_at p (m ∷ ms) all zero n is = subst (λ w. p w ≡ true) (same_Some m n is) (and_parts (p m) (list_all p ms) all).0
 all_at p (m ∷ ms) all (suc k) n is = all_at p ms (and_parts (p m) (list_all p ms) all).1 k n is

@@ -106,6 +106,14 @@ both_begin (x ∷ a) (y ∷ b) (z ∷ c) p q =
     let r = and_parts (eqb y z) (begins b c) q in
     first_same x y a b (eqb-true x z l.0 ∙ sym (eqb-true y z r.0)) ∙ both_begin a b c l.1 r.1
 
+-- of two that begin the same digits one begins the other
+pub begins_one : (a b d : List ℕ) → begins a d ≡ true → begins b d ≡ true → (begins a b ≡ true) ⊎ (begins b a ≡ true)
+begins_one a b d p q =
+    elim (cases_lt (length b) (length a)) [
+      | inl lt ↦ inr (equal_begun a b (both_begin a b d p q) (omega arith))
+      | inr le ↦ inl (equal_begins a b (both_begin a b d p q) le)
+    ]
+
 pub not_begins : (m d : List ℕ) → side_by_side m d ≡ Less → begins m d ≡ false
 not_begins m d e = false_from_ne_true _ (λ b. not_both (side_by_side m d) e (begins_equal m d b))
 

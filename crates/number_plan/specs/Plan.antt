@@ -1,6 +1,6 @@
 -- The number plan: its numbers in the order of their digits, and what digits lead to. Source: this exchange's own.
-use Rattle.std.specs.Prelude.{◌≡◌, ℕ, ◌≤◌, Bool, true, false, IsTrue, not, ◌==◌, ◌&&◌, ◌||◌, if◌then◌else◌, List, [], ◌∷◌, length, Option, Some}
-use Rattle.std.specs.List.{list_all, list_any, slice_get, AllPass}
+use Rattle.std.specs.Prelude.{◌≡◌, ℕ, nat_le, Bool, true, false, IsTrue, not, ◌==◌, ◌&&◌, ◌||◌, if◌then◌else◌, List, [], ◌∷◌, length, Option, Some}
+use Rattle.std.specs.List.{list_all, list_any, slice_get}
 use Rattle.std.specs.Char.{is_ascii_digit}
 use Rattle.std.specs.Ordering.{is_lt, nat_cmp, ordering_then}
 use Rattle.std.specs.declared.cmp.Ordering.{Ordering}
@@ -13,11 +13,9 @@ use Rattle.number_plan.specs.declared.target.Found.TheVariants as answer
 
 -- ---- digits, as IA5 characters
 
--- what a number of a plan may be
-pub record IsNumber (digits : List ℕ) : Type 0 where
-  pub some : 1 ≤ length digits
-  pub few : length digits ≤ 20
-  pub digits_are : AllPass is_ascii_digit digits
+-- what a number of a plan may be: 1 to 20 digits 0 to 9
+abbrev pub is_number : List ℕ → Bool
+is_number digits = nat_le 1 (length digits) && nat_le (length digits) 20 && list_all is_ascii_digit digits
 
 -- the digits begin with the front, or are the front
 abbrev pub begins : List ℕ → List ℕ → Bool
@@ -80,3 +78,11 @@ pub record IsUnfinished (plan : List Number) (digits : List ℕ) : Type 0 where
   pub is_held : slice_get plan place ≡ Some number
   pub is_begun : IsTrue (begins digits number.digits)
   pub is_longer : IsTrue (not (begins number.digits digits))
+
+-- no number of the plan begins the digits, and none begins with them
+abbrev pub IsUnknown : List Number → List ℕ → Type 0
+IsUnknown plan digits = is_taken plan digits ≡ false
+
+-- the plan has this number
+abbrev pub IsHeld : List Number → Number → Type 0
+IsHeld plan n = (k : ℕ) × (slice_get plan k ≡ Some n)

@@ -43,7 +43,22 @@ impl Digits {
 }
 
 ghost use Rattle.std.specs.Prelude.{◌≡◌};
-ghost use Rattle.number_plan.specs.Plan.{side_by_side};
+ghost use Rattle.std.specs.List.{list_all};
+ghost use Rattle.std.specs.Char.{is_ascii_digit};
+ghost use Rattle.number_plan.specs.Plan.{is_number, side_by_side};
+
+/// Whether these are 1 to 20 digits `0` to `9`, as a number of a plan has them.
+pub fn is_number(digits: &[u8]) -> bool
+    ensures { result ≡ is_number digits.now }
+{
+    !digits.is_empty() && digits.len() <= LONGEST_NUMBER && are_decimal(digits)
+}
+
+fn are_decimal(digits: &[u8]) -> bool
+    ensures { result ≡ list_all is_ascii_digit digits.now }
+{
+    digits.iter().all(|digit| digit.is_ascii_digit())
+}
 
 // How two strings of digits stand side by side: by the first place in which they differ, and `Equal`
 // where one begins the other.

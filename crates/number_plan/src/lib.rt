@@ -6,10 +6,12 @@
 #![tactic(auto)]
 
 mod digits;
+mod laws;
 mod plan;
 mod target;
 
-pub use digits::{Digits, LONGEST_NUMBER};
+pub use digits::{Digits, LONGEST_NUMBER, is_number};
+pub use laws::{law_of_order, law_of_targets};
 pub use plan::{MOST_NUMBERS, Number, Plan, PlanFault};
 pub use target::{Found, Target};
 

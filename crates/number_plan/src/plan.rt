@@ -61,8 +61,8 @@ impl Model for Plan {
 }
 
 impl Plan {
-    ghost use Rattle.std.specs.Prelude.{◌≡◌, ◌↔◌, ◌<◌, ◌≤◌, [], true, false, IsTrue, length, OnOk, OnErr, IfOk, IfErr, IsErrOf};
-    ghost use Rattle.number_plan.specs.Plan.{side_by_side, in_order, with_number, found, is_taken, IsNumber, AreApart};
+    ghost use Rattle.std.specs.Prelude.{◌≡◌, ◌↔◌, ◌<◌, ◌≤◌, ℕ, [], true, false, IsTrue, length, OnOk, OnErr, IfOk, IfErr, IsErrOf};
+    ghost use Rattle.number_plan.specs.Plan.{side_by_side, in_order, with_number, found, is_taken, is_number, AreApart, LeadsTo, IsUnfinished, IsUnknown};
     ghost use Rattle.number_plan.specs.Search.{IsBesideAt, IsPlaceFor};
 
     /// A plan without numbers.
@@ -74,7 +74,7 @@ impl Plan {
         }
     }
 
-    /// Adds a number of 1 to 20 digits `0` to `9`.
+    /// Adds a number of 1 to 20 digits `0` to `9`, as [`is_number`](crate::is_number) tells.
     ///
     /// # Errors
     ///
@@ -84,7 +84,7 @@ impl Plan {
     ///
     /// The plan stays as it was then.
     pub fn add(&mut self, digits: &[u8], target: Target) -> Result<(), PlanFault>
-        requires { IsNumber digits.now }
+        requires { IsTrue (is_number digits.now) }
         ensures added { OnOk result (self.new ≡ with_number self.old (record { digits = digits.now; target = target })) }
         ensures refused { OnErr result (self.new ≡ self.old) }
         ensures prefix { IsErrOf result PlanFault.Prefix ↔ IsTrue (is_taken self.old digits.now) }
@@ -103,6 +103,17 @@ impl Plan {
 
     /// What the digits lead to.
     pub fn look(&self, digits: &[u8]) -> Found
+        ensures found { result ≡ found self.now digits.now }
+        ensures line { (l : ℕ) → (result ≡ Found.Line l) ↔ LeadsTo self.now digits.now (Target.Line l) }
+        ensures room { (r : ℕ) → (result ≡ Found.Room r) ↔ LeadsTo self.now digits.now (Target.Room r) }
+        ensures more { (result ≡ Found.More) ↔ IsUnfinished self.now digits.now }
+        ensures nothing { (result ≡ Found.Nothing) ↔ IsUnknown self.now digits.now }
+        ensures apart { AreApart self.now }
+    {
+        self.find(digits)
+    }
+
+    fn find(&self, digits: &[u8]) -> Found
         ensures found { result ≡ found self.now digits.now }
         ensures apart { AreApart self.now }
     {

@@ -1,7 +1,11 @@
 -- What the contents of information elements mean (ITU-T Q.931 (05/98), 4.5).
-use Rattle.std.specs.Prelude.{ℕ, ◌%◌, Bool, ◌&&◌, ◌==◌, not, nat_lt, if◌then◌else◌, List, [], ◌∷◌, Option, Some, None, option_and_then, option_map}
+use Rattle.std.specs.Prelude.{ℕ, ◌%◌, Bool, false, ◌&&◌, ◌||◌, ◌==◌, not, nat_lt, nat_le, if◌then◌else◌, List, [], ◌∷◌, length, drop, map, Option, Some, None, unwrap_or, option_and_then, option_map}
+use Rattle.std.specs.List.{list_all}
+use Rattle.std.specs.Char.{is_ascii_digit}
 use Rattle.q931_elements.specs.InformationElement.{InformationElement, first_of}
-use Rattle.q931_codec.specs.declared.codes.TheConstants.{CAUSE, CALL_STATE, CHANNEL_IDENTIFICATION, RESTART_INDICATOR}
+use Rattle.q931_codec.specs.Identifiers as identifier
+use Rattle.q931_codec.specs.declared.bearer.BearerCapability.{BearerCapability}
+use Rattle.q931_codec.specs.declared.bearer.BearerCapability.TheVariants as bearer
 use Rattle.q931_codec.specs.declared.contents.ChannelIdentification.{ChannelIdentification}
 use Rattle.q931_codec.specs.declared.contents.ChannelIdentification.TheVariants.{Any, Preferred, Exclusive, Invalid}
 
@@ -23,7 +27,7 @@ cause_of (location ∷ rest) = if nat_lt location 0x80 then cause_after_recommen
 
 -- the readable cause of a message: the value of its first cause
 abbrev pub cause_in : List InformationElement → Option ℕ
-cause_in elements = option_and_then cause_of (first_of CAUSE elements)
+cause_in elements = option_and_then cause_of (first_of identifier.cause elements)
 
 -- ---- call state (4.5.7)
 
@@ -32,7 +36,7 @@ call_state_of [] = None
 call_state_of (octet ∷ rest) = Some (octet % 0x40)
 
 abbrev pub call_state_in : List InformationElement → Option ℕ
-call_state_in elements = option_and_then call_state_of (first_of CALL_STATE elements)
+call_state_in elements = option_and_then call_state_of (first_of identifier.call_state elements)
 
 -- ---- channel identification (4.5.13)
 
@@ -57,7 +61,7 @@ channel_of [] = Invalid
 channel_of (octet ∷ rest) = if octet == 0xA3 then Any else numbered_channel octet rest
 
 abbrev pub channel_in : List InformationElement → Option ChannelIdentification
-channel_in elements = option_map channel_of (first_of CHANNEL_IDENTIFICATION elements)
+channel_in elements = option_map channel_of (first_of identifier.channel_identification elements)
 
 -- ---- restart indicator (4.5.25)
 
@@ -66,4 +70,56 @@ first_octet [] = None
 first_octet (octet ∷ rest) = Some octet
 
 abbrev pub restart_in : List InformationElement → Option ℕ
-restart_in elements = option_and_then first_octet (first_of RESTART_INDICATOR elements)
+restart_in elements = option_and_then first_octet (first_of identifier.restart_indicator elements)
+
+-- ---- bearer capability (4.5.5)
+
+-- octets 3 and 4: speech (80), 3.1 kHz audio (90) or unrestricted digital information (88), in circuit mode at 64 kbit/s (90)
+abbrev pub is_carried : List ℕ → Bool
+is_carried (capability ∷ mode ∷ rest) = mode == 0x90 && (capability == 0x80 || capability == 0x90 || capability == 0x88)
+is_carried _ = false
+
+-- a bearer capability has 2 to 10 octets of contents
+abbrev pub bearer_of : List ℕ → BearerCapability
+bearer_of contents = if nat_lt (length contents) 2 || nat_lt 10 (length contents) then bearer.Invalid else if is_carried contents then bearer.Carried else bearer.NotCarried
+
+abbrev pub bearer_in : List InformationElement → Option (List ℕ)
+bearer_in elements = first_of identifier.bearer_capability elements
+
+-- ---- called party number (4.5.8)
+
+-- contents of 1 to 21 octets: the type of number with the numbering plan, and the digits
+abbrev pub called_of : List ℕ → Option (List ℕ)
+called_of contents = if nat_le 1 (length contents) && nat_le (length contents) 21 then Some contents else None
+
+abbrev pub called_in : List InformationElement → Option (List ℕ)
+called_in elements = option_and_then called_of (first_of identifier.called_party_number elements)
+
+-- IA5 characters without their top bits, where all of them are digits 0 to 9
+abbrev pub decimal_digits : List ℕ → Option (List ℕ)
+decimal_digits octets = let digits = map (λ octet. octet % 0x80) octets in if list_all is_ascii_digit digits then Some digits else None
+
+-- the digits of a called party number
+abbrev pub dialled : List ℕ → Option (List ℕ)
+dialled contents = decimal_digits (drop 1 contents)
+
+-- ---- what is passed on from the calling to the called user as it was received
+
+-- contents of at most so many octets; else nothing
+abbrev pub passed_on : ℕ → List ℕ → List ℕ
+passed_on most contents = if nat_le (length contents) most then contents else []
+
+abbrev pub contents_in : ℕ → List InformationElement → List ℕ
+contents_in code elements = unwrap_or (first_of code elements) []
+
+-- calling party number (4.5.10)
+abbrev pub calling_in : List InformationElement → List ℕ
+calling_in elements = passed_on 22 (contents_in identifier.calling_party_number elements)
+
+-- low layer compatibility (4.5.19)
+abbrev pub low_layer_in : List InformationElement → List ℕ
+low_layer_in elements = passed_on 16 (contents_in identifier.low_layer_compatibility elements)
+
+-- high layer compatibility (4.5.17)
+abbrev pub high_layer_in : List InformationElement → List ℕ
+high_layer_in elements = passed_on 3 (contents_in identifier.high_layer_compatibility elements)

@@ -1,3 +1,4 @@
+pub mod Identifiers
 pub mod MessageType
 pub mod Grammar
 pub mod Reading

@@ -2,7 +2,7 @@
 use Rattle.std.specs.Prelude.{ℕ, ◌+◌, ◌^◌, ◌<◌, ◌≤◌, Bool, true, false, IsTrue, List, [], ◌∷◌, ◌++◌, length, map, Option, Some, None, IfSome}
 use Rattle.std.specs.List.{flat_map}
 use Rattle.q931_elements.specs.Grammar.{Item, SingleOctet, VariableLength, element_of, octets_of_all}
-use Rattle.q931_codec.specs.declared.codes.TheConstants.{SENDING_COMPLETE, BEARER_CAPABILITY, CAUSE, CALL_STATE, CHANNEL_IDENTIFICATION, PROGRESS_INDICATOR, CALLING_PARTY_NUMBER, CALLED_PARTY_NUMBER, RESTART_INDICATOR, LOW_LAYER_COMPATIBILITY, HIGH_LAYER_COMPATIBILITY}
+use Rattle.q931_codec.specs.Identifiers as identifier
 use Rattle.q931_codec.specs.declared.kind.MessageKind.{MessageKind}
 use Rattle.q931_codec.specs.declared.message.Message.{Message}
 use Rattle.q931_codec.specs.declared.outgoing.Outgoing.{Outgoing}
@@ -102,7 +102,7 @@ progress_contents false = []
 -- ---- the elements in the order in which they are written
 
 abbrev pub completed : Bool → List Item
-completed true = SingleOctet SENDING_COMPLETE ∷ []
+completed true = SingleOctet identifier.sending_complete ∷ []
 completed false = []
 
 -- empty contents stand for no element
@@ -113,16 +113,16 @@ given (code, octet ∷ octets) = VariableLength code (octet ∷ octets) ∷ []
 -- the variable length elements in ascending order of their identifiers (4.5.1)
 abbrev pub rows : OutgoingMessage → List (ℕ × List ℕ)
 rows m =
-    (BEARER_CAPABILITY, m.bearer)
-    ∷ (CAUSE, cause_contents m.cause)
-    ∷ (CALL_STATE, one_octet m.state)
-    ∷ (CHANNEL_IDENTIFICATION, channel_contents m.channel)
-    ∷ (PROGRESS_INDICATOR, progress_contents m.progress)
-    ∷ (CALLING_PARTY_NUMBER, m.calling)
-    ∷ (CALLED_PARTY_NUMBER, m.called)
-    ∷ (RESTART_INDICATOR, one_octet m.restart)
-    ∷ (LOW_LAYER_COMPATIBILITY, m.low)
-    ∷ (HIGH_LAYER_COMPATIBILITY, m.high)
+    (identifier.bearer_capability, m.bearer)
+    ∷ (identifier.cause, cause_contents m.cause)
+    ∷ (identifier.call_state, one_octet m.state)
+    ∷ (identifier.channel_identification, channel_contents m.channel)
+    ∷ (identifier.progress_indicator, progress_contents m.progress)
+    ∷ (identifier.calling_party_number, m.calling)
+    ∷ (identifier.called_party_number, m.called)
+    ∷ (identifier.restart_indicator, one_octet m.restart)
+    ∷ (identifier.low_layer_compatibility, m.low)
+    ∷ (identifier.high_layer_compatibility, m.high)
     ∷ []
 
 abbrev pub sent : OutgoingMessage → List Item

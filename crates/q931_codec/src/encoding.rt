@@ -1,5 +1,7 @@
 ghost use Rattle.std.specs.Prelude.{◌≡◌, ◌+◌, ◌^◌, ◌<◌, ◌≤◌, IsTrue, List, [], ◌++◌, length, IfSome};
 ghost use Rattle.q931_elements.specs.Grammar.{octets_of_all};
+ghost use Rattle.q931_elements.specs.Limits.{longest_message};
+ghost use Rattle.q931_codec.specs.Identifiers as identifier;
 ghost use Rattle.q931_codec.specs.Contents.{is_bearer_channel};
 ghost use Rattle.q931_codec.specs.Grammar.{IsMessage, header};
 ghost use Rattle.q931_codec.specs.Outgoing.{outgoing_of, IsWritable, encoding, received, completed, given, cause_contents, one_octet, channel_contents, progress_contents};
@@ -58,7 +60,7 @@ fn header(writer: &mut Writer, message: &Outgoing)
 }
 
 fn complete(writer: &mut Writer, complete: bool)
-    requires { length writer.old + 1 ≤ LONGEST_MESSAGE }
+    requires { length writer.old + 1 ≤ longest_message }
     ensures octets { writer.new ≡ writer.old ++ octets_of_all (completed complete) }
     ensures room { length writer.new ≤ length writer.old + 1 }
 {
@@ -69,7 +71,7 @@ fn complete(writer: &mut Writer, complete: bool)
 
 // The element with these contents, where there are some.
 fn element(writer: &mut Writer, code: u8, contents: &[u8])
-    requires { length writer.old + 2 + length contents.now ≤ LONGEST_MESSAGE }
+    requires { length writer.old + 2 + length contents.now ≤ longest_message }
     ensures octets { writer.new ≡ writer.old ++ octets_of_all (given (code, contents.now)) }
     ensures room { length writer.new ≤ length writer.old + 2 + length contents.now }
 {
@@ -80,7 +82,7 @@ fn element(writer: &mut Writer, code: u8, contents: &[u8])
 
 // The element of one octet, where there is one.
 fn octet(writer: &mut Writer, code: u8, octet: Option<u8>)
-    requires { length writer.old + 3 ≤ LONGEST_MESSAGE }
+    requires { length writer.old + 3 ≤ longest_message }
     ensures octets { writer.new ≡ writer.old ++ octets_of_all (given (code, one_octet octet)) }
     ensures room { length writer.new ≤ length writer.old + 3 }
 {
@@ -90,9 +92,9 @@ fn octet(writer: &mut Writer, code: u8, octet: Option<u8>)
 }
 
 fn cause(writer: &mut Writer, value: Option<u8>)
-    requires room { length writer.old + 4 ≤ LONGEST_MESSAGE }
+    requires room { length writer.old + 4 ≤ longest_message }
     requires value { IfSome value (λ v. v < 128) }
-    ensures octets { writer.new ≡ writer.old ++ octets_of_all (given (CAUSE, cause_contents value)) }
+    ensures octets { writer.new ≡ writer.old ++ octets_of_all (given (identifier.cause, cause_contents value)) }
     ensures room { length writer.new ≤ length writer.old + 4 }
 {
     if let Some(value) = value {
@@ -103,9 +105,9 @@ fn cause(writer: &mut Writer, value: Option<u8>)
 // Octet 3 names a primary rate interface and this channel alone, octet 3.2 that the number of a
 // B-channel follows.
 fn channel(writer: &mut Writer, channel: Option<u8>)
-    requires room { length writer.old + 5 ≤ LONGEST_MESSAGE }
+    requires room { length writer.old + 5 ≤ longest_message }
     requires channel { IfSome channel (λ c. IsTrue (is_bearer_channel c)) }
-    ensures octets { writer.new ≡ writer.old ++ octets_of_all (given (CHANNEL_IDENTIFICATION, channel_contents channel)) }
+    ensures octets { writer.new ≡ writer.old ++ octets_of_all (given (identifier.channel_identification, channel_contents channel)) }
     ensures room { length writer.new ≤ length writer.old + 5 }
 {
     if let Some(channel) = channel {
@@ -115,8 +117,8 @@ fn channel(writer: &mut Writer, channel: Option<u8>)
 
 // Progress description 8: in-band information or an appropriate pattern is now available.
 fn progress(writer: &mut Writer, progress: bool)
-    requires { length writer.old + 4 ≤ LONGEST_MESSAGE }
-    ensures octets { writer.new ≡ writer.old ++ octets_of_all (given (PROGRESS_INDICATOR, progress_contents progress)) }
+    requires { length writer.old + 4 ≤ longest_message }
+    ensures octets { writer.new ≡ writer.old ++ octets_of_all (given (identifier.progress_indicator, progress_contents progress)) }
     ensures room { length writer.new ≤ length writer.old + 4 }
 {
     if progress {

@@ -2,6 +2,7 @@
 //! it, and [`write`] encodes an outgoing one, always in the same way. Nothing here takes memory.
 #![tactic(auto)]
 
+mod bearer;
 pub mod causes;
 pub mod codes;
 mod contents;
@@ -9,14 +10,17 @@ mod encoding;
 mod kind;
 mod laws;
 mod message;
+mod numbers;
 mod outgoing;
 pub mod states;
 
+pub use bearer::BearerCapability;
 pub use contents::ChannelIdentification;
 pub use encoding::write;
 pub use kind::MessageKind;
 pub use laws::{one_message, written_fields_are_read};
 pub use message::{Discard, Message, read};
+pub use numbers::{MOST_DIGITS, dialled};
 pub use outgoing::Outgoing;
 
 #[cfg(test)]

@@ -20,10 +20,12 @@ impl Model for Writer {
 
 impl Writer {
     ghost use Rattle.std.specs.Prelude.{◌≡◌, ◌+◌, ◌≤◌, List, [], ◌∷◌, ◌++◌, length};
+    ghost use Rattle.q931_elements.specs.Limits.{longest_message};
 
-    /// A writer that has written nothing.
+    /// A writer that has written nothing, with room for the longest message.
     pub fn new() -> Writer
-        ensures { result ≡ [] }
+        ensures empty { result ≡ [] }
+        ensures room { LONGEST_MESSAGE ≡ longest_message }
     {
         Writer {
             octets: ArrayVec::new(),
@@ -32,7 +34,7 @@ impl Writer {
 
     /// Writes one octet: one of the header, or a single octet information element (Q.931, 4.5.1).
     pub fn single(&mut self, code: u8)
-        requires { length self.old + 1 ≤ LONGEST_MESSAGE }
+        requires { length self.old + 1 ≤ longest_message }
         ensures { self.new ≡ self.old ++ code ∷ [] }
     {
         self.octets.push(code);
@@ -41,7 +43,7 @@ impl Writer {
     /// Writes a variable length information element: its identifier, the length of its contents, and
     /// the contents (Q.931, 4.5.1).
     pub fn element(&mut self, code: u8, contents: &[u8])
-        requires { length self.old + 2 + length contents.now ≤ LONGEST_MESSAGE }
+        requires { length self.old + 2 + length contents.now ≤ longest_message }
         ensures { self.new ≡ self.old ++ code ∷ length contents.now ∷ contents.now }
     {
         self.octets.push(code);

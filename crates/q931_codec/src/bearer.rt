@@ -1,0 +1,81 @@
+use crate::codes::{BEARER_CAPABILITY, HIGH_LAYER_COMPATIBILITY, LOW_LAYER_COMPATIBILITY};
+use crate::message::Message;
+
+/// What a bearer capability (Q.931, 4.5.5) asks for.
+#[derive(Clone, Copy, Debug, PartialEq, Eq)]
+pub enum BearerCapability {
+    /// Speech, 3.1 kHz audio or unrestricted digital information, in circuit mode at 64 kbit/s: a
+    /// bearer channel carries it.
+    Carried,
+    /// Another bearer service.
+    NotCarried,
+    /// Contents of fewer than 2 octets, or of more than 10.
+    Invalid,
+}
+
+impl BearerCapability {
+    ghost use Rattle.std.specs.Prelude.{◌≡◌};
+    ghost use Rattle.q931_codec.specs.Contents.{bearer_of};
+
+    /// What the contents of a bearer capability ask for.
+    pub fn of(contents: &[u8]) -> BearerCapability
+        ensures { result ≡ bearer_of contents.now }
+    {
+        if contents.len() < 2 || contents.len() > 10 {
+            return BearerCapability::Invalid;
+        }
+        match contents {
+            [0x80 | 0x90 | 0x88, 0x90, ..] => BearerCapability::Carried,
+            _ => BearerCapability::NotCarried,
+        }
+    }
+}
+
+impl<'a> Message<'a> {
+    ghost use Rattle.std.specs.Prelude.{◌≡◌};
+    ghost use Rattle.std.specs.Option.{option_copied};
+    ghost use Rattle.q931_codec.specs.Contents.{bearer_in, low_layer_in, high_layer_in};
+
+    /// The contents of the first bearer capability (4.5.5), `None` where there is none.
+    pub fn bearer(&self) -> Option<&'a [u8]>
+        ensures { option_copied result ≡ bearer_in self.now.elements }
+    {
+        self.elements.first(BEARER_CAPABILITY)
+    }
+
+    /// The contents of the first low layer compatibility (4.5.19) where they have at most 16 octets,
+    /// else none.
+    pub fn low_layer(&self) -> &'a [u8]
+        ensures { result.now ≡ low_layer_in self.now.elements }
+    {
+        match self.elements.first(LOW_LAYER_COMPATIBILITY) {
+            Some(contents) => passed_on(contents, 16),
+            None => &[],
+        }
+    }
+
+    /// The contents of the first high layer compatibility (4.5.17) where they have at most 3 octets,
+    /// else none.
+    pub fn high_layer(&self) -> &'a [u8]
+        ensures { result.now ≡ high_layer_in self.now.elements }
+    {
+        match self.elements.first(HIGH_LAYER_COMPATIBILITY) {
+            Some(contents) => passed_on(contents, 3),
+            None => &[],
+        }
+    }
+}
+
+ghost use Rattle.std.specs.Prelude.{◌≡◌};
+ghost use Rattle.q931_codec.specs.Contents.{passed_on};
+
+// What is passed on to the called user as it was received, where it isn't too long.
+pub(crate) fn passed_on(contents: &[u8], most: usize) -> &[u8]
+    ensures { result.now ≡ passed_on most contents.now }
+{
+    if contents.len() <= most {
+        contents
+    } else {
+        &[]
+    }
+}

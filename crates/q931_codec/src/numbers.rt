@@ -1,0 +1,72 @@
+use crate::bearer::passed_on;
+use crate::codes::{CALLED_PARTY_NUMBER, CALLING_PARTY_NUMBER};
+use crate::message::Message;
+use arrayvec::ArrayVec;
+
+/// The most digits of a called party number: it has at most 21 octets, and the first of them says what
+/// kind of number it is. Source: this exchange's own.
+pub const MOST_DIGITS: usize = 20;
+
+impl<'a> Message<'a> {
+    ghost use Rattle.std.specs.Prelude.{◌≡◌};
+    ghost use Rattle.std.specs.Option.{option_copied};
+    ghost use Rattle.q931_codec.specs.Contents.{called_in, calling_in};
+
+    /// The contents of the first called party number (Q.931, 4.5.8), `None` where there is none or they
+    /// have no octet or more than 21.
+    pub fn called_number(&self) -> Option<&'a [u8]>
+        ensures { option_copied result ≡ called_in self.now.elements }
+    {
+        let contents = self.elements.first(CALLED_PARTY_NUMBER)?;
+        if contents.is_empty() || contents.len() > 21 {
+            return None;
+        }
+        Some(contents)
+    }
+
+    /// The contents of the first calling party number (4.5.10) where they have at most 22 octets, else
+    /// none.
+    pub fn calling_number(&self) -> &'a [u8]
+        ensures { result.now ≡ calling_in self.now.elements }
+    {
+        match self.elements.first(CALLING_PARTY_NUMBER) {
+            Some(contents) => passed_on(contents, 22),
+            None => &[],
+        }
+    }
+}
+
+ghost use Rattle.std.specs.Prelude.{◌≡◌, ◌≤◌, length, option_map};
+ghost use Rattle.q931_codec.specs.Contents.{dialled};
+
+/// The digits of the contents of a called party number (4.5.8) as IA5 characters: the low seven bits of
+/// the octets after the first. `None` where one of them isn't a digit 0 to 9.
+///
+/// The contents have at most 21 octets.
+pub fn dialled(contents: &[u8]) -> Option<ArrayVec<u8, MOST_DIGITS>>
+    requires { length contents.now ≤ 21 }
+    ensures { option_map (λ digits. digits.items) result ≡ dialled contents.now }
+{
+    match contents {
+        [] => Some(ArrayVec::new()),
+        [_, octets @ ..] => decimal_digits(octets),
+    }
+}
+
+ghost use Rattle.q931_codec.specs.Contents.{decimal_digits};
+
+// These IA5 characters without their top bits, where all of them are digits 0 to 9.
+fn decimal_digits(octets: &[u8]) -> Option<ArrayVec<u8, MOST_DIGITS>>
+    requires { length octets.now ≤ 20 }
+    ensures { option_map (λ digits. digits.items) result ≡ decimal_digits octets.now }
+{
+    let mut digits = ArrayVec::new();
+    for octet in octets {
+        let digit = *octet % 0x80;
+        if !digit.is_ascii_digit() {
+            return None;
+        }
+        digits.push(digit);
+    }
+    Some(digits)
+}

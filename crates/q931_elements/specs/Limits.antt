@@ -1,0 +1,6 @@
+-- The bound on what this exchange writes. Source: this exchange's own.
+use Rattle.std.specs.Prelude.{ℕ}
+
+-- the greatest number of octets of a message
+abbrev pub longest_message : ℕ
+longest_message = 112
