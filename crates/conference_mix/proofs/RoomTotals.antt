@@ -1,13 +1,12 @@
 -- The totals of the rooms, as members are added to them, and what each place is given of them.
-use Rattle.std.proofs.Common.{◌≡◌, ℕ, ◌<◌, ◌≤◌, ◌+◌, List, length, map, take, get_or, set, get_or-set_other, get_or-set_same, Option, Some, None, ℤ, pos, ◌+ℤ◌, ◌-ℤ◌, nat_abs, refl, sym, ap, ◌∙◌, subst, inl, inr, arith}
+use Rattle.std.proofs.Common.{◌≡◌, ℕ, ◌<◌, ◌≤◌, ◌+◌, List, length, take, get_or, set, get_or-set_other, get_or-set_same, Option, Some, None, ℤ, pos, ◌+ℤ◌, ◌-ℤ◌, nat_abs, refl, sym, ap, ◌∙◌, subst, inl, inr, arith}
 use Rattle.std.proofs.lemmas.Int.{ints}
 use Rattle.std.proofs.lemmas.Bool.{cases_eq, eq-eqb, ne_eqb}
 use Rattle.std.proofs.lemmas.List.{get_or-map, length-map, take-map}
 use Rattle.circuit_model.specs.ALaw.{compress}
-use Rattle.circuit_model.specs.Hears.{sum_of_values}
 use Rattle.conference_mix.specs.declared.rooms.Seated.{Seated}
-use Rattle.conference_mix.specs.Bridge.{value_of, others}
-use Rattle.conference_mix.specs.Rooms.{counted_in, room_row, room_total, given_to_member, given_at, coded_without}
+use Rattle.conference_mix.specs.Bridge.{value_of}
+use Rattle.conference_mix.specs.Rooms.{counted_in, room_row, room_total, given_to_member, coded_without}
 use Rattle.conference_mix.proofs.Sums.{sum_of, sum_of-more, sum_of_values-others}
 
 nothing_more : (x : ℤ) → x ≡ x +ℤ pos 0

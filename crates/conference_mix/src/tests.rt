@@ -90,6 +90,9 @@ fn rooms_do_not_hear_each_other(rt: HostRuntime) {
         mix_rooms(&places, &mut out);
         let [a, _, b, _, c, _, d, _, e, _, free] = out;
         assert_eq!(rt; [a, b, c, d, e], heard);
-        assert_eq!(rt; [out[1], out[3], out[5], out[7], out[9], free], [0xAA, 0xAA, 0xAA, 0xAA, 0xAA, 0xD5]);
+        assert_eq!(rt;
+            [out[1], out[3], out[5], out[7], out[9], free],
+            [0xAA, 0xAA, 0xAA, 0xAA, 0xAA, 0xD5]
+        );
     }
 }

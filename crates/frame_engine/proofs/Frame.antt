@@ -1,8 +1,8 @@
 -- One frame of an engine of three stages: what is read out, mixed, crossed and taken in is what the definitions say.
-use Rattle.std.proofs.Common.{◌≡◌, ℕ, zero, suc, ◌+◌, ◌-◌, ◌*◌, ◌<◌, ◌≤◌, Bool, true, false, ◌&&◌, ◌==◌, eqb, List, [], ◌∷◌, ◌++◌, length, map, get_or, Option, Some, None, ℤ, refl, sym, ap, ◌∙◌, subst, inl, inr, ⊎_elim, arith, add-one, if◌then◌else◌}
+use Rattle.std.proofs.Common.{◌≡◌, ℕ, zero, suc, ◌+◌, ◌-◌, ◌*◌, ◌<◌, ◌≤◌, true, false, List, [], ◌∷◌, ◌++◌, length, map, Option, Some, None, ℤ, refl, sym, ap, ◌∙◌, subst, inl, inr, arith, add-one}
 use Rattle.std.specs.List.{Contains, range_with_len}
 use Rattle.std.specs.Prelude.{nat_lt, option_and_then}
-use Rattle.std.proofs.lemmas.List.{ext_get_or, get_or-map, length-map, length_push}
+use Rattle.std.proofs.lemmas.List.{ext_get_or, get_or-map, length-map}
 use Rattle.std.proofs.lemmas.List.FromFn.{length-map-range_with_len, get_or-map-range_with_len}
 use Rattle.std.proofs.lemmas.Bool.{cond-true, cond-false, leb-true, lt-ltb}
 use Rattle.std.proofs.lemmas.Bool.Decides.{leb_tells}
@@ -10,8 +10,8 @@ use Rattle.circuit_model.specs.declared.channel.Slot.{Slot}
 use Rattle.circuit_model.specs.declared.circuit.Kind.{Kind}
 use Rattle.circuit_model.specs.declared.circuit.Circuit.{Circuit}
 use Rattle.circuit_model.specs.declared.circuit.Circuit.TheVariants.{Pair, Member, Tone}
-use Rattle.circuit_model.specs.FrameInput.{Input, idle_octet, arrives, octet_in}
-use Rattle.circuit_model.specs.Circuits.{same_slot, listener, since_of, heard_by}
+use Rattle.circuit_model.specs.FrameInput.{Input, arrives, octet_in}
+use Rattle.circuit_model.specs.Circuits.{listener, since_of, heard_by}
 use Rattle.circuit_model.specs.Holding.{Command, empty, frames, circuits_of, Stands}
 use Rattle.circuit_model.specs.Extent.{IsExternal, NamesWithin}
 use Rattle.circuit_model.specs.Hears.{mix, is_through, heard_through, hears}
@@ -21,18 +21,17 @@ use Rattle.circuit_model.proofs.Age.{age, at_head, in_tail, none_in_nil}
 use Rattle.circuit_model.proofs.Validity.{heard_by-listener, valid-empty}
 use Rattle.circuit_model.proofs.Recorded.{valid-frames}
 use Rattle.circuit_model.proofs.Extents.{frames_within}
-use Rattle.circuit_model.proofs.PortSeats.{Matched, recorded, each_in, owned_in, alone_in, sums_in, had_port, matched-frames, matched-empty}
+use Rattle.circuit_model.proofs.PortSeats.{recorded, each_in, owned_in, alone_in, sums_in, had_port, matched-frames, matched-empty}
 use Rattle.frame_buffer.specs.Speech.{octet_of}
 use Rattle.frame_buffer.specs.Highways.{Highways, octet_on}
-use Rattle.control_memory.specs.declared.heard.Heard.{Heard}
 use Rattle.control_memory.specs.Layout.{Layout, Legal, IsSlot, Joins}
 use Rattle.control_memory.specs.Tables.{HasTables}
 use Rattle.control_memory.proofs.Carrying.{crossing_is}
 use Rattle.control_memory.specs.Image.{Control, lines_of, EachSlot, read, heard_at, room_at, sent, received}
 use Rattle.control_memory.specs.Carrying.{fetched, HoldsCrossing}
-use Rattle.control_memory.specs.Shown.{to_port, joined_by, IsNeeded, member_at, served_by, heard_as, seated_as, circuit_of, room_of, ShowsBy, Shows}
+use Rattle.control_memory.specs.Shown.{to_port, IsNeeded, member_at, served_by, heard_as, seated_as, circuit_of, ShowsBy}
 use Rattle.frame_engine.specs.Frames.{Come, brought, mixed_through, mixed_at}
-use Rattle.frame_engine.specs.Carries.{Stages, CarriesAt, CarriesLast, IsFresh, CarriesFrames, HasSizes, brought_before}
+use Rattle.frame_engine.specs.Carries.{Stages, CarriesAt, CarriesLast, CarriesFrames, brought_before}
 use Rattle.frame_engine.specs.Ports.{given_to}
 use Rattle.conference_mix.specs.Bridge.{mixed_for as mixed_for_port}
 use Rattle.frame_engine.specs.Playing.{played_as}

@@ -1,13 +1,12 @@
 -- The circuits by which slots hear, and the ports of members by their numbers.
-use Rattle.std.proofs.Common.{◌≡◌, ℕ, zero, suc, ◌+◌, ◌-◌, ◌*◌, ◌/◌, ◌%◌, ◌<◌, ◌≤◌, Bool, true, false, ◌⊎◌, List, [], ◌∷◌, length, Option, Some, None, get_or, refl, sym, ap, ◌∙◌, subst, inl, inr, ⊎_elim, arith}
+use Rattle.std.proofs.Common.{◌≡◌, ℕ, zero, suc, ◌+◌, ◌-◌, ◌*◌, ◌/◌, ◌%◌, ◌<◌, ◌≤◌, Bool, true, false, List, [], ◌∷◌, length, Option, Some, None, get_or, sym, ap, ◌∙◌, inl, inr, ⊎_elim, arith}
 use Rattle.std.specs.List.{Contains, find, position, position_or_len}
 use Rattle.std.specs.Prelude.{option_map}
 use Rattle.std.proofs.lemmas.List.Sums.{position_or_len_is}
 use Rattle.std.proofs.lemmas.Bool.{cond-true, lt-ltb}
 use Rattle.circuit_model.specs.declared.channel.Slot.{Slot}
 use Rattle.circuit_model.specs.declared.circuit.Circuit.{Circuit}
-use Rattle.circuit_model.specs.declared.circuit.Circuit.TheVariants.{Pair, Member, Tone}
-use Rattle.circuit_model.specs.Circuits.{same_slot, listener, heard_by, since_of}
+use Rattle.circuit_model.specs.Circuits.{same_slot, listener, heard_by}
 use Rattle.circuit_model.specs.Ports.{Ports, has, owner_of, port_numbered, port_of}
 use Rattle.circuit_model.proofs.Slots.{true_or_false, same_slot-true, same_slot-refl}
 use Rattle.circuit_model.proofs.Age.{at_head, in_tail}

@@ -1,9 +1,9 @@
 -- What is read out for an outlet is what was crossed for the inlet that it was joined to.
-use Rattle.std.proofs.Common.{◌≡◌, ℕ, ◌<◌, Option, Some, None, refl, ap, ◌∙◌}
+use Rattle.std.proofs.Common.{◌≡◌, ℕ, Option, Some, None, refl, ap, ◌∙◌}
 use Rattle.circuit_model.specs.declared.channel.Slot.{Slot}
 use Rattle.control_memory.specs.Layout.{Path, Layout, Legal, IsSlot, Joins, path_out}
 use Rattle.control_memory.specs.Tables.{HasTables}
-use Rattle.control_memory.specs.Carrying.{fetched, from_inlet, crossing, SendsBy, HoldsCrossing}
+use Rattle.control_memory.specs.Carrying.{fetched, from_inlet, HoldsCrossing}
 use Rattle.control_memory.proofs.Lookups.{path_to_is, path_out_found}
 use Rattle.control_memory.proofs.Carrying.{carried_is}
 

@@ -1,5 +1,5 @@
 -- The sum over the ports of a room, without one of them, is the sum over the room's other members.
-use Rattle.std.proofs.Common.{◌≡◌, ℕ, zero, suc, ◌-◌, ◌<◌, Bool, true, false, not, ◌&&◌, ◌==◌, eqb, List, [], ◌∷◌, length, map, Option, Some, None, ℤ, pos, ◌+ℤ◌, ◌-ℤ◌, get_or, refl, sym, ap, ◌∙◌, subst, inl, inr, ⊎_elim, arith, if◌then◌else◌}
+use Rattle.std.proofs.Common.{◌≡◌, ℕ, zero, suc, ◌-◌, ◌<◌, false, not, ◌&&◌, ◌==◌, eqb, List, [], ◌∷◌, length, map, Option, Some, None, ℤ, pos, ◌+ℤ◌, get_or, refl, sym, ap, ◌∙◌, inl, inr, arith, if◌then◌else◌}
 use Rattle.std.specs.List.{Contains, filter}
 use Rattle.std.proofs.lemmas.Int.{ints}
 use Rattle.std.proofs.lemmas.List.{get_or-map, length-map}
@@ -11,10 +11,10 @@ use Rattle.circuit_model.specs.ALaw.{compress, expand}
 use Rattle.circuit_model.specs.Circuits.{same_slot, listener, heard_by}
 use Rattle.circuit_model.specs.Hears.{mix, is_other, is_through, octets_of, sum_of_values}
 use Rattle.circuit_model.specs.Ports.{Ports, owner_of, sum_of_owners, sum_of_members}
-use Rattle.circuit_model.proofs.Slots.{true_or_false, same_slot-refl, same_slot_cases, same_slot-false}
+use Rattle.circuit_model.proofs.Slots.{true_or_false, same_slot-refl, same_slot-false}
 use Rattle.circuit_model.proofs.Age.{at_head, in_tail}
 use Rattle.control_memory.specs.Shown.{seated_as}
-use Rattle.conference_mix.specs.Bridge.{present, others, value_of, mixed_for}
+use Rattle.conference_mix.specs.Bridge.{others, value_of, mixed_for}
 use Rattle.conference_mix.proofs.Sums.{sum_of, sum_of-cons, sum_of_values-others}
 use Rattle.frame_engine.proofs.PortRows.{added}
 

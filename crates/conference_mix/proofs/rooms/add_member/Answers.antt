@@ -1,4 +1,4 @@
-use Rattle.std.proofs.Common.{◌≡◌, ℕ, ◌<◌, ◌≤◌, ◌+◌, get_or, ℤ, pos, ◌+ℤ◌, nat_abs, to_z, of_z, length, arith, rules}
+use Rattle.std.proofs.Common.{◌≡◌, ◌<◌, ◌≤◌, get_or, pos, ◌+ℤ◌, nat_abs, to_z, of_z, length, arith, rules}
 use Rattle.std.specs.Int.{w32}
 use Rattle.std.proofs.lemmas.Int.{ints}
 use Rattle.conference_mix.proofs.RoomTotals.{total-added, total-small}

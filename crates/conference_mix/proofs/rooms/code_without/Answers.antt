@@ -1,4 +1,4 @@
-use Rattle.std.proofs.Common.{◌≡◌, ℕ, ◌<◌, ◌≤◌, get_or, ℤ, pos, ◌-ℤ◌, nat_abs, to_z, of_z, ap, ◌∙◌, arith, rules}
+use Rattle.std.proofs.Common.{◌≡◌, ◌<◌, ◌≤◌, get_or, ℤ, pos, ◌-ℤ◌, nat_abs, to_z, of_z, ap, ◌∙◌, arith, rules}
 use Rattle.std.specs.Int.{w32}
 use Rattle.std.proofs.lemmas.Int.{ints}
 use Rattle.circuit_model.specs.ALaw.{compress}

@@ -1,4 +1,4 @@
-use Rattle.std.proofs.Common.{◌≡◌, ◌<◌, ◌≢◌, get_or, length, None, Some, Option, ap, ◌∙◌, subst, refl, arith, below_more, get_or-set_other, get_or-set_same}
+use Rattle.std.proofs.Common.{◌≡◌, ◌<◌, ◌≢◌, get_or, length, None, Option, ◌∙◌, subst, refl, arith, below_more, get_or-set_other, get_or-set_same}
 use Rattle.std.specs.Prelude.{IfSome}
 use Rattle.conference_mix.specs.declared.rooms.Seated.{Seated}
 use Rattle.conference_mix.specs.Rooms.{given_at}

@@ -1,4 +1,4 @@
-use Rattle.std.proofs.Common.{◌≡◌, ℕ, ◌+◌, ◌<◌, ◌≤◌, List, Option, get_or, None, ℤ, pos, ◌+ℤ◌, nat_abs, take, length, sym, ap, ◌∙◌, subst, arith}
+use Rattle.std.proofs.Common.{◌≤◌, List, Option, get_or, None, ℤ, pos, ◌+ℤ◌, nat_abs, length, sym, ap, ◌∙◌, subst, arith}
 use Rattle.std.proofs.lemmas.Int.{ints}
 use Rattle.std.proofs.lemmas.List.{get_or-replicate, take_all}
 use Rattle.conference_mix.specs.declared.rooms.Seated.{Seated}

@@ -1,4 +1,3 @@
-use Rattle.std.proofs.Common.{◌∙◌, rules}
 use Rattle.std.proofs.lemmas.List.{get_or-replicate}
 use Rattle.circuit_model.specs.FrameInput.{idle_octet}
 use Rattle.frame_engine.proofs.intake.line_octets.Goals as goal

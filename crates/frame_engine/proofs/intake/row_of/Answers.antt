@@ -1,4 +1,4 @@
-use Rattle.std.proofs.Common.{length, ◌∙◌, arith, rules}
+use Rattle.std.proofs.Common.{arith}
 use Rattle.std.proofs.lemmas.List.{get_or_default}
 use Rattle.circuit_model.specs.FrameInput.{idle_octet}
 use Rattle.frame_engine.proofs.intake.row_of.Goals as goal

@@ -1,7 +1,4 @@
-use Rattle.std.proofs.Common.{◌≡◌, ◌<◌, [], slice_index, slice_index_or}
-use Rattle.circuit_model.specs.declared.channel.Slot.{Slot}
 use Rattle.frame_buffer.specs.Speech.{octet_of}
-use Rattle.control_memory.specs.Image.{heard_at}
 use Rattle.tone_rules.specs.Tables.{table_of}
 use Rattle.frame_engine.specs.Frames.{PlaysOut}
 use Rattle.frame_engine.specs.Playing.{played_at}

@@ -1,7 +1,6 @@
-use Rattle.std.proofs.Common.{◌≡◌, ℕ, ◌+◌, ◌*◌, ◌/◌, ◌%◌, ◌<◌, ◌≤◌, get_or, ap, ◌∙◌, ⊎_elim, arith, rules}
+use Rattle.std.proofs.Common.{◌*◌, ◌%◌, ◌<◌, ◌≤◌, get_or, ap, ◌∙◌, ⊎_elim, arith, rules}
 use Rattle.circuit_model.specs.Ports.{port_numbered}
 use Rattle.circuit_model.proofs.PortSeats.{below_or_not}
-use Rattle.frame_buffer.specs.Speech.{octet_of}
 use Rattle.frame_engine.proofs.ports.mix_ports.Goals as goal
 
 pub loop-bridge-preserved : goal.loop-bridge-preserved

@@ -1,10 +1,9 @@
-use Rattle.std.proofs.Common.{◌≡◌, ℕ, ◌*◌, ◌-◌, ◌<◌, ◌≤◌, List, Option, length, take, drop, get_or, sym, ap, ◌∙◌, subst, arith, rules}
+use Rattle.std.proofs.Common.{◌≡◌, ◌*◌, ◌<◌, ◌≤◌, length, take, ap, ◌∙◌, arith, rules}
 use Rattle.std.proofs.Math.ListN.{get_or-append}
 use Rattle.std.proofs.lemmas.List.{length-take-le}
-use Rattle.conference_mix.specs.declared.rooms.Seated.{Seated}
 use Rattle.conference_mix.specs.Rooms.{given_at}
 use Rattle.frame_buffer.specs.Speech.{octet_of}
-use Rattle.frame_engine.specs.Ports.{members, given_to}
+use Rattle.frame_engine.specs.Ports.{members}
 use Rattle.frame_engine.proofs.PortRows.{members-filled}
 use Rattle.frame_engine.proofs.ports.mixed.Goals as goal
 

@@ -1,5 +1,4 @@
-use Rattle.std.proofs.Common.{◌≡◌, ◌+◌, ◌<◌, length, ℕ, List, [], ◌∷◌, ◌++◌, sym, ◌∙◌, ap, subst, arith, rules}
-use Rattle.circuit_model.specs.declared.channel.Slot.{Slot}
+use Rattle.std.proofs.Common.{◌≡◌, ◌+◌, ◌<◌, ℕ, List, sym, ◌∙◌, ap, subst, arith}
 use Rattle.circuit_model.specs.Hears.{hears}
 use Rattle.circuit_model.specs.Ports.{port_numbered}
 use Rattle.frame_buffer.specs.Speech.{Speech, octet_of}
