@@ -1,5 +1,5 @@
 -- The exchange at work, and the world that it stands for. Source: this exchange's own.
-use Rattle.std.specs.Prelude.{◌≡◌, ◌≤◌, ◌+◌, ◌*◌, ◌++◌, ℕ, List, None, replicate}
+use Rattle.std.specs.Prelude.{◌≡◌, ◌≤◌, ◌*◌, ◌++◌, ℕ, List, None, replicate}
 use Rattle.circuit_map.specs.Connections.{Connections}
 use Rattle.control_memory.specs.Layout.{Layout}
 use Rattle.exchange_core.specs.declared.reply.Reply.{Reply}

@@ -33,7 +33,7 @@ pub returns-clause-command : goal.returns-clause-command
 returns-clause-command g c is = command_says _ _ _ _ _ _ _ c.answer_words.ensures.ends is
 
 pub returns-clause-trace : goal.returns-clause-trace
-returns-clause-trace g c bytes t left is run  = trace_says _ _ _ _ _ _ _ bytes t c.answer_words.ensures.ends left is run
+returns-clause-trace g c bytes t left is run = trace_says _ _ _ _ _ _ _ bytes t c.answer_words.ensures.ends left is run
 
 pub returns-clause-no_trace : goal.returns-clause-no_trace
 returns-clause-no_trace g c bytes number why left refused run = no_trace_says _ _ _ _ _ _ _ bytes number why c.answer_words.ensures.ends left refused run
