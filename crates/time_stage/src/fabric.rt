@@ -11,6 +11,9 @@ use frame_buffer::{Crossed, FrameBuffer, Highway};
 
 /// The three stages in a row, under one control memory: where its tables are those of a legal
 /// layout, each outlet gets the octet of the inlet of its path, and every other slot is idle.
+///
+/// This is the theorem of the three stages, for tests and measures. An engine does not call it: it
+/// reads out by the control memory of the frame before, between two crossings.
 pub fn carry(
     buffer: &FrameBuffer,
     image: &Image,

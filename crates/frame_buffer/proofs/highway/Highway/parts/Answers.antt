@@ -1,4 +1,4 @@
-use Rattle.std.proofs.Common.{◌≡◌, ◌+◌, ◌*◌, ◌≤◌, drop, length, refl, sym, ap, ◌∙◌, arith, rules}
+use Rattle.std.proofs.Common.{◌≡◌, ◌+◌, ◌*◌, ◌≤◌, drop, length, refl, ap, ◌∙◌, arith, rules}
 use Rattle.std.specs.Vec.{with_items_from}
 use Rattle.frame_buffer.specs.Highways.{Highways, refilled}
 use Rattle.frame_buffer.proofs.Rows.{drop_refilled, slice_range_rest}
