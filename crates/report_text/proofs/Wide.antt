@@ -1,7 +1,7 @@
 -- Rows with idle octets behind the thirty of a line.
 use Rattle.std.proofs.Common.{◌≡◌, ℕ, ◌*◌, Bool, true, false, ◌&&◌, eqb, List, [], ◌∷◌, ◌++◌, length, length-append, take, replicate, refl, ap, sym, ◌∙◌, arith}
 use Rattle.std.specs.List.{list_all}
-use Rattle.std.proofs.lemmas.List.{append_assoc, take-append-le, take_all}
+use Rattle.std.proofs.lemmas.List.{take-append-le, take_all}
 use Rattle.std.proofs.lemmas.List.Folds.{list_all-append}
 use Rattle.circuit_model.specs.FrameInput.{idle_octet}
 use Rattle.hex.specs.Hex.{encode_with, encode_upper, upper_digits}

@@ -1,6 +1,4 @@
-use Rattle.std.proofs.Common.{◌≡◌, ◌∙◌, ◌==◌, ◌++◌, length, replicate, refl}
-use Rattle.circuit_model.specs.FrameInput.{idle_octet}
-use Rattle.report_text.proofs.Wide.{is_same_row, idle_wide}
+use Rattle.report_text.proofs.Wide.{is_same_row}
 use Rattle.report_text.proofs.report.is_idle.Goals as goal
 
 pub returns : goal.returns

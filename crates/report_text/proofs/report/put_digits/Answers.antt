@@ -1,5 +1,4 @@
-use Rattle.std.proofs.Common.{rules, ◌≡◌, ◌++◌, take, replicate, sym, ap, ◌∙◌}
-use Rattle.circuit_model.specs.FrameInput.{idle_octet}
+use Rattle.std.proofs.Common.{rules, ◌≡◌, take, sym, ap, ◌∙◌}
 use Rattle.hex.specs.Hex.{encode_upper}
 use Rattle.report_text.proofs.Wide.{digits_front}
 use Rattle.report_text.proofs.report.put_digits.Goals as goal

@@ -1,7 +1,7 @@
-use Rattle.std.proofs.Common.{rules, ◌≡◌, Some, ap, ◌∙◌, sym}
+use Rattle.std.proofs.Common.{◌≡◌, Some, ap, ◌∙◌, sym}
 use Rattle.std.specs.List.{list_all}
-use Rattle.trace_text.specs.TraceFields.{is_digit, octets_written, thirty}
-use Rattle.trace_text.proofs.TraceOctets.{four_more, refused_length, refused_digits, lost_wide, thirty_wide}
+use Rattle.trace_text.specs.TraceFields.{is_digit, octets_written}
+use Rattle.trace_text.proofs.TraceOctets.{refused_length, refused_digits, lost_wide, thirty_wide}
 use Rattle.trace_text.proofs.octets.thirty_octets.Goals as goal
 
 pub returns-then-are_pairs : goal.returns-then-are_pairs

@@ -1,6 +1,6 @@
-use Rattle.std.proofs.Common.{◌≡◌, length, get_or, refl, arith, ◌∙◌}
+use Rattle.std.proofs.Common.{◌≡◌, length, arith, ◌∙◌}
 use Rattle.std.proofs.lemmas.List.{length-set}
-use Rattle.trace_text.proofs.TraceOctets.{AreValues, value_found, value_more, values_all}
+use Rattle.trace_text.proofs.TraceOctets.{value_found, value_more, values_all}
 use Rattle.trace_text.proofs.octets.values_of.Goals as goal
 
 pub loop-place-preserved : goal.loop-place-preserved
