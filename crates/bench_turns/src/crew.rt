@@ -1,0 +1,83 @@
+//! Seats at work, each in a thread of its own.
+ghost use Rattle.std.specs.Prelude.{◌≡◌, ◌<◌, ◌≤◌, ◌+◌, ◌*◌, ◌^◌, length};
+ghost use Rattle.std.specs.Thread.{IsSync};
+ghost use Rattle.turn_lock.specs.Seats.{IsSeatOf};
+
+use crate::sum::Sum;
+use std::alloc::Global;
+use std::sync::Wait;
+use std::thread::{Threads, join};
+use turn_lock::{Seat, TurnLock};
+
+// Steps the events 1 to `count`.
+fn steps<R: Wait>(rt: &R, lock: &TurnLock<Sum>, mut seat: Seat<Sum>, count: u32) -> Seat<Sum>
+    requires of { IsSeatOf lock.now seat }
+    requires turns { (count ≤ seat.left) × (count < 2 ^ 31) }
+    ensures of { IsSeatOf lock.now result }
+    ensures number { result.number ≡ seat.number }
+    ensures seats { (result.made ≡ seat.made) × (length result.kept ≡ length seat.kept) }
+{
+    let mut tool = 0;
+    for i in 0..count {
+        lock.step(rt, &mut seat, i + 1, &mut tool);
+    }
+    seat
+}
+
+// So many seats beside seat 0 step the events 1 to `count`, each in a thread of its own, and are joined.
+fn crew<R: Threads + Wait + Sync>(
+    rt: &R,
+    lock: &TurnLock<Sum>,
+    mut seat: Seat<Sum>,
+    more: u32,
+    count: u32,
+) -> Seat<Sum>
+    requires of { IsSeatOf lock.now seat }
+    requires chief { seat.number ≡ 0 }
+    requires turns { (count * (more + 1) ≤ seat.left) × (count < 2 ^ 31) }
+    requires few { seat.made + more < 2 ^ 32 }
+    ensures of { IsSeatOf lock.now result }
+    ensures chief { result.number ≡ 0 }
+    ensures seats { (result.made ≡ seat.made + more) × (length result.kept ≡ length seat.kept + more) }
+{
+    if more == 0 {
+        return steps(rt, lock, seat, count);
+    }
+    let other = seat.split(lock, count, false);
+    let next = more - 1;
+    let (other, mut seat) = join(
+        rt,
+        move || -> Seat<Sum>
+            requires { IsSeatOf lock.now other × (count ≤ other.left) × (count < 2 ^ 31) }
+            ensures { IsSeatOf lock.entry.now result }
+        { steps(rt, lock, other, count) },
+        move || -> Seat<Sum>
+            requires { IsSync R.row × IsSeatOf lock.now seat × (seat.number ≡ 0) × (count * (next + 1) ≤ seat.left) × (count < 2 ^ 31) × (seat.made + next < 2 ^ 32) }
+            ensures { IsSeatOf lock.entry.now result × (result.number ≡ 0) × (result.made ≡ seat.made + next) × (length result.kept ≡ length seat.kept + next) }
+        { crew(rt, lock, seat, next, count) },
+    );
+    seat.join(lock, other);
+    seat
+}
+
+/// So many seats step the events 1 to `count` each. The sum, and how many entries the journal has; None where memory is short, or the numbers are
+/// out of bounds.
+pub fn run<R: Threads + Wait + Sync>(
+    rt: &R,
+    alloc: Global,
+    seats: u32,
+    count: u32,
+) -> Option<(u64, usize)> {
+    if seats == 0 || seats > 100 || count > 10000000 {
+        return None;
+    }
+    let budget = seats * count;
+    let Ok(sum) = Sum::new(alloc, budget) else {
+        return None;
+    };
+    let Ok((lock, zero)) = TurnLock::open(alloc, sum, budget) else {
+        return None;
+    };
+    let zero = crew(rt, &lock, zero, seats - 1, count);
+    Some(lock.close(zero).total())
+}
