@@ -1,4 +1,15 @@
+pub mod Legs
 pub mod Sound
 pub mod Orders
 pub mod World
+pub mod IdleSlots
 pub mod Standing
+pub mod Operations
+pub mod Course
+pub mod Acts
+pub mod Setup
+pub mod Calls
+pub mod LegStanding
+pub mod Happenings
+pub mod WorkedCalls
+pub mod Answered

@@ -10,6 +10,7 @@ use Rattle.circuit_model.specs.Ports.{Ports, free_ports, ports_after, port_of, g
 use Rattle.control_memory.specs.Layout.{Layout}
 use Rattle.control_memory.specs.Connecting.{connect, moved}
 use Rattle.circuit_map.specs.Connections.{without_both, partner}
+use Rattle.exchange_core.specs.Legs.{Legs, no_legs}
 use Rattle.exchange_core.specs.declared.trace.Event.{Event}
 use Rattle.exchange_core.specs.declared.trace.Event.TheVariants.{Nail, Seat, Free, Frame as Frame_event}
 use Rattle.exchange_core.specs.declared.reply.Reply.{Reply}
@@ -24,10 +25,11 @@ pub record Dimensions : Type 0 where
 abbrev pub lines_of : Dimensions → ℕ
 lines_of d = d.external + d.bridges
 
--- what the exchange holds: the circuits that stand, the member of each conference port and the layout of the paths; and of each frame so far
--- its input, and the circuits and ports at its boundary
+-- what the exchange holds: the circuits that stand, the legs of the calls, the member of each conference port and the layout of the paths;
+-- and of each frame so far its input, and the circuits and ports at its boundary
 pub record World : Type 0 where
   pub holding : Holding
+  pub legs : Legs
   pub ports : Ports
   pub layout : Layout
   pub inputs : List Input
@@ -38,6 +40,7 @@ pub record World : Type 0 where
 abbrev pub start : Dimensions → World
 start d = record {
   holding = empty;
+  legs = no_legs d.external;
   ports = free_ports d.bridges;
   layout = replicate (30 * lines_of d) None;
   inputs = [];

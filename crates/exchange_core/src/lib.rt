@@ -1,12 +1,20 @@
 //! The events of a trace, and what the exchange makes of each: what stands, and what it answers.
 #![tactic(auto)]
 
+mod call_laws;
 mod laws;
+mod leg_table;
+mod record;
 mod reply;
+mod signal;
 mod step;
 mod trace;
 
+pub use call_laws::{law_of_answered_calls, law_of_paths, law_of_refused_calls, worked_calls};
 pub use laws::{file_order_is_lawful, later_frames_change_nothing, worlds_are_made};
+pub use leg_table::{Held, LegTable};
+pub use record::{CallRecord, Party};
 pub use reply::Reply;
+pub use signal::{Encoded, Signal};
 pub use step::Core;
 pub use trace::{Event, Events, Input, Segments, Trace};

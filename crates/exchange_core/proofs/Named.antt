@@ -1,0 +1,81 @@
+-- The leg that a message names stands at its slot.
+use Rattle.std.proofs.Common.{◌≡◌, ℕ, zero, suc, ◌+◌, ◌<◌, ◌≤◌, ◌||◌, ◌==◌, Bool, true, List, [], ◌∷◌, map, Option, Some, None, refl, subst, inl, inr, arith}
+use Rattle.std.specs.Prelude.{Result, Ok, Err, find, filter_map, option_map}
+use Rattle.std.specs.List.{range_with_len, cons_option, AllByRecursion}
+use Rattle.circuit_model.specs.declared.channel.Slot.{Slot}
+use Rattle.circuit_model.proofs.Slots.{true_or_false}
+use Rattle.q931_codec.specs.declared.kind.MessageKind.{MessageKind}
+use Rattle.q931_codec.specs.declared.kind.MessageKind.TheVariants as kind
+use Rattle.q931_codec.specs.declared.message.Discard.{Discard}
+use Rattle.q931_codec.specs.declared.message.Message.{Message}
+use Rattle.q931_codec.specs.Reading.{reading}
+use Rattle.call_states.specs.declared.leg.Leg.{Leg}
+use Rattle.exchange_core.specs.declared.leg_table.Held.{Held}
+use Rattle.exchange_core.specs.Calls.{For_leg, New_call, Unanswered, without_leg, with_leg_named, received_from, received}
+use Rattle.exchange_core.specs.Legs.{Legs, leg_at, held_at, slots_of, is_for, leg_named}
+
+-- a slot of the line
+abbrev pub IsOn : ℕ → Slot → Type 0
+IsOn line x = (x.line ≡ line) × (x.place < 30)
+
+all_on : (line first count : ℕ) → first + count ≤ 30 → AllByRecursion (IsOn line) (map (λ place. record { line = line; place = place }) (range_with_len first count))
+all_on line first zero within = tt
+all_on line first (suc count) within = ((refl, omega (arith, within)), all_on line (first + 1) count (omega (arith, within)))
+
+pub slots_on : (line : ℕ) → AllByRecursion (IsOn line) (slots_of line)
+unfolding slots_of
+slots_on line = all_on line 0 30 (omega arith)
+
+-- a leg that is found stands at its slot, passes the test, and its slot is one of those that were looked at
+pub record Stands (legs : Legs) (p : Held → Bool) (Q : Slot → Type 0) (h : Held) : Type 0 where
+  pub at : leg_at legs h.slot ≡ Some h.leg
+  pub passes : p h ≡ true
+  pub among : Q h.slot
+
+found_step : (legs : Legs) (p : Held → Bool) (Q : Slot → Type 0) (x : Slot) (rest : List Held) (h : Held) (o : Option Leg)
+    → leg_at legs x ≡ o → Q x → (find p rest ≡ Some h → Stands legs p Q h)
+    → find p (cons_option (option_map (λ (leg : Leg). let held : Held = record { slot = x; leg = leg } in held) o) rest) ≡ Some h → Stands legs p Q h
+found_step legs p Q x rest h None at q later e = later e
+found_step legs p Q x rest h (Some leg) at q later e =
+    let one : Held = record { slot = x; leg = leg } in
+    elim (true_or_false (p one)) [
+      | inl passed ↦
+          let found : Some one ≡ Some h = rw passed at e in
+          let same : one ≡ h = cc in
+          subst (Stands legs p Q) same (record { at = at; passes = passed; among = q })
+      | inr failed ↦ later (rw failed at e)
+    ]
+
+pub found_among : (legs : Legs) (p : Held → Bool) (Q : Slot → Type 0) (xs : List Slot) (h : Held) → AllByRecursion Q xs
+    → find p (filter_map (held_at legs) xs) ≡ Some h → Stands legs p Q h
+found_among legs p Q [] h all e = absurd cc
+found_among legs p Q (x ∷ xs) h all e = found_step legs p Q x (filter_map (held_at legs) xs) h (leg_at legs x) refl all.0 (found_among legs p Q xs h all.1) e
+
+pub leg_named_stands : (legs : Legs) (line : ℕ) (flag : Bool) (reference : ℕ) (h : Held) → leg_named legs line flag reference ≡ Some h
+    → Stands legs (is_for flag reference) (IsOn line) h
+leg_named_stands legs line flag reference h e = found_among legs (is_for flag reference) (IsOn line) (slots_of line) h (slots_on line) e
+
+-- ---- what is for a leg names it
+
+not_for_leg : (m : Message) (k : MessageKind) (h : Held) (n : Message) → without_leg m k ≡ For_leg h n → ⊥
+not_for_leg m kind.Setup h n e = elim (true_or_false (m.flag || (m.reference == 0))) [
+  | inl unasked ↦ let f : Unanswered ≡ For_leg h n = rw unasked at e in cc
+  | inr asked ↦ let f : New_call m ≡ For_leg h n = rw asked at e in cc
+]
+not_for_leg m _ h n e = cc
+
+for_named : (m : Message) (o : Option Held) (h : Held) (n : Message) → with_leg_named m o ≡ For_leg h n → (o ≡ Some h) × (m ≡ n)
+for_named m None h n e = absurd (not_for_leg m m.kind h n e)
+for_named m (Some g) h n e = (cc, cc)
+
+-- the leg that a message is for stands on the message's line
+pub named_from : (legs : Legs) (line : ℕ) (r : Result Message Discard) (h : Held) (m : Message) → received_from legs line r ≡ For_leg h m
+    → Stands legs (is_for m.flag m.reference) (IsOn line) h
+named_from legs line (Err why) h m e = absurd cc
+named_from legs line (Ok n) h m e =
+    let named = for_named n (leg_named legs line n.flag n.reference) h m e in
+    subst (λ (k : Message). Stands legs (is_for k.flag k.reference) (IsOn line) h) named.1 (leg_named_stands legs line n.flag n.reference h named.0)
+
+pub received_stands : (legs : Legs) (line : ℕ) (octets : List ℕ) (h : Held) (m : Message) → received legs line octets ≡ For_leg h m
+    → Stands legs (is_for m.flag m.reference) (IsOn line) h
+received_stands legs line octets h m e = named_from legs line (reading octets) h m e
