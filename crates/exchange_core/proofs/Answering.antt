@@ -1,22 +1,22 @@
 -- An answered call always finds both slots silent, and is connected.
-use Rattle.std.proofs.Common.{◌≡◌, ℕ, ◌<◌, Bool, true, false, ◌&&◌, ◌||◌, ◌==◌, not, ◌⊎◌, inl, inr, List, [], ◌∷◌, ◌++◌, Option, Some, None, refl, sym, ◌∙◌, ap, subst, arith, if◌then◌else◌}
-use Rattle.std.specs.Prelude.{filter, Contains, length}
+use Rattle.std.proofs.Common.{◌≡◌, ℕ, ◌<◌, Bool, true, false, List, [], ◌∷◌, ◌++◌, Option, Some, None, refl, sym, ◌∙◌, ap, arith, if◌then◌else◌}
+use Rattle.std.specs.Prelude.{Contains}
 use Rattle.std.proofs.lemmas.Grind.{common_steps}
 use Rattle.std.proofs.lemmas.List.Elements.{Contains-append_right}
 use Rattle.circuit_model.specs.declared.channel.Slot.{Slot}
 use Rattle.circuit_model.specs.declared.circuit.Circuit.{Circuit}
 use Rattle.circuit_model.specs.declared.circuit.Circuit.TheVariants.{Pair, Member, Tone}
-use Rattle.circuit_model.specs.Circuits.{names, heard_by, unless_naming, is_idle, same_slot}
+use Rattle.circuit_model.specs.Circuits.{heard_by, unless_naming, is_idle}
 use Rattle.circuit_model.specs.Extent.{IsExternal}
-use Rattle.circuit_model.specs.Holding.{Holding, Connect, Clear, after, Valid, IsAllowed}
+use Rattle.circuit_model.specs.Holding.{Holding, Clear, after, Valid}
 use Rattle.circuit_model.proofs.Hearing.{heard_by-stands}
-use Rattle.circuit_model.proofs.Slots.{true_or_false, listener_is_named, same_slot-refl}
+use Rattle.circuit_model.proofs.Slots.{listener_is_named}
 use Rattle.circuit_model.proofs.Validity.{valid-clear, deaf_is_idle, heard_by-clear}
 use Rattle.q931_codec.specs.declared.kind.MessageKind.{MessageKind}
 use Rattle.q931_codec.specs.declared.kind.MessageKind.TheVariants as kind
 use Rattle.q931_codec.specs.declared.message.Message.{Message}
 use Rattle.q931_codec.specs.CallStates.{call_present, call_received, incoming_call_proceeding}
-use Rattle.call_states.specs.Acts.{act_of, act_on, is_among, unreleased, every_state, expected_in}
+use Rattle.call_states.specs.Acts.{act_of, act_on, is_among}
 use Rattle.call_states.specs.declared.act.Act.{Act}
 use Rattle.call_states.specs.declared.act.Act.TheVariants as act
 use Rattle.call_states.specs.declared.leg.Leg.{Leg}
@@ -24,7 +24,7 @@ use Rattle.call_states.specs.declared.leg.Peer.{Peer}
 use Rattle.call_states.specs.declared.leg.Peer.TheVariants as peer
 use Rattle.call_states.specs.declared.leg.Side.{Side}
 use Rattle.call_states.specs.declared.leg.Side.TheVariants.{Caller, Called}
-use Rattle.exchange_core.specs.LegStanding.{LegStands, LegsStand, HasPeer, MayHear, IsInCall, AreOneCall, are_matched, alone}
+use Rattle.exchange_core.specs.LegStanding.{LegsStand, HasPeer, MayHear, IsInCall, AreOneCall}
 use Rattle.exchange_core.specs.declared.leg_table.Held.{Held}
 use Rattle.exchange_core.specs.Acts.{course_of, answer}
 use Rattle.exchange_core.specs.Answered.{AreConnected}
@@ -126,8 +126,9 @@ answer_operations legs h k y other is at = rw (is, held_there legs y other at) r
 
 pair_there : (circuits : List Circuit) (a b : Circuit) → Contains (circuits ++ a ∷ b ∷ []) a × Contains (circuits ++ a ∷ b ∷ []) b
 pair_there circuits a b = (
-    Contains-append_right circuits (a ∷ b ∷ []) a (0, omega arith, refl),
-    Contains-append_right circuits (a ∷ b ∷ []) b (1, omega arith, refl))
+  Contains-append_right circuits (a ∷ b ∷ []) a (0, omega arith, refl),
+  Contains-append_right circuits (a ∷ b ∷ []) b (1, omega arith, refl),
+)
 
 -- no leg names its own slot as its peer's
 apart : (legs : Legs) (x y : Slot) (leg other : Leg) → leg_at legs x ≡ Some leg → leg_at legs y ≡ Some other → AreOneCall y other x leg → y ≡ x → ⊥
@@ -150,13 +151,16 @@ answered_by s w line r h m valid stand e at within answers =
     let other = c.3.0 in
     let silent = silent_by external w h.slot h.leg ringing_state (heard_by w.holding.circuits h.slot) stands.hears in
     let operations : (course_for s w line r).operations ≡ answer h (record { slot = y; leg = other }) =
-        rw (e, answers) (answer_operations w.legs h m.kind y other c.1 c.3.1) in
-    let two = pair_there (after w.holding (Clear y)).circuits (Pair y h.slot w.holding.next) (Pair h.slot y w.holding.next) in
-    (y, c.1, record {
-      allowed = (apart w.legs h.slot y h.leg other at c.3.1 c.3.2, cleared_idle bridges w.holding y valid, silent_idle bridges w.holding h.slot y valid silent);
-      there = rw operations (two.0);
-      back = rw operations (two.1);
-    })
+    rw (e, answers) (answer_operations w.legs h m.kind y other c.1 c.3.1) in
+    let two = pair_there (after w.holding (Clear y)).circuits (Pair y h.slot w.holding.next) (Pair h.slot y w.holding.next) in (
+      y,
+      c.1,
+      record {
+        allowed = (apart w.legs h.slot y h.leg other at c.3.1 c.3.2, cleared_idle bridges w.holding y valid, silent_idle bridges w.holding h.slot y valid silent);
+        there = rw operations (two.0);
+        back = rw operations (two.1);
+      },
+    )
 
 pub answered : (s : Setting) (w : World) (line : ℕ) (octets : List ℕ) (h : Held) (m : Message) → Valid s.dimensions.bridges w.holding → LegsStand s.dimensions.external w
     → line < s.dimensions.external → received w.legs line octets ≡ For_leg h m → act_on h.leg.state m ≡ act.Answer

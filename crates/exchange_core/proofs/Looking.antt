@@ -1,7 +1,7 @@
 -- Looking along a line, place by place.
-use Rattle.std.proofs.Common.{◌≡◌, ℕ, zero, suc, ◌+◌, ◌-◌, ◌<◌, ◌≤◌, Bool, true, false, not, List, [], ◌∷◌, map, Option, Some, None, refl, sym, ◌∙◌, ap, arith, if◌then◌else◌}
-use Rattle.std.specs.Prelude.{find, filter_map, option_map, is_none}
-use Rattle.std.specs.List.{range_with_len, position_or_len, prefix_len}
+use Rattle.std.proofs.Common.{◌≡◌, ℕ, suc, ◌+◌, ◌-◌, ◌<◌, Bool, true, false, List, [], ◌∷◌, map, Option, Some, None, refl, ap, arith}
+use Rattle.std.specs.Prelude.{find, filter_map}
+use Rattle.std.specs.List.{range_with_len, position_or_len}
 use Rattle.circuit_model.specs.declared.channel.Slot.{Slot}
 use Rattle.call_states.specs.declared.leg.Leg.{Leg}
 use Rattle.exchange_core.specs.declared.leg_table.Held.{Held}

@@ -1,5 +1,5 @@
 -- The leg that a message names stands at its slot.
-use Rattle.std.proofs.Common.{◌≡◌, ℕ, zero, suc, ◌+◌, ◌<◌, ◌≤◌, ◌||◌, ◌==◌, Bool, true, false, List, [], ◌∷◌, map, Option, Some, None, refl, sym, subst, inl, inr, arith}
+use Rattle.std.proofs.Common.{◌≡◌, ℕ, zero, suc, ◌+◌, ◌<◌, ◌≤◌, ◌||◌, ◌==◌, Bool, true, List, [], ◌∷◌, map, Option, Some, None, refl, subst, inl, inr, arith}
 use Rattle.std.specs.Prelude.{Result, Ok, Err, find, filter_map, option_map}
 use Rattle.std.specs.List.{range_with_len, cons_option, AllByRecursion}
 use Rattle.circuit_model.specs.declared.channel.Slot.{Slot}
@@ -11,8 +11,8 @@ use Rattle.q931_codec.specs.declared.message.Message.{Message}
 use Rattle.q931_codec.specs.Reading.{reading}
 use Rattle.call_states.specs.declared.leg.Leg.{Leg}
 use Rattle.exchange_core.specs.declared.leg_table.Held.{Held}
-use Rattle.exchange_core.specs.Calls.{Received, For_leg, New_call, Unanswered, without_leg, with_leg_named, received_from, received}
-use Rattle.exchange_core.specs.Legs.{Legs, leg_at, held_at, legs_of, slots_of, is_for, leg_named}
+use Rattle.exchange_core.specs.Calls.{For_leg, New_call, Unanswered, without_leg, with_leg_named, received_from, received}
+use Rattle.exchange_core.specs.Legs.{Legs, leg_at, held_at, slots_of, is_for, leg_named}
 
 -- a slot of the line
 abbrev pub IsOn : ℕ → Slot → Type 0

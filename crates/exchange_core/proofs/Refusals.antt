@@ -1,17 +1,13 @@
 -- A call that is refused changes nothing, and the fabric decides nothing.
-use Rattle.std.proofs.Common.{◌≡◌, ℕ, ◌++◌, Bool, true, false, not, ◌&&◌, List, [], ◌∷◌, Option, Some, None, length, refl, sym, ◌∙◌, ap, if◌then◌else◌}
+use Rattle.std.proofs.Common.{◌≡◌, ℕ, Bool, true, false, not, ◌&&◌, List, [], ◌∷◌, Option, Some, None, length, refl, ◌∙◌, ap}
 use Rattle.std.specs.Prelude.{filter_map}
 use Rattle.std.specs.List.{range_with_len}
-use Rattle.circuit_model.specs.Holding.{Holding}
-use Rattle.circuit_model.specs.Ports.{Ports}
 use Rattle.control_memory.specs.Layout.{Layout, slot_numbered}
 use Rattle.exchange_core.specs.declared.record.CallRecord.{CallRecord}
-use Rattle.exchange_core.specs.declared.signal.Signal.{Signal}
-use Rattle.exchange_core.specs.Calls.{Received, For_leg, New_call, Unanswered, received, course_for, refusal_for, after_message, answer_to, refused_with, course, record_at, records, is_ended, is_calling, made_by, sent_by}
-use Rattle.exchange_core.specs.Course.{Course}
+use Rattle.exchange_core.specs.Calls.{Received, For_leg, New_call, Unanswered, received, course_for, refusal_for, after_message, answer_to, refused_with, course, record_at, records, is_ended, is_calling, made_by}
 use Rattle.exchange_core.specs.Legs.{Legs, leg_at}
 use Rattle.exchange_core.specs.Operations.{Operation, Clear, Pair, Seat, Put, Remove, Send, Making, begun, performed, performed_all}
-use Rattle.exchange_core.specs.Setup.{Setting, refusal, setup, course_of_setup, refuse}
+use Rattle.exchange_core.specs.Setup.{Setting}
 use Rattle.exchange_core.specs.World.{Dimensions, World}
 
 -- ---- what is told where nothing has changed

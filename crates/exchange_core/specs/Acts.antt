@@ -1,7 +1,6 @@
 -- What each act does with the leg that a message is for, and with its peer. Which message is sent when is this exchange's own profile of
 -- basic call control (ITU-T Q.931 (05/98), 5.1 to 5.3).
 use Rattle.std.specs.Prelude.{ℕ, List, [], ◌∷◌, ◌++◌, Option, Some, None}
-use Rattle.circuit_model.specs.declared.channel.Slot.{Slot}
 use Rattle.q931_codec.specs.declared.kind.MessageKind.{MessageKind}
 use Rattle.q931_codec.specs.declared.kind.MessageKind.TheVariants as kind
 use Rattle.q931_codec.specs.CallStates.{call_delivered, call_received, incoming_call_proceeding, active, disconnect_indication, release_request}
@@ -44,15 +43,15 @@ disconnected cause leg = record leg { state = disconnect_indication; peer = peer
 
 -- ---- the peer
 
--- what is done with the other leg of the call, where there is one
-abbrev pub with_held : Option Held → (Held → List Operation) → List Operation
-with_held None does = []
-with_held (Some h) does = does h
+-- the other leg of the call, where there is one, and what is done with it
+abbrev pub peer_of : Legs → Peer → Option Held
+peer_of legs peer.Alone = None
+peer_of legs (peer.Leg y) = held_at legs y
+peer_of legs (peer.Room room) = None
 
-abbrev pub with_peer : Legs → Peer → (Held → List Operation) → List Operation
-with_peer legs peer.Alone does = []
-with_peer legs (peer.Leg y) does = with_held (held_at legs y) does
-with_peer legs (peer.Room room) does = []
+abbrev pub with_peer : Option Held → (Held → List Operation) → List Operation
+with_peer None does = []
+with_peer (Some h) does = does h
 
 -- the other leg of the call is cleared with a cause
 abbrev pub clear_with : ℕ → Held → List Operation
@@ -111,8 +110,8 @@ course_of legs h type act.Nothing = nothing
 course_of legs h type act.Unexpected = only (send h (status h.leg (unexpected_cause type)) ∷ [])
 course_of legs h type act.Enquiry = only (send h (status h.leg response_to_status_enquiry) ∷ [])
 course_of legs h type act.Proceeding = only (Put h.slot (in_state incoming_call_proceeding h.leg) ∷ [])
-course_of legs h type act.Alerting = only (with_peer legs h.leg.peer (alerting h))
-course_of legs h type act.Answer = only (with_peer legs h.leg.peer (answer h))
-course_of legs h type (act.Disconnect cause) = record { operations = disconnecting h ++ with_peer legs h.leg.peer (clear_with cause); cause = cause }
-course_of legs h type (act.Released cause) = record { operations = releasing h ++ with_peer legs h.leg.peer (clear_with cause); cause = cause }
-course_of legs h type (act.Gone cause) = record { operations = removing h ++ with_peer legs h.leg.peer (clear_with cause); cause = cause }
+course_of legs h type act.Alerting = only (with_peer (peer_of legs h.leg.peer) (alerting h))
+course_of legs h type act.Answer = only (with_peer (peer_of legs h.leg.peer) (answer h))
+course_of legs h type (act.Disconnect cause) = record { operations = disconnecting h ++ with_peer (peer_of legs h.leg.peer) (clear_with cause); cause = cause }
+course_of legs h type (act.Released cause) = record { operations = releasing h ++ with_peer (peer_of legs h.leg.peer) (clear_with cause); cause = cause }
+course_of legs h type (act.Gone cause) = record { operations = removing h ++ with_peer (peer_of legs h.leg.peer) (clear_with cause); cause = cause }

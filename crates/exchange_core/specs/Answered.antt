@@ -1,5 +1,5 @@
 -- An answered call. Source: this exchange's own.
-use Rattle.std.specs.Prelude.{◌≡◌, ℕ, Contains, Some}
+use Rattle.std.specs.Prelude.{ℕ, Contains}
 use Rattle.circuit_model.specs.declared.channel.Slot.{Slot}
 use Rattle.circuit_model.specs.declared.circuit.Circuit.TheVariants.{Pair}
 use Rattle.circuit_model.specs.Holding.{Connect, Clear, after, IsAllowed}

@@ -1,5 +1,5 @@
 -- What a message makes of the world, from its octets to the octets that are sent and the records that are told. Source: this exchange's own.
-use Rattle.std.specs.Prelude.{ℕ, ◌==◌, ◌&&◌, ◌||◌, not, Bool, true, false, List, [], ◌∷◌, length, map, filter_map, Option, Some, None, option_map, option_and_then, Ok, Err, Result, if◌then◌else◌}
+use Rattle.std.specs.Prelude.{ℕ, ◌==◌, ◌&&◌, ◌||◌, not, Bool, false, List, [], ◌∷◌, length, filter_map, Option, Some, None, option_map, option_and_then, Ok, Err, Result, if◌then◌else◌}
 use Rattle.std.specs.List.{range_with_len}
 use Rattle.circuit_model.specs.declared.channel.Slot.{Slot}
 use Rattle.circuit_model.specs.declared.circuit.Circuit.{Circuit}
@@ -14,8 +14,7 @@ use Rattle.q931_codec.specs.Reading.{reading}
 use Rattle.call_states.specs.declared.leg.Leg.{Leg}
 use Rattle.call_states.specs.declared.leg.Peer.{Peer}
 use Rattle.call_states.specs.declared.leg.Peer.TheVariants as peer
-use Rattle.call_states.specs.declared.leg.Side.{Side}
-use Rattle.call_states.specs.declared.leg.Side.TheVariants.{Caller, Called}
+use Rattle.call_states.specs.declared.leg.Side.TheVariants.{Caller}
 use Rattle.call_states.specs.Acts.{act_on, is_among}
 use Rattle.exchange_core.specs.declared.record.CallRecord.{CallRecord}
 use Rattle.exchange_core.specs.declared.record.Party.{Party}

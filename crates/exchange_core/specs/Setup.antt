@@ -1,6 +1,6 @@
 -- SETUP: the checks in their order, and what is chosen. Which check comes first, and what is chosen, is this exchange's own profile of ITU-T
 -- Q.931 (05/98), 5.1 and 5.2.
-use Rattle.std.specs.Prelude.{ℕ, ◌%◌, ◌&&◌, ◌||◌, ◌==◌, not, nat_le, nat_lt, Bool, true, false, List, [], ◌∷◌, ◌++◌, map, length, drop, Option, Some, None, is_none, option_map, option_and_then, unwrap_or, if◌then◌else◌}
+use Rattle.std.specs.Prelude.{ℕ, ◌%◌, ◌&&◌, ◌||◌, ◌==◌, not, nat_le, Bool, true, false, List, [], ◌∷◌, ◌++◌, map, length, drop, Option, Some, None, is_none, option_map, option_and_then, unwrap_or, if◌then◌else◌}
 use Rattle.std.specs.Option.{option_or}
 use Rattle.std.specs.List.{list_all}
 use Rattle.circuit_model.specs.declared.channel.Slot.{Slot}
@@ -24,9 +24,9 @@ use Rattle.number_plan.specs.declared.target.Found.TheVariants.{Line, Room, More
 use Rattle.number_plan.specs.declared.plan.Number.{Number}
 use Rattle.number_plan.specs.Plan.{found}
 use Rattle.exchange_core.specs.Acts.{message_to}
-use Rattle.exchange_core.specs.Course.{Course, only, nothing}
+use Rattle.exchange_core.specs.Course.{Course, only}
 use Rattle.exchange_core.specs.IdleSlots.{idle, lowest_idle, lowest_idle_beside}
-use Rattle.exchange_core.specs.Legs.{Legs, new_reference}
+use Rattle.exchange_core.specs.Legs.{new_reference}
 use Rattle.exchange_core.specs.Operations.{Operation, Seat, Put, Send}
 use Rattle.exchange_core.specs.World.{Dimensions, World, is_full}
 

@@ -3,7 +3,6 @@ use Rattle.std.specs.Prelude.{ℕ, ◌+◌, ◌*◌, true, List, [], ◌∷◌, 
 use Rattle.std.specs.List.{range_with_len}
 use Rattle.circuit_model.specs.declared.channel.Slot.{Slot}
 use Rattle.number_plan.specs.declared.target.Target.TheVariants as target
-use Rattle.number_plan.specs.declared.plan.Number.{Number}
 use Rattle.exchange_core.specs.declared.record.CallRecord.{CallRecord}
 use Rattle.exchange_core.specs.declared.record.Party.TheVariants as party
 use Rattle.exchange_core.specs.declared.reply.Reply.TheVariants.{Granted, Frame as Frame_reply}

@@ -49,6 +49,7 @@ impl LegTable {
     /// The leg that holds a slot.
     pub fn at(&self, x: Slot) -> Option<Leg>
         ensures found { result ≡ leg_at self.now x }
+        ensures inside { IfSome result (λ _. number_of x < length self.now) }
         ensures told { IfSome result IsTold }
     {
         match self.legs.get(x.number()) {
@@ -80,11 +81,12 @@ impl LegTable {
     {
         for place in 0..PLACES {
             let slot = Slot { line, place };
-            if let Some(leg) = self.at(slot) {
-                let held = Held { slot, leg };
-                if is_for(flag, reference, held) {
-                    return Some(held);
-                }
+            let Some(leg) = self.at(slot) else {
+                continue;
+            };
+            let held = Held { slot, leg };
+            if is_for(flag, reference, held) {
+                return Some(held);
             }
         }
         None
@@ -96,12 +98,12 @@ impl LegTable {
         ensures reference { result ≡ new_reference self.now line }
         ensures few { result ≤ 31 }
     {
-        for reference in 1..=u16::from(PLACES) {
+        for reference in 1..=30 {
             if self.named(line, true, reference).is_none() {
                 return reference;
             }
         }
-        u16::from(PLACES) + 1
+        31
     }
 }
 
