@@ -1,6 +1,6 @@
 -- The connections after a slot is cleared are those of the holding after it.
 use Rattle.std.proofs.Common.{◌≡◌, ℕ, zero, suc, ◌+◌, ◌*◌, ◌<◌, ◌≤◌, Bool, true, false, not, List, [], ◌∷◌, length, Option, Some, None, refl, sym, ◌∙◌, ap, subst, inl, inr, arith, length-set, if◌then◌else◌}
-use Rattle.std.specs.Prelude.{◌↔◌}
+use Rattle.std.specs.Prelude.{◌↔◌, IfSome}
 use Rattle.std.specs.List.{count_by, filter, Contains}
 use Rattle.std.proofs.lemmas.Grind.{common_steps}
 use Rattle.std.proofs.lemmas.List.Quantifiers.{position-Some}
@@ -16,10 +16,10 @@ use Rattle.circuit_model.proofs.Validity.{valid-clear, heard_by-clear, heard_by-
 use Rattle.control_memory.specs.Layout.{Layout, IsSlot, Joins, number_of}
 use Rattle.control_memory.specs.Connecting.{without_path}
 use Rattle.control_memory.proofs.Steps.{was_there, hop_left}
-use Rattle.circuit_map.specs.Connections.{Connections, lines_of, hears_at, seats, Holds, is_pathless}
+use Rattle.circuit_map.specs.Connections.{Connections, lines_of, hears_at, seats, Represents, is_pathless}
 use Rattle.circuit_map.proofs.Needs.{Needs, Paired, To_port, From_port, needed_is, heard_stands}
 use Rattle.circuit_map.proofs.Rows.{Hearing, cleared_row, kept_row}
-use Rattle.circuit_map.proofs.Holdings.{joins_needed}
+use Rattle.circuit_map.proofs.Holdings.{Heeded, joins_needed}
 use Rattle.circuit_map.proofs.Paths.{hearing_in}
 use Rattle.circuit_map.proofs.Sockets.{port_line, count-returned, count-returned_mine, count-returned_other, returned_other, one_member, returned_none, none_counted, ported, port_found}
 
@@ -156,14 +156,7 @@ count-members x [] = refl
 count-members x (c ∷ cs) = members_step x c cs (count-members x cs)
 
 -- ---- the connections
-pub record Cleared (m n : Connections) (x : Slot) : Type 0 where
-  pub external : n.external ≡ m.external
-  pub bridges : n.bridges ≡ m.bridges
-  pub next : n.next ≡ m.next
-  pub heard : (z : Slot) → hears_at n z ≡ unless_naming x (hears_at m z)
-  pub members : n.ports ≡ returned x m.ports
-
-pub clears : (m : Connections) (h : Holding) (ports : Ports) (x : Slot) → x.line < m.external → Holds m h ports → Clears m.external ports (returned x ports) (heard_by h.circuits) (heard_by (after h (Clear x)).circuits) x
+pub clears : (m : Connections) (h : Holding) (ports : Ports) (x : Slot) → x.line < m.external → Represents m h ports → Clears m.external ports (returned x ports) (heard_by h.circuits) (heard_by (after h (Clear x)).circuits) x
 clears m h ports x line holds = record {
   line = line;
   hearing = hearing_in m h ports holds;
@@ -171,21 +164,21 @@ clears m h ports x line holds = record {
   others = λ z apart. returned_other m.external x z ports apart;
 }
 
-ported_after : (m : Connections) (h : Holding) (ports : Ports) (x z : Slot) → Holds m h ports → count_by (has z) (returned x ports) ≡ count_by (seats z) (after h (Clear x)).circuits
+ported_after : (m : Connections) (h : Holding) (ports : Ports) (x z : Slot) → Represents m h ports → count_by (has z) (returned x ports) ≡ count_by (seats z) (after h (Clear x)).circuits
 ported_after m h ports x z holds = elim (same_slot_cases z x) [
   | inl here ↦ subst (λ t. count_by (has t) (returned x ports) ≡ count_by (seats t) (after h (Clear x)).circuits) (sym here) (count-returned_mine x ports ∙ sym (count-gone x h.circuits))
   | inr away ↦ count-returned_other x z ports away ∙ holds.ported z ∙ sym (count-kept x z h.circuits away)
 ]
 
-pub holds_clear : (m n : Connections) (x : Slot) → Cleared m n x → (h : Holding) (ports : Ports) → Holds m h ports
+pub holds_clear : (m n : Connections) (x : Slot) → Heeded m n (Clear x) → (h : Holding) (ports : Ports) → Represents m h ports
     → ((a b : Slot) → IsSlot (lines_of m) a → Joins n.layout a b ↔ Needs m.external (returned x ports) (heard_by (after h (Clear x)).circuits) a b)
-    → Holds n (after h (Clear x)) (returned x ports)
+    → Represents n (after h (Clear x)) (returned x ports)
 holds_clear m n x w h ports holds joins =
     let valid = valid-clear m.bridges h x holds.valid in
     record {
       next = w.next ∙ holds.next;
       valid = subst (λ b. Valid b (after h (Clear x))) (sym w.bridges) valid;
-      heard = λ z. w.heard z ∙ ap (unless_naming x) (holds.heard z) ∙ sym (heard_by-clear h.circuits x z (holds.valid.standing z));
+      heard = λ z. w.hears z ∙ ap (unless_naming x) (holds.heard z) ∙ sym (heard_by-clear h.circuits x z (holds.valid.standing z));
       members = w.members ∙ ap (returned x) holds.members;
       ported = λ z. ported_after m h ports x z holds;
       taken = let a = count-returned x ports in let b = count-members x h.circuits in let c = holds.ported x in let d = holds.taken in omega (arith, a, b, c, d);
@@ -196,7 +189,7 @@ holds_clear m n x w h ports holds joins =
     }
 
 -- no path goes
-pub clear_pathless : (m n : Connections) (x : Slot) → x.line < m.external → is_pathless (hears_at m x) ≡ true → Cleared m n x → n.layout ≡ m.layout → (h : Holding) (ports : Ports) → Holds m h ports → Holds n (after h (Clear x)) (returned x ports)
+pub clear_pathless : (m n : Connections) (x : Slot) → x.line < m.external → is_pathless (hears_at m x) ≡ true → Heeded m n (Clear x) → n.layout ≡ m.layout → (h : Holding) (ports : Ports) → Represents m h ports → Represents n (after h (Clear x)) (returned x ports)
 clear_pathless m n x line quiet w same h ports holds =
     let k = clears m h ports x line holds in
     let silent : is_pathless (heard_by h.circuits x) ≡ true = subst (λ o. is_pathless o ≡ true) (holds.heard x) quiet in
@@ -208,9 +201,9 @@ clear_pathless m n x line quiet w same h ports holds =
     ))
 
 -- the paths to a partner and back go
-pub clear_paths : (m n : Connections) (x q : Slot) → x.line < m.external → Cleared m n x
+pub clear_paths : (m n : Connections) (x q : Slot) → x.line < m.external → Heeded m n (Clear x)
     → ((a b : Slot) → IsSlot (lines_of m) a → Joins n.layout a b ↔ (Joins m.layout a b × (a ≡ x → ⊥) × (a ≡ q → ⊥)))
-    → (h : Holding) (ports : Ports) → Holds m h ports → Partner m.external ports (returned x ports) (heard_by h.circuits) (heard_by (after h (Clear x)).circuits) x q → Holds n (after h (Clear x)) (returned x ports)
+    → (h : Holding) (ports : Ports) → Represents m h ports → Partner m.external ports (returned x ports) (heard_by h.circuits) (heard_by (after h (Clear x)).circuits) x q → Represents n (after h (Clear x)) (returned x ports)
 clear_paths m n x q line w less h ports holds partner =
     let k = clears m h ports x line holds in
     holds_clear m n x w h ports holds (λ a b inside.
@@ -221,10 +214,15 @@ clear_paths m n x q line w less h ports holds partner =
     ))
 
 -- ---- the rows
-pub hearing_at : (m : Connections) (h : Holding) (ports : Ports) → Holds m h ports → Hearing m.external (hears_at m)
+pub hearing_at : (m : Connections) (h : Holding) (ports : Ports) → Represents m h ports → Hearing m.external (hears_at m)
 hearing_at m h ports holds =
     let same : heard_by h.circuits ≡ hears_at m = λ i z. sym (holds.heard z) i in
     subst (Hearing m.external) same (hearing_in m h ports holds)
+
+-- who hears by a circuit is its listener
+pub heard_of_own : (m : Connections) (o : Option Circuit) (x : Slot) → Hearing m.external (hears_at m) → o ≡ hears_at m x → IfSome o (λ c. listener c ≡ x)
+heard_of_own m None x k e = tt
+heard_of_own m (Some c) x k e = k.own x c (sym e)
 
 listener_named : (x : Slot) (c : Circuit) → listener c ≡ x → names x c ≡ true
 listener_named x (Pair from to since) e = let same = same_slot-refl x in let is : same_slot x to ≡ true = rw e same in grind (arith, common_steps)
@@ -335,26 +333,26 @@ unseated h bridges x v never c inside e =
     let for_x : listener c ≡ x = ap listener s.3 ∙ sym s.4 in
     never s.0 s.1 s.2 (sym (ap (heard_by h.circuits) for_x) ∙ found ∙ ap (λ t. Some t) s.3)
 
-pub nobody_returns : (m : Connections) (h : Holding) (ports : Ports) (x : Slot) → ((room : ℕ) (at : Slot) (s : ℕ) → hears_at m x ≡ Some (Member room at s) → ⊥) → Holds m h ports → returned x m.ports ≡ m.ports
+pub nobody_returns : (m : Connections) (h : Holding) (ports : Ports) (x : Slot) → ((room : ℕ) (at : Slot) (s : ℕ) → hears_at m x ≡ Some (Member room at s) → ⊥) → Represents m h ports → returned x m.ports ≡ m.ports
 nobody_returns m h ports x never holds =
     let none = seats_none x h.circuits (λ c inside. not_true (seats x c) (unseated h m.bridges x holds.valid (λ room at s e. never room at s (holds.heard x ∙ e)) c inside)) in
     returned_none x m.ports (ap (count_by (has x)) holds.members ∙ holds.ported x ∙ none)
 
 -- ---- the paths of what is cleared
-pub connected_to : (m : Connections) (h : Holding) (ports : Ports) (x y to : Slot) (s : ℕ) → Holds m h ports → hears_at m x ≡ Some (Pair y to s) → hears_at m x ≡ Some (Pair y x s)
+pub connected_to : (m : Connections) (h : Holding) (ports : Ports) (x y to : Slot) (s : ℕ) → Represents m h ports → hears_at m x ≡ Some (Pair y to s) → hears_at m x ≡ Some (Pair y x s)
 connected_to m h ports x y to s holds e = let own : to ≡ x = (hearing_at m h ports holds).own x (Pair y to s) e in e ∙ (λ i. Some (Pair y (own i) s))
 
-pub joined_there : (m : Connections) (h : Holding) (ports : Ports) (x y : Slot) (s : ℕ) → Holds m h ports → IsSlot (lines_of m) x → hears_at m x ≡ Some (Pair y x s) → Joins m.layout x y
+pub joined_there : (m : Connections) (h : Holding) (ports : Ports) (x y : Slot) (s : ℕ) → Represents m h ports → IsSlot (lines_of m) x → hears_at m x ≡ Some (Pair y x s) → Joins m.layout x y
 joined_there m h ports x y s holds inside e = (joins_needed m h ports x y holds inside).1 (Paired s (sym (holds.heard y) ∙ (hearing_at m h ports holds).both_ways x y s e))
 
-pub joined_back : (m : Connections) (h : Holding) (ports : Ports) (x y : Slot) (s : ℕ) → Holds m h ports → IsSlot (lines_of m) y → hears_at m x ≡ Some (Pair y x s) → Joins m.layout y x
+pub joined_back : (m : Connections) (h : Holding) (ports : Ports) (x y : Slot) (s : ℕ) → Represents m h ports → IsSlot (lines_of m) y → hears_at m x ≡ Some (Pair y x s) → Joins m.layout y x
 joined_back m h ports x y s holds inside e = (joins_needed m h ports y x holds inside).1 (Paired s (sym (holds.heard x) ∙ e))
 
 pub still_joined : (lines : ℕ) (first second : Layout) (x y : Slot) → length first ≡ 30 * lines → second ≡ without_path first x → IsSlot lines x → IsSlot lines y → (y ≡ x → ⊥) → Joins first y x → Joins second y x
 still_joined lines first second x y size one in_x in_y apart j = subst (λ l. Joins l y x) (sym one) ((one_less lines first x y x size in_x in_y).1 (j, apart))
 
 -- ---- a member and its port
-pub seated_in : (m : Connections) (h : Holding) (ports : Ports) (x at : Slot) (room s : ℕ) → Holds m h ports → hears_at m x ≡ Some (Member room at s) → hears_at m x ≡ Some (Member room x s)
+pub seated_in : (m : Connections) (h : Holding) (ports : Ports) (x at : Slot) (room s : ℕ) → Represents m h ports → hears_at m x ≡ Some (Member room at s) → hears_at m x ≡ Some (Member room x s)
 seated_in m h ports x at room s holds e = let own : at ≡ x = (hearing_at m h ports holds).own x (Member room at s) e in e ∙ (λ i. Some (Member room (own i) s))
 
 pub above_zero : (n : ℕ) → (n ≡ 0 → ⊥) → 0 < n
@@ -364,7 +362,7 @@ above_zero (suc n) never = omega arith
 counted_one : (x : Slot) (cs : List Circuit) (c : Circuit) → Contains cs c → seats x c ≡ true → count_by (seats x) cs ≡ 0 → ⊥
 counted_one x cs c (k, inside, e) seated none = let fails = none_counted (seats x) c cs none k inside in let is = ap (seats x) e in cc
 
-pub member_ported : (m : Connections) (h : Holding) (ports : Ports) (x : Slot) (room s : ℕ) → Holds m h ports → hears_at m x ≡ Some (Member room x s) → port_of m.external m.ports x ≡ None → ⊥
+pub member_ported : (m : Connections) (h : Holding) (ports : Ports) (x : Slot) (room s : ℕ) → Represents m h ports → hears_at m x ≡ Some (Member room x s) → port_of m.external m.ports x ≡ None → ⊥
 member_ported m h ports x room s holds e none =
     let stands = (heard_stands h.circuits x (Member room x s) (sym (holds.heard x) ∙ e)).0 in
     ported m.external ports x (count_by (seats x) h.circuits) (holds.ported x) (above_zero (count_by (seats x) h.circuits) (counted_one x h.circuits (Member room x s) stands (same_slot-refl x))) (ap (λ p. port_of m.external p x) (sym holds.members) ∙ none)
@@ -376,10 +374,10 @@ port_slot external bridges ports x p e size =
     let line = ap (λ (s : Slot). s.line) f.2 in let place = ap (λ (s : Slot). s.place) f.2 in
     (omega (arith, line, inside, size), omega (arith, place))
 
-pub joined_port : (m : Connections) (h : Holding) (ports : Ports) (x p : Slot) (room s : ℕ) → Holds m h ports → IsSlot (lines_of m) x → hears_at m x ≡ Some (Member room x s) → port_of m.external m.ports x ≡ Some p → Joins m.layout x p
+pub joined_port : (m : Connections) (h : Holding) (ports : Ports) (x p : Slot) (room s : ℕ) → Represents m h ports → IsSlot (lines_of m) x → hears_at m x ≡ Some (Member room x s) → port_of m.external m.ports x ≡ Some p → Joins m.layout x p
 joined_port m h ports x p room s holds inside e at_p = (joins_needed m h ports x p holds inside).1 (To_port room s (sym (holds.heard x) ∙ e) (ap (λ q. port_of m.external q x) (sym holds.members) ∙ at_p))
 
-pub port_joined : (m : Connections) (h : Holding) (ports : Ports) (x p : Slot) (room s : ℕ) → Holds m h ports → IsSlot (lines_of m) p → hears_at m x ≡ Some (Member room x s) → port_of m.external m.ports x ≡ Some p → Joins m.layout p x
+pub port_joined : (m : Connections) (h : Holding) (ports : Ports) (x p : Slot) (room s : ℕ) → Represents m h ports → IsSlot (lines_of m) p → hears_at m x ≡ Some (Member room x s) → port_of m.external m.ports x ≡ Some p → Joins m.layout p x
 port_joined m h ports x p room s holds inside e at_p = (joins_needed m h ports p x holds inside).1 (From_port room s (sym (holds.heard x) ∙ e) (ap (λ q. port_of m.external q x) (sym holds.members) ∙ at_p))
 
 pub no_member_too : (o : Option Circuit) (y x at : Slot) (s room t : ℕ) → o ≡ Some (Pair y x s) → o ≡ Some (Member room at t) → ⊥

@@ -6,5 +6,6 @@ pub mod Paths
 pub mod Clearing
 pub mod Showing
 pub mod Starting
-pub mod Keeping
+pub mod NextMemory
 pub mod Seating
+pub mod OwnersRooms

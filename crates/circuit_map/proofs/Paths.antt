@@ -9,7 +9,7 @@ use Rattle.circuit_model.specs.Ports.{Ports}
 use Rattle.control_memory.specs.declared.hop.Hop.{Hop}
 use Rattle.control_memory.specs.Layout.{Path, Layout, IsSlot, Joins, hop_of, path_to}
 use Rattle.control_memory.proofs.Lookups.{path_to_found}
-use Rattle.circuit_map.specs.Connections.{Connections, lines_of, hears_at, Holds}
+use Rattle.circuit_map.specs.Connections.{Connections, lines_of, hears_at, Represents}
 use Rattle.circuit_map.proofs.Needs.{Needs, Paired, To_port, From_port}
 use Rattle.circuit_map.proofs.Rows.{Hearing, hearing_of, hears_external}
 use Rattle.circuit_map.proofs.Holdings.{joins_needed}
@@ -33,10 +33,10 @@ no_outlet lines layout y size never = go (path_to layout y) refl
         absurd (never p.from f.0.inlet (p.slot, subst (λ t. hop_of layout p.from ≡ Some (record { to = t; slot = p.slot })) f.1 f.0.path))
 
 -- ---- by the holding
-pub own_ports : (m : Connections) (h : Holding) (ports : Ports) → Holds m h ports → Holds m h m.ports
-own_ports m h ports holds = subst (λ p. Holds m h p) (sym holds.members) holds
+pub own_ports : (m : Connections) (h : Holding) (ports : Ports) → Represents m h ports → Represents m h m.ports
+own_ports m h ports holds = subst (λ p. Represents m h p) (sym holds.members) holds
 
-pub hearing_in : (m : Connections) (h : Holding) (ports : Ports) → Holds m h ports → Hearing m.external (heard_by h.circuits)
+pub hearing_in : (m : Connections) (h : Holding) (ports : Ports) → Represents m h ports → Hearing m.external (heard_by h.circuits)
 hearing_in m h ports holds = hearing_of m.external m.bridges h holds.valid (λ z c e. hears_external m.external m.heard z c (holds.heard z ∙ e))
 
 idle_needs_none : (external : ℕ) (ports : Ports) (hears : Slot → Option Circuit) (x b : Slot) → Hearing external hears → x.line < external → hears x ≡ None → Needs external ports hears x b → ⊥
@@ -52,11 +52,11 @@ none_needs_idle external ports hears a y line none (From_port room since e p) = 
 pub external_slot : (m : Connections) (x : Slot) → x.line < m.external → x.place < 30 → IsSlot (lines_of m) x
 external_slot m x line place = (omega (arith, line), place)
 
-pub idle_joins_none : (m : Connections) (h : Holding) (ports : Ports) (x b : Slot) → Holds m h ports → x.line < m.external → x.place < 30 → hears_at m x ≡ None → Joins m.layout x b → ⊥
+pub idle_joins_none : (m : Connections) (h : Holding) (ports : Ports) (x b : Slot) → Represents m h ports → x.line < m.external → x.place < 30 → hears_at m x ≡ None → Joins m.layout x b → ⊥
 idle_joins_none m h ports x b holds line place none j =
     idle_needs_none m.external ports (heard_by h.circuits) x b (hearing_in m h ports holds) line (sym (holds.heard x) ∙ none) ((joins_needed m h ports x b holds (external_slot m x line place)).0 j)
 
-pub none_joins_idle : (m : Connections) (h : Holding) (ports : Ports) (a y : Slot) → Holds m h ports → IsSlot (lines_of m) a → y.line < m.external → hears_at m y ≡ None → Joins m.layout a y → ⊥
+pub none_joins_idle : (m : Connections) (h : Holding) (ports : Ports) (a y : Slot) → Represents m h ports → IsSlot (lines_of m) a → y.line < m.external → hears_at m y ≡ None → Joins m.layout a y → ⊥
 none_joins_idle m h ports a y holds inside line none j =
     none_needs_idle m.external ports (heard_by h.circuits) a y line (sym (holds.heard y) ∙ none) ((joins_needed m h ports a y holds inside).0 j)
 

@@ -54,6 +54,11 @@ hears_written external heard x o z size line place = elim (in_or_out external z)
       out (set heard (number_of x) o) ∙ sym (ap (λ b. if b then o else hears_in external heard z) away ∙ out heard)
 ]
 
+-- the same at an index that is the slot's number
+pub hears_set : (external : ℕ) (heard : List (Option Circuit)) (x : Slot) (o : Option Circuit) (n : ℕ) (z : Slot) → n ≡ number_of x → length heard ≡ 30 * external → x.line < external → x.place < 30
+    → hears_in external (set heard n o) z ≡ (if same_slot z x then o else hears_in external heard z)
+hears_set external heard x o n z is size line place = (λ i. hears_in external (set heard (is i) o) z) ∙ hears_written external heard x o z size line place
+
 -- ---- what holds of whom each slot hears
 pub record Hearing (external : ℕ) (hears : Slot → Option Circuit) : Type 0 where
   pub own : (z : Slot) (c : Circuit) → hears z ≡ Some c → listener c ≡ z
@@ -112,6 +117,16 @@ pub needs_split : (external : ℕ) (ports : Ports) (hears after : Slot → Optio
 needs_split external ports hears after x o a b adds (Paired since e) = elim (adds.split b _ e) [ inl new ↦ inl (Fresh_pair since new.0 new.1) | inr old ↦ inr (Paired since old) ]
 needs_split external ports hears after x o a b adds (To_port room since e p) = elim (adds.split a _ e) [ inl new ↦ inl (Fresh_to room since new.0 new.1 p) | inr old ↦ inr (To_port room since old p) ]
 needs_split external ports hears after x o a b adds (From_port room since e p) = elim (adds.split b _ e) [ inl new ↦ inl (Fresh_from room since new.0 new.1 p) | inr old ↦ inr (From_port room since old p) ]
+
+-- what is given to an idle slot leaves what the others hear
+pub given_keeps : (hears after : Slot → Option Circuit) (x : Slot) (o : Option Circuit) → ((z : Slot) → after z ≡ (if same_slot z x then o else hears z)) → hears x ≡ None → (z : Slot) (c : Circuit) → hears z ≡ Some c → after z ≡ Some c
+given_keeps hears after x o written none = (adds hears after x o written none).kept
+
+pub two_keep : (hears after : Slot → Option Circuit) (x y : Slot) (s t : Option Circuit) → ((z : Slot) → after z ≡ (if same_slot z x then s else if same_slot z y then t else hears z)) → hears x ≡ None → hears y ≡ None → (z : Slot) (c : Circuit) → hears z ≡ Some c → after z ≡ Some c
+two_keep hears after x y s t written none_x none_y z c e =
+    let off_x : same_slot z x ≡ false = same_slot-false z x (λ at. let wrong = sym none_x ∙ ap hears (sym at) ∙ e in cc) in
+    let off_y : same_slot z y ≡ false = same_slot-false z y (λ at. let wrong = sym none_y ∙ ap hears (sym at) ∙ e in cc) in
+    written z ∙ ap (λ b. if b then s else if same_slot z y then t else hears z) off_x ∙ ap (λ b. if b then t else hears z) off_y ∙ e
 
 -- ---- a slot cleared
 pub cleared_row : (x : Slot) (o : Option Circuit) (c : Circuit) → unless_naming x o ≡ Some c → (o ≡ Some c) × (names x c ≡ false)

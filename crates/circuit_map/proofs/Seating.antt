@@ -1,5 +1,5 @@
 -- The connections after a member is seated are those of the holding after it.
-use Rattle.std.proofs.Common.{◌≡◌, ℕ, suc, ◌+◌, ◌*◌, ◌<◌, ◌≤◌, ◌⊎◌, true, false, List, [], ◌∷◌, cond, ltb, get_or, length, set, Option, Some, None, refl, sym, ◌∙◌, ap, subst, inl, inr, arith, if◌then◌else◌}
+use Rattle.std.proofs.Common.{◌≡◌, ℕ, suc, ◌+◌, ◌*◌, ◌<◌, ◌≤◌, ◌⊎◌, true, false, List, [], ◌∷◌, cond, ltb, get_or, length, Option, Some, None, refl, sym, ◌∙◌, ap, subst, inl, inr, arith, if◌then◌else◌}
 use Rattle.std.specs.Prelude.{◌↔◌, is_some, is_none, position, option_map}
 use Rattle.std.specs.List.{count_by, position_or_len}
 use Rattle.std.proofs.lemmas.List.{length-map}
@@ -16,10 +16,10 @@ use Rattle.conference_ports.specs.Owners.{members, member_of}
 use Rattle.conference_ports.proofs.Positions.{none_passes}
 use Rattle.circuit_model.proofs.Hearing.{heard_by-one}
 use Rattle.circuit_model.proofs.Validity.{count_by-append, valid-seat}
-use Rattle.control_memory.specs.Layout.{IsSlot, Joins, number_of}
-use Rattle.circuit_map.specs.Connections.{Connections, lines_of, hears_in, hears_at, seats, Holds}
+use Rattle.control_memory.specs.Layout.{IsSlot, Joins}
+use Rattle.circuit_map.specs.Connections.{Connections, lines_of, hears_at, hears_after, seats, Represents, Obeys}
 use Rattle.circuit_map.proofs.Needs.{Needs, Paired, To_port, From_port, needed_is}
-use Rattle.circuit_map.proofs.Rows.{Hearing, adds, Fresh, Fresh_pair, Fresh_to, Fresh_from, needs_kept, needs_split, hears_written}
+use Rattle.circuit_map.proofs.Rows.{Hearing, adds, Fresh, Fresh_pair, Fresh_to, Fresh_from, needs_kept, needs_split}
 use Rattle.circuit_map.proofs.Holdings.{idle_in, joins_needed}
 use Rattle.circuit_map.proofs.Sockets.{given_other, given_here, count-given, one_free, none_free, portless, port_found, one_number}
 use Rattle.circuit_map.proofs.Paths.{hearing_in}
@@ -29,7 +29,7 @@ pub record Seated (m n : Connections) (x p : Slot) (room k : ℕ) : Type 0 where
   pub external : n.external ≡ m.external
   pub bridges : n.bridges ≡ m.bridges
   pub next : n.next ≡ m.next
-  pub heard : n.heard ≡ set m.heard (number_of x) (Some (Member room x m.next))
+  pub hears : (z : Slot) → hears_at n z ≡ hears_after m (Seat x room) z
   pub lowest : position is_none m.ports ≡ Some k
   pub port : p ≡ port_numbered m.external k
   pub members : n.ports ≡ given x m.ports
@@ -59,9 +59,8 @@ pub idle_seats : (circuits : List Circuit) (x : Slot) → is_idle circuits x ≡
 idle_seats [] x idle = refl
 idle_seats (c ∷ cs) x idle = seated_is_named x c cs (idle_seats cs x) idle
 
-pub holds_seat : (m n : Connections) (x p : Slot) (room k : ℕ) → length m.heard ≡ 30 * m.external → length m.ports ≡ 30 * m.bridges → x.line < m.external → x.place < 30 → hears_at m x ≡ None → Seated m n x p room k
-    → (h : Holding) (ports : Ports) → Holds m h ports → Holds n (after h (Seat x room)) (given x ports)
-holds_seat m n x p room k size sockets line place none w h ports holds =
+pub holds_seat : (m n : Connections) (x p : Slot) (room k : ℕ) → length m.ports ≡ 30 * m.bridges → hears_at m x ≡ None → Seated m n x p room k → Obeys m n (Seat x room)
+holds_seat m n x p room k sockets none w h ports holds =
     let idle = idle_in m h ports x holds none in
     let later : Holding = after h (Seat x room) in
     let lowest : position is_none ports ≡ Some k = subst (λ q. position is_none q ≡ Some k) holds.members w.lowest in
@@ -78,8 +77,7 @@ holds_seat m n x p room k size sockets line place none w h ports holds =
       next = w.next ∙ holds.next;
       valid = subst (λ b. Valid b later) (sym w.bridges) valid;
       heard = λ z.
-          ap (λ e. hears_in e n.heard z) w.external ∙ ap (λ l. hears_in m.external l z) w.heard ∙ hears_written m.external m.heard x (Some (Member room x m.next)) z size line place
-          ∙ ap (λ r. if same_slot z x then Some (Member room x m.next) else r) (holds.heard z) ∙ ap (λ k. if same_slot z x then Some (Member room x k) else heard_by h.circuits z) holds.next
+          w.hears z ∙ ap (λ r. if same_slot z x then Some (Member room x m.next) else r) (holds.heard z) ∙ ap (λ k. if same_slot z x then Some (Member room x k) else heard_by h.circuits z) holds.next
           ∙ sym (one z);
       members = w.members ∙ ap (given x) holds.members;
       ported = λ z. count-given (has z) x ports k refl lowest ∙ ap (λ c. c + count_by (has z) (Some x ∷ [])) (holds.ported z) ∙ sym (count_by-append (seats z) h.circuits (Member room x h.next ∷ []));
@@ -128,22 +126,22 @@ free_in_members owners =
 pub lowest_port : (external : ℕ) (owners : List (Option Owner)) (p : Slot) → option_map (port_numbered external) (position is_none owners) ≡ Some p → (k : ℕ) × (position is_none (members owners) ≡ Some k) × (p ≡ port_numbered external k)
 lowest_port external owners p e = let f = lowest_found external (position is_none owners) p e in (f.0, free_in_members owners ∙ f.1, f.2)
 
-no_number : (external : ℕ) (o : Option ℕ) → option_map (port_numbered external) o ≡ None → o ≡ None
+pub no_number : (external : ℕ) (o : Option ℕ) → option_map (port_numbered external) o ≡ None → o ≡ None
 no_number external None e = refl
 no_number external (Some k) e = absurd (cc)
 
 pub no_lowest : (external : ℕ) (owners : List (Option Owner)) → option_map (port_numbered external) (position is_none owners) ≡ None → position is_none (members owners) ≡ None
 no_lowest external owners e = free_in_members owners ∙ no_number external (position is_none owners) e
 
-pub idle_portless : (m : Connections) (h : Holding) (ports : Ports) (x : Slot) → Holds m h ports → hears_at m x ≡ None → port_of m.external m.ports x ≡ None
+pub idle_portless : (m : Connections) (h : Holding) (ports : Ports) (x : Slot) → Represents m h ports → hears_at m x ≡ None → port_of m.external m.ports x ≡ None
 idle_portless m h ports x holds none =
     ap (λ p. port_of m.external p x) holds.members ∙ portless m.external ports x (holds.ported x ∙ idle_seats h.circuits x (idle_in m h ports x holds none))
 
 -- as many members as ports where no port is free, and only there
-pub full_where : (m : Connections) (h : Holding) (ports : Ports) → Holds m h ports → length m.ports ≡ 30 * m.bridges → position is_none m.ports ≡ None → count_by is_member h.circuits ≡ 30 * m.bridges
+pub full_where : (m : Connections) (h : Holding) (ports : Ports) → Represents m h ports → length m.ports ≡ 30 * m.bridges → position is_none m.ports ≡ None → count_by is_member h.circuits ≡ 30 * m.bridges
 full_where m h ports holds long none = let full = none_free m.ports none in let same = ap (count_by is_some) holds.members in let taken = holds.taken in omega (arith, full, same, taken, long)
 
-pub not_full : (m : Connections) (h : Holding) (ports : Ports) (k : ℕ) → Holds m h ports → length m.ports ≡ 30 * m.bridges → position is_none m.ports ≡ Some k → count_by is_member h.circuits ≡ 30 * m.bridges → ⊥
+pub not_full : (m : Connections) (h : Holding) (ports : Ports) (k : ℕ) → Represents m h ports → length m.ports ≡ 30 * m.bridges → position is_none m.ports ≡ Some k → count_by is_member h.circuits ≡ 30 * m.bridges → ⊥
 not_full m h ports k holds long free full = let left = one_free m.ports k free in let same = ap (count_by is_some) holds.members in let taken = holds.taken in omega (arith, left, same, taken, long, full)
 
 -- ---- a free port is joined to nothing
@@ -175,11 +173,11 @@ none_needs_port external ports hears a p k hearing far free is (Paired since e) 
 none_needs_port external ports hears a p k hearing far free is (To_port room since e q) = had_port external ports a p k free is q
 none_needs_port external ports hears a p k hearing far free is (From_port room since e q) = let near = (hearing.inside p _ e).0 in omega (arith, near, far)
 
-pub port_joins_none : (m : Connections) (h : Holding) (ports : Ports) (p b : Slot) (k : ℕ) → Holds m h ports → IsSlot (lines_of m) p → m.external ≤ p.line → position is_none m.ports ≡ Some k → p ≡ port_numbered m.external k → Joins m.layout p b → ⊥
+pub port_joins_none : (m : Connections) (h : Holding) (ports : Ports) (p b : Slot) (k : ℕ) → Represents m h ports → IsSlot (lines_of m) p → m.external ≤ p.line → position is_none m.ports ≡ Some k → p ≡ port_numbered m.external k → Joins m.layout p b → ⊥
 port_joins_none m h ports p b k holds inside far free is j =
     port_needs_none m.external ports (heard_by h.circuits) p b k (hearing_in m h ports holds) far (subst (λ q. position is_none q ≡ Some k) holds.members free) is ((joins_needed m h ports p b holds inside).0 j)
 
-pub none_joins_port : (m : Connections) (h : Holding) (ports : Ports) (a p : Slot) (k : ℕ) → Holds m h ports → IsSlot (lines_of m) a → m.external ≤ p.line → position is_none m.ports ≡ Some k → p ≡ port_numbered m.external k → Joins m.layout a p → ⊥
+pub none_joins_port : (m : Connections) (h : Holding) (ports : Ports) (a p : Slot) (k : ℕ) → Represents m h ports → IsSlot (lines_of m) a → m.external ≤ p.line → position is_none m.ports ≡ Some k → p ≡ port_numbered m.external k → Joins m.layout a p → ⊥
 none_joins_port m h ports a p k holds inside far free is j =
     none_needs_port m.external ports (heard_by h.circuits) a p k (hearing_in m h ports holds) far (subst (λ q. position is_none q ≡ Some k) holds.members free) is ((joins_needed m h ports a p holds inside).0 j)
 
@@ -187,7 +185,7 @@ pub port_beyond : (external : ℕ) (x p : Slot) → x.line < external → extern
 port_beyond external x p near far same = let line = ap (λ (s : Slot). s.line) same in omega (arith, near, far, line)
 
 -- the member has the port that it was given
-pub seated_port : (m : Connections) (h : Holding) (ports : Ports) (x p : Slot) (k : ℕ) → Holds m h ports → hears_at m x ≡ None → position is_none m.ports ≡ Some k → p ≡ port_numbered m.external k → port_of m.external (given x m.ports) x ≡ Some p
+pub seated_port : (m : Connections) (h : Holding) (ports : Ports) (x p : Slot) (k : ℕ) → Represents m h ports → hears_at m x ≡ None → position is_none m.ports ≡ Some k → p ≡ port_numbered m.external k → port_of m.external (given x m.ports) x ≡ Some p
 seated_port m h ports x p k holds none free is =
     given_here m.external x m.ports k free (ap (count_by (has x)) holds.members ∙ holds.ported x ∙ idle_seats h.circuits x (idle_in m h ports x holds none)) ∙ ap (λ q. Some q) (sym is)
 

@@ -11,7 +11,7 @@ use Rattle.circuit_model.proofs.Age.{none_in_nil}
 use Rattle.circuit_model.proofs.Validity.{valid-empty}
 use Rattle.conference_ports.specs.Owners.{members}
 use Rattle.control_memory.specs.Layout.{Layout, IsBare, hop_of, number_of}
-use Rattle.circuit_map.specs.Connections.{Connections, hears_in, hears_at, Holds}
+use Rattle.circuit_map.specs.Connections.{Connections, hears_in, hears_at, Represents}
 
 pub none_at : {X : Type 0} (n k : ℕ) → get_or (replicate n (let x : Option X = None in x)) k None ≡ None
 none_at zero k = refl
@@ -37,7 +37,7 @@ none_taken : (p : Option Slot → Bool) (n : ℕ) → p None ≡ false → count
 none_taken p zero e = refl
 none_taken p (suc n) e = let rest = none_taken p n e in grind (arith, common_steps)
 
-pub holds_empty : (m : Connections) → m.next ≡ 0 → ((z : Slot) → hears_at m z ≡ None) → m.ports ≡ free_ports m.bridges → IsBare m.layout → Holds m empty (free_ports m.bridges)
+pub holds_empty : (m : Connections) → m.next ≡ 0 → ((z : Slot) → hears_at m z ≡ None) → m.ports ≡ free_ports m.bridges → IsBare m.layout → Represents m empty (free_ports m.bridges)
 holds_empty m first silent free bare = record {
   next = first;
   valid = valid-empty m.bridges;

@@ -3,14 +3,15 @@ use Rattle.std.specs.Prelude.{◌≡◌, ℕ, ◌+◌, ◌*◌, ◌<◌, ◌≤�
 use Rattle.circuit_model.specs.declared.channel.Slot.{Slot}
 use Rattle.circuit_model.specs.declared.circuit.Circuit.{Circuit}
 use Rattle.circuit_model.specs.declared.circuit.Circuit.TheVariants.{Pair, Member, Tone}
-use Rattle.circuit_model.specs.Circuits.{same_slot, heard_by, is_member}
-use Rattle.circuit_model.specs.Holding.{Holding, Valid}
-use Rattle.circuit_model.specs.Ports.{Ports, has, port_of}
+use Rattle.circuit_model.specs.Circuits.{same_slot, heard_by, is_member, unless_naming}
+use Rattle.circuit_model.specs.Holding.{Holding, Valid, Command, Connect, Seat, Give_tone, Clear, Frame, after}
+use Rattle.circuit_model.specs.Ports.{Ports, has, port_of, ports_after}
+use Rattle.conference_ports.specs.declared.owner.Owner.{Owner}
 use Rattle.control_memory.specs.declared.heard.Heard.{Heard}
 use Rattle.control_memory.specs.declared.heard.Heard.TheVariants.{Silent}
 use Rattle.control_memory.specs.Layout.{Layout, Legal, number_of}
-use Rattle.control_memory.specs.Connecting.{connect, without_path}
-use Rattle.control_memory.specs.Image.{EachSlot}
+use Rattle.control_memory.specs.Connecting.{connect, without_path, moved}
+use Rattle.control_memory.specs.Image.{EachSlot, port_entry}
 use Rattle.control_memory.specs.Shown.{JoinsCircuits, served_by, heard_as, seated_as}
 
 -- for each external slot, line by line, the circuit by which it hears; the member of each conference port; and the layout of the paths
@@ -38,6 +39,15 @@ hears_in external heard x = if nat_lt x.line external && nat_lt x.place 30 then 
 abbrev pub hears_at : Connections → Slot → Option Circuit
 hears_at m x = hears_in m.external m.heard x
 
+-- the circuit by which a slot hears after a command, told by those before it: who is given a circuit hears by that one, and nobody hears any
+-- more by a circuit that names a cleared slot
+abbrev pub hears_after : Connections → Command → Slot → Option Circuit
+hears_after m (Connect x y) z = if same_slot z x then Some (Pair y x m.next) else if same_slot z y then Some (Pair x y m.next) else hears_at m z
+hears_after m (Seat x room) z = if same_slot z x then Some (Member room x m.next) else hears_at m z
+hears_after m (Give_tone x kind) z = if same_slot z x then Some (Tone kind x m.next) else hears_at m z
+hears_after m (Clear x) z = unless_naming x (hears_at m z)
+hears_after m Frame z = hears_at m z
+
 -- the circuit seats the slot
 abbrev pub seats : Slot → Circuit → Bool
 seats x (Pair from to since) = false
@@ -46,7 +56,7 @@ seats x (Tone kind to since) = false
 
 -- the connections are those of a valid holding and of its ports: each slot hears by its circuit, each member has one port and nobody else
 -- has any, and the paths are those that the circuits need
-pub record Holds (m : Connections) (h : Holding) (ports : Ports) : Type 0 where
+pub record Represents (m : Connections) (h : Holding) (ports : Ports) : Type 0 where
   pub next : m.next ≡ h.next
   pub valid : Valid m.bridges h
   pub heard : (x : Slot) → hears_at m x ≡ heard_by h.circuits x
@@ -54,6 +64,10 @@ pub record Holds (m : Connections) (h : Holding) (ports : Ports) : Type 0 where
   pub ported : (x : Slot) → count_by (has x) ports ≡ count_by (seats x) h.circuits
   pub taken : count_by is_some ports ≡ count_by is_member h.circuits
   pub joined : JoinsCircuits (lines_of m) m.external m.layout h.circuits ports
+
+-- of whatever holding and ports the first connections are, the second ones are those after the command
+abbrev pub Obeys : Connections → Connections → Command → Type 0
+Obeys m n command = (h : Holding) (ports : Ports) → Represents m h ports → Represents n (after h command) (ports_after ports command)
 
 -- the circuit that a slot serves: an external slot the one by which it hears, a conference port that of its member
 abbrev pub served_in : ℕ → List (Option Circuit) → Ports → Slot → Option Circuit
@@ -71,17 +85,22 @@ room_shown m at = room_in m.external m.heard m.ports at
 
 -- a slot's entry in a table that has one for every place of every line, as a control memory has it
 abbrev pub entry_at : {X : Type 0} → X → List X → Slot → X
-entry_at missing entries at = slice_index_or entries (at.line * 30 + at.place) missing
+entry_at missing entries at = slice_index_or entries (number_of at) missing
 
 -- what is kept for the next control memory is what each slot hears by the circuit that it serves, and the room that it shows
-pub record IsShown (external lines : ℕ) (heard : List (Option Circuit)) (ports : Ports) (hearing : List Heard) (sitting : List (Option (ℕ × ℕ))) : Type 0 where
-  pub hearers : length hearing ≡ lines * 30
-  pub sitters : length sitting ≡ lines * 30
-  pub hears : EachSlot lines (λ at. entry_at Silent hearing at ≡ heard_as (served_in external heard ports at))
-  pub sits : EachSlot lines (λ at. entry_at None sitting at ≡ room_in external heard ports at)
+pub record IsShown (external bridges : ℕ) (heard : List (Option Circuit)) (ports : Ports) (hearing : List Heard) (sitting : List (Option (ℕ × ℕ))) : Type 0 where
+  pub hearers : length hearing ≡ 30 * (external + bridges)
+  pub sitters : length sitting ≡ 30 * bridges
+  pub hears : EachSlot (external + bridges) (λ at. entry_at Silent hearing at ≡ heard_as (served_in external heard ports at))
+  pub sits : EachSlot (external + bridges) (λ at. port_entry external sitting at ≡ room_in external heard ports at)
 
--- how large the parts are, that they are those of some holding, and that what is kept for the next control memory is what they show
-pub record IsSound (m : Connections) (lines first_line bridge_lines : ℕ) (hearing : List Heard) (sitting : List (Option (ℕ × ℕ))) : Type 0 where
+-- the owner of each port is a member of the room that it owns the port for
+abbrev pub AreRoomed : (Slot → Option Circuit) → List (Option Owner) → Type 0
+AreRoomed hears owners = (k : ℕ) (owner : Owner) → slice_index_or owners k None ≡ Some owner → (since : ℕ) × (hears owner.member ≡ Some (Member owner.room owner.member since))
+
+-- how large the parts are, that they are those of some holding, which room each port is owned for, and that what is kept for the next control
+-- memory is what they show
+pub record IsSound (m : Connections) (lines first_line bridge_lines : ℕ) (owners : List (Option Owner)) (hearing : List Heard) (sitting : List (Option (ℕ × ℕ))) : Type 0 where
   pub few : lines_of m ≤ 34
   pub width : lines ≡ lines_of m
   pub first : first_line ≡ m.external
@@ -89,8 +108,9 @@ pub record IsSound (m : Connections) (lines first_line bridge_lines : ℕ) (hear
   pub listeners : length m.heard ≡ 30 * m.external
   pub sockets : length m.ports ≡ 30 * m.bridges
   pub legal : Legal lines m.slots m.layout
-  pub held : (h : Holding) × Holds m h m.ports
-  pub shown : IsShown m.external (lines_of m) m.heard m.ports hearing sitting
+  pub held : (h : Holding) × Represents m h m.ports
+  pub roomed : AreRoomed (hears_at m) owners
+  pub shown : IsShown m.external m.bridges m.heard m.ports hearing sitting
 
 -- the sizes are as before
 pub record SameSizes (a b : Connections) : Type 0 where
@@ -105,6 +125,10 @@ joined_one m x y = connect (lines_of m) m.slots m.layout x y
 
 abbrev pub joined_both : Connections → Slot → Slot → Layout
 joined_both m x y = connect (lines_of m) m.slots (joined_one m x y) y x
+
+-- how many live paths the path from one slot to the other moved, and how many the path back
+abbrev pub AreMoves : ℕ × ℕ → Connections → Slot → Slot → Type 0
+AreMoves moves m x y = (moves.0 ≡ moved m.layout (joined_one m x y)) × (moves.1 ≡ moved (joined_one m x y) (joined_both m x y))
 
 -- the layout without the paths of the circuits that go with the one by which a slot hears: both directions of a connection, or those
 -- between a member and its port

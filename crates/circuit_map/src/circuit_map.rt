@@ -1,18 +1,17 @@
 ghost use Rattle.std.specs.Prelude.{◌≡◌, ◌≢◌, ◌+◌, ◌*◌, ◌<◌, ◌≤◌, ◌↔◌, ℕ, None, Some, IfSome, true, IfOk, IsOk, IsErr, IsTrue, OnErr, OnOk, count_by, is_none};
 ghost use Rattle.circuit_model.specs.declared.channel.Slot.{Slot};
 ghost use Rattle.circuit_model.specs.declared.circuit.Circuit.{Circuit};
-ghost use Rattle.circuit_model.specs.Circuits.{is_idle, is_member};
-ghost use Rattle.circuit_model.specs.Holding.{Holding, empty, Connect, Seat, Give_tone, Clear, Frame, after};
+ghost use Rattle.circuit_model.specs.Circuits.{is_idle, is_member, heard_by, listener};
+ghost use Rattle.circuit_model.specs.Holding.{Holding, empty, Connect, Seat, Give_tone, Clear, Frame};
 ghost use Rattle.circuit_model.specs.Ports.{Ports as Members, ports_after, free_ports, port_of};
 ghost use Rattle.control_memory.specs.Layout.{IsBare};
-ghost use Rattle.control_memory.specs.Connecting.{moved};
 ghost use Rattle.control_memory.specs.Shown.{ShowsBy};
 ghost use Rattle.control_memory.specs.Image.{SameSizes as SameImageSizes};
-ghost use Rattle.circuit_map.specs.Connections.{IsExternal, hears_at, Holds, SameSizes, joined_one, joined_both, parted, is_pathless};
+ghost use Rattle.circuit_map.specs.Connections.{IsExternal, hears_at, hears_after, Represents, Obeys, SameSizes, AreMoves, joined_both, parted, is_pathless};
 
-use circuit_model::{Circuit, Kind, Slot};
+use circuit_model::{Circuit, Kind, PLACES, Slot};
 use conference_ports::Ports;
-use control_memory::{Heard, Image, PathMap};
+use control_memory::{Heard, Image, PathMap, port_index};
 use std::alloc::{AllocError, Global};
 use std::marker::Model;
 
@@ -23,7 +22,7 @@ pub struct NoPort;
 /// The circuits that stand, and the paths and conference ports that carry them.
 ///
 /// Contracts see the circuit by which each external slot hears, the member of each port and the
-/// layout of the paths; `Holds` says of which holding these are. No call but `new` takes memory.
+/// layout of the paths; `Represents` says of which holding these are. No call but `new` takes memory.
 #[derive(Drop)]
 pub struct CircuitMap<P: PathMap> {
     external: u8,
@@ -34,7 +33,7 @@ pub struct CircuitMap<P: PathMap> {
     heard: Vec<Option<Circuit>>,
     ports: Ports,
     paths: P,
-    // What each slot hears, and who sits in it where it is a port: for the next control memory.
+    // What each slot hears, and who sits in each port: for the next control memory.
     hearing: Vec<Heard>,
     sitting: Vec<Option<(u8, u32)>>,
 }
@@ -66,38 +65,38 @@ impl<P: PathMap> Model for CircuitMap<P> {
       heard = m.heard.items;
       ports = members m.ports.owners;
       layout = P.layout m.paths;
-    }) (P.width m.paths) m.ports.external m.ports.lines m.hearing.items m.sitting.items };
+    }) (P.width m.paths) m.ports.external m.ports.lines m.ports.owners m.hearing.items m.sitting.items };
 }
 
 impl<P: PathMap + Drop> CircuitMap<P> {
     /// No circuit over a map of paths that has none yet, for so many external and bridge lines.
+    /// `AllocError` where memory is lacking.
     pub fn new(
         alloc: Global,
         paths: P,
         external: u8,
         bridges: u8,
     ) -> Result<CircuitMap<P>, AllocError>
-        requires external { (1 ≤ external) × (external ≤ 32) }
-        requires bridges { bridges ≤ 2 }
+        requires few { external + bridges ≤ 34 }
         requires lines { P.width paths ≡ external + bridges }
         requires bare { IsBare (P.layout paths) }
-        ensures holds { IfOk result (λ m. Holds m empty (free_ports bridges)) }
+        ensures holds { IfOk result (λ m. Represents m empty (free_ports bridges)) }
         ensures external { IfOk result (λ m. m.external ≡ external) }
         ensures bridges { IfOk result (λ m. m.bridges ≡ bridges) }
         ensures paths { IfOk result (λ m. (m.layout ≡ P.layout paths) × (m.slots ≡ P.depth paths) × (m.bound ≡ P.bound paths)) }
     {
         // Any call of a path map tells that its layout is legal.
         let _slots = paths.slots();
-        let places = usize::from(external + bridges) * 30;
+        let places = usize::from(PLACES);
         Ok(CircuitMap {
             external,
             bridges,
             next: 0,
-            heard: vec![in alloc; None; usize::from(external) * 30]?,
+            heard: vec![in alloc; None; places * usize::from(external)]?,
             ports: Ports::new(alloc, external, bridges)?,
             paths,
-            hearing: vec![in alloc; Heard::Silent; places]?,
-            sitting: vec![in alloc; None; places]?,
+            hearing: vec![in alloc; Heard::Silent; places * usize::from(external + bridges)]?,
+            sitting: vec![in alloc; None; places * usize::from(bridges)]?,
         })
     }
 }
@@ -114,20 +113,34 @@ impl<P: PathMap> CircuitMap<P> {
     pub fn idle(&self, at: Slot) -> bool
         requires external { IsExternal self.now at }
         ensures silent { result ≡ is_none (hears_at self.now at) }
-        ensures idle { (h : Holding) (ports : Members) → Holds self.now h ports → result ≡ is_idle h.circuits at }
+        ensures idle { (h : Holding) (ports : Members) → Represents self.now h ports → result ≡ is_idle h.circuits at }
     {
         self.hears(at).is_none()
+    }
+
+    /// The circuit by which an external slot hears: the direction of a connection that ends there,
+    /// its seat in a conference room, or its tone. `None` exactly where it is idle.
+    pub fn hears(&self, at: Slot) -> Option<Circuit>
+        requires external { IsExternal self.now at }
+        ensures circuit { result ≡ hears_at self.now at }
+        ensures listener { IfSome result (λ circuit. listener circuit ≡ at) }
+        ensures stands { (h : Holding) (ports : Members) → Represents self.now h ports → result ≡ heard_by h.circuits at }
+    {
+        self.heard[at.number()]
     }
 
     /// Gives a tone to an idle slot.
     pub fn tone(&mut self, x: Slot, kind: Kind)
         requires external { IsExternal self.old x }
         requires idle { hears_at self.old x ≡ None }
-        ensures holds { (h : Holding) (ports : Members) → Holds self.old h ports → Holds self.new (after h (Give_tone x kind)) (ports_after ports (Give_tone x kind)) }
+        ensures holds { Obeys self.old self.new (Give_tone x kind) }
+        ensures hears { (z : Slot) → hears_at self.new z ≡ hears_after self.old (Give_tone x kind) z }
+        ensures ports { self.new.ports ≡ self.old.ports }
+        ensures next { self.new.next ≡ self.old.next }
         ensures layout { self.new.layout ≡ self.old.layout }
         ensures sizes { SameSizes self.old self.new }
     {
-        let at = number_of(x);
+        let at = x.number();
         let since = self.next;
         self.heard[at] = Some(Circuit::Tone { kind, to: x, since });
         self.hearing[at] = Heard::Tone { kind, since };
@@ -142,16 +155,18 @@ impl<P: PathMap> CircuitMap<P> {
         requires distinct { x ≢ y }
         requires idle_x { hears_at self.old x ≡ None }
         requires idle_y { hears_at self.old y ≡ None }
-        ensures holds { (h : Holding) (ports : Members) → Holds self.old h ports → Holds self.new (after h (Connect x y)) (ports_after ports (Connect x y)) }
+        ensures holds { Obeys self.old self.new (Connect x y) }
+        ensures hears { (z : Slot) → hears_at self.new z ≡ hears_after self.old (Connect x y) z }
+        ensures ports { self.new.ports ≡ self.old.ports }
+        ensures next { self.new.next ≡ self.old.next }
         ensures layout { self.new.layout ≡ joined_both self.old x y }
-        ensures there { result.0 ≡ moved self.old.layout (joined_one self.old x y) }
-        ensures back { result.1 ≡ moved (joined_one self.old x y) (joined_both self.old x y) }
+        ensures moves { AreMoves result self.old x y }
         ensures few { (result.0 ≤ self.old.bound) × (result.1 ≤ self.old.bound) }
         ensures sizes { SameSizes self.old self.new }
     {
         let there = self.paths.connect(x, y);
         let back = self.paths.connect(y, x);
-        let (at_x, at_y) = (number_of(x), number_of(y));
+        let (at_x, at_y) = (x.number(), y.number());
         let since = self.next;
         self.heard[at_x] = Some(Circuit::Pair {
             from: y,
@@ -176,11 +191,14 @@ impl<P: PathMap> CircuitMap<P> {
     pub fn seat(&mut self, x: Slot, room: u8) -> Result<(u32, u32), NoPort>
         requires external { IsExternal self.old x }
         requires idle { hears_at self.old x ≡ None }
-        ensures holds { OnOk result ((h : Holding) (ports : Members) → Holds self.old h ports → Holds self.new (after h (Seat x room)) (ports_after ports (Seat x room))) }
-        ensures full { (h : Holding) (ports : Members) → Holds self.old h ports → IsErr result ↔ (count_by is_member h.circuits ≡ 30 * self.old.bridges) }
+        ensures holds { OnOk result (Obeys self.old self.new (Seat x room)) }
+        ensures hears { OnOk result ((z : Slot) → hears_at self.new z ≡ hears_after self.old (Seat x room) z) }
+        ensures ports { OnOk result (self.new.ports ≡ ports_after self.old.ports (Seat x room)) }
+        ensures next { self.new.next ≡ self.old.next }
+        ensures full { (h : Holding) (ports : Members) → Represents self.old h ports → IsErr result ↔ (count_by is_member h.circuits ≡ 30 * self.old.bridges) }
         ensures refused { OnErr result (self.new ≡ self.old) }
         ensures layout { IfOk result (λ moves. IfSome (port_of self.old.external self.new.ports x) (λ port. self.new.layout ≡ joined_both self.old x port)) }
-        ensures moves { IfOk result (λ moves. IfSome (port_of self.old.external self.new.ports x) (λ port. (moves.0 ≡ moved self.old.layout (joined_one self.old x port)) × (moves.1 ≡ moved (joined_one self.old x port) (joined_both self.old x port)))) }
+        ensures moves { IfOk result (λ moves. IfSome (port_of self.old.external self.new.ports x) (AreMoves moves self.old x)) }
         ensures few { IfOk result (λ moves. (moves.0 ≤ self.old.bound) × (moves.1 ≤ self.old.bound)) }
         ensures sizes { SameSizes self.old self.new }
     {
@@ -189,19 +207,24 @@ impl<P: PathMap> CircuitMap<P> {
         };
         let there = self.paths.connect(x, port);
         let back = self.paths.connect(port, x);
-        let (at_x, at_port) = (number_of(x), number_of(port));
+        let (at_x, at_port) = (x.number(), port.number());
+        let sits_at = port_index(self.external, port);
         let since = self.next;
         self.heard[at_x] = Some(Circuit::Member { room, at: x, since });
         self.hearing[at_x] = Heard::Path { since };
         self.hearing[at_port] = Heard::Path { since };
-        self.sitting[at_port] = Some((room, since));
+        self.sitting[sits_at] = Some((room, since));
         Ok((there, back))
     }
 
     /// Takes away every circuit that names a slot, with its paths and its conference port.
     pub fn clear(&mut self, x: Slot)
         requires external { IsExternal self.old x }
-        ensures holds { (h : Holding) (ports : Members) → Holds self.old h ports → Holds self.new (after h (Clear x)) (ports_after ports (Clear x)) }
+        ensures holds { Obeys self.old self.new (Clear x) }
+        ensures hears { (z : Slot) → hears_at self.new z ≡ hears_after self.old (Clear x) z }
+        ensures idle { hears_at self.new x ≡ None }
+        ensures ports { self.new.ports ≡ ports_after self.old.ports (Clear x) }
+        ensures next { self.new.next ≡ self.old.next }
         ensures layout { self.new.layout ≡ parted self.old x }
         ensures sizes { SameSizes self.old self.new }
     {
@@ -223,9 +246,12 @@ impl<P: PathMap> CircuitMap<P> {
         requires bridges { image.old.bridges ≡ self.old.bridges }
         requires slots { image.old.slots ≡ self.old.slots }
         ensures number { result ≡ self.old.next }
-        ensures shows { (h : Holding) (ports : Members) → Holds self.old h ports → ShowsBy self.old.layout image.new h.circuits ports h.next }
+        ensures shows { (h : Holding) (ports : Members) → Represents self.old h ports → ShowsBy self.old.layout image.new h.circuits ports h.next }
         ensures image { SameImageSizes image.old image.new }
-        ensures holds { (h : Holding) (ports : Members) → Holds self.old h ports → Holds self.new (after h Frame) (ports_after ports Frame) }
+        ensures holds { Obeys self.old self.new Frame }
+        ensures hears { (z : Slot) → hears_at self.new z ≡ hears_after self.old Frame z }
+        ensures ports { self.new.ports ≡ self.old.ports }
+        ensures next { self.new.next ≡ self.old.next + 1 }
         ensures layout { self.new.layout ≡ self.old.layout }
         ensures sizes { SameSizes self.old self.new }
     {
@@ -236,23 +262,19 @@ impl<P: PathMap> CircuitMap<P> {
         frame
     }
 
-    // The circuit by which an external slot hears.
-    fn hears(&self, at: Slot) -> Option<Circuit>
-        requires external { IsExternal self.now at }
-        ensures { result ≡ hears_at self.now at }
-    {
-        self.heard[number_of(at)]
-    }
-
     // Takes away the tone of a slot, if it has one.
     fn silence(&mut self, x: Slot)
         requires external { IsExternal self.old x }
         requires pathless { is_pathless (hears_at self.old x) ≡ true }
-        ensures holds { (h : Holding) (ports : Members) → Holds self.old h ports → Holds self.new (after h (Clear x)) (ports_after ports (Clear x)) }
+        ensures holds { Obeys self.old self.new (Clear x) }
+        ensures hears { (z : Slot) → hears_at self.new z ≡ hears_after self.old (Clear x) z }
+        ensures idle { hears_at self.new x ≡ None }
+        ensures ports { self.new.ports ≡ ports_after self.old.ports (Clear x) }
+        ensures next { self.new.next ≡ self.old.next }
         ensures layout { self.new.layout ≡ parted self.old x }
         ensures sizes { SameSizes self.old self.new }
     {
-        let at = number_of(x);
+        let at = x.number();
         self.heard[at] = None;
         self.hearing[at] = Heard::Silent;
     }
@@ -261,13 +283,17 @@ impl<P: PathMap> CircuitMap<P> {
     fn release(&mut self, x: Slot, y: Slot)
         requires external { IsExternal self.old x }
         requires connected { (to : Slot) × (since : ℕ) × (hears_at self.old x ≡ Some (Circuit.Pair y to since)) }
-        ensures holds { (h : Holding) (ports : Members) → Holds self.old h ports → Holds self.new (after h (Clear x)) (ports_after ports (Clear x)) }
+        ensures holds { Obeys self.old self.new (Clear x) }
+        ensures hears { (z : Slot) → hears_at self.new z ≡ hears_after self.old (Clear x) z }
+        ensures idle { hears_at self.new x ≡ None }
+        ensures ports { self.new.ports ≡ ports_after self.old.ports (Clear x) }
+        ensures next { self.new.next ≡ self.old.next }
         ensures layout { self.new.layout ≡ parted self.old x }
         ensures sizes { SameSizes self.old self.new }
     {
         self.paths.disconnect(x, y);
         self.paths.disconnect(y, x);
-        let (at_x, at_y) = (number_of(x), number_of(y));
+        let (at_x, at_y) = (x.number(), y.number());
         self.heard[at_x] = None;
         self.heard[at_y] = None;
         self.hearing[at_x] = Heard::Silent;
@@ -278,7 +304,11 @@ impl<P: PathMap> CircuitMap<P> {
     fn unseat(&mut self, x: Slot)
         requires external { IsExternal self.old x }
         requires seated { (room : ℕ) × (at : Slot) × (since : ℕ) × (hears_at self.old x ≡ Some (Circuit.Member room at since)) }
-        ensures holds { (h : Holding) (ports : Members) → Holds self.old h ports → Holds self.new (after h (Clear x)) (ports_after ports (Clear x)) }
+        ensures holds { Obeys self.old self.new (Clear x) }
+        ensures hears { (z : Slot) → hears_at self.new z ≡ hears_after self.old (Clear x) z }
+        ensures idle { hears_at self.new x ≡ None }
+        ensures ports { self.new.ports ≡ ports_after self.old.ports (Clear x) }
+        ensures next { self.new.next ≡ self.old.next }
         ensures layout { self.new.layout ≡ parted self.old x }
         ensures sizes { SameSizes self.old self.new }
     {
@@ -288,17 +318,11 @@ impl<P: PathMap> CircuitMap<P> {
         self.paths.disconnect(x, port);
         self.paths.disconnect(port, x);
         self.ports.give(x);
-        let (at_x, at_port) = (number_of(x), number_of(port));
+        let (at_x, at_port) = (x.number(), port.number());
+        let sits_at = port_index(self.external, port);
         self.heard[at_x] = None;
         self.hearing[at_port] = Heard::Silent;
-        self.sitting[at_port] = None;
+        self.sitting[sits_at] = None;
         self.hearing[at_x] = Heard::Silent;
     }
-}
-
-// Where a slot's circuit and entries stand: slots are numbered line by line.
-fn number_of(at: Slot) -> usize
-    ensures { result ≡ 30 * at.line + at.place }
-{
-    30 * usize::from(at.line) + usize::from(at.place)
 }

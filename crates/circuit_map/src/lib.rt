@@ -3,7 +3,5 @@
 #![tactic(auto)]
 
 mod circuit_map;
-#[cfg(test)]
-mod tests;
 
 pub use circuit_map::{CircuitMap, NoPort};

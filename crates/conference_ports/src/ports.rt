@@ -64,7 +64,7 @@ impl Ports {
             return None;
         };
         self.owners[port] = Some(Owner { room, member });
-        self.ports[member_index(member)] = Some(port as u16);
+        self.ports[member.number()] = Some(port as u16);
         Some(port_at(self.external, port))
     }
 
@@ -76,7 +76,7 @@ impl Ports {
         ensures members { members self.new.owners ≡ returned member (members self.old.owners) }
         ensures sizes { (self.new.external ≡ self.old.external) × (self.new.lines ≡ self.old.lines) }
     {
-        let index = member_index(member);
+        let index = member.number();
         if let Some(port) = self.ports[index] {
             self.owners[usize::from(port)] = None;
             self.ports[index] = None;
@@ -88,7 +88,7 @@ impl Ports {
         requires { IsMember self.now member }
         ensures { result ≡ port_of_member self.now.external (members self.now.owners) member }
     {
-        let port = self.ports[member_index(member)]?;
+        let port = self.ports[member.number()]?;
         Some(port_at(self.external, usize::from(port)))
     }
 
@@ -108,13 +108,6 @@ fn lowest_free(owners: &[Option<Owner>]) -> Option<usize>
     ensures { result ≡ position is_none owners.now }
 {
     owners.iter().position(|owner| owner.is_none())
-}
-
-// Where an external slot's port stands in the index.
-fn member_index(member: Slot) -> usize
-    ensures { result ≡ 30 * member.line + member.place }
-{
-    30 * usize::from(member.line) + usize::from(member.place)
 }
 
 // The slot of a port with this number among all ports.

@@ -2,4 +2,5 @@ pub mod Carrying
 pub mod Entries
 pub mod Lookups
 pub mod Steps
-pub mod Tabled
+pub mod LookupsAfter
+pub mod TablesAfter

@@ -19,13 +19,13 @@ numbered_number at within =
 
 -- ---- finding among the paths
 -- what stands in the layout at a path's number
-pub record Stands (n : ℕ) (hops : Layout) (p : Path) : Type 0 where
+pub record IsListed (n : ℕ) (hops : Layout) (p : Path) : Type 0 where
   pub k : ℕ
   pub inside : k < length hops
   pub there : slice_index_or hops k None ≡ Some (record { to = p.to; slot = p.slot })
   pub from : p.from ≡ slot_numbered (n + k)
 
-later : (n : ℕ) (hop : Option Hop) (hops : Layout) (p : Path) → Stands (n + 1) hops p → Stands n (hop ∷ hops) p
+later : (n : ℕ) (hop : Option Hop) (hops : Layout) (p : Path) → IsListed (n + 1) hops p → IsListed n (hop ∷ hops) p
 later n hop hops p s = record {
   k = suc s.k;
   inside = let i = s.inside in omega (arith, i);
@@ -43,8 +43,8 @@ abbrev path_at : ℕ → Hop → Path
 path_at n hop = record { from = slot_numbered n; to = hop.to; slot = hop.slot }
 
 found_here : (test : Path → Bool) (n : ℕ) (hop : Hop) (hops : Layout) (p : Path) (b : Bool) → test (path_at n hop) ≡ b
-    → (find test (paths_from (n + 1) hops) ≡ Some p → Stands (n + 1) hops p × (test p ≡ true))
-    → cond b (Some (path_at n hop)) (find test (paths_from (n + 1) hops)) ≡ Some p → Stands n (Some hop ∷ hops) p × (test p ≡ true)
+    → (find test (paths_from (n + 1) hops) ≡ Some p → IsListed (n + 1) hops p × (test p ≡ true))
+    → cond b (Some (path_at n hop)) (find test (paths_from (n + 1) hops)) ≡ Some p → IsListed n (Some hop ∷ hops) p × (test p ≡ true)
 found_here test n hop hops p true passes later_on e =
     let is : path_at n hop ≡ p = some_same (path_at n hop) p e in (
       record {
@@ -57,7 +57,7 @@ found_here test n hop hops p true passes later_on e =
     )
 found_here test n hop hops p false passes later_on e = let rest = later_on e in (later n (Some hop) hops p rest.0, rest.1)
 
-pub found : (test : Path → Bool) (n : ℕ) (hops : Layout) (p : Path) → find test (paths_from n hops) ≡ Some p → Stands n hops p × (test p ≡ true)
+pub found : (test : Path → Bool) (n : ℕ) (hops : Layout) (p : Path) → find test (paths_from n hops) ≡ Some p → IsListed n hops p × (test p ≡ true)
 found test n [] p e = absurd (none_some p e)
 found test n (None ∷ hops) p e = let rest = found test (n + 1) hops p e in (later n None hops p rest.0, rest.1)
 found test n (Some hop ∷ hops) p e = found_here test n hop hops p (test (path_at n hop)) refl (found test (n + 1) hops p) e
@@ -91,7 +91,7 @@ pub record IsPathOf (lines : ℕ) (layout : Layout) (p : Path) : Type 0 where
   pub inlet : IsSlot lines p.from
   pub path : HasPath layout p.from p.to p.slot
 
-stands_path : (lines : ℕ) (layout : Layout) (p : Path) → length layout ≡ 30 * lines → Stands 0 layout p → IsPathOf lines layout p
+stands_path : (lines : ℕ) (layout : Layout) (p : Path) → length layout ≡ 30 * lines → IsListed 0 layout p → IsPathOf lines layout p
 stands_path lines layout p size s =
     let k = s.k in
     let from : p.from ≡ slot_numbered k = s.from ∙ ap slot_numbered (omega arith) in

@@ -4,7 +4,7 @@ use Rattle.std.specs.Prelude.{is_none}
 use Rattle.std.proofs.lemmas.Bool.Decides.{eqb_tells}
 use Rattle.circuit_model.specs.declared.channel.Slot.{Slot}
 use Rattle.control_memory.specs.Layout.{Layout, number_of, slot_numbered, hop_of, path_in, path_out, path_to, IsSlot, HasPath, Legal}
-use Rattle.control_memory.specs.Connecting.{with_path, without_path, is_unsent, is_unreceived}
+use Rattle.control_memory.specs.Connecting.{with_path, without_path, is_unsent, is_unreceived, IsFree}
 use Rattle.control_memory.proofs.Lookups.{numbered_number, path_in_is, path_out_is, path_to_is, hops_agree}
 
 -- slots with one number are one slot
@@ -13,13 +13,6 @@ same_number x y a b e = sym (numbered_number x a) ∙ ap slot_numbered e ∙ num
 
 pub number_inside : (lines : ℕ) (x : Slot) → IsSlot lines x → number_of x < 30 * lines
 number_inside lines x inside = let l = inside.0 in let p = inside.1 in omega (arith, l, p)
-
--- no path is in the way of a new one
-pub record IsFree (lines : ℕ) (layout : Layout) (from to : Slot) (slot : ℕ) : Type 0 where
-  pub inlet : hop_of layout from ≡ None
-  pub outlet : (x : Slot) (s : ℕ) → IsSlot lines x → HasPath layout x to s → ⊥
-  pub sent : (x y : Slot) → IsSlot lines x → HasPath layout x y slot → x.line ≡ from.line → ⊥
-  pub received : (x y : Slot) → IsSlot lines x → HasPath layout x y slot → y.line ≡ to.line → ⊥
 
 some_none : {X : Type 0} (x : X) (o : Option X) → o ≡ Some x → is_none o ≡ true → ⊥
 some_none x o e n = let wrong : is_none (Some x) ≡ true = subst (λ q. is_none q ≡ true) e n in cc

@@ -2,7 +2,8 @@
 use Rattle.std.specs.Prelude.{◌≡◌, ℕ, ◌<◌, Option, Some, None}
 use Rattle.circuit_model.specs.declared.channel.Slot.{Slot}
 use Rattle.circuit_model.specs.FrameInput.{idle_octet}
-use Rattle.control_memory.specs.Layout.{Path, Layout, path_out, path_to}
+use Rattle.control_memory.specs.Layout.{Path, Layout, Legal, path_out, path_to}
+use Rattle.control_memory.specs.Tables.{HasTables}
 
 -- the octet of the place, line or slot that a control table names, and the idle octet where it names none
 abbrev pub fetched : Option ℕ → (ℕ → ℕ) → ℕ
@@ -29,3 +30,24 @@ SendsBy lines slots places octet highway = (line slot : ℕ) → line < lines �
 -- so many lines hold in so many internal slots what the layout brings them
 abbrev pub HoldsCrossing : ℕ → ℕ → Layout → (Slot → ℕ) → (ℕ → ℕ → ℕ) → Type 0
 HoldsCrossing lines slots layout octet crossed = (line slot : ℕ) → line < lines → slot < slots → crossed line slot ≡ crossing layout octet line slot
+
+-- a legal layout on so many lines and internal slots, and the three tables that carry it out
+pub record Wiring : Type 0 where
+  pub lines : ℕ
+  pub slots : ℕ
+  pub layout : Layout
+  pub places : ℕ → ℕ → Option ℕ
+  pub crossed : ℕ → ℕ → Option ℕ
+  pub read : ℕ → ℕ → Option ℕ
+  pub legal : Legal lines slots layout
+  pub tables : HasTables lines slots layout places crossed read
+
+-- what the outgoing lines get by the second table of what the incoming lines send by the first is what the layout brings them
+abbrev pub BringsAcross : Wiring → Type 0
+BringsAcross w = (octet : Slot → ℕ) (highway : ℕ → ℕ → ℕ) → SendsBy w.lines w.slots w.places octet highway
+    → HoldsCrossing w.lines w.slots w.layout octet (λ line slot. fetched (w.crossed line slot) (λ from. highway from slot))
+
+-- and what their places then read by the third is the octet of the inlet of their path
+abbrev pub BringsOut : Wiring → Type 0
+BringsOut w = (octet : Slot → ℕ) (held : ℕ → ℕ → ℕ) → HoldsCrossing w.lines w.slots w.layout octet held
+    → (at : Slot) → at.line < w.lines → at.place < 30 → fetched (w.read at.line at.place) (held at.line) ≡ carried w.layout octet at

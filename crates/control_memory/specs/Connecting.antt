@@ -1,11 +1,11 @@
 -- How a path joins a layout: in the lowest common slot, or after live paths are moved along an alternating chain of two slots. Source:
 -- M. C. Paull, "Reswitching of connection networks", Bell System Technical Journal 41 (1962); the Slepian-Duguid theorem says that as many
 -- internal slots as a line has places are enough. In graph terms the chain is Kempe's.
-use Rattle.std.specs.Prelude.{ℕ, zero, suc, ◌+◌, ◌*◌, ◌&&◌, not, Bool, ◌==◌, is_none, List, [], ◌∷◌, Option, Some, None, unwrap_or, slice_set, find, if◌then◌else◌}
+use Rattle.std.specs.Prelude.{◌≡◌, ℕ, zero, suc, ◌+◌, ◌*◌, ◌&&◌, not, Bool, ◌==◌, is_none, List, [], ◌∷◌, Option, Some, None, unwrap_or, slice_set, find, if◌then◌else◌}
 use Rattle.std.specs.List.{range_with_len}
 use Rattle.circuit_model.specs.declared.channel.Slot.{Slot}
 use Rattle.circuit_model.specs.Circuits.{same_slot}
-use Rattle.control_memory.specs.Layout.{Hop, Path, Layout, number_of, path_in, path_out}
+use Rattle.control_memory.specs.Layout.{Hop, Path, Layout, number_of, hop_of, path_in, path_out, IsSlot, HasPath}
 
 -- the layout with a path from an inlet, in place of any that began there, and the layout with none
 abbrev pub with_path : Layout → Slot → Slot → ℕ → Layout
@@ -13,6 +13,13 @@ with_path layout from to slot = slice_set layout (number_of from) (Some (record 
 
 abbrev pub without_path : Layout → Slot → Layout
 without_path layout from = slice_set layout (number_of from) None
+
+-- no path is in the way of a new one: its inlet and its outlet are free, and so is its internal slot in both lines
+pub record IsFree (lines : ℕ) (layout : Layout) (from to : Slot) (slot : ℕ) : Type 0 where
+  pub inlet : hop_of layout from ≡ None
+  pub outlet : (x : Slot) (s : ℕ) → IsSlot lines x → HasPath layout x to s → ⊥
+  pub sent : (x y : Slot) → IsSlot lines x → HasPath layout x y slot → x.line ≡ from.line → ⊥
+  pub received : (x y : Slot) → IsSlot lines x → HasPath layout x y slot → y.line ≡ to.line → ⊥
 
 -- an incoming line sends no path in the slot, an outgoing line gets none in it
 abbrev pub is_unsent : Layout → ℕ → ℕ → Bool

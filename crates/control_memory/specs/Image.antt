@@ -1,12 +1,13 @@
 -- The control memory of one frame. Source: this exchange's own.
-use Rattle.std.specs.Prelude.{◌≡◌, ℕ, ◌+◌, ◌*◌, ◌<◌, List, Option, None, slice_index_or}
+use Rattle.std.specs.Prelude.{◌≡◌, ℕ, ◌+◌, ◌-◌, ◌*◌, ◌<◌, nat_lt, List, Option, None, slice_index_or, if◌then◌else◌}
 use Rattle.circuit_model.specs.declared.channel.Slot.{Slot}
 use Rattle.control_memory.specs.declared.heard.Heard.{Heard}
 use Rattle.control_memory.specs.declared.heard.Heard.TheVariants.{Silent}
-use Rattle.control_memory.specs.Layout.{Layout}
+use Rattle.control_memory.specs.Layout.{Layout, number_of}
 use Rattle.control_memory.specs.Tables.{Table, HasSize, entry_in, HasTables, HasNoPaths}
 
--- the tables of a frame's three stages, what each slot hears, and who sits in each conference port: line after line
+-- the tables of a frame's three stages, what each slot hears, and who sits in each conference port: line after line. The conference ports are
+-- the places of the bridge lines
 pub record Control : Type 0 where
   pub frame : ℕ
   pub external : ℕ
@@ -42,22 +43,31 @@ abbrev pub IsCleared : Control → Type 0
 IsCleared m = HasNoPaths (lines_of m) m.slots (sent m) (received m) (read m)
 
 abbrev pub heard_at : Control → Slot → Heard
-heard_at m at = slice_index_or m.heard (at.line * 30 + at.place) Silent
+heard_at m at = slice_index_or m.heard (number_of at) Silent
 
--- the room of a port's member, and since when it sits there
+-- the number of a conference port among all ports: bridge lines stand behind the external ones, and have thirty ports each
+abbrev pub port_number : ℕ → Slot → ℕ
+port_number external port = 30 * (port.line - external) + port.place
+
+-- the entry of a conference port in a list with one for each port; an external slot has none
+abbrev pub port_entry : {X : Type 0} → ℕ → List (Option X) → Slot → Option X
+port_entry external entries at = if nat_lt at.line external then None else slice_index_or entries (port_number external at) None
+
+-- the room of a port's member, and since when it sits there; an external slot has no room
 abbrev pub room_at : Control → Slot → Option (ℕ × ℕ)
-room_at m at = slice_index_or m.rooms (at.line * 30 + at.place) None
+room_at m at = port_entry m.external m.rooms at
 
+-- the second has the sizes of the first
 pub record SameSizes (a b : Control) : Type 0 where
-  pub external : a.external ≡ b.external
-  pub bridges : a.bridges ≡ b.bridges
-  pub slots : a.slots ≡ b.slots
+  pub external : b.external ≡ a.external
+  pub bridges : b.bridges ≡ a.bridges
+  pub slots : b.slots ≡ a.slots
 
 -- the three tables are as before
 pub record SameTables (a b : Control) : Type 0 where
-  pub incoming : a.incoming ≡ b.incoming
-  pub space : a.space ≡ b.space
-  pub outgoing : a.outgoing ≡ b.outgoing
+  pub incoming : b.incoming ≡ a.incoming
+  pub space : b.space ≡ a.space
+  pub outgoing : b.outgoing ≡ a.outgoing
 
 -- what is said of each slot of so many lines
 abbrev pub EachSlot : ℕ → (Slot → Type 0) → Type 0
@@ -68,10 +78,11 @@ pub record IsQuiet (m : Control) : Type 0 where
   pub heard : EachSlot (lines_of m) (λ at. heard_at m at ≡ Silent)
   pub rooms : EachSlot (lines_of m) (λ at. room_at m at ≡ None)
 
--- how large the parts of a control memory are: each table has a row for every line, and its numbers are places, lines and internal slots
-pub record IsSized (lines slots : ℕ) (places crossed read_slots : Table) (heard rooms : ℕ) : Type 0 where
-  pub incoming : HasSize places lines slots 30
-  pub space : HasSize crossed lines slots lines
-  pub outgoing : HasSize read_slots lines 30 slots
-  pub listeners : heard ≡ lines * 30
-  pub ports : rooms ≡ lines * 30
+-- how large the parts of a control memory are: each table has a row for every line, and its numbers are places, lines and internal slots;
+-- there is a listener for every place of every line, and a port for every place of the bridge lines
+pub record IsSized (external bridges slots : ℕ) (places crossed read_slots : Table) (heard rooms : ℕ) : Type 0 where
+  pub incoming : HasSize places (external + bridges) slots 30
+  pub space : HasSize crossed (external + bridges) slots (external + bridges)
+  pub outgoing : HasSize read_slots (external + bridges) 30 slots
+  pub listeners : heard ≡ 30 * (external + bridges)
+  pub ports : rooms ≡ 30 * bridges

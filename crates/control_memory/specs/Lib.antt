@@ -5,3 +5,4 @@ pub mod Tables
 pub mod Image
 pub mod Carrying
 pub mod Shown
+pub mod Paths

@@ -1,5 +1,5 @@
 -- What the control memory of a frame shows of the circuits and conference ports at its boundary. Source: this exchange's own.
-use Rattle.std.specs.Prelude.{◌≡◌, ℕ, ◌+◌, ◌-◌, ◌*◌, nat_lt, ◌↔◌, List, [], ◌∷◌, Contains, Option, Some, None, slice_index_or, option_and_then, if◌then◌else◌}
+use Rattle.std.specs.Prelude.{◌≡◌, ℕ, nat_lt, ◌↔◌, List, [], ◌∷◌, Contains, Option, Some, None, slice_index_or, option_and_then, if◌then◌else◌}
 use Rattle.circuit_model.specs.declared.channel.Slot.{Slot}
 use Rattle.circuit_model.specs.declared.circuit.Circuit.{Circuit}
 use Rattle.circuit_model.specs.declared.circuit.Circuit.TheVariants.{Pair, Member, Tone as Tone_circuit}
@@ -8,7 +8,7 @@ use Rattle.circuit_model.specs.Ports.{Ports, port_of}
 use Rattle.control_memory.specs.declared.heard.Heard.{Heard}
 use Rattle.control_memory.specs.declared.heard.Heard.TheVariants.{Silent, Path, Tone}
 use Rattle.control_memory.specs.Layout.{Layout, Legal, IsSlot, Joins}
-use Rattle.control_memory.specs.Image.{Control, lines_of, HasLayout, EachSlot, heard_at, room_at}
+use Rattle.control_memory.specs.Image.{Control, lines_of, port_number, HasLayout, EachSlot, heard_at, room_at}
 
 -- to a conference port and back
 abbrev pub to_port : Slot → Option Slot → List (Slot × Slot)
@@ -31,7 +31,7 @@ JoinsCircuits lines external layout circuits ports = (x y : Slot) → IsSlot lin
 
 -- the member that has a port, by the port's slot
 abbrev pub member_at : ℕ → Ports → Slot → Option Slot
-member_at external ports port = slice_index_or ports (30 * (port.line - external) + port.place) None
+member_at external ports port = slice_index_or ports (port_number external port) None
 
 -- whom a slot serves: an external slot itself, a conference port the member that has it
 abbrev pub served_by : ℕ → Ports → Slot → Option Slot

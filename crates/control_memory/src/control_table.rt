@@ -19,14 +19,14 @@ pub struct ControlTable {
 }
 
 impl Model for ControlTable {
-    ghost use Rattle.std.specs.Prelude.{◌≡◌, ℕ, ◌*◌, ◌<◌, ◌≢◌, map, length, slice_index};
-    ghost use Rattle.control_memory.specs.Tables.{Table, number_in};
+    ghost use Rattle.std.specs.Prelude.{map};
+    ghost use Rattle.control_memory.specs.Tables.{Table, number_in, AreBytesOf};
 
     ghost Value = { Table };
 
     ghost view = { λ t. record { rows = t.rows; columns = t.columns; limit = t.limit; entries = map number_in t.bytes.items } };
 
-    ghost invariant = { λ t. (length t.bytes.items ≡ t.rows * t.columns) × ((i : ℕ) → i < length t.bytes.items → slice_index t.bytes.items i ≢ 255 → slice_index t.bytes.items i < t.limit) };
+    ghost invariant = { λ t. AreBytesOf t.rows t.columns t.limit t.bytes.items };
 }
 
 impl ControlTable {

@@ -1,7 +1,7 @@
 ghost use Rattle.std.specs.Prelude.{◌≡◌, ◌+◌, ◌<◌, ◌≤◌, ◌*◌, All, Some, None, IfOk, IfSome, length, if◌then◌else◌};
 ghost use Rattle.circuit_model.specs.Circuits.{same_slot};
 ghost use Rattle.control_memory.specs.Tables.{HasSize, entry, Agree, written};
-ghost use Rattle.control_memory.specs.Image.{lines_of, sent, received, read, heard_at, room_at, IsCleared, IsQuiet, SameSizes, SameTables, EachSlot};
+ghost use Rattle.control_memory.specs.Image.{lines_of, port_number, sent, received, read, heard_at, room_at, IsCleared, IsQuiet, SameSizes, SameTables, EachSlot};
 
 use crate::control_table::ControlTable;
 use crate::heard::Heard;
@@ -12,7 +12,8 @@ use std::marker::Model;
 /// The control memory of one frame: its number, the tables of its three stages, what each slot
 /// hears, and who sits in each conference port.
 ///
-/// Lines are counted from 0, external lines first and bridge lines after them.
+/// Lines are counted from 0, external lines first and bridge lines after them. The places of the
+/// bridge lines are the conference ports.
 #[derive(Drop)]
 pub struct Image {
     frame: u32,
@@ -22,7 +23,9 @@ pub struct Image {
     incoming: ControlTable,
     space: ControlTable,
     outgoing: ControlTable,
+    // What each slot hears, by its number.
     heard: Vec<Heard>,
+    // Who sits in each port: the places of the bridge lines, line after line.
     rooms: Vec<Option<(u8, u32)>>,
 }
 
@@ -44,7 +47,7 @@ impl Model for Image {
       rooms = m.rooms.items;
     } };
 
-    ghost invariant = { λ m. IsSized (m.external + m.bridges) m.slots m.incoming m.space m.outgoing (length m.heard.items) (length m.rooms.items) };
+    ghost invariant = { λ m. IsSized m.external m.bridges m.slots m.incoming m.space m.outgoing (length m.heard.items) (length m.rooms.items) };
 }
 
 impl Image {
@@ -61,7 +64,7 @@ impl Image {
         ensures quiet { IfOk result IsQuiet }
     {
         let lines = external + bridges;
-        let places = usize::from(lines) * usize::from(PLACES);
+        let places = usize::from(PLACES);
         Ok(Image {
             frame: 0,
             external,
@@ -70,8 +73,8 @@ impl Image {
             incoming: ControlTable::new(alloc, lines, slots, PLACES)?,
             space: ControlTable::new(alloc, lines, slots, lines)?,
             outgoing: ControlTable::new(alloc, lines, PLACES, slots)?,
-            heard: vec![in alloc; Heard::Silent; places]?,
-            rooms: vec![in alloc; None; places]?,
+            heard: vec![in alloc; Heard::Silent; places * usize::from(lines)]?,
+            rooms: vec![in alloc; None; places * usize::from(bridges)]?,
         })
     }
 
@@ -139,17 +142,20 @@ impl Image {
         requires place { at.place < 30 }
         ensures { result ≡ heard_at self.now at }
     {
-        self.heard[number_of(at)]
+        self.heard[at.number()]
     }
 
     /// The room of the member that sits in a conference port, and the frame since which it sits
-    /// there; none where the port is free.
+    /// there; none where the port is free, and none for an external slot.
     pub fn room(&self, port: Slot) -> Option<(u8, u32)>
         requires line { port.line < lines_of self.now }
         requires place { port.place < 30 }
         ensures { result ≡ room_at self.now port }
     {
-        self.rooms[number_of(port)]
+        if port.line < self.external {
+            return None;
+        }
+        self.rooms[port_index(self.external, port)]
     }
 
     /// Begins the control memory of another frame: no path, every slot silent, every port free.
@@ -167,10 +173,11 @@ impl Image {
     /// Begins the control memory of another frame with what each slot hears and who sits in each
     /// port, and without paths: one copy for each of the two.
     ///
-    /// Both have an entry for every place of every line, line after line.
+    /// `hearing` has an entry for every place of every line, by the slot's number; `sitting` one for
+    /// every conference port, that is for every place of the bridge lines, line after line.
     pub fn begin(&mut self, frame: u32, hearing: &[Heard], sitting: &[Option<(u8, u32)>])
-        requires hearing { length hearing.now ≡ lines_of self.old * 30 }
-        requires sitting { length sitting.now ≡ lines_of self.old * 30 }
+        requires hearing { length hearing.now ≡ 30 * lines_of self.old }
+        requires sitting { length sitting.now ≡ 30 * self.old.bridges }
         ensures frame { self.new.frame ≡ frame }
         ensures sizes { SameSizes self.old self.new }
         ensures paths { IsCleared self.new }
@@ -249,12 +256,13 @@ impl Image {
         ensures tables { SameTables self.old self.new }
         ensures rooms { self.new.rooms ≡ self.old.rooms }
     {
-        self.heard[number_of(at)] = heard;
+        self.heard[at.number()] = heard;
     }
 
     /// Writes that a member of a room sits in a conference port since a frame.
     pub fn set_room(&mut self, port: Slot, room: u8, since: u32)
         requires line { port.line < lines_of self.old }
+        requires bridge { self.old.external ≤ port.line }
         requires place { port.place < 30 }
         ensures rooms { EachSlot (lines_of self.old) (λ x. room_at self.new x ≡ (if same_slot x port then Some (room, since) else room_at self.old x)) }
         ensures sizes { SameSizes self.old self.new }
@@ -262,15 +270,18 @@ impl Image {
         ensures tables { SameTables self.old self.new }
         ensures heard { self.new.heard ≡ self.old.heard }
     {
-        self.rooms[number_of(port)] = Some((room, since));
+        let at = port_index(self.external, port);
+        self.rooms[at] = Some((room, since));
     }
 }
 
-// Slots are numbered line by line.
-fn number_of(at: Slot) -> usize
-    ensures { result ≡ at.line * 30 + at.place }
+/// The number of a conference port among all ports: thirty to a bridge line, and the bridge lines
+/// stand behind so many external ones. A table with an entry for each port has it there.
+pub fn port_index(external: u8, port: Slot) -> usize
+    requires { external ≤ port.line }
+    ensures { result ≡ port_number external port }
 {
-    usize::from(at.line) * usize::from(PLACES) + usize::from(at.place)
+    usize::from(PLACES) * usize::from(port.line - external) + usize::from(port.place)
 }
 
 fn silence(heard: &mut [Heard])

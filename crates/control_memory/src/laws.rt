@@ -1,10 +1,7 @@
-ghost use Rattle.std.specs.Prelude.{◌≡◌, ◌<◌, ℕ, Option};
+ghost use Rattle.std.specs.Prelude.{◌≡◌};
 ghost use Rattle.control_memory.specs.Connecting.{connect, moved};
 ghost use Rattle.control_memory.specs.Examples.{at, both_halves};
-ghost use Rattle.circuit_model.specs.declared.channel.Slot.{Slot};
-ghost use Rattle.control_memory.specs.Layout.{Layout, Legal};
-ghost use Rattle.control_memory.specs.Tables.{HasTables};
-ghost use Rattle.control_memory.specs.Carrying.{fetched, carried, SendsBy, HoldsCrossing};
+ghost use Rattle.control_memory.specs.Carrying.{Wiring, BringsAcross, BringsOut};
 
 /// The rule of rearrangement, evaluated on a full line: between lines 0 and 1 no internal slot is
 /// left in common, so the first direction moves two live paths, and the second none.
@@ -18,6 +15,6 @@ pub fn worked_layouts()
 /// of its path; and what the places then read by the third is the octet of the inlet of theirs.
 /// Everything else is idle.
 pub fn tables_carry_their_layout()
-    ensures crossing { (lines slots : ℕ) (layout : Layout) (places crossed read : ℕ → ℕ → Option ℕ) (octet : Slot → ℕ) (highway : ℕ → ℕ → ℕ) → Legal lines slots layout → HasTables lines slots layout places crossed read → SendsBy lines slots places octet highway → HoldsCrossing lines slots layout octet (λ line slot. fetched (crossed line slot) (λ from. highway from slot)) }
-    ensures carried { (lines slots : ℕ) (layout : Layout) (places crossed read : ℕ → ℕ → Option ℕ) (octet : Slot → ℕ) (held : ℕ → ℕ → ℕ) → Legal lines slots layout → HasTables lines slots layout places crossed read → HoldsCrossing lines slots layout octet held → (at : Slot) → at.line < lines → at.place < 30 → fetched (read at.line at.place) (held at.line) ≡ carried layout octet at }
+    ensures crossing { (w : Wiring) → BringsAcross w }
+    ensures carried { (w : Wiring) → BringsOut w }
 {}

@@ -9,7 +9,7 @@ use Rattle.circuit_model.specs.Ports.{given, returned, port_of}
 use Rattle.circuit_model.proofs.Slots.{same_slot-refl}
 use Rattle.circuit_model.proofs.Validity.{count_by-append}
 use Rattle.control_memory.specs.Connecting.{moved}
-use Rattle.circuit_map.specs.Connections.{Connections, Holds, seats, joined_one, joined_both, parted, without_both, partner}
+use Rattle.circuit_map.specs.Connections.{Connections, Represents, seats, joined_one, joined_both, parted, without_both, partner}
 use Rattle.circuit_map.proofs.Sockets.{ported}
 use Rattle.exchange_core.specs.declared.reply.Reply.TheVariants.{Granted, Seated}
 use Rattle.exchange_core.specs.Standing.{Stands, dimensions_of}
@@ -21,12 +21,12 @@ module _ (m : Connections) (w : World) (s : Stands m w) where
       → Granted a b ≡ granted (dimensions_of m) w.layout x y
   nail_moves x y a b there back = (λ i. Granted (there i) (back i)) ∙ ap (λ l. granted (dimensions_of m) l x y) s.layout
 
-  pub nail_stands : (n : Connections) (x y : Slot) → Holds n (after w.holding (Connect x y)) w.ports → n.layout ≡ joined_both m x y
+  pub nail_stands : (n : Connections) (x y : Slot) → Represents n (after w.holding (Connect x y)) w.ports → n.layout ≡ joined_both m x y
       → Stands n (obey (dimensions_of m) w (Connect x y))
   nail_stands n x y holds layout = record { holds = holds; layout = layout ∙ ap (λ l. both_ways (dimensions_of m) l x y) s.layout }
 
   -- what is cleared takes its paths along
-  pub clear_stands : (n : Connections) (x : Slot) → Holds n (after w.holding (Clear x)) (returned x w.ports) → n.layout ≡ parted m x
+  pub clear_stands : (n : Connections) (x : Slot) → Represents n (after w.holding (Clear x)) (returned x w.ports) → n.layout ≡ parted m x
       → Stands n (obey (dimensions_of m) w (Clear x))
   clear_stands n x holds layout = record {
     holds = holds;
@@ -37,7 +37,7 @@ module _ (m : Connections) (w : World) (s : Stands m w) where
   }
 
   -- a member that was seated has a port
-  has_port : (n : Connections) (x : Slot) (room : ℕ) → Holds n (after w.holding (Seat x room)) (given x w.ports) → port_of m.external (given x w.ports) x ≡ None → ⊥
+  has_port : (n : Connections) (x : Slot) (room : ℕ) → Represents n (after w.holding (Seat x room)) (given x w.ports) → port_of m.external (given x w.ports) x ≡ None → ⊥
   has_port n x room holds none =
       let one : count_by (seats x) (Member room x w.holding.next ∷ []) ≡ 1 = rw (same_slot-refl x) refl in
       let sum = holds.ported x ∙ count_by-append (seats x) w.holding.circuits (Member room x w.holding.next ∷ []) in
@@ -52,14 +52,14 @@ module _ (m : Connections) (w : World) (s : Stands m w) where
   seat_reply x None a b some moves = absurd (some refl)
   seat_reply x (Some p) a b some moves = (λ i. Seated (moves.0 i) (moves.1 i)) ∙ ap (λ l. seated (dimensions_of m) l x (Some p)) s.layout
 
-  pub seat_moves : (n : Connections) (x : Slot) (room a b : ℕ) → Holds n (after w.holding (Seat x room)) (given x w.ports)
+  pub seat_moves : (n : Connections) (x : Slot) (room a b : ℕ) → Represents n (after w.holding (Seat x room)) (given x w.ports)
       → IfSome (port_of m.external n.ports x) (λ p. (a ≡ moved m.layout (joined_one m x p)) × (b ≡ moved (joined_one m x p) (joined_both m x p)))
       → Seated a b ≡ seated (dimensions_of m) w.layout x (port_of m.external (given x w.ports) x)
   seat_moves n x room a b holds moves =
       seat_reply x (port_of m.external (given x w.ports) x) a b (has_port n x room holds)
       (rw holds.members at moves)
 
-  pub seat_stands : (n : Connections) (x : Slot) (room : ℕ) → Holds n (after w.holding (Seat x room)) (given x w.ports)
+  pub seat_stands : (n : Connections) (x : Slot) (room : ℕ) → Represents n (after w.holding (Seat x room)) (given x w.ports)
       → IfSome (port_of m.external n.ports x) (λ p. n.layout ≡ joined_both m x p)
       → Stands n (obey (dimensions_of m) w (Seat x room))
   seat_stands n x room holds layout = record {

@@ -5,7 +5,7 @@ use Rattle.circuit_model.specs.declared.circuit.Circuit.TheVariants.{Pair, Membe
 use Rattle.circuit_model.specs.Holding.{Command, empty, after_all, frames, AreAllowed}
 use Rattle.circuit_model.specs.Ports.{Ports, free_ports, ports_after, port_frames}
 use Rattle.circuit_model.specs.Extent.{AreWithin}
-use Rattle.circuit_map.specs.Connections.{Connections, Holds}
+use Rattle.circuit_map.specs.Connections.{Connections, Represents}
 use Rattle.exchange_core.specs.World.{Dimensions, World}
 
 -- the dimensions of a map of circuits
@@ -14,7 +14,7 @@ dimensions_of m = record { external = m.external; bridges = m.bridges; slots = m
 
 -- the map holds the circuits and ports of the world, and its paths have the world's layout
 pub record Stands (m : Connections) (w : World) : Type 0 where
-  pub holds : Holds m w.holding w.ports
+  pub holds : Represents m w.holding w.ports
   pub layout : m.layout ≡ w.layout
 
 -- what a list of commands makes of the ports

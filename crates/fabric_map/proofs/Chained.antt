@@ -9,7 +9,7 @@ use Rattle.rearrange_chain.specs.declared.moves.Move.{Move}
 use Rattle.rearrange_chain.specs.declared.moves.End.{End}
 use Rattle.rearrange_chain.specs.declared.moves.End.TheVariants.{Row, Column}
 use Rattle.rearrange_chain.specs.Chain.{move_of, far_end, far_line as look_far, chain as matrix_chain}
-use Rattle.fabric_map.proofs.Matched.{column_matches}
+use Rattle.fabric_map.proofs.MatrixOfLayout.{column_matches}
 use Rattle.fabric_map.proofs.Rearranged.{Beside}
 
 -- the other of the two slots

@@ -4,22 +4,22 @@ use Rattle.std.specs.Prelude.{option_map}
 use Rattle.circuit_model.specs.declared.channel.Slot.{Slot}
 use Rattle.control_memory.specs.declared.hop.Hop.{Hop}
 use Rattle.control_memory.specs.Layout.{Path, Layout, hop_of, path_to, IsSlot, HasPath, Joins, Legal}
-use Rattle.control_memory.specs.Connecting.{with_path, without_path}
+use Rattle.control_memory.specs.Connecting.{with_path, without_path, IsFree}
 use Rattle.control_memory.proofs.Lookups.{path_in_is, path_to_is, one_hop}
-use Rattle.control_memory.proofs.Steps.{IsFree, IsNew, new_or_old, hop_here, hop_else, legal_without, legal_with}
+use Rattle.control_memory.proofs.Steps.{IsNew, new_or_old, hop_here, hop_else, legal_without, legal_with}
 use Rattle.paull_matrix.specs.Matrix.{Matrix, row_slot, column_slot, paths_of_row, paths_of_column, IsLegal, with_path as with_entry, without_path as without_entry}
 use Rattle.paull_matrix.proofs.Laws.{legal_without as legal_matrix_without}
 use Rattle.rearrange_chain.specs.declared.moves.Move.{Move}
 use Rattle.rearrange_chain.specs.Chain.{slot_for, moves_for}
-use Rattle.fabric_map.specs.declared.ends.Ends.{Ends}
-use Rattle.fabric_map.specs.Paths.{Fabric}
+use Rattle.control_memory.specs.declared.ends.Ends.{Ends}
+use Rattle.control_memory.specs.Paths.{Fabric}
 use Rattle.fabric_map.specs.Map.{IsMap}
 use Rattle.fabric_map.specs.Matching.{IsMatrixOf}
 use Rattle.fabric_map.specs.Rearranging.{without_all, taken_by, laid, CanLay}
-use Rattle.fabric_map.proofs.Matched.{matrix_with, matrix_without, free_by_matrix}
+use Rattle.fabric_map.proofs.MatrixOfLayout.{matrix_with, matrix_without, free_by_matrix}
 use Rattle.fabric_map.proofs.Rearranged.{Beside, no_hop}
 use Rattle.fabric_map.proofs.FreeSlots.{row_room, column_room}
-use Rattle.fabric_map.proofs.Made.{Made, made}
+use Rattle.fabric_map.proofs.RuleOnTheMap.{Made, made}
 
 -- the ends of a connection that can be made
 pub record CanConnect (f : Fabric) (from to : Slot) : Type 0 where

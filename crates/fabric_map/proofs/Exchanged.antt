@@ -12,8 +12,9 @@ use Rattle.control_memory.specs.Layout.{Path, Layout, number_of, hop_of, path_in
 use Rattle.control_memory.specs.Connecting.{Side, across, path_at, far_line, chain, exchanged, with_path, without_path, moved, is_moved}
 use Rattle.control_memory.proofs.Lookups.{IsPathOf, path_in_found, path_in_is, one_hop}
 use Rattle.control_memory.proofs.Steps.{same_number, number_inside, was_there, hop_here, hop_else, IsNew, new_or_old}
-use Rattle.fabric_map.specs.declared.ends.Ends.{Ends}
-use Rattle.fabric_map.specs.Rearranging.{ends_of, without_all, AreTaken, laid}
+use Rattle.control_memory.specs.declared.ends.Ends.{Ends}
+use Rattle.fabric_map.specs.Rearranging.{without_all, AreTaken, laid}
+use Rattle.control_memory.specs.Paths.{ends_of}
 use Rattle.fabric_map.proofs.Rearranged.{AllSlots, Apart}
 use Rattle.fabric_map.proofs.Chained.{other, moved_by, found_at}
 

@@ -12,7 +12,7 @@ use Rattle.paull_matrix.proofs.Laws.{row_has_room, column_has_room}
 use Rattle.rearrange_chain.proofs.Walk.{pigeonhole}
 use Rattle.rearrange_chain.proofs.Freed.{lowest_in_row_is, lowest_in_column_is}
 use Rattle.fabric_map.specs.Matching.{IsMatrixOf}
-use Rattle.fabric_map.proofs.Matched.{column_matches}
+use Rattle.fabric_map.proofs.MatrixOfLayout.{column_matches}
 
 -- numbers below n that miss one of them, closed up
 abbrev pub closed_up : ℕ → ℕ → ℕ

@@ -1,10 +1,9 @@
-pub mod Tabling
-pub mod Matched
+pub mod MatrixOfLayout
 pub mod Rearranged
 pub mod Chained
 pub mod Exchanged
 pub mod Turns
 pub mod FreeSlots
-pub mod Making
-pub mod Made
+pub mod SlotsOfTheRule
+pub mod RuleOnTheMap
 pub mod Connected

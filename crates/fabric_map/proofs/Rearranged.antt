@@ -12,10 +12,11 @@ use Rattle.paull_matrix.proofs.Laws.{legal_without as legal_matrix_without, lega
 use Rattle.rearrange_chain.specs.declared.moves.Move.{Move}
 use Rattle.rearrange_chain.specs.Chain.{lifted, placed}
 use Rattle.rearrange_chain.specs.Steps.{CanLift, CanPlace}
-use Rattle.fabric_map.specs.declared.ends.Ends.{Ends}
+use Rattle.control_memory.specs.declared.ends.Ends.{Ends}
 use Rattle.fabric_map.specs.Matching.{IsMatrixOf}
-use Rattle.fabric_map.specs.Rearranging.{ends_of, without_all, AreTaken, laid, CanLay}
-use Rattle.fabric_map.proofs.Matched.{mapped_some, matrix_with, matrix_without, free_by_matrix}
+use Rattle.fabric_map.specs.Rearranging.{without_all, AreTaken, laid, CanLay}
+use Rattle.control_memory.specs.Paths.{ends_of}
+use Rattle.fabric_map.proofs.MatrixOfLayout.{mapped_some, matrix_with, matrix_without, free_by_matrix}
 
 some_line : (a b : ℕ) → Some a ≡ Some b → a ≡ b
 some_line a b e = cc

@@ -2,9 +2,9 @@
 use Rattle.std.proofs.Common.{ℕ, zero, suc, ◌<◌, List, [], ◌∷◌, length, get_or, drop, arith}
 use Rattle.control_memory.specs.Layout.{Layout, Legal}
 use Rattle.rearrange_chain.specs.declared.moves.Move.{Move}
-use Rattle.fabric_map.specs.declared.ends.Ends.{Ends}
+use Rattle.control_memory.specs.declared.ends.Ends.{Ends}
 use Rattle.fabric_map.specs.Rearranging.{AreTaken, CanLay}
-use Rattle.fabric_map.proofs.Tabling.{line_inside, slot_inside}
+use Rattle.control_memory.proofs.TablesAfter.{line_inside, slot_inside}
 
 pub lay_slot : (lines slots : ℕ) (layout : Layout) (i : ℕ) (es : List Ends) (moves : List Move) (d : Move) → i < length es → i < length moves → CanLay lines slots layout (drop i es) (drop i moves) → (get_or moves i d).new < slots
 lay_slot lines slots layout i [] moves d l m can = absurd (omega (arith, l))

@@ -1,4 +1,3 @@
-pub mod Paths
 pub mod Matching
 pub mod Rearranging
 pub mod Map

@@ -1,17 +1,14 @@
 -- How the paths that move are taken out of a layout, and put back in their new slots. Source: this exchange's own.
 use Rattle.std.specs.Prelude.{◌≡◌, ℕ, ◌<◌, ⊤, Option, Some, None, List, [], ◌∷◌}
 use Rattle.control_memory.specs.Layout.{Path, Layout, path_in, IsSlot}
-use Rattle.control_memory.specs.Connecting.{with_path, without_path}
-use Rattle.control_memory.proofs.Steps.{IsFree}
+use Rattle.control_memory.specs.Connecting.{with_path, without_path, IsFree}
 use Rattle.rearrange_chain.specs.declared.moves.Move.{Move}
-use Rattle.fabric_map.specs.declared.ends.Ends.{Ends}
+use Rattle.control_memory.specs.declared.ends.Ends.{Ends}
+use Rattle.control_memory.specs.Paths.{ends_of}
 
 -- the path that moves
 abbrev pub moving : Layout → Move → Option Path
 moving layout v = path_in layout v.row v.old
-
-abbrev pub ends_of : Path → Ends
-ends_of p = record { from = p.from; to = p.to }
 
 -- the layout without these paths
 abbrev pub without_all : Layout → List Ends → Layout

@@ -1,22 +1,21 @@
 ghost use Rattle.std.specs.Prelude.{◌≡◌, ℕ, ◌*◌, ◌-◌, ◌<◌, ◌≤◌, [], List, None, IfOk, length, replicate};
 ghost use Rattle.control_memory.specs.Layout.{Layout, Legal};
 ghost use Rattle.rearrange_chain.specs.declared.moves.Move.{Move};
-ghost use Rattle.fabric_map.specs.declared.ends.Ends.{Ends};
-ghost use Rattle.fabric_map.specs.Paths.{Fabric};
+ghost use Rattle.control_memory.specs.declared.ends.Ends.{Ends};
+ghost use Rattle.control_memory.specs.Paths.{Fabric};
 ghost use Rattle.fabric_map.specs.Rearranging.{without_all, AreTaken, taken_by, laid, CanLay};
 
-use crate::ends::Ends;
-use crate::path_table::PathTable;
 use arrayvec::ArrayVec;
 use circuit_model::Slot;
-use control_memory::{Image, PathMap};
+use control_memory::{Ends, Image, PathMap, PathTable};
 use paull_matrix::PaullMatrix;
 use rearrange_chain::{Move, make_room};
 use std::alloc::{AllocError, Global};
 use std::marker::Model;
 
-// As many internal slots as a line has places are enough (Slepian-Duguid).
-const SLOTS: u8 = 30;
+/// How many internal slots a frame of a line has in this fabric: as many as the line has places
+/// are enough (Slepian-Duguid).
+pub const SLOTS: u8 = 30;
 
 /// The live map of a rearrangeable fabric: thirty internal slots, as many as a line has places.
 ///
@@ -28,7 +27,7 @@ pub struct FabricMap {
 }
 
 impl Model for FabricMap {
-    ghost use Rattle.fabric_map.specs.Paths.{Fabric};
+    ghost use Rattle.control_memory.specs.Paths.{Fabric};
     ghost use Rattle.fabric_map.specs.Map.{IsMap};
 
     ghost Value = { Fabric };
@@ -84,13 +83,13 @@ fn lay_all(paths: &mut PathTable, moves: &[Move], lifted: &[Ends])
 }
 
 impl PathMap for FabricMap {
-    ghost use Rattle.std.specs.Prelude.{◌*◌, ◌-◌};
+    ghost use Rattle.fabric_map.specs.Map.{most_moves};
 
     ghost width = { λ m. m.lines };
 
     ghost depth = { λ m. m.slots };
 
-    ghost bound = { λ m. 2 * m.lines - 2 };
+    ghost bound = { λ m. most_moves m.lines };
 
     ghost layout = { λ m. m.layout };
 

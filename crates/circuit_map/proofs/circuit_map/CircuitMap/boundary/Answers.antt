@@ -1,10 +1,10 @@
-use Rattle.std.proofs.Common.{◌+◌, ◌<◌, None, sym, ◌∙◌, ap, subst}
+use Rattle.std.proofs.Common.{◌+◌, ◌<◌, sym, ◌∙◌, ap, subst}
 use Rattle.circuit_model.specs.Holding.{Holding, Frame, after}
 use Rattle.control_memory.specs.Layout.{Legal}
-use Rattle.control_memory.specs.Image.{HasLayout}
+use Rattle.control_memory.specs.Image.{HasLayout, port_entry}
 use Rattle.control_memory.specs.Shown.{heard_as}
 use Rattle.control_memory.specs.declared.heard.Heard.TheVariants.{Silent}
-use Rattle.circuit_map.specs.Connections.{Connections, lines_of, Holds, served_at, room_shown, entry_at}
+use Rattle.circuit_map.specs.Connections.{Connections, lines_of, Represents, served_at, room_shown, entry_at}
 use Rattle.circuit_map.proofs.Holdings.{holds_frame}
 use Rattle.circuit_map.proofs.Paths.{own_ports}
 use Rattle.circuit_map.proofs.Showing.{shows}
@@ -25,7 +25,7 @@ returns-clause-holds g c = λ h ports holds.
 
 pub invariant_of-self : goal.invariant_of-self
 invariant_of-self g c =
-    let old = subst (λ (m : Connections). (h : Holding) × Holds m h m.ports) c.self.view_is c.self.invariant.held in
+    let old = subst (λ (m : Connections). (h : Holding) × Represents m h m.ports) c.self.view_is c.self.invariant.held in
     record {
       few = c.self.invariant.few;
       width = c.self.invariant.width;
@@ -35,6 +35,7 @@ invariant_of-self g c =
       sockets = c.self.invariant.sockets;
       legal = c.self.invariant.legal;
       held = (after old.0 Frame, own_ports _ _ _ (returns-clause-holds g c old.0 c.args.self.now.ports old.1));
+      roomed = c.self.invariant.roomed;
       shown = c.self.invariant.shown;
     }
 
@@ -46,14 +47,15 @@ returns-clause-shows g c = λ h ports holds.
     let width = c.self.invariant.width ∙ ap lines_of is in
     let lines = ap lines_of is in
     let shown = c.self.invariant.shown in
+    let external = b.sizes.external ∙ a.sizes.external ∙ c.requires.external ∙ sym (ap (λ (m : Connections). m.external) is) in
     shows c.args.self.now c.write_tables.new.image h ports
     (record {
       frame = b.frame ∙ a.frame ∙ ap (λ (m : Connections). m.next) is;
-      external = sym (a.sizes.external ∙ b.sizes.external) ∙ c.requires.external;
-      bridges = sym (a.sizes.bridges ∙ b.sizes.bridges) ∙ c.requires.bridges;
-      slots = sym (a.sizes.slots ∙ b.sizes.slots) ∙ c.requires.slots;
+      external = b.sizes.external ∙ a.sizes.external ∙ c.requires.external;
+      bridges = b.sizes.bridges ∙ a.sizes.bridges ∙ c.requires.bridges;
+      slots = b.sizes.slots ∙ a.sizes.slots ∙ c.requires.slots;
       legal = subst (λ w. Legal w c.args.self.now.slots c.args.self.now.layout) width (subst (λ (m : Connections). Legal (g.P.PathMap.width c.self.inside.paths) m.slots m.layout) is c.self.invariant.legal);
       tables = subst (λ l. HasLayout c.write_tables.new.image l) (ap (λ (m : Connections). m.layout) is) b.tables;
       heard = λ at line place. ap (λ l. entry_at Silent l at) (b.heard ∙ a.heard ∙ c.deref.ensures.value) ∙ shown.hears at (subst (λ w. at.line < w) (sym lines) line) place ∙ ap (λ (m : Connections). heard_as (served_at m at)) is;
-      rooms = λ at line place. ap (λ l. entry_at None l at) (b.rooms ∙ a.rooms ∙ c.deref-2.ensures.value) ∙ shown.sits at (subst (λ w. at.line < w) (sym lines) line) place ∙ ap (λ (m : Connections). room_shown m at) is;
+      rooms = λ at line place. (λ i. port_entry (external i) ((b.rooms ∙ a.rooms ∙ c.deref-2.ensures.value) i) at) ∙ shown.sits at (subst (λ w. at.line < w) (sym lines) line) place ∙ ap (λ (m : Connections). room_shown m at) is;
     }) holds

@@ -1,32 +1,34 @@
-use Rattle.std.proofs.Common.{rules, ◌≡◌, ◌+◌, ◌*◌, length, replicate, None, refl, ◌∙◌, ap, arith}
+use Rattle.std.proofs.Common.{rules, ◌≡◌, ◌+◌, ◌*◌, length, replicate, None, refl, ◌∙◌, ap}
 use Rattle.std.proofs.lemmas.List.{length-replicate}
 use Rattle.circuit_model.specs.Holding.{empty}
 use Rattle.conference_ports.specs.Owners.{members}
 use Rattle.circuit_map.specs.Connections.{hears_in}
+use Rattle.circuit_map.proofs.OwnersRooms.{roomed_free}
 use Rattle.circuit_map.proofs.Paths.{own_ports}
 use Rattle.circuit_map.proofs.Starting.{holds_empty, silent_rows, free_members}
-use Rattle.circuit_map.proofs.Keeping.{shown_start}
+use Rattle.circuit_map.proofs.NextMemory.{shown_start}
 use Rattle.control_memory.specs.declared.heard.Heard.TheVariants.{Silent}
 use Rattle.circuit_map.proofs.circuit_map.CircuitMap.new.Goals as goal
 
 pub returns-clause-holds : goal.returns-clause-holds
 returns-clause-holds g c =
-    let rows : c.in_ok-vec.field-0.items ≡ replicate (c.args.external * 30) None = search rules in
-    holds_empty _ refl (λ z. ap (λ l. hears_in c.args.external l z) rows ∙ silent_rows c.args.external (c.args.external * 30) z) (ap members c.in_ok-new.ensures.free ∙ free_members (30 * c.args.bridges)) c.requires.bare
+    let rows : c.in_ok-vec.field-0.items ≡ replicate (30 * c.args.external) None = search rules in
+    holds_empty _ refl (λ z. ap (λ l. hears_in c.args.external l z) rows ∙ silent_rows c.args.external (30 * c.args.external) z) (ap members c.in_ok-new.ensures.free ∙ free_members (30 * c.args.bridges)) c.requires.bare
 
 pub invariant_of-result : goal.invariant_of-result
 invariant_of-result g c =
-    let rows : c.in_ok-vec.field-0.items ≡ replicate (c.args.external * 30) None = search rules in
-    let hearing : c.in_ok-vec-2.field-0.items ≡ replicate ((c.args.external + c.args.bridges) * 30) Silent = search rules in
-    let sitting : c.in_ok-vec-3.field-0.items ≡ replicate ((c.args.external + c.args.bridges) * 30) None = search rules in
+    let rows : c.in_ok-vec.field-0.items ≡ replicate (30 * c.args.external) None = search rules in
+    let hearing : c.in_ok-vec-2.field-0.items ≡ replicate (30 * (c.args.external + c.args.bridges)) Silent = search rules in
+    let sitting : c.in_ok-vec-3.field-0.items ≡ replicate (30 * c.args.bridges) None = search rules in
     record {
-      few = omega (arith, c.requires.external, c.requires.bridges);
+      few = c.requires.few;
       width = c.requires.lines;
       first = c.in_ok-new.ensures.external;
       rows = c.in_ok-new.ensures.lines;
-      listeners = ap length rows ∙ length-replicate (c.args.external * 30) None ∙ omega arith;
+      listeners = ap length rows ∙ length-replicate (30 * c.args.external) None;
       sockets = ap length (ap members c.in_ok-new.ensures.free ∙ free_members (30 * c.args.bridges)) ∙ length-replicate (30 * c.args.bridges) None;
       legal = c.slots-slots.ensures.legal;
       held = (empty, own_ports _ _ _ (returns-clause-holds g c));
-      shown = shown_start c.args.external (c.args.external + c.args.bridges) (c.args.external * 30) (30 * c.args.bridges) _ _ _ _ rows (ap members c.in_ok-new.ensures.free ∙ free_members (30 * c.args.bridges)) hearing sitting;
+      roomed = roomed_free _ _ (30 * c.args.bridges) c.in_ok-new.ensures.free;
+      shown = shown_start c.args.external c.args.bridges (30 * c.args.external) (30 * c.args.bridges) _ _ _ _ rows (ap members c.in_ok-new.ensures.free ∙ free_members (30 * c.args.bridges)) hearing sitting;
     }

@@ -5,20 +5,23 @@ use Rattle.circuit_model.specs.Holding.{Holding, Seat, after}
 use Rattle.circuit_model.specs.Ports.{Ports, port_of, port_numbered, given}
 use Rattle.control_memory.specs.Layout.{IsSlot, Joins}
 use Rattle.control_memory.specs.Connecting.{connect, moved}
-use Rattle.circuit_map.specs.Connections.{Connections, lines_of, joined_one, joined_both, hears_in, hears_at, Holds}
+use Rattle.circuit_map.specs.Connections.{Connections, lines_of, joined_one, joined_both, hears_in, hears_at, hears_after, Represents, AreRoomed}
+use Rattle.circuit_map.proofs.OwnersRooms.{roomed_given}
 use Rattle.circuit_map.proofs.Paths.{own_ports, no_inlet, no_outlet, idle_joins_none, none_joins_idle, two_more}
 use Rattle.circuit_map.proofs.Sockets.{length-given}
-use Rattle.circuit_map.proofs.Seating.{lowest_port, free_port_slot, holds_seat, no_lowest, none_given, free_port, port_joins_none, none_joins_port, idle_portless, full_where, not_full, seated_port, port_beyond}
-use Rattle.circuit_map.proofs.Rows.{hears_written}
-use Rattle.circuit_map.proofs.Keeping.{shown_row, shown_given, shown_by}
+use Rattle.circuit_map.proofs.Seating.{lowest_port, free_in_members, no_number, free_port_slot, holds_seat, no_lowest, none_given, free_port, port_joins_none, none_joins_port, idle_portless, full_where, not_full, seated_port, port_beyond}
+use Rattle.circuit_map.proofs.Rows.{hears_written, hears_set, given_keeps}
+use Rattle.circuit_map.proofs.NextMemory.{shown_row, shown_given, shown_by}
 use Rattle.circuit_model.proofs.Slots.{same_slot-refl}
+use Rattle.circuit_model.specs.declared.channel.Slot.{Slot}
 use Rattle.conference_ports.specs.Owners.{members}
+use Rattle.conference_ports.proofs.Positions.{owned_none}
 use Rattle.circuit_map.proofs.circuit_map.CircuitMap.seat.Goals as goal
 
 pub take-requires-clause-portless : goal.take-requires-clause-portless
 take-requires-clause-portless g c =
     let is = c.self.view_is in
-    let held = subst (λ (m : Connections). (h : Holding) × Holds m h m.ports) is c.self.invariant.held in
+    let held = subst (λ (m : Connections). (h : Holding) × Represents m h m.ports) is c.self.invariant.held in
     let m = c.args.self.now in
     (λ i. port_of ((c.self.invariant.first ∙ ap (λ (m : Connections). m.external) is) i) (is i).ports c.args.x) ∙ idle_portless m held.0 m.ports c.args.x held.1 c.requires.idle
 
@@ -44,7 +47,8 @@ invariant_of-self g c =
         heard = c.self.inside.heard.items;
         ports = p;
         layout = g.P.PathMap.layout c.self.inside.paths;
-      } in (h : Holding) × Holds v h p) (sym same) c.self.invariant.held;
+      } in (h : Holding) × Represents v h p) (sym same) c.self.invariant.held;
+      roomed = subst (AreRoomed (hears_in c.self.inside.external c.self.inside.heard.items)) (sym (c.take.ensures.owners ∙ owned_none _ c.self.inside.ports.owners (no_number c.self.inside.ports.external _ (sym c.take.ensures.lowest ∙ c.in_default.is)))) c.self.invariant.roomed;
       shown = shown_by _ _ _ _ _ _ _ same c.self.invariant.shown;
     }
 
@@ -78,7 +82,7 @@ connect-there-requires-clause-inlet g c =
     let p = c.in-Some.port in
     let long = subst (λ (m : Connections). length m.ports ≡ 30 * m.bridges) is c.self.invariant.sockets in
     let f = free_port c.self.inside.ports.external c.self.inside.ports.owners p m (c.self.invariant.first ∙ ap (λ (m : Connections). m.external) is) (ap (λ (m : Connections). m.ports) is) long (sym c.take.ensures.lowest ∙ c.in-Some.is) in
-    let held = subst (λ (m : Connections). (h : Holding) × Holds m h m.ports) is c.self.invariant.held in
+    let held = subst (λ (m : Connections). (h : Holding) × Represents m h m.ports) is c.self.invariant.held in
     let layout = ap (λ (m : Connections). m.layout) is in
     let lines = c.self.invariant.width ∙ ap lines_of is in
     no_inlet _ x (λ b j. idle_joins_none m held.0 m.ports x b held.1 c.requires.external.0 c.requires.external.1 c.requires.idle (subst (λ l. Joins l x b) layout j))
@@ -91,7 +95,7 @@ connect-there-requires-clause-outlet g c =
     let p = c.in-Some.port in
     let long = subst (λ (m : Connections). length m.ports ≡ 30 * m.bridges) is c.self.invariant.sockets in
     let f = free_port c.self.inside.ports.external c.self.inside.ports.owners p m (c.self.invariant.first ∙ ap (λ (m : Connections). m.external) is) (ap (λ (m : Connections). m.ports) is) long (sym c.take.ensures.lowest ∙ c.in-Some.is) in
-    let held = subst (λ (m : Connections). (h : Holding) × Holds m h m.ports) is c.self.invariant.held in
+    let held = subst (λ (m : Connections). (h : Holding) × Represents m h m.ports) is c.self.invariant.held in
     let layout = ap (λ (m : Connections). m.layout) is in
     let lines = c.self.invariant.width ∙ ap lines_of is in
     no_outlet _ _ p c.self.invariant.legal.inlets (λ a inside j. none_joins_port m held.0 m.ports a p f.number held.1 (subst (λ w. IsSlot w a) lines inside) f.far f.lowest f.is (subst (λ l. Joins l a p) layout j))
@@ -104,7 +108,7 @@ connect-back-requires-clause-inlet g c =
     let p = c.in-Some.port in
     let long = subst (λ (m : Connections). length m.ports ≡ 30 * m.bridges) is c.self.invariant.sockets in
     let f = free_port c.self.inside.ports.external c.self.inside.ports.owners p m (c.self.invariant.first ∙ ap (λ (m : Connections). m.external) is) (ap (λ (m : Connections). m.ports) is) long (sym c.take.ensures.lowest ∙ c.in-Some.is) in
-    let held = subst (λ (m : Connections). (h : Holding) × Holds m h m.ports) is c.self.invariant.held in
+    let held = subst (λ (m : Connections). (h : Holding) × Represents m h m.ports) is c.self.invariant.held in
     let layout = ap (λ (m : Connections). m.layout) is in
     let lines = c.self.invariant.width ∙ ap lines_of is in
     no_inlet _ p (λ b j. ⊎_elim
@@ -120,7 +124,7 @@ connect-back-requires-clause-outlet g c =
     let p = c.in-Some.port in
     let long = subst (λ (m : Connections). length m.ports ≡ 30 * m.bridges) is c.self.invariant.sockets in
     let f = free_port c.self.inside.ports.external c.self.inside.ports.owners p m (c.self.invariant.first ∙ ap (λ (m : Connections). m.external) is) (ap (λ (m : Connections). m.ports) is) long (sym c.take.ensures.lowest ∙ c.in-Some.is) in
-    let held = subst (λ (m : Connections). (h : Holding) × Holds m h m.ports) is c.self.invariant.held in
+    let held = subst (λ (m : Connections). (h : Holding) × Represents m h m.ports) is c.self.invariant.held in
     let layout = ap (λ (m : Connections). m.layout) is in
     let lines = c.self.invariant.width ∙ ap lines_of is in
     no_outlet _ _ x c.connect-there.ensures.legal.inlets (λ a inside j.
@@ -148,7 +152,7 @@ returns-clause-layout g c =
     let p = c.in-Some.port in
     let long = subst (λ (m : Connections). length m.ports ≡ 30 * m.bridges) is c.self.invariant.sockets in
     let f = free_port c.self.inside.ports.external c.self.inside.ports.owners p m (c.self.invariant.first ∙ ap (λ (m : Connections). m.external) is) (ap (λ (m : Connections). m.ports) is) long (sym c.take.ensures.lowest ∙ c.in-Some.is) in
-    let held = subst (λ (m : Connections). (h : Holding) × Holds m h m.ports) is c.self.invariant.held in
+    let held = subst (λ (m : Connections). (h : Holding) × Represents m h m.ports) is c.self.invariant.held in
     let at_p = ap (λ q. port_of m.external q x) (c.take.ensures.members ∙ ap (given x) (ap (λ (m : Connections). m.ports) is)) ∙ seated_port m held.0 m.ports x p f.number held.1 c.requires.idle f.lowest f.is in
     let t = c.connect-there.ensures in
     let b = c.connect-back.ensures in
@@ -173,7 +177,7 @@ returns-clause-moves g c =
     let p = c.in-Some.port in
     let long = subst (λ (m : Connections). length m.ports ≡ 30 * m.bridges) is c.self.invariant.sockets in
     let f = free_port c.self.inside.ports.external c.self.inside.ports.owners p m (c.self.invariant.first ∙ ap (λ (m : Connections). m.external) is) (ap (λ (m : Connections). m.ports) is) long (sym c.take.ensures.lowest ∙ c.in-Some.is) in
-    let held = subst (λ (m : Connections). (h : Holding) × Holds m h m.ports) is c.self.invariant.held in
+    let held = subst (λ (m : Connections). (h : Holding) × Represents m h m.ports) is c.self.invariant.held in
     let at_p = ap (λ q. port_of m.external q x) (c.take.ensures.members ∙ ap (given x) (ap (λ (m : Connections). m.ports) is)) ∙ seated_port m held.0 m.ports x p f.number held.1 c.requires.idle f.lowest f.is in
     let t = c.connect-there.ensures in
     let b = c.connect-back.ensures in
@@ -191,8 +195,16 @@ returns-clause-moves g c =
     subst (λ o. IfSome o (λ port. (c.connect-there.result ≡ moved m.layout (joined_one m x port)) × (c.connect-back.result ≡ moved (joined_one m x port) (joined_both m x port)))) (sym at_p)
     (t.moves ∙ (λ i. moved (is i).layout (first i)), b.moves ∙ (λ i. moved (first i) (second i)))
 
+pub returns-clause-hears : goal.returns-clause-hears
+returns-clause-hears g c = λ z.
+    let is = c.self.view_is in
+    let x = c.args.x in
+    let near : x.line < c.self.inside.external = subst (λ e. x.line < e) (sym (ap (λ (m : Connections). m.external) is)) c.requires.external.0 in
+    hears_set c.self.inside.external c.self.inside.heard.items x (Some (Member c.args.room x c.self.inside.next)) _ z c.number-at_x.ensures c.self.invariant.listeners near c.requires.external.1
+    ∙ ap (λ (m : Connections). hears_after m (Seat x c.args.room) z) is
+
 pub returns-clause-holds : goal.returns-clause-holds
-returns-clause-holds g c = λ h ports holds.
+returns-clause-holds g c =
     let is = c.self.view_is in
     let m = c.args.self.now in
     let x = c.args.x in
@@ -200,12 +212,12 @@ returns-clause-holds g c = λ h ports holds.
     let long = subst (λ (m : Connections). length m.ports ≡ 30 * m.bridges) is c.self.invariant.sockets in
     let f = free_port c.self.inside.ports.external c.self.inside.ports.owners p m (c.self.invariant.first ∙ ap (λ (m : Connections). m.external) is) (ap (λ (m : Connections). m.ports) is) long (sym c.take.ensures.lowest ∙ c.in-Some.is) in
     let lines = c.self.invariant.width ∙ ap lines_of is in
-    holds_seat m _ x p c.args.room f.number (subst (λ (m : Connections). length m.heard ≡ 30 * m.external) is c.self.invariant.listeners) long c.requires.external.0 c.requires.external.1 c.requires.idle
+    holds_seat m _ x p c.args.room f.number long c.requires.idle
     (record {
       external = ap (λ (m : Connections). m.external) is;
       bridges = ap (λ (m : Connections). m.bridges) is;
       next = ap (λ (m : Connections). m.next) is;
-      heard = λ i. set (is i).heard (c.number_of-at_x.ensures i) (Some (Member c.args.room x (is i).next));
+      hears = returns-clause-hears g c;
       lowest = f.lowest;
       port = f.is;
       members = c.take.ensures.members ∙ ap (given x) (ap (λ (m : Connections). m.ports) is);
@@ -213,7 +225,18 @@ returns-clause-holds g c = λ h ports holds.
           let was : IsSlot (g.P.PathMap.width c.self.inside.paths) a = subst (λ w. IsSlot w a) (sym lines) inside in
           subst (λ l. Joins (g.P.PathMap.layout c.connect-back.new.self) a b ↔ ((Joins l a b ⊎ ((a ≡ x) × (b ≡ p))) ⊎ ((a ≡ p) × (b ≡ x)))) (ap (λ (m : Connections). m.layout) is)
           (two_more (c.connect-there.ensures.pairs a b was) (c.connect-back.ensures.pairs a b (subst (λ w. IsSlot w a) (sym c.connect-there.ensures.width) was)));
-    }) h ports holds
+    })
+
+pub returns-clause-ports : goal.returns-clause-ports
+returns-clause-ports g c = c.take.ensures.members ∙ ap (λ (m : Connections). given c.args.x m.ports) c.self.view_is
+
+-- the port's line is a bridge line
+pub port_index-sits_at-requires : goal.port_index-sits_at-requires
+port_index-sits_at-requires g c =
+    let lowest = lowest_port c.self.inside.ports.external c.self.inside.ports.owners c.in-Some.port (sym c.take.ensures.lowest ∙ c.in-Some.is) in
+    let line = ap (λ (s : Slot). s.line) lowest.2 in
+    let first = c.self.invariant.first in
+    omega (arith, line, first)
 
 pub invariant_of-self-2 : goal.invariant_of-self-2
 invariant_of-self-2 g c =
@@ -227,14 +250,14 @@ invariant_of-self-2 g c =
     let held = c.self.invariant.held in
     let near : x.line < c.self.inside.external = subst (λ e. x.line < e) (sym (ap (λ (m : Connections). m.external) is)) c.requires.external.0 in
     let none = idle_portless _ held.0 _ x held.1 (ap (λ (m : Connections). hears_at m x) is ∙ c.requires.idle) in
-    let one = shown_row _ _ _ _ _ _ x (Some (Member c.args.room x since)) _ c.self.invariant.shown c.self.invariant.listeners (omega arith) near c.requires.external.1 none c.number_of-at_x.ensures in
-    let heard = set c.self.inside.heard.items c.number_of-at_x.result (Some (Member c.args.room x since)) in
+    let one = shown_row _ _ _ _ _ _ x (Some (Member c.args.room x since)) _ c.self.invariant.shown c.self.invariant.listeners near c.requires.external.1 none c.number-at_x.ensures in
+    let heard = set c.self.inside.heard.items c.number-at_x.result (Some (Member c.args.room x since)) in
     let hears : hears_in c.self.inside.external heard x ≡ Some (Member c.args.room x since) =
-    (λ i. hears_in c.self.inside.external (set c.self.inside.heard.items (c.number_of-at_x.ensures i) (Some (Member c.args.room x since))) x)
+    (λ i. hears_in c.self.inside.external (set c.self.inside.heard.items (c.number-at_x.ensures i) (Some (Member c.args.room x since))) x)
     ∙ hears_written c.self.inside.external c.self.inside.heard.items x (Some (Member c.args.room x since)) x c.self.invariant.listeners near c.requires.external.1
     ∙ ap (λ b. if b then Some (Member c.args.room x since) else hears_in c.self.inside.external c.self.inside.heard.items x) (same_slot-refl x) in
-    let two = shown_given c.self.inside.external (c.self.inside.external + c.self.inside.bridges) heard (members c.self.inside.ports.owners) _ _ x p lowest.0 (Some (Member c.args.room x since)) _ one lowest.1 at in_p hears c.number_of-at_port.ensures in
-    let old = subst (λ (m : Connections). (h : Holding) × Holds m h m.ports) c.self.view_is c.self.invariant.held in
+    let two = shown_given c.self.inside.external c.self.inside.bridges heard (members c.self.inside.ports.owners) _ _ x p lowest.0 (Some (Member c.args.room x since)) _ _ one lowest.1 at in_p hears c.number-at_port.ensures c.port_index-sits_at.ensures in
+    let old = subst (λ (m : Connections). (h : Holding) × Represents m h m.ports) c.self.view_is c.self.invariant.held in
     let first = c.connect-there.ensures in
     let second = c.connect-back.ensures in
     record {
@@ -246,5 +269,10 @@ invariant_of-self-2 g c =
       sockets = ap length c.take.ensures.members ∙ length-given c.args.x _ ∙ c.self.invariant.sockets;
       legal = second.legal;
       held = (after old.0 (Seat c.args.x c.args.room), own_ports _ _ _ (returns-clause-holds g c old.0 c.args.self.now.ports old.1));
+      roomed = subst (AreRoomed (hears_in c.self.inside.external heard)) (sym c.take.ensures.owners)
+          (roomed_given (hears_in c.self.inside.external c.self.inside.heard.items) (hears_in c.self.inside.external heard) c.self.inside.ports.owners x c.args.room since lowest.0 c.self.invariant.roomed (sym (free_in_members c.self.inside.ports.owners) ∙ lowest.1) hears
+          (given_keeps (hears_in c.self.inside.external c.self.inside.heard.items) (hears_in c.self.inside.external heard) x (Some (Member c.args.room x since))
+          (λ z. hears_set c.self.inside.external c.self.inside.heard.items x (Some (Member c.args.room x since)) _ z c.number-at_x.ensures c.self.invariant.listeners near c.requires.external.1)
+          (ap (λ (m : Connections). hears_at m x) is ∙ c.requires.idle)));
       shown = shown_by _ _ _ _ _ _ _ c.take.ensures.members two;
     }

@@ -37,7 +37,7 @@ invariant_of-self c =
     let external = ap (λ (b : Bridges). b.external) c.self.view_is in
     let line : c.args.member.line < c.self.inside.external = search rules in
     let portless : position (has c.args.member) (members c.self.inside.owners.items) ≡ None = ap (λ os. position (has c.args.member) (members os)) owners ∙ no_place _ _ c.requires.portless in
-    rw c.member_index.ensures (indexed_taken _ _ _ _ _ new c.self.invariant line c.requires.external.1 at portless)
+    rw c.number.ensures (indexed_taken _ _ _ _ _ new c.self.invariant line c.requires.external.1 at portless)
 
 pub returns-clause-owners : goal.returns-clause-owners
 returns-clause-owners c =

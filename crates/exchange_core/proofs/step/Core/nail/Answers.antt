@@ -14,7 +14,7 @@ returns-clause-reply g c w s =
     let is = c.self.view_is in
     let e = c.pair-there.ensures in
     rw can (subst (λ (m : Connections). Granted c.pair-there.result.0 c.pair-there.result.1 ≡ granted (dimensions_of m) w.layout c.args.x c.args.y) is
-    (nail_moves c.self.inside.map w (subst (λ (m : Connections). Stands m w) (sym is) s) c.args.x c.args.y _ _ e.there e.back))
+    (nail_moves c.self.inside.map w (subst (λ (m : Connections). Stands m w) (sym is) s) c.args.x c.args.y _ _ e.moves.0 e.moves.1))
 
 pub returns-clause-world : goal.returns-clause-world
 returns-clause-world g c w s =

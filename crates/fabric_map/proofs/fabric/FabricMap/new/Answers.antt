@@ -2,7 +2,7 @@ use Rattle.std.proofs.Common.{◌<◌, ◌∙◌, ap, sym, subst}
 use Rattle.control_memory.specs.Layout.{Legal}
 use Rattle.paull_matrix.specs.Matrix.{Matrix, no_paths}
 use Rattle.fabric_map.specs.Matching.{IsMatrixOf}
-use Rattle.fabric_map.proofs.Matched.{bare_matches}
+use Rattle.fabric_map.proofs.MatrixOfLayout.{bare_matches}
 use Rattle.fabric_map.proofs.fabric.FabricMap.new.Goals as goal
 
 pub invariant_of-result : goal.invariant_of-result

@@ -1,10 +1,9 @@
 use Rattle.std.proofs.Common.{◌≡◌, ◌⊎◌, ◌∙◌, sym, ap, subst, length, None}
 use Rattle.circuit_model.specs.declared.channel.Slot.{Slot}
 use Rattle.control_memory.specs.Layout.{IsSlot, Joins, hop_of, path_to}
-use Rattle.control_memory.specs.Connecting.{with_path, connect, moved}
-use Rattle.control_memory.proofs.Steps.{IsFree}
+use Rattle.control_memory.specs.Connecting.{with_path, connect, moved, IsFree}
 use Rattle.rearrange_chain.specs.Chain.{moves_for, exchanged}
-use Rattle.fabric_map.specs.Paths.{Fabric}
+use Rattle.control_memory.specs.Paths.{Fabric}
 use Rattle.fabric_map.specs.Rearranging.{AreTaken, taken_by}
 use Rattle.fabric_map.proofs.Rearranged.{Beside}
 use Rattle.fabric_map.proofs.Connected.{CanConnect, has_row_room, has_column_room, connects, readied, readied_is, can_lay_is, free_in, pairs_after, map_with}

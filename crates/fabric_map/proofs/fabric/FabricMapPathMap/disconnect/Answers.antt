@@ -1,6 +1,6 @@
 use Rattle.std.proofs.Common.{◌≡◌, ◌∙◌, sym, subst, Some}
 use Rattle.control_memory.specs.Layout.{IsSlot, Joins, hop_of}
-use Rattle.fabric_map.specs.Paths.{Fabric}
+use Rattle.control_memory.specs.Paths.{Fabric}
 use Rattle.fabric_map.proofs.Connected.{lifts_entry, map_without}
 use Rattle.fabric_map.proofs.fabric.FabricMapPathMap.disconnect.Goals as goal
 

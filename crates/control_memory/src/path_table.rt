@@ -1,0 +1,152 @@
+ghost use Rattle.std.specs.Prelude.{◌≡◌, ℕ, ◌+◌, ◌*◌, ◌<◌, ◌≤◌, None, Some, IfOk, replicate};
+ghost use Rattle.control_memory.specs.Layout.{Layout, Legal, IsSlot, HasPath, hop_of, slot_read, path_in, Path};
+ghost use Rattle.control_memory.specs.Image.{lines_of, HasLayout, SameSizes};
+ghost use Rattle.control_memory.specs.Connecting.{with_path, without_path, IsFree};
+ghost use Rattle.control_memory.specs.Paths.{Fabric, ends_of};
+
+use crate::control_table::ControlTable;
+use crate::ends::Ends;
+use crate::hop::Hop;
+use crate::image::Image;
+use circuit_model::{PLACES, Slot};
+use std::alloc::{AllocError, Global};
+use std::marker::Model;
+
+/// The paths of a fabric with any number of internal slots: for each inlet its hop, and beside it
+/// the three control tables of the layout, in the form of a control memory.
+///
+/// Contracts see the layout. It is legal from the first call on, and no call but `new` takes memory.
+#[derive(Drop)]
+pub struct PathTable {
+    lines: u8,
+    slots: u8,
+    hops: Vec<Option<Hop>>,
+    incoming: ControlTable,
+    space: ControlTable,
+    outgoing: ControlTable,
+}
+
+impl Model for PathTable {
+    ghost use Rattle.control_memory.specs.Paths.{Fabric, IsTabled};
+
+    ghost Value = { Fabric };
+
+    ghost view = { λ t. record { lines = t.lines; slots = t.slots; layout = t.hops.items } };
+
+    ghost invariant = { λ t. IsTabled t.lines t.slots t.hops.items t.incoming t.space t.outgoing };
+}
+
+impl PathTable {
+    /// No path on so many lines and internal slots.
+    pub fn new(alloc: Global, lines: u8, slots: u8) -> Result<PathTable, AllocError>
+        requires lines { lines ≤ 34 }
+        ensures lines { IfOk result (λ t. t.lines ≡ lines) }
+        ensures slots { IfOk result (λ t. t.slots ≡ slots) }
+        ensures bare { IfOk result (λ t. t.layout ≡ replicate (30 * lines) None) }
+        ensures legal { IfOk result (λ t. Legal lines slots t.layout) }
+    {
+        Ok(PathTable {
+            lines,
+            slots,
+            hops: vec![in alloc; None; usize::from(PLACES) * usize::from(lines)]?,
+            incoming: ControlTable::new(alloc, lines, slots, PLACES)?,
+            space: ControlTable::new(alloc, lines, slots, lines)?,
+            outgoing: ControlTable::new(alloc, lines, PLACES, slots)?,
+        })
+    }
+
+    /// Adds a path in an internal slot that is free in both lines, from a free inlet to a free
+    /// outlet.
+    pub fn add(&mut self, from: Slot, to: Slot, slot: u8)
+        requires from { IsSlot self.old.lines from }
+        requires to { IsSlot self.old.lines to }
+        requires slot { slot < self.old.slots }
+        requires free { IsFree self.old.lines self.old.layout from to slot }
+        ensures layout { self.new.layout ≡ with_path self.old.layout from to slot }
+        ensures lines { self.new.lines ≡ self.old.lines }
+        ensures slots { self.new.slots ≡ self.old.slots }
+        ensures legal { Legal self.new.lines self.new.slots self.new.layout }
+    {
+        self.hops[from.number()] = Some(Hop { to, slot });
+        self.incoming.set(from.line, slot, from.place);
+        self.space.set(to.line, slot, from.line);
+        self.outgoing.set(to.line, to.place, slot);
+    }
+
+    /// Takes out the path that begins at an inlet, and answers its hop.
+    pub fn take(&mut self, from: Slot, hop: Hop)
+        requires from { IsSlot self.old.lines from }
+        requires stands { HasPath self.old.layout from hop.to hop.slot }
+        ensures layout { self.new.layout ≡ without_path self.old.layout from }
+        ensures lines { self.new.lines ≡ self.old.lines }
+        ensures slots { self.new.slots ≡ self.old.slots }
+        ensures legal { Legal self.new.lines self.new.slots self.new.layout }
+    {
+        self.hops[from.number()] = None;
+        self.incoming.unset(from.line, hop.slot);
+        self.space.unset(hop.to.line, hop.slot);
+        self.outgoing.unset(hop.to.line, hop.to.place);
+    }
+
+    /// How many internal slots it has.
+    pub fn slots(&self) -> u8
+        ensures slots { result ≡ self.now.slots }
+        ensures legal { Legal self.now.lines self.now.slots self.now.layout }
+    {
+        self.slots
+    }
+
+    /// Where the path of an inlet goes, and in which internal slot; `None` where it is free.
+    pub fn hop(&self, from: Slot) -> Option<Hop>
+        requires { IsSlot self.now.lines from }
+        ensures hop { result ≡ hop_of self.now.layout from }
+        ensures legal { Legal self.now.lines self.now.slots self.now.layout }
+    {
+        self.hops[from.number()]
+    }
+
+    /// The internal slot of the path that ends at an outlet; `None` where it is free.
+    pub fn read(&self, to: Slot) -> Option<u8>
+        requires { IsSlot self.now.lines to }
+        ensures slot { result ≡ slot_read self.now.layout to }
+        ensures legal { Legal self.now.lines self.now.slots self.now.layout }
+    {
+        self.outgoing.get(to.line, to.place)
+    }
+
+    /// Takes out the path that an incoming line sends in an internal slot, and answers its ends.
+    pub fn lift(&mut self, line: u8, slot: u8) -> Ends
+        requires line { line < self.old.lines }
+        requires slot { slot < self.old.slots }
+        requires stands { (p : Path) × (path_in self.old.layout line slot ≡ Some p) }
+        ensures ends { (p : Path) × (path_in self.old.layout line slot ≡ Some p) × (ends_of p ≡ result) }
+        ensures layout { self.new.layout ≡ without_path self.old.layout result.from }
+        ensures lines { self.new.lines ≡ self.old.lines }
+        ensures slots { self.new.slots ≡ self.old.slots }
+        ensures legal { Legal self.new.lines self.new.slots self.new.layout }
+    {
+        let Some(place) = self.incoming.get(line, slot) else {
+            unreachable!()
+        };
+        let from = Slot { line, place };
+        let Some(hop) = self.hop(from) else {
+            unreachable!()
+        };
+        self.take(from, hop);
+        Ends { from, to: hop.to }
+    }
+
+    /// Writes the layout into a control memory.
+    pub fn write(&self, image: &mut Image)
+        requires lines { lines_of image.old ≡ self.now.lines }
+        requires slots { image.old.slots ≡ self.now.slots }
+        ensures tables { HasLayout image.new self.now.layout }
+        ensures sizes { SameSizes image.old image.new }
+        ensures frame { image.new.frame ≡ image.old.frame }
+        ensures heard { image.new.heard ≡ image.old.heard }
+        ensures rooms { image.new.rooms ≡ image.old.rooms }
+        ensures legal { Legal self.now.lines self.now.slots self.now.layout }
+    {
+        image.set_tables(&self.incoming, &self.space, &self.outgoing);
+    }
+}
