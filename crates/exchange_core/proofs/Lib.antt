@@ -1,4 +1,4 @@
-pub mod Ordering
+pub mod FileOrder
 pub mod Steps
-pub mod Making
-pub mod Past
+pub mod Histories
+pub mod EarlierFrames

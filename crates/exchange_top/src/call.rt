@@ -202,7 +202,7 @@ pub fn exchange<S: Source, K: Sink, C: Carrier>(
     ensures done { result.status ≡ 0 → (bytes : List ℕ)
         × IsWholeInput (S.left source.old) (S.left source.new) bytes
         × IsDone C.plays (HandsOut (engine_dimensions C.external_lines C.bridge_lines C.depth) C.carries result.engine)
-            bytes result.order.items (K.written sink.old) (K.written sink.new) }
+        bytes result.order.items (K.written sink.old) (K.written sink.new) }
     ensures engine { IsSome result.engine ↔ (result.status ≡ 0) }
     // 1: what was read is no trace, and the line that says so was written.
     ensures turned_down { result.status ≡ 1 → (bytes : List ℕ)
@@ -219,7 +219,7 @@ pub fn exchange<S: Source, K: Sink, C: Carrier>(
     ensures write_failed { result.status ≡ 4 → Rose (K.faults sink.old) (K.faults sink.new) }
     ensures cut_short { (result.status ≡ 4) ⊎ (result.status ≡ 5)
         → IsUndone C.plays (map string_bytes words.now) (S.left source.old) (S.left source.new)
-            result.order.items (K.written sink.old) (K.written sink.new) }
+        result.order.items (K.written sink.old) (K.written sink.new) }
     // There is no other status, and a fault is answered by its own alone.
     ensures statuses { result.status ≤ 5 }
     ensures reads { (result.status ≡ 3) ⊎ (S.faults source.new ≡ S.faults source.old) }

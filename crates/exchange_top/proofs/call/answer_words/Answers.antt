@@ -1,6 +1,5 @@
 use Rattle.std.proofs.Common.{◌≡◌, true, arith}
 use Rattle.std.proofs.lemmas.Grind.{common_steps}
-use Rattle.std.proofs.KnownBytes.{Consumes-nil}
 use Rattle.exchange_top.specs.Commands.{Answered}
 use Rattle.exchange_top.proofs.call.answer_words.Goals as goal
 

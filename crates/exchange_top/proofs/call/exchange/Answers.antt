@@ -1,5 +1,5 @@
 use Rattle.std.proofs.Common.{inl, inr, arith}
-use Rattle.exchange_top.proofs.CallLemmas.{done_says, turned_down_says, wrong_words_says, read_failed_says, write_failed_says, cut_short_says, statuses_say, other_words_say, command_says, trace_says, no_trace_says}
+use Rattle.exchange_top.proofs.Endings.{done_says, turned_down_says, wrong_words_says, read_failed_says, write_failed_says, cut_short_says, statuses_say, other_words_say, command_says, trace_says, no_trace_says}
 use Rattle.exchange_top.proofs.call.exchange.Goals as goal
 
 pub returns-clause-done : goal.returns-clause-done
@@ -33,7 +33,7 @@ pub returns-clause-command : goal.returns-clause-command
 returns-clause-command g c is = command_says _ _ _ _ _ _ _ c.answer_words.ensures.ends is
 
 pub returns-clause-trace : goal.returns-clause-trace
-returns-clause-trace g c bytes t left is run  = trace_says _ _ _ _ _ _ _ bytes t c.answer_words.ensures.ends left is run
+returns-clause-trace g c bytes t left is run = trace_says _ _ _ _ _ _ _ bytes t c.answer_words.ensures.ends left is run
 
 pub returns-clause-no_trace : goal.returns-clause-no_trace
 returns-clause-no_trace g c bytes number why left refused run = no_trace_says _ _ _ _ _ _ _ bytes number why c.answer_words.ensures.ends left refused run

@@ -1,4 +1,4 @@
-use Rattle.std.proofs.Common.{[], ◌∷◌, ◌++◌, length, length-append, arith, refl, sym, ap, ◌∙◌}
+use Rattle.std.proofs.Common.{[], ◌∷◌, ◌++◌, length-append, arith, refl, sym, ap, ◌∙◌}
 use Rattle.circuit_model.specs.Holding.{empty, Frame, after, frames}
 use Rattle.circuit_model.proofs.Recorded.{after_all-append, frames-boundary, frames-command}
 use Rattle.plain_model.proofs.laws.law_of_stories.Goals as goal
