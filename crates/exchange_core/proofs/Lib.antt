@@ -1,7 +1,7 @@
-pub mod Ordering
+pub mod FileOrder
 pub mod Steps
-pub mod Making
-pub mod Past
+pub mod Histories
+pub mod EarlierFrames
 pub mod Refusals
 pub mod Named
 pub mod Answering

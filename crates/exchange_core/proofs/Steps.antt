@@ -12,22 +12,22 @@ use Rattle.control_memory.specs.Connecting.{moved}
 use Rattle.circuit_map.specs.Connections.{Connections, Represents, seats, joined_one, joined_both, parted, without_both, partner}
 use Rattle.circuit_map.proofs.Sockets.{ported}
 use Rattle.exchange_core.specs.declared.reply.Reply.TheVariants.{Granted, Seated}
-use Rattle.exchange_core.specs.Standing.{Stands, dimensions_of}
+use Rattle.exchange_core.specs.Standing.{StandsFor, dimensions_of}
 use Rattle.exchange_core.specs.World.{World, granted, seated, obey, both_ways, with_port}
 
-module _ (m : Connections) (w : World) (s : Stands m w) where
+module _ (m : Connections) (w : World) (s : StandsFor m w) where
   -- a nail that is granted
   pub nail_moves : (x y : Slot) (a b : ℕ) → a ≡ moved m.layout (joined_one m x y) → b ≡ moved (joined_one m x y) (joined_both m x y)
       → Granted a b ≡ granted (dimensions_of m) w.layout x y
   nail_moves x y a b there back = (λ i. Granted (there i) (back i)) ∙ ap (λ l. granted (dimensions_of m) l x y) s.layout
 
   pub nail_stands : (n : Connections) (x y : Slot) → Represents n (after w.holding (Connect x y)) w.ports → n.layout ≡ joined_both m x y
-      → Stands n (obey (dimensions_of m) w (Connect x y))
+      → StandsFor n (obey (dimensions_of m) w (Connect x y))
   nail_stands n x y holds layout = record { holds = holds; layout = layout ∙ ap (λ l. both_ways (dimensions_of m) l x y) s.layout }
 
   -- what is cleared takes its paths along
   pub clear_stands : (n : Connections) (x : Slot) → Represents n (after w.holding (Clear x)) (returned x w.ports) → n.layout ≡ parted m x
-      → Stands n (obey (dimensions_of m) w (Clear x))
+      → StandsFor n (obey (dimensions_of m) w (Clear x))
   clear_stands n x holds layout = record {
     holds = holds;
     layout = layout
@@ -61,7 +61,7 @@ module _ (m : Connections) (w : World) (s : Stands m w) where
 
   pub seat_stands : (n : Connections) (x : Slot) (room : ℕ) → Represents n (after w.holding (Seat x room)) (given x w.ports)
       → IfSome (port_of m.external n.ports x) (λ p. n.layout ≡ joined_both m x p)
-      → Stands n (obey (dimensions_of m) w (Seat x room))
+      → StandsFor n (obey (dimensions_of m) w (Seat x room))
   seat_stands n x room holds layout = record {
     holds = holds;
     layout = seat_layout n x (port_of m.external (given x w.ports) x) (has_port n x room holds) (rw holds.members at layout);

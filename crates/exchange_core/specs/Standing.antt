@@ -13,7 +13,7 @@ abbrev pub dimensions_of : Connections → Dimensions
 dimensions_of m = record { external = m.external; bridges = m.bridges; slots = m.slots }
 
 -- the map holds the circuits and ports of the world, and its paths have the world's layout
-pub record Stands (m : Connections) (w : World) : Type 0 where
+pub record StandsFor (m : Connections) (w : World) : Type 0 where
   pub holds : Represents m w.holding w.ports
   pub layout : m.layout ≡ w.layout
 

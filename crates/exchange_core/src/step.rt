@@ -5,7 +5,7 @@ ghost use Rattle.circuit_map.specs.Connections.{SameSizes, hears_at};
 ghost use Rattle.exchange_core.specs.declared.reply.Reply.TheVariants.{Frame};
 ghost use Rattle.exchange_core.specs.declared.trace.Event.TheVariants as event;
 ghost use Rattle.exchange_core.specs.Sound.{Fits};
-ghost use Rattle.exchange_core.specs.Standing.{Stands, dimensions_of};
+ghost use Rattle.exchange_core.specs.Standing.{StandsFor, dimensions_of};
 ghost use Rattle.exchange_core.specs.World.{World, start, reply, next, can_nail, is_refusal, MovesAtMost};
 
 use crate::reply::Reply;
@@ -19,7 +19,7 @@ use std::marker::Model;
 /// The exchange without its octets: the circuits that stand, the conference ports, and the live
 /// paths.
 ///
-/// Contracts see what the map of circuits keeps; `Stands` says of which world that is. No call but
+/// Contracts see what the map of circuits keeps; `StandsFor` says of which world that is. No call but
 /// `new` takes memory.
 #[derive(Drop)]
 pub struct Core<P: PathMap> {
@@ -42,7 +42,7 @@ impl<P: PathMap + Drop> Core<P> {
         requires bridges { bridges ≤ 2 }
         requires lines { P.width paths ≡ external + bridges }
         requires bare { P.layout paths ≡ (start (record { external = external; bridges = bridges; slots = P.depth paths })).layout }
-        ensures stands { IfOk result (λ c. Stands c (start (dimensions_of c))) }
+        ensures stands { IfOk result (λ c. StandsFor c (start (dimensions_of c))) }
         ensures external { IfOk result (λ c. c.external ≡ external) }
         ensures bridges { IfOk result (λ c. c.bridges ≡ bridges) }
         ensures slots { IfOk result (λ c. c.slots ≡ P.depth paths) }
@@ -63,11 +63,11 @@ impl<P: PathMap> Core<P> {
         requires external { image.old.external ≡ self.old.external }
         requires bridges { image.old.bridges ≡ self.old.bridges }
         requires slots { image.old.slots ≡ self.old.slots }
-        ensures reply { (w : World) → Stands self.old w → result ≡ reply (dimensions_of self.old) w event.now }
-        ensures world { (w : World) → Stands self.old w → Stands self.new (next (dimensions_of self.old) w event.now) }
+        ensures reply { (w : World) → StandsFor self.old w → result ≡ reply (dimensions_of self.old) w event.now }
+        ensures world { (w : World) → StandsFor self.old w → StandsFor self.new (next (dimensions_of self.old) w event.now) }
         ensures few { MovesAtMost self.old.bound result }
         ensures refused { IsTrue (is_refusal result) → self.new ≡ self.old }
-        ensures shows { (w : World) (f : ℕ) → Stands self.old w → result ≡ Frame f → Shows image.new w.holding.circuits w.ports f }
+        ensures shows { (w : World) (f : ℕ) → StandsFor self.old w → result ≡ Frame f → Shows image.new w.holding.circuits w.ports f }
         ensures unshown { ((f : ℕ) → ¬ (result ≡ Frame f)) → image.new ≡ image.old }
         ensures image { SameImageSizes image.old image.new }
         ensures sizes { SameSizes self.old self.new }
@@ -83,8 +83,8 @@ impl<P: PathMap> Core<P> {
     // Connects two slots, where both are idle.
     fn nail(&mut self, x: Slot, y: Slot) -> Reply
         requires fits { Fits self.old.external (event.Nail x y) }
-        ensures reply { (w : World) → Stands self.old w → result ≡ reply (dimensions_of self.old) w (event.Nail x y) }
-        ensures world { (w : World) → Stands self.old w → Stands self.new (next (dimensions_of self.old) w (event.Nail x y)) }
+        ensures reply { (w : World) → StandsFor self.old w → result ≡ reply (dimensions_of self.old) w (event.Nail x y) }
+        ensures world { (w : World) → StandsFor self.old w → StandsFor self.new (next (dimensions_of self.old) w (event.Nail x y)) }
         ensures few { MovesAtMost self.old.bound result }
         ensures refused { IsTrue (is_refusal result) → self.new ≡ self.old }
         ensures no_frame { (f : ℕ) → ¬ (result ≡ Frame f) }
@@ -100,7 +100,7 @@ impl<P: PathMap> Core<P> {
     // Whether both slots are idle.
     fn can_nail(&self, x: Slot, y: Slot) -> bool
         requires fits { Fits self.now.external (event.Nail x y) }
-        ensures can { (w : World) → Stands self.now w → result ≡ can_nail w x y }
+        ensures can { (w : World) → StandsFor self.now w → result ≡ can_nail w x y }
         ensures silent { IsTrue result → (hears_at self.now x ≡ None) × (hears_at self.now y ≡ None) }
     {
         self.map.idle(x) && self.map.idle(y)
@@ -109,8 +109,8 @@ impl<P: PathMap> Core<P> {
     // Seats a slot in a room, where it is idle and a conference port is free.
     fn seat(&mut self, x: Slot, room: u8) -> Reply
         requires fits { Fits self.old.external (event.Seat x room) }
-        ensures reply { (w : World) → Stands self.old w → result ≡ reply (dimensions_of self.old) w (event.Seat x room) }
-        ensures world { (w : World) → Stands self.old w → Stands self.new (next (dimensions_of self.old) w (event.Seat x room)) }
+        ensures reply { (w : World) → StandsFor self.old w → result ≡ reply (dimensions_of self.old) w (event.Seat x room) }
+        ensures world { (w : World) → StandsFor self.old w → StandsFor self.new (next (dimensions_of self.old) w (event.Seat x room)) }
         ensures few { MovesAtMost self.old.bound result }
         ensures refused { IsTrue (is_refusal result) → self.new ≡ self.old }
         ensures no_frame { (f : ℕ) → ¬ (result ≡ Frame f) }
@@ -128,8 +128,8 @@ impl<P: PathMap> Core<P> {
     // Takes away the nail or the seat of a slot, where it has one.
     fn free(&mut self, x: Slot) -> Reply
         requires fits { Fits self.old.external (event.Free x) }
-        ensures reply { (w : World) → Stands self.old w → result ≡ reply (dimensions_of self.old) w (event.Free x) }
-        ensures world { (w : World) → Stands self.old w → Stands self.new (next (dimensions_of self.old) w (event.Free x)) }
+        ensures reply { (w : World) → StandsFor self.old w → result ≡ reply (dimensions_of self.old) w (event.Free x) }
+        ensures world { (w : World) → StandsFor self.old w → StandsFor self.new (next (dimensions_of self.old) w (event.Free x)) }
         ensures few { MovesAtMost self.old.bound result }
         ensures refused { IsTrue (is_refusal result) → self.new ≡ self.old }
         ensures no_frame { (f : ℕ) → ¬ (result ≡ Frame f) }

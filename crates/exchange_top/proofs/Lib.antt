@@ -1,5 +1,5 @@
-pub mod RunLemmas
+pub mod Reports
 pub mod Pending
-pub mod CallLemmas
+pub mod Endings
 pub mod Silence
-pub mod Framing
+pub mod FrameSteps

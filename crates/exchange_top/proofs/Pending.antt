@@ -15,7 +15,7 @@ use Rattle.exchange_core.specs.Orders.{file_order}
 use Rattle.exchange_top.specs.Outcomes.{Fabric, IsReported, IsBegun, IsPending}
 use Rattle.exchange_top.specs.Report.{Plays, dimensions, report, event_line}
 use Rattle.exchange_top.specs.Streams.{AppendsFront}
-use Rattle.exchange_top.proofs.RunLemmas.{range_more, take_snoc, world-snoc, run-snoc, report_more, events_of-file_order}
+use Rattle.exchange_top.proofs.Reports.{range_more, take_snoc, world-snoc, run-snoc, report_more, events_of-file_order}
 
 pub on_err : {T E P : Type 0} (r : Result T E) → P → OnErr r P
 on_err (Ok x) p = tt

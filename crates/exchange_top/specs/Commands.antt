@@ -1,11 +1,12 @@
 -- The command, and what its call answers. Source: this exchange's own.
-use Rattle.std.specs.Prelude.{◌≡◌, ◌⊎◌, ℕ, ◌+◌, ◌-◌, ◌*◌, ◌≤◌, List, [], ◌∷◌, ◌++◌, length, codes, decimal}
+use Rattle.std.specs.Prelude.{◌≡◌, ◌⊎◌, ℕ, ◌+◌, ◌≤◌, List, [], ◌∷◌, ◌++◌, length, codes, decimal}
 use Rattle.std.specs.Io.KnownBytes.{Appends, Consumes, IsAtEnd, Keeps}
 use Rattle.std.specs.declared.option.Option.{Option}
 use Rattle.ex_io.specs.Ends.{Rose}
 use Rattle.trace_text.specs.declared.fault.Reason.{Reason}
 use Rattle.trace_text.specs.declared.fault.Reason.TheVariants as reason
 use Rattle.exchange_core.specs.declared.trace.Trace.{Trace}
+use Rattle.fabric_map.specs.Map.{most_moves}
 use Rattle.trace_text.specs.TraceGrammar.{IsTrace, IsRefused, most_bytes}
 use Rattle.exchange_core.specs.Orders.{IsLawful, IsLawfulPrefix}
 use Rattle.exchange_top.specs.Outcomes.{Fabric, IsReported, IsBegun}
@@ -45,9 +46,9 @@ most_read = most_bytes + 65536
 abbrev pub IsUnfinished : ℕ → Type 0
 IsUnfinished status = (status ≡ 3) ⊎ (status ≡ 4) ⊎ (status ≡ 5)
 
--- the fabric of every trace: thirty internal slots, and 2r-2 moves for a path at the most, where r is the number of lines
+-- the fabric of every trace: thirty internal slots, where no path that joins moves more others than in any such fabric of so many lines
 abbrev pub fabric_of : Trace → Fabric
-fabric_of trace = record { slots = 30; most_moves = 2 * (trace.external + trace.bridges) - 2 }
+fabric_of trace = record { slots = 30; most_moves = most_moves (trace.external + trace.bridges) }
 
 -- these bytes are all that was left, and they were read
 pub record IsWholeInput (old new : Option (List ℕ)) (bytes : List ℕ) : Type 0 where

@@ -5,7 +5,7 @@ use Rattle.control_memory.specs.Layout.{Layout}
 use Rattle.exchange_core.specs.declared.reply.Reply.{Reply}
 use Rattle.exchange_core.specs.declared.reply.Reply.TheVariants.{Frame}
 use Rattle.exchange_core.specs.declared.trace.Event.{Event}
-use Rattle.exchange_core.specs.Standing.{Stands, IsMade, dimensions_of}
+use Rattle.exchange_core.specs.Standing.{StandsFor, IsMade, dimensions_of}
 use Rattle.exchange_core.specs.World.{Dimensions, World, next}
 use Rattle.report_text.specs.Report.{sent, octet_of}
 use Rattle.exchange_top.specs.Report.{Plays, Carrying, engine_octet, event_line}
@@ -19,7 +19,7 @@ pub record IsReady (lines width depth : ℕ) (layout : Layout) : Type 0 where
 
 -- what stands and the engine's frames are those of a world that events have made
 pub record Works {E : Type 0} (carries : Carrying E) (core : Connections) (engine : E) (w : World) : Type 0 where
-  pub stands : Stands core w
+  pub stands : StandsFor core w
   pub made : IsMade (dimensions_of core) w
   pub carried : carries engine w.inputs w.held w.seated
 

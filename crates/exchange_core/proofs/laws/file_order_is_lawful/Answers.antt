@@ -1,4 +1,4 @@
-use Rattle.exchange_core.proofs.Ordering.{lawful_whole, lawful_begun}
+use Rattle.exchange_core.proofs.FileOrder.{lawful_whole, lawful_begun}
 use Rattle.exchange_core.proofs.laws.file_order_is_lawful.Goals as goal
 
 pub returns-clause-whole : goal.returns-clause-whole

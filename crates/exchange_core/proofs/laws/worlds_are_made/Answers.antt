@@ -1,4 +1,4 @@
-use Rattle.exchange_core.proofs.Making.{made}
+use Rattle.exchange_core.proofs.Histories.{made}
 use Rattle.exchange_core.proofs.laws.worlds_are_made.Goals as goal
 
 pub returns : goal.returns

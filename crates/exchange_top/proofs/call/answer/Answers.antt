@@ -1,5 +1,5 @@
 use Rattle.std.proofs.Common.{◌∙◌, ap, Err}
-use Rattle.exchange_top.proofs.CallLemmas.{answers_run, answers_refused}
+use Rattle.exchange_top.proofs.Endings.{answers_run, answers_refused}
 use Rattle.trace_text.proofs.SoundLemmas.{sound_trace}
 use Rattle.exchange_top.proofs.call.answer.Goals as goal
 

@@ -8,7 +8,7 @@ use Rattle.exchange_core.specs.World.{start, next, reply, MovesAtMost}
 use Rattle.exchange_top.specs.Report.{dimensions, event_line, report}
 use Rattle.exchange_top.specs.Switching.{Works}
 use Rattle.exchange_top.proofs.Pending.{on_err, begun_none, pending_none, order_more, world_at, world_more, replies_more, pending_event, begun_event, begun_flush, reported}
-use Rattle.exchange_top.proofs.RunLemmas.{world_grows, world_of-file_order}
+use Rattle.exchange_top.proofs.Reports.{world_grows, world_of-file_order}
 use Rattle.exchange_top.proofs.run.run.Goals as goal
 
 pub returns-in_err-text-clause-begun : goal.returns-in_err-text-clause-begun

@@ -1,7 +1,7 @@
 use Rattle.std.proofs.Common.{◌≡◌, sym, ◌∙◌}
 use Rattle.exchange_core.specs.Standing.{dimensions_of}
 use Rattle.exchange_core.specs.World.{start}
-use Rattle.exchange_top.proofs.Framing.{works_start}
+use Rattle.exchange_top.proofs.FrameSteps.{works_start}
 use Rattle.exchange_top.proofs.switch.Switch.new.Goals as goal
 
 pub invariant_of-result : goal.invariant_of-result

@@ -7,8 +7,8 @@ use Rattle.exchange_core.specs.declared.trace.Event.TheVariants.{Frame as Frame_
 use Rattle.exchange_core.specs.Standing.{dimensions_of}
 use Rattle.exchange_core.specs.World.{World, next, reply}
 use Rattle.exchange_top.specs.Switching.{Works}
-use Rattle.exchange_top.proofs.Framing.{asked, boundary, next_frame, quiet, works_quiet, works_frame}
-use Rattle.exchange_top.proofs.RunLemmas.{sent_played}
+use Rattle.exchange_top.proofs.FrameSteps.{asked, boundary, next_frame, quiet, works_quiet, works_frame}
+use Rattle.exchange_top.proofs.Reports.{sent_played}
 use Rattle.exchange_top.proofs.Silence.{sounds_none, silent}
 use Rattle.exchange_top.proofs.switch.Switch.step.Goals as goal
 

@@ -15,9 +15,9 @@ use Rattle.exchange_core.specs.declared.reply.Reply.{Reply}
 use Rattle.exchange_core.specs.declared.reply.Reply.TheVariants.{Busy, NoPort, Freed, NotNailed, Frame}
 use Rattle.control_memory.specs.Layout.{Layout}
 use Rattle.exchange_core.specs.Sound.{Fits}
-use Rattle.exchange_core.specs.Standing.{Stands, IsMade, dimensions_of}
+use Rattle.exchange_core.specs.Standing.{StandsFor, IsMade, dimensions_of}
 use Rattle.exchange_core.specs.World.{Dimensions, World, start, next, reply, can_nail, can_seat, is_nailed, is_full, granted, seated}
-use Rattle.exchange_core.proofs.Making.{made_start, made_next, made_pass}
+use Rattle.exchange_core.proofs.Histories.{made_start, made_next, made_pass}
 use Rattle.exchange_top.specs.Report.{Carrying}
 use Rattle.exchange_top.specs.Switching.{Works}
 
@@ -31,7 +31,7 @@ pub record Asked (image : Control) (external bridges next : ℕ) (w : World) : T
   pub came : Come external bridges (w.held ++ w.holding.circuits ∷ []) (w.seated ++ w.ports ∷ [])
 
 pub asked : {E : Type 0} (carries : Carrying E) (m : Connections) (engine : E) (w : World) (e : Event) (input : Input) (r : Reply) (image : Control) (external bridges next : ℕ)
-    → Works carries m engine w → e ≡ Frame_event input → r ≡ reply (dimensions_of m) w e → ((v : World) (f : ℕ) → Stands m v → r ≡ Frame f → Shows image v.holding.circuits v.ports f)
+    → Works carries m engine w → e ≡ Frame_event input → r ≡ reply (dimensions_of m) w e → ((v : World) (f : ℕ) → StandsFor m v → r ≡ Frame f → Shows image v.holding.circuits v.ports f)
     → external ≡ m.external → bridges ≡ m.bridges → next ≡ m.next → Asked image external bridges next w
 asked carries m engine w e input r image external bridges next works frame replied shows same_external same_bridges same_next = record {
   shows = subst (Shows image w.holding.circuits w.ports) (sym (same_next ∙ works.stands.holds.next)) (shows w w.holding.next works.stands (replied ∙ ap (reply (dimensions_of m) w) frame));
@@ -93,15 +93,15 @@ quiet d w (Free x) other =
 quiet d w (Frame_event input) other = absurd (other input refl)
 
 -- before the first event
-pub works_start : {E : Type 0} (carries : Carrying E) (m : Connections) (engine : E) (d : Dimensions) → dimensions_of m ≡ d → Stands m (start (dimensions_of m)) → carries engine [] [] []
+pub works_start : {E : Type 0} (carries : Carrying E) (m : Connections) (engine : E) (d : Dimensions) → dimensions_of m ≡ d → StandsFor m (start (dimensions_of m)) → carries engine [] [] []
     → Works carries m engine (start d)
-works_start carries m engine d same stands carried = record { stands = subst (λ x. Stands m (start x)) same stands; made = subst (λ x. IsMade x (start d)) (sym same) (made_start d); carried = carried }
+works_start carries m engine d same stands carried = record { stands = subst (λ x. StandsFor m (start x)) same stands; made = subst (λ x. IsMade x (start d)) (sym same) (made_start d); carried = carried }
 
 pub same_dimensions : (m n : Connections) → SameSizes m n → dimensions_of n ≡ dimensions_of m
 same_dimensions m n sizes = λ i. record { external = sizes.external i; bridges = sizes.bridges i; slots = sizes.slots i }
 
 module _ {E : Type 0} (carries : Carrying E) (m n : Connections) (engine : E) (w : World) (works : Works carries m engine w) (sizes : SameSizes m n) where
-  pub works_quiet : (e : Event) → Fits m.external e → ((input : Input) → ¬ (e ≡ Frame_event input)) → Stands n (next (dimensions_of m) w e) → Works carries n engine (next (dimensions_of m) w e)
+  pub works_quiet : (e : Event) → Fits m.external e → ((input : Input) → ¬ (e ≡ Frame_event input)) → StandsFor n (next (dimensions_of m) w e) → Works carries n engine (next (dimensions_of m) w e)
   works_quiet e fits other stands =
       let still = quiet (dimensions_of m) w e other in
       record {
@@ -110,7 +110,7 @@ module _ {E : Type 0} (carries : Carrying E) (m n : Connections) (engine : E) (w
         carried = rw (still.inputs, still.held, still.seated) works.carried;
       }
 
-  pub works_frame : (after : E) (input : Input) → Stands n (next (dimensions_of m) w (Frame_event input))
+  pub works_frame : (after : E) (input : Input) → StandsFor n (next (dimensions_of m) w (Frame_event input))
       → carries after (w.inputs ++ input ∷ []) (w.held ++ w.holding.circuits ∷ []) (w.seated ++ w.ports ∷ []) → Works carries n after (next (dimensions_of m) w (Frame_event input))
   works_frame after input stands carried = record {
     stands = stands;

@@ -11,7 +11,7 @@ use Rattle.exchange_core.specs.Orders.{IsLawfulPrefix}
 use Rattle.exchange_top.specs.Outcomes.{IsBegun}
 use Rattle.exchange_top.specs.Report.{Plays}
 use Rattle.exchange_top.specs.Commands.{Handing, Refuses, Told_so, Untold, IsUnfinished, fabric_of, IsRun, IsInput, IsWholeInput, IsDone, IsTurnedDown, In_refusal, In_report, IsUndone, In_words, In_input, In_answer, Runs, Whole, Unwritten_from, No_memory_from, Answers, Done, Turned_down, Unwritten, No_memory, Told, Ends, Wrong_words, Words_unwritten, Unread, No_room, Answered, refusal, words_refusal}
-use Rattle.exchange_core.proofs.Ordering.{lawful_whole, lawful_begun}
+use Rattle.exchange_core.proofs.FileOrder.{lawful_whole, lawful_begun}
 use Rattle.trace_text.proofs.TraceReadings.{never_both}
 
 module _ (plays : Plays) (handed : Handing) where
