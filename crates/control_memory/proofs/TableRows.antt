@@ -1,6 +1,5 @@
 -- One row of a table that is kept row after row.
 use Rattle.std.proofs.Common.{◌≡◌, ◌≢◌, ℕ, ◌+◌, ◌*◌, ◌<◌, ◌≤◌, eqb, List, length, get_or, map, take, drop, length-take-le, get_or-take, get_or-drop, Option, Some, None, IfSome, subst, sym, ap, ◌∙◌, ◌⊎◌, inl, inr, arith}
-use Rattle.std.specs.Prelude.{if◌then◌else◌}
 use Rattle.std.proofs.lemmas.Bool.{cases_eq, eq-eqb, ne_eqb, cond-true, cond-false}
 use Rattle.std.proofs.lemmas.List.{length-drop, get_or-map}
 use Rattle.std.proofs.lemmas.Nat.{mul-add-lt}

@@ -1,4 +1,4 @@
-use Rattle.std.proofs.Common.{◌≡◌, ℕ, ◌+◌, ◌-◌, ◌*◌, ◌<◌, ◌≤◌, List, length, ◌∙◌, sym, ap, subst, arith, rules}
+use Rattle.std.proofs.Common.{◌≡◌, ◌+◌, ◌-◌, ◌*◌, ◌≤◌, length, ◌∙◌, sym, subst, arith, rules}
 use Rattle.frame_buffer.specs.Highways.{IsPart}
 use Rattle.control_memory.specs.Image.{lines_of}
 use Rattle.space_stage.specs.Crossing.{gets}

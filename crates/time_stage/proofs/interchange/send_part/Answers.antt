@@ -1,4 +1,4 @@
-use Rattle.std.proofs.Common.{◌≡◌, ◌+◌, ◌-◌, ◌*◌, ◌<◌, ◌≤◌, length, ◌∙◌, sym, subst, arith, rules}
+use Rattle.std.proofs.Common.{◌≡◌, ◌+◌, ◌-◌, ◌*◌, ◌≤◌, length, ◌∙◌, sym, subst, arith, rules}
 use Rattle.time_stage.specs.Interchange.{sends}
 use Rattle.frame_buffer.proofs.Parts.{HoldBefore, row_fits, none_there, written_there}
 use Rattle.time_stage.proofs.interchange.send_part.Goals as goal

@@ -1,4 +1,4 @@
-use Rattle.std.proofs.Common.{◌≡◌, ◌+◌, ◌-◌, ◌*◌, refl, arith, rules}
+use Rattle.std.proofs.Common.{◌+◌, ◌-◌, ◌*◌, arith, rules}
 use Rattle.control_memory.proofs.TableRows.{is_row}
 use Rattle.control_memory.proofs.control_table.ControlTable.row.Goals as goal
 
