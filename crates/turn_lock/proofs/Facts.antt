@@ -1,5 +1,5 @@
 -- The rule of the lock, seat by seat: the form in which the lemmas on the moves take it and give it. It says the same as the seven parts.
-use Rattle.std.proofs.Common.{◌≡◌, ◌≢◌, ℕ, ◌+◌, ◌<◌, ◌≤◌, ◌^◌, Bool, IsTrue, List, [], ◌∷◌, ◌++◌, length, drop, slice_index, sym, refl, ap, ◌∙◌, subst, arith, Option, Some}
+use Rattle.std.proofs.Common.{◌≡◌, ◌≢◌, ℕ, ◌+◌, ◌<◌, ◌≤◌, ◌^◌, IsTrue, List, [], ◌∷◌, ◌++◌, length, drop, slice_index, sym, refl, ap, ◌∙◌, subst, arith, Option, Some}
 use mathlib.Core.Option.{some}
 use lib.ListN.{get_elem?}
 use Rattle.atomic_table.specs.Table.{State}
@@ -8,7 +8,7 @@ use Rattle.turn_lock.specs.declared.history.Kept.{Kept}
 use Rattle.turn_lock.specs.declared.board.View.{View}
 use Rattle.turn_lock.specs.declared.board.Stage.{Stage}
 use Rattle.turn_lock.specs.declared.board.Stage.TheVariants.{Idle, Waits, Served}
-use Rattle.turn_lock.specs.History.{StartsWith, Every, Once, IsWhole, unseen, entries_of}
+use Rattle.turn_lock.specs.History.{StartsWith, Every, Once, unseen, entries_of}
 use Rattle.turn_lock.specs.Views.{HoldsTicket, IsServed, tickets_of, Sits, Pairs, total, NoneServed, ticket, serving}
 use Rattle.turn_lock.specs.Rule.{Reserves, IsAt, TurnRule}
 use Rattle.turn_lock.specs.Moves.{Foreign}

@@ -1,5 +1,5 @@
 -- Where as many numbers are kept as seats were made, each number that was made is kept.
-use Rattle.std.proofs.Common.{◌≡◌, ◌≢◌, ℕ, eqb, ◌+◌, ◌≤◌, ◌||◌, Bool, true, false, true≢false, IsTrue, List, [], ◌∷◌, map, length, refl, sym, ap, ◌∙◌, subst, suc, arith, ne_eqb, eq-eqb}
+use Rattle.std.proofs.Common.{◌≡◌, ◌≢◌, ℕ, eqb, ◌+◌, ◌≤◌, ◌||◌, Bool, true, false, true≢false, IsTrue, List, [], ◌∷◌, map, length, refl, sym, ap, ◌∙◌, suc, arith, ne_eqb, eq-eqb}
 use mathlib.Core.Logic.{dite}
 use native.Mathlib.Decide.{ℕ_discrete}
 use Rattle.std.proofs.lemmas.Map.Steps.{length-le_from_distinct_below}

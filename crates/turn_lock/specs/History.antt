@@ -32,6 +32,10 @@ abbrev pub Every : {X : Type 0} → (X → Type 0) → List X → Type 0
 Every P [] = Unit {0}
 Every P (x ∷ xs) = P x × Every P xs
 
+-- no entry is of a reserved event
+abbrev pub NoneReserved : (ℕ → Type 0) → List Entry → Type 0
+NoneReserved reserved log = Every (λ (e : Entry). reserved e.event → ⊥) log
+
 -- no number is kept twice
 abbrev pub Once : List Kept → Type 0
 Once [] = Unit {0}

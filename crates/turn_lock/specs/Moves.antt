@@ -5,7 +5,6 @@ use Rattle.atomic_table.specs.Seated.{TableId}
 use Rattle.turn_lock.specs.declared.history.Entry.{Entry}
 use Rattle.turn_lock.specs.declared.history.Kept.{Kept}
 use Rattle.turn_lock.specs.declared.board.View.{View}
-use Rattle.turn_lock.specs.declared.board.Stage.{Stage}
 use Rattle.turn_lock.specs.declared.board.Stage.TheVariants.{Idle, Waits, Served}
 use Rattle.turn_lock.specs.History.{entry, StartsWith, Every, longer, entries_of}
 use Rattle.turn_lock.specs.Views.{Under, IsLive}

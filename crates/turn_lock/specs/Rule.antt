@@ -8,7 +8,7 @@ use Rattle.atomic_table.specs.Table.{State}
 use Rattle.turn_lock.specs.declared.history.Entry.{Entry}
 use Rattle.turn_lock.specs.declared.history.Kept.{Kept}
 use Rattle.turn_lock.specs.declared.board.View.{View}
-use Rattle.turn_lock.specs.History.{StartsWith, Every, Once, IsWhole, unseen}
+use Rattle.turn_lock.specs.History.{StartsWith, Every, Once, NoneReserved, IsWhole, unseen}
 use Rattle.turn_lock.specs.Views.{HoldsTicket, IsServed, tickets_of, Under, Sits, Each, Pairs, total, NoneServed, ticket, serving}
 
 module _ {X C : Type 0} where
@@ -66,7 +66,7 @@ module _ {C : Type 0} (reserved : C → ℕ → Type 0) where
   pub record Baton (log : List Entry) (views : List (View C)) : Type 0 where
     pub one : Pairs (λ v w. IsTrue v.baton → IsTrue w.baton → ⊥) views
     pub asked : Each views (λ v. (t : ℕ) → HoldsTicket v.stage t → Reserves v.setting v.event → IsTrue v.baton)
-    pub seen : Each views (λ v. IsTrue v.baton → Every (λ (e : Entry). Reserves v.setting e.event → ⊥) (unseen v.seen log))
+    pub seen : Each views (λ v. IsTrue v.baton → NoneReserved (Reserves v.setting) (unseen v.seen log))
 
 module _ {C : Type 0} where
   -- 6. How many seats. Seat 0, the seats that it made and the seats that were joined add up; seat 0 counts those made, and it alone keeps entries.

@@ -1,5 +1,5 @@
 ghost use Rattle.std.specs.Prelude.{◌≡◌, ◌+◌, ◌<◌, ◌≤◌, ◌^◌, [], length, IfOk, IfErr, IsTrue};
-ghost use Rattle.turn_lock.specs.History.{StartsWith, Every, before, entries_of, unseen};
+ghost use Rattle.turn_lock.specs.History.{StartsWith, NoneReserved, before, entries_of, unseen};
 ghost use Rattle.turn_lock.specs.Seats.{IsSeatOf, Settled, first_seat, giving, getting, stepping, joining};
 
 use crate::board::Token;
@@ -92,7 +92,7 @@ impl<S: Stepper> TurnLock<S> {
         ensures reply { S.answers self.now.setting (before result.0 seat.new.seen) seat.old.number event result.1 tool.new }
         ensures own { seat.new.own ≡ entries_of seat.new.number seat.new.seen }
         // The holder of the baton had seen every reserved entry of the history before.
-        ensures reserved { IsTrue seat.old.baton → Every (λ e. S.reserved self.now.setting e.event → ⊥) (unseen seat.old.seen (before result.0 seat.new.seen)) }
+        ensures reserved { IsTrue seat.old.baton → NoneReserved (S.reserved self.now.setting) (unseen seat.old.seen (before result.0 seat.new.seen)) }
     {
         let (place, reply) = self
             .board
