@@ -3,8 +3,12 @@ use Rattle.frame_engine.proofs.engine.EngineCarrier.new.Goals as goal
 
 pub returns-clause-carries : goal.returns-clause-carries
 returns-clause-carries c = record {
-  inputs_counted = refl;
-  held_counted = refl;
-  ports_counted = refl;
-  last = record { taken = λ at here near. search rules; crossed = λ line slot here low. search rules };
+  sizes = search rules;
+  counted = record { inputs_counted = refl; held_counted = refl; ports_counted = refl };
+  last = record {
+    paths = search rules;
+    quiet = search rules;
+    taken = λ at here near. search rules;
+    crossed = λ line slot here low. search rules;
+  };
 }
