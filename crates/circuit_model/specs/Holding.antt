@@ -63,9 +63,12 @@ hears_by h x = heard_by h.circuits x
 abbrev pub members_of : Holding → ℕ
 members_of h = count_by is_member h.circuits
 
--- a slot is idle, two slots are; a slot hears by no seat
+-- a slot is idle; it hears by a seat since some frame; it hears by none
 abbrev pub IsIdle : Holding → Slot → Type 0
 IsIdle h x = IsTrue (is_idle h.circuits x)
+
+abbrev pub IsMember : Holding → Slot → Type 0
+IsMember h x = (room since : ℕ) × (hears_by h x ≡ Some (Member room x since))
 
 abbrev pub IsNoMember : Holding → Slot → Type 0
 IsNoMember h x = (room since : ℕ) → ¬ (hears_by h x ≡ Some (Member room x since))

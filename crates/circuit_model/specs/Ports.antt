@@ -79,6 +79,10 @@ KeepsPort before now x = (k : ℕ) → owner_of before k ≡ Some x → owner_of
 abbrev pub IsSeated : List Circuit → Slot → Type 0
 IsSeated circuits x = (room since : ℕ) × Contains circuits (Member room x since)
 
+-- and has since an earlier frame than this one
+abbrev pub IsSeatedBefore : ℕ → List Circuit → Slot → Type 0
+IsSeatedBefore f circuits x = (room since : ℕ) × Contains circuits (Member room x since) × (since < f)
+
 -- what the members who have ports add up to, each by its weight
 abbrev pub sum_of_owners : (Slot → ℤ) → Ports → ℤ
 sum_of_owners weight [] = pos 0

@@ -5,7 +5,7 @@ ghost use Rattle.circuit_model.specs.declared.circuit.Circuit.{Circuit};
 ghost use Rattle.circuit_model.specs.declared.circuit.Kind.TheVariants.{Busy};
 ghost use Rattle.circuit_model.specs.declared.circuit.Circuit.TheVariants.{Pair, Member, Tone};
 ghost use Rattle.circuit_model.specs.Circuits.{listener, is_idle, heard_by, unless_naming, with_circuit, with_pair};
-ghost use Rattle.circuit_model.specs.Holding.{Holding, empty, Command, Connect, Seat, Give_tone, Clear, Frame, after, after_all, frames, held_in, hears_by, members_of, IsIdle, IsNoMember, naming, Valid, IsAllowed, AreAllowed};
+ghost use Rattle.circuit_model.specs.Holding.{Holding, empty, Command, Connect, Seat, Give_tone, Clear, Frame, after, after_all, frames, held_in, hears_by, members_of, IsIdle, IsMember, IsNoMember, naming, Valid, IsAllowed, AreAllowed};
 ghost use Rattle.circuit_model.specs.Examples.{first};
 
 /// A holding is valid at the start and after each command that is allowed, and so the circuits of
@@ -68,6 +68,6 @@ pub fn law_of_seats()
     ensures connect { (h : Holding) (x y : Slot) → members_of (after h (Connect x y)) ≡ members_of h }
     ensures seat { (h : Holding) (x : Slot) (room : ℕ) → members_of (after h (Seat x room)) ≡ members_of h + 1 }
     ensures tone { (h : Holding) (x : Slot) (kind : Kind) → members_of (after h (Give_tone x kind)) ≡ members_of h }
-    ensures clear_member { (bridges : ℕ) (h : Holding) (x : Slot) (room since : ℕ) → Valid bridges h → hears_by h x ≡ Some (Member room x since) → members_of (after h (Clear x)) + 1 ≡ members_of h }
+    ensures clear_member { (bridges : ℕ) (h : Holding) (x : Slot) → Valid bridges h → IsMember h x → members_of (after h (Clear x)) + 1 ≡ members_of h }
     ensures clear_other { (bridges : ℕ) (h : Holding) (x : Slot) → Valid bridges h → IsNoMember h x → members_of (after h (Clear x)) ≡ members_of h }
 {}

@@ -15,7 +15,7 @@ pub returns-clause-tone : goal.returns-clause-tone
 returns-clause-tone c = λ h x kind. omega (arith, count_by-append is_member h.circuits (Tone kind x h.next ∷ []))
 
 pub returns-clause-clear_member : goal.returns-clause-clear_member
-returns-clause-clear_member c = λ bridges h x room since v hears. count-clear_member h.circuits x room since (v.standing x) hears
+returns-clause-clear_member c = λ bridges h x v seated. count-clear_member h.circuits x seated.0 seated.1 (v.standing x) seated.2
 
 pub returns-clause-clear_other : goal.returns-clause-clear_other
 returns-clause-clear_other c = λ bridges h x v other. count-clear_other h.circuits x (v.standing x) other
