@@ -58,16 +58,18 @@ module _ {C : Type 0} (reserved : C → ℕ → Type 0) where
   abbrev pub Foreign : View C → Entry → Type 0
   Foreign v e = IsForeign v.setting v.number v.baton v.kept e
 
-module _ {S C : Type 0} (setting : S → C) (journal : S → List Entry) (room : S → ℕ) (reserved : C → ℕ → Type 0) where
-  abbrev pub Place : Type 0
-  Place = Me (Option S) (View C)
+module _ {S C : Type 0} (setting : S → C) (journal : S → List Entry) (room : S → ℕ) where
+  -- the seat holds the slot, with the state at this history
+  abbrev pub HoldsState : Me (Option S) (View C) → List Entry → Type 0
+  HoldsState m log = (x : S) × (m.1 ≡ (0, Some x) ∷ []) × IsAt setting journal room m.0.setting m.0.budget log x
 
+module _ {S C : Type 0} (setting : S → C) (journal : S → List Entry) (room : S → ℕ) (reserved : C → ℕ → Type 0) where
   -- draw: one turn less, the ticket that was found, and its event
-  abbrev pub drew : ℕ → Step (Option S) → Place → ℕ → Place → Type 0
+  abbrev pub drew : ℕ → Step (Option S) → Me (Option S) (View C) → ℕ → Me (Option S) (View C) → Type 0
   drew event st m n m' = (m'.0 ≡ record m.0 { left = m.0.left - 1; stage = Waits n; event = event }) × (m'.1 ≡ m.1)
 
   -- look, where the turn has come: the seat has seen the whole history, and has the slot with the state at that history
-  pub record Gets (t : ℕ) (m m' : Place) : Type 0 where
+  pub record Gets (t : ℕ) (m m' : Me (Option S) (View C)) : Type 0 where
     pub rest : List Entry
     pub view : m'.0 ≡ record m.0 { seen = m.0.seen ++ rest; stage = Served t }
     pub foreign : Every (Foreign reserved m.0) rest
@@ -79,7 +81,7 @@ module _ {S C : Type 0} (setting : S → C) (journal : S → List Entry) (room :
     pub at : IsAt setting journal room m.0.setting m.0.budget (m.0.seen ++ rest) state
 
   -- look: the turn has come where the word is the seat's ticket, and else nothing changes
-  abbrev pub looked : Step (Option S) → Place → ℕ → Place → Type 0
+  abbrev pub looked : Step (Option S) → Me (Option S) (View C) → ℕ → Me (Option S) (View C) → Type 0
   looked st m n m' = (t : ℕ) → m.0.stage ≡ Waits t → (n ≡ t → Gets t m m') × (n ≢ t → m' ≡ m)
 
 module _ {S C : Type 0} where

@@ -20,7 +20,11 @@ impl<S: Stepper> Model for TurnLock<S> {
 
     ghost Value = { Lock S.Setting };
 
-    ghost view = { λ l. record { id = l.board.table.shared.table_id; setting = S.setting l.board.table.shared.key.state.value; budget = l.board.table.shared.key.budget } };
+    ghost view = { λ l. record {
+      id = l.board.table.shared.table_id;
+      setting = S.setting l.board.table.shared.key.state.value;
+      budget = l.board.table.shared.key.budget;
+    } };
 }
 
 /// A thread's right to a number of steps. Contracts see what the seat knows.

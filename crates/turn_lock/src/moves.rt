@@ -3,8 +3,8 @@ ghost use Rattle.std.specs.Prelude.{◌≡◌, ℕ, ◌+◌, ◌-◌, ◌<◌, �
 ghost use Rattle.turn_lock.specs.declared.board.Stage.TheVariants.{Idle, Waits, Served};
 ghost use Rattle.turn_lock.specs.History.{entry, StartsWith};
 ghost use Rattle.turn_lock.specs.Views.{IsLive, Under};
-ghost use Rattle.turn_lock.specs.Rule.{IsAt, Reserves};
-ghost use Rattle.turn_lock.specs.Moves.{Gets, IsFree, Closes, KnowsAll, Steps, newcomer, gave, got, joined, rested, passed_on};
+ghost use Rattle.turn_lock.specs.Rule.{Reserves};
+ghost use Rattle.turn_lock.specs.Moves.{Gets, HoldsState, IsFree, Closes, KnowsAll, Steps, newcomer, gave, got, joined, rested, passed_on};
 
 use crate::board::{Aim, Gift, Opening, Token, Turns, View};
 use crate::plays::{Cut, Draw, Glue, Look, Meet, Pass};
@@ -32,7 +32,8 @@ impl<S: Stepper> Board<S> {
     ) -> Result<(Board<S>, Token<S>), (S, AllocError)>
         requires empty { S.journal state ≡ [] }
         requires room { budget ≤ S.room state }
-        ensures lock { IfOk result (λ r. (r.1.table_id ≡ r.0.table.shared.table_id) × (r.0.table.shared.key.state.value ≡ state) × (r.0.table.shared.key.budget ≡ budget)) }
+        ensures lock { IfOk result (λ r. r.1.table_id ≡ r.0.table.shared.table_id) }
+        ensures key { IfOk result (λ r. (r.0.table.shared.key.state.value ≡ state) × (r.0.table.shared.key.budget ≡ budget)) }
         ensures seat { IfOk result (λ r. r.1.me ≡ (newcomer (S.setting state) budget, [])) }
         ensures refused { IfErr result (λ e. e.0 ≡ state) }
     {
@@ -136,12 +137,12 @@ impl<S: Stepper> Board<S> {
     // Take and give: the state leaves its slot, is stepped, and comes back into it.
     fn serve(&self, seat: &mut Token<S>, by: u32, event: u32, tool: &mut S::Tool) -> S::Reply
         requires lock { seat.old.table_id ≡ self.now.table.shared.table_id }
-        requires state { (x : S) × (seat.old.me.1 ≡ (0, Some x) ∷ []) × IsAt S.setting S.journal S.room seat.old.me.0.setting seat.old.me.0.budget seat.old.me.0.seen x }
+        requires state { HoldsState S.setting S.journal S.room seat.old.me seat.old.me.0.seen }
         requires turn { length seat.old.me.0.seen < seat.old.me.0.budget }
         requires ready { Under seat.old.me.0.setting (λ c. S.ready c event tool.old) }
         ensures lock { seat.new.table_id ≡ seat.old.table_id }
         ensures view { seat.new.me.0 ≡ seat.old.me.0 }
-        ensures state { (x : S) × (seat.new.me.1 ≡ (0, Some x) ∷ []) × IsAt S.setting S.journal S.room seat.old.me.0.setting seat.old.me.0.budget (seat.old.me.0.seen ++ entry by event ∷ []) x }
+        ensures state { HoldsState S.setting S.journal S.room seat.new.me (seat.old.me.0.seen ++ entry by event ∷ []) }
         ensures answers { Under seat.old.me.0.setting (λ c. S.answers c seat.old.me.0.seen by event result tool.new) }
     {
         let Some(mut state) = self.table.shared.exchange(seat, 0, None) else {
@@ -159,7 +160,7 @@ impl<S: Stepper> Board<S> {
     fn pass(&self, seat: &mut Token<S>)
         requires lock { seat.old.table_id ≡ self.now.table.shared.table_id }
         requires served { IsLive seat.old.me.0.setting × ((t : ℕ) × (seat.old.me.0.stage ≡ Served t)) }
-        requires state { (x : S) × (seat.old.me.1 ≡ (0, Some x) ∷ []) × IsAt S.setting S.journal S.room seat.old.me.0.setting seat.old.me.0.budget (seat.old.me.0.seen ++ entry seat.old.me.0.number seat.old.me.0.event ∷ []) x }
+        requires state { HoldsState S.setting S.journal S.room seat.old.me (seat.old.me.0.seen ++ entry seat.old.me.0.number seat.old.me.0.event ∷ []) }
         ensures lock { seat.new.table_id ≡ seat.old.table_id }
         ensures view { seat.new.me ≡ (passed_on seat.old.me.0, []) }
     {
