@@ -83,6 +83,10 @@ pub record IsUnfinished (plan : List Number) (digits : List ℕ) : Type 0 where
 abbrev pub IsUnknown : List Number → List ℕ → Type 0
 IsUnknown plan digits = is_taken plan digits ≡ false
 
+-- the target of each number of the plan passes this test
+abbrev pub all_targets : (Target → Bool) → List Number → Bool
+all_targets test plan = list_all (λ n. test n.target) plan
+
 -- the plan has this number
 abbrev pub IsHeld : List Number → Number → Type 0
 IsHeld plan n = (k : ℕ) × (slice_get plan k ≡ Some n)

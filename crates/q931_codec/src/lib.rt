@@ -18,7 +18,7 @@ pub use bearer::BearerCapability;
 pub use contents::ChannelIdentification;
 pub use encoding::write;
 pub use kind::MessageKind;
-pub use laws::{one_message, written_fields_are_read};
+pub use laws::{law_of_causes, law_of_states, one_message, written_fields_are_read};
 pub use message::{Discard, Message, read};
 pub use numbers::{MOST_DIGITS, dialled};
 pub use outgoing::Outgoing;

@@ -238,6 +238,15 @@ fn writes(rt: HostRuntime) -> Result<(), Fail> {
     Ok(())
 }
 
+// Every element at its longest, in rising order of its identifier after Sending complete.
+const LONGEST: &[u8] = b"\x08\x02\xFF\xFF\x05\xA1\
+    \x04\x0A\x01\x01\x01\x01\x01\x01\x01\x01\x01\x01\
+    \x08\x02\x82\xFF\x14\x01\x3F\x18\x03\xA9\x83\x9F\x1E\x02\x82\x88\
+    \x6C\x16\x02\x02\x02\x02\x02\x02\x02\x02\x02\x02\x02\x02\x02\x02\x02\x02\x02\x02\x02\x02\x02\x02\
+    \x70\x15\x03\x03\x03\x03\x03\x03\x03\x03\x03\x03\x03\x03\x03\x03\x03\x03\x03\x03\x03\x03\x03\
+    \x79\x01\x87\x7C\x10\x04\x04\x04\x04\x04\x04\x04\x04\x04\x04\x04\x04\x04\x04\x04\x04\
+    \x7D\x03\x05\x05\x05";
+
 #[test]
 fn writes_the_longest(rt: HostRuntime) -> Result<(), Fail> {
     let octets = write(&Outgoing {
@@ -256,10 +265,116 @@ fn writes_the_longest(rt: HostRuntime) -> Result<(), Fail> {
         low: &[4; 16],
         high: &[5; 3],
     });
+    assert_eq!(rt; octets.as_slice(), LONGEST);
     assert_eq!(rt; octets.len(), 107);
-    let message = read(octets.as_slice())?;
-    assert_eq!(rt; message.restart_indicator(), Some(0x87));
-    let last = message.elements.last().map(|element| element.code);
-    assert_eq!(rt; last, Some(HIGH_LAYER_COMPATIBILITY));
+    assert_eq!(rt; read(LONGEST)?.restart_indicator(), Some(0x87));
     Ok(())
+}
+
+// The contents of bearer capabilities, and what each asks for.
+const BEARERS: [(&[u8], BearerCapability); 11] = [
+    (b"\x80\x90\xA3", BearerCapability::Carried),
+    (b"\x90\x90\xA3", BearerCapability::Carried),
+    (b"\x88\x90", BearerCapability::Carried),
+    (b"\x88\x90\0\0\0\0\0\0\0\0", BearerCapability::Carried),
+    // Restricted digital information, video, 2 x 64 kbit/s, packet mode.
+    (b"\x89\x90", BearerCapability::NotCarried),
+    (b"\x98\x90", BearerCapability::NotCarried),
+    (b"\x88\x91", BearerCapability::NotCarried),
+    (b"\x88\xC0", BearerCapability::NotCarried),
+    (b"", BearerCapability::Invalid),
+    (b"\x80", BearerCapability::Invalid),
+    (b"\x88\x90\0\0\0\0\0\0\0\0\0", BearerCapability::Invalid),
+];
+
+#[test]
+fn reads_bearers(rt: HostRuntime) {
+    for (contents, wanted) in BEARERS {
+        assert_eq!(rt; BearerCapability::of(contents), wanted, "at {contents:?}");
+    }
+}
+
+// Whether these contents of a called party number have these digits.
+fn has_digits(contents: &[u8], wanted: Option<&[u8]>) -> bool {
+    if contents.len() > 21 {
+        return false;
+    }
+    match (dialled(contents), wanted) {
+        (Some(digits), Some(wanted)) => digits.as_slice() == wanted,
+        (None, None) => true,
+        _ => false,
+    }
+}
+
+#[test]
+fn reads_digits(rt: HostRuntime) {
+    let rows: [(&[u8], Option<&[u8]>); 7] = [
+        (b"\x80101", Some(b"101")),
+        (b"\xC1\xB1\x30\xB9", Some(b"109")),
+        (b"\x80", Some(b"")),
+        (b"", Some(b"")),
+        (b"\x80*21", None),
+        (b"\x801\x3A", None),
+        (b"\x8001234567890123456789", Some(b"01234567890123456789")),
+    ];
+    for (contents, wanted) in rows {
+        assert!(rt; has_digits(contents, wanted), "at {contents:?}");
+    }
+}
+
+// What a SETUP asks for, as it is read from its elements.
+struct Asked {
+    octets: &'static [u8],
+    bearer: Option<&'static [u8]>,
+    called: Option<&'static [u8]>,
+    calling: &'static [u8],
+    low: &'static [u8],
+    high: &'static [u8],
+}
+
+const ASKED: [Asked; 3] = [
+    Asked {
+        octets: b"\x08\x02\x00\x01\x05\x7D\x02\x91\x81\x7C\x02\x88\x90\x70\x04\x80101\x6C\x04\x21\x83\x35\x35\x04\x03\x80\x90\xA3",
+        bearer: Some(b"\x80\x90\xA3"),
+        called: Some(b"\x80101"),
+        calling: b"\x21\x83\x35\x35",
+        low: b"\x88\x90",
+        high: b"\x91\x81",
+    },
+    // A bearer capability without contents, a called number without any, and too much of a high
+    // layer compatibility.
+    Asked {
+        octets: b"\x08\x02\x00\x01\x05\x04\x00\x70\x00\x7D\x04\x91\x81\x80\x80",
+        bearer: Some(b""),
+        called: None,
+        calling: b"",
+        low: b"",
+        high: b"",
+    },
+    Asked {
+        octets: b"\x08\x02\x00\x01\x05\x70\x16\x80012345678901234567890",
+        bearer: None,
+        called: None,
+        calling: b"",
+        low: b"",
+        high: b"",
+    },
+];
+
+fn is_asked(asked: &Asked) -> bool {
+    let Ok(message) = read(asked.octets) else {
+        return false;
+    };
+    message.bearer() == asked.bearer
+        && message.called_number() == asked.called
+        && message.calling_number() == asked.calling
+        && message.low_layer() == asked.low
+        && message.high_layer() == asked.high
+}
+
+#[test]
+fn reads_what_is_asked(rt: HostRuntime) {
+    for asked in &ASKED {
+        assert!(rt; is_asked(asked), "at {:?}", asked.octets);
+    }
 }
