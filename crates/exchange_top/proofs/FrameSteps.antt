@@ -1,9 +1,10 @@
 -- One event, and what the engine makes of it where it is a frame.
-use Rattle.std.proofs.Common.{◌≡◌, ℕ, ◌++◌, Bool, true, false, not, Option, Some, None, [], ◌∷◌, refl, sym, subst, inl, inr, if◌then◌else◌, ◌∙◌, ap}
+use Rattle.std.proofs.Common.{◌≡◌, ℕ, List, ◌++◌, Bool, true, false, not, Option, Some, None, [], ◌∷◌, refl, sym, subst, inl, inr, if◌then◌else◌, ◌∙◌, ap}
 use Rattle.circuit_model.specs.declared.channel.Slot.{Slot}
+use Rattle.circuit_model.specs.declared.circuit.Circuit.{Circuit}
 use Rattle.circuit_model.specs.Circuits.{is_idle}
 use Rattle.circuit_model.specs.FrameInput.{Input}
-use Rattle.circuit_model.specs.Ports.{given, port_of}
+use Rattle.circuit_model.specs.Ports.{Ports, given, port_of}
 use Rattle.circuit_model.proofs.Slots.{true_or_false}
 use Rattle.circuit_map.specs.Connections.{Connections, SameSizes}
 use Rattle.control_memory.specs.Image.{Control}
