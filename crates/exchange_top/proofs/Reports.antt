@@ -15,7 +15,7 @@ use Rattle.exchange_core.specs.declared.reply.Reply.{Reply}
 use Rattle.exchange_core.specs.declared.reply.Reply.TheVariants.{Granted, Busy, Seated, NoPort, Freed, NotNailed, Frame}
 use Rattle.exchange_core.specs.Orders.{file_order}
 use Rattle.exchange_core.specs.World.{Dimensions, World, start, next, reply, world, run, events_of, can_nail, can_seat, is_nailed}
-use Rattle.report_text.specs.Report.{sent, octet_of, report_line}
+use Rattle.report_text.specs.Report.{lines_sent, octet_of, report_line}
 use Rattle.report_text.proofs.Rows.{sent_same}
 use Rattle.frame_engine.specs.Frames.{PlaysOut}
 use Rattle.exchange_top.specs.Report.{Plays, dimensions, event_line, event_lines, report, world_of}
@@ -105,7 +105,7 @@ world_grows d w (e ∷ es) =
 -- ---- the octets of a frame
 
 -- what an engine has written out is what it plays
-pub sent_played : (lines : ℕ) (octet : Slot → ℕ) (out : List (List ℕ)) → PlaysOut lines octet out → sent (octet_of out) lines ≡ sent octet lines
+pub sent_played : (lines : ℕ) (octet : Slot → ℕ) (out : List (List ℕ)) → PlaysOut lines octet out → lines_sent (octet_of out) lines ≡ lines_sent octet lines
 sent_played lines octet out plays = sent_same (octet_of out) octet lines (λ line place below inside. plays (record { line = line; place = place }) below inside)
 
 -- what lines send matters to a frame's line alone

@@ -8,7 +8,7 @@ use Rattle.circuit_model.specs.Ports.{Ports}
 use Rattle.exchange_core.specs.declared.trace.Event.{Event}
 use Rattle.exchange_core.specs.declared.trace.Trace.{Trace}
 use Rattle.exchange_core.specs.World.{Dimensions, World, start, world, next, reply, events_of}
-use Rattle.report_text.specs.Report.{sent, report_line}
+use Rattle.report_text.specs.Report.{lines_sent, report_line}
 
 -- the dimensions of an exchange over a fabric of so many internal slots that a trace is run on
 abbrev pub dimensions : ℕ → Trace → Dimensions
@@ -32,7 +32,7 @@ engine_octet plays w f y = plays no_tones w.inputs w.held f y
 
 -- what each line sends in the frame that an event is, if it is one
 abbrev pub sent_at : Plays → Dimensions → World → Event → List (List ℕ)
-sent_at plays d w e = sent (engine_octet plays (next d w e) w.holding.next) d.external
+sent_at plays d w e = lines_sent (engine_octet plays (next d w e) w.holding.next) d.external
 
 -- the line of an event, and the lines of events that happen one after another
 abbrev pub event_line : Plays → Dimensions → World → ℕ → Event → List ℕ

@@ -7,7 +7,7 @@ use Rattle.exchange_core.specs.declared.reply.Reply.TheVariants.{Frame}
 use Rattle.exchange_core.specs.declared.trace.Event.{Event}
 use Rattle.exchange_core.specs.Standing.{StandsFor, IsMade, dimensions_of}
 use Rattle.exchange_core.specs.World.{Dimensions, World, next}
-use Rattle.report_text.specs.Report.{sent, octet_of}
+use Rattle.report_text.specs.Report.{lines_sent, octet_of}
 use Rattle.exchange_top.specs.Report.{Plays, Carrying, engine_octet, event_line}
 
 -- a map of paths that an exchange with so many lines can begin with: it has as many, 1 to 59 internal slots, and no path yet
@@ -29,7 +29,7 @@ Advances carries core engine core_after engine_after e = (w : World) → Works c
 
 -- where the answer to the event is that of a frame, the octets are what each line sends in it
 abbrev pub AreSent : Plays → Dimensions → World → Event → Reply → List (List ℕ) → Type 0
-AreSent plays d w e r octets = (f : ℕ) → r ≡ Frame f → sent (octet_of octets) d.external ≡ sent (engine_octet plays (next d w e) f) d.external
+AreSent plays d w e r octets = (f : ℕ) → r ≡ Frame f → lines_sent (octet_of octets) d.external ≡ lines_sent (engine_octet plays (next d w e) f) d.external
 
 -- the text grew by the line of the event in whichever world the exchange at work stood for
 abbrev pub AddsLine : {E : Type 0} → Plays → Carrying E → Connections → E → ℕ → Event → List ℕ → List ℕ → Type 0

@@ -2,7 +2,7 @@
 use Rattle.std.proofs.Common.{◌≡◌, ℕ, ◌+◌, ◌<◌, List, [], ◌∷◌, length, map, drop, slice_index, get_or, arith, ap, refl, sym, ◌∙◌}
 use Rattle.std.specs.List.{range_with_len}
 use Rattle.circuit_model.specs.declared.channel.Slot.{Slot}
-use Rattle.report_text.specs.Report.{line_octets, sent, octet_of}
+use Rattle.report_text.specs.Report.{line_octets, lines_sent, octet_of}
 use Rattle.std.proofs.lemmas.List.{drop_more}
 use Rattle.std.proofs.lemmas.List.FromFn.{fill_by_all, length-map-range_with_len, get_or-map-range_with_len}
 
@@ -17,11 +17,11 @@ unfolding line_octets
 row_of rows line = refl
 
 -- from one of the lines on, its own row comes first
-pub drop_sent : (octet : Slot → ℕ) (lines line : ℕ) → line < lines → drop line (sent octet lines) ≡ line_octets octet line ∷ drop (line + 1) (sent octet lines)
+pub drop_sent : (octet : Slot → ℕ) (lines line : ℕ) → line < lines → drop line (lines_sent octet lines) ≡ line_octets octet line ∷ drop (line + 1) (lines_sent octet lines)
 drop_sent octet lines line within =
-    let count : length (sent octet lines) ≡ lines = length-map-range_with_len (line_octets octet) 0 lines in
-    drop_more (sent octet lines) line [] (omega (arith, count, within))
-    ∙ ap (λ first. first ∷ drop (line + 1) (sent octet lines)) (get_or-map-range_with_len (line_octets octet) 0 lines line line [] within (omega arith))
+    let count : length (lines_sent octet lines) ≡ lines = length-map-range_with_len (line_octets octet) 0 lines in
+    drop_more (lines_sent octet lines) line [] (omega (arith, count, within))
+    ∙ ap (λ first. first ∷ drop (line + 1) (lines_sent octet lines)) (get_or-map-range_with_len (line_octets octet) 0 lines line line [] within (omega arith))
 
 -- what lines send depends on the octets of their slots alone
 pub line_octets_same : (f g : Slot → ℕ) (line : ℕ) → ((place : ℕ) → place < 30 → f (record { line = line; place = place }) ≡ g (record { line = line; place = place })) → line_octets f line ≡ line_octets g line
@@ -29,6 +29,6 @@ unfolding line_octets
 line_octets_same f g line same = fill_by_all (λ place. g (record { line = line; place = place })) (map (λ place. f (record { line = line; place = place })) (range_with_len 0 30)) 30 0 (length-map-range_with_len (λ place. f (record { line = line; place = place })) 0 30)
     (λ k within. get_or-map-range_with_len (λ place. f (record { line = line; place = place })) 0 30 k k 0 within (omega arith) ∙ same k within)
 
-pub sent_same : (f g : Slot → ℕ) (lines : ℕ) → ((line place : ℕ) → line < lines → place < 30 → f (record { line = line; place = place }) ≡ g (record { line = line; place = place })) → sent f lines ≡ sent g lines
-sent_same f g lines same = fill_by_all (line_octets g) (sent f lines) lines [] (length-map-range_with_len (line_octets f) 0 lines)
+pub sent_same : (f g : Slot → ℕ) (lines : ℕ) → ((line place : ℕ) → line < lines → place < 30 → f (record { line = line; place = place }) ≡ g (record { line = line; place = place })) → lines_sent f lines ≡ lines_sent g lines
+sent_same f g lines same = fill_by_all (line_octets g) (lines_sent f lines) lines [] (length-map-range_with_len (line_octets f) 0 lines)
     (λ k within. get_or-map-range_with_len (line_octets f) 0 lines k k [] within (omega arith) ∙ line_octets_same f g k (λ place. same k place within))

@@ -12,8 +12,8 @@ unfoldable pub line_octets : (Slot → ℕ) → ℕ → List ℕ
 line_octets octet line = map (λ place. octet (record { line = line; place = place })) (range_with_len 0 30)
 
 -- the octets that each of so many lines sends, given what each slot sends
-abbrev pub sent : (Slot → ℕ) → ℕ → List (List ℕ)
-sent octet lines = map (line_octets octet) (range_with_len 0 lines)
+abbrev pub lines_sent : (Slot → ℕ) → ℕ → List (List ℕ)
+lines_sent octet lines = map (line_octets octet) (range_with_len 0 lines)
 
 -- the octet at a slot of rows of octets, one for each line
 abbrev pub octet_of : List (List ℕ) → Slot → ℕ

@@ -3,7 +3,7 @@ ghost use Rattle.std.specs.List.{list_all};
 ghost use Rattle.hex.specs.Hex.{encode_upper, upper_digits};
 ghost use Rattle.circuit_model.specs.FrameInput.{idle_octet};
 ghost use Rattle.exchange_core.specs.declared.reply.Reply.TheVariants.{Granted, Busy, Seated, NoPort, Freed, NotNailed, Frame};
-ghost use Rattle.report_text.specs.Report.{line_octets, sent, octet_of, part, parts, report_line};
+ghost use Rattle.report_text.specs.Report.{line_octets, lines_sent, octet_of, part, parts, report_line};
 
 use circuit_model::IDLE;
 use exchange_core::Reply;
@@ -26,7 +26,7 @@ pub fn append_answer(
     reply: Reply,
     octets: &[[u8; 30]],
 ) -> Result<(), AllocError>
-    ensures line { OnOk result (out.new.items ≡ out.old.items ++ report_line (sent (octet_of octets.now) (length octets.now)) event reply) }
+    ensures line { OnOk result (out.new.items ≡ out.old.items ++ report_line (lines_sent (octet_of octets.now) (length octets.now)) event reply) }
     ensures kept { OnErr result (out.new.items ≡ out.old.items) }
 {
     let start = out.len();
@@ -44,7 +44,7 @@ fn put_answer(
     reply: Reply,
     octets: &[[u8; 30]],
 ) -> Result<(), AllocError>
-    ensures line { OnOk result (out.new.items ≡ out.old.items ++ report_line (sent (octet_of octets.now) (length octets.now)) event reply) }
+    ensures line { OnOk result (out.new.items ≡ out.old.items ++ report_line (lines_sent (octet_of octets.now) (length octets.now)) event reply) }
     ensures front { take (length out.old.items) out.new.items ≡ out.old.items }
 {
     match reply {
@@ -123,7 +123,7 @@ fn put_frame(
     number: u32,
     octets: &[[u8; 30]],
 ) -> Result<(), AllocError>
-    ensures line { OnOk result (out.new.items ≡ out.old.items ++ report_line (sent (octet_of octets.now) (length octets.now)) event (Frame number)) }
+    ensures line { OnOk result (out.new.items ≡ out.old.items ++ report_line (lines_sent (octet_of octets.now) (length octets.now)) event (Frame number)) }
     ensures front { take (length out.old.items) out.new.items ≡ out.old.items }
 {
     put_number(out, event)?;
@@ -135,7 +135,7 @@ fn put_frame(
 
 // What each line sends, where it isn't idle.
 fn put_parts(out: &mut Vec<u8>, octets: &[[u8; 30]]) -> Result<(), AllocError>
-    ensures parts { OnOk result (out.new.items ≡ out.old.items ++ parts 0 (sent (octet_of octets.now) (length octets.now))) }
+    ensures parts { OnOk result (out.new.items ≡ out.old.items ++ parts 0 (lines_sent (octet_of octets.now) (length octets.now))) }
     ensures front { take (length out.old.items) out.new.items ≡ out.old.items }
 {
     for (line, row) in octets.iter().enumerate() {

@@ -2,7 +2,7 @@ use Rattle.std.proofs.Common.{◌≡◌, ◌∙◌, ℕ, ◌+◌, ◌≤◌, ◌
 use Rattle.std.proofs.lemmas.List.{append_assoc, append-nil, drop_all}
 use Rattle.std.proofs.lemmas.List.FromFn.{length-map-range_with_len}
 use Rattle.std.proofs.Transfers.{starts_with_trans}
-use Rattle.report_text.specs.Report.{line_octets, sent, octet_of, part, parts}
+use Rattle.report_text.specs.Report.{line_octets, lines_sent, octet_of, part, parts}
 use Rattle.report_text.proofs.Rows.{drop_sent, row_of}
 use Rattle.report_text.proofs.report.put_parts.Goals as goal
 
@@ -11,7 +11,7 @@ loop-line-preserved c =
     let rows : List (List ℕ) = c.args.octets.now in
     let line : ℕ = c.loop-line.line in
     let before : List ℕ = c.loop-line.out.items in
-    let rest : List (List ℕ) = drop (line + 1) (sent (octet_of rows) (length rows)) in
+    let rest : List (List ℕ) = drop (line + 1) (lines_sent (octet_of rows) (length rows)) in
     let written : c.put_row.new.out.items ≡ before ++ part line (line_octets (λ at. slice_index (get_or rows line []) at.place) line) = c.in_ok-put_row.ensures.part in
     record {
       front = starts_with_trans _ _ _ c.put_row.ensures.front c.loop-line.invariant.front;
@@ -24,7 +24,7 @@ loop-line-preserved c =
 pub returns-clause-parts : goal.returns-clause-parts
 returns-clause-parts c =
     let rows : List (List ℕ) = c.args.octets.now in
-    let all : List (List ℕ) = sent (octet_of rows) (length rows) in
+    let all : List (List ℕ) = lines_sent (octet_of rows) (length rows) in
     let count : length all ≡ length rows = length-map-range_with_len (line_octets (octet_of rows)) 0 (length rows) in
     let over : length all ≤ c.loop-line.line = omega (arith, c.loop-line-test.false, count) in
     sym (append-nil c.loop-line.out.items)
