@@ -1,15 +1,8 @@
 //! Laws of calls, and worked calls.
-ghost use Rattle.std.specs.Prelude.{◌≡◌, ◌<◌, [], ℕ, List, Some, None};
-ghost use Rattle.circuit_model.specs.declared.channel.Slot.{Slot};
-ghost use Rattle.circuit_model.specs.Holding.{Valid};
+ghost use Rattle.std.specs.Prelude.{◌≡◌, [], ℕ, List, Some, None};
 ghost use Rattle.control_memory.specs.Layout.{Layout};
-ghost use Rattle.q931_codec.specs.declared.message.Message.{Message};
-ghost use Rattle.call_states.specs.Acts.{act_on};
-ghost use Rattle.call_states.specs.declared.act.Act.TheVariants as act;
-ghost use Rattle.call_states.specs.declared.leg.Peer.TheVariants as peer;
-ghost use Rattle.exchange_core.specs.Answered.{AreConnected};
-ghost use Rattle.exchange_core.specs.Calls.{For_leg, received, after_message, answer_to, refused_with};
-ghost use Rattle.exchange_core.specs.LegStanding.{LegsStand};
+ghost use Rattle.exchange_core.specs.Answered.{IsAnswered, GetsBothPaths, relaid};
+ghost use Rattle.exchange_core.specs.Calls.{after_message, answer_to, refused_with};
 ghost use Rattle.exchange_core.specs.declared.leg_table.Held.{Held};
 ghost use Rattle.exchange_core.specs.Setup.{Setting};
 ghost use Rattle.exchange_core.specs.World.{World};
@@ -37,14 +30,14 @@ pub fn law_of_refused_calls()
 /// What the fabric looks like decides nothing: with its paths laid in another way a message is answered
 /// by the same messages and records, and leaves the same circuits and legs.
 pub fn law_of_paths()
-    ensures sends { (s : Setting) (w : World) (layout : Layout) (line : ℕ) (octets : List ℕ) → (answer_to s (record w { layout = layout }) line octets).sends ≡ (answer_to s w line octets).sends }
-    ensures records { (s : Setting) (w : World) (layout : Layout) (line : ℕ) (octets : List ℕ) → (answer_to s (record w { layout = layout }) line octets).records ≡ (answer_to s w line octets).records }
-    ensures circuits { (s : Setting) (w : World) (layout : Layout) (line : ℕ) (octets : List ℕ) → (after_message s (record w { layout = layout }) line octets).holding ≡ (after_message s w line octets).holding }
-    ensures legs { (s : Setting) (w : World) (layout : Layout) (line : ℕ) (octets : List ℕ) → (after_message s (record w { layout = layout }) line octets).legs ≡ (after_message s w line octets).legs }
+    ensures sends { (s : Setting) (w : World) (layout : Layout) (line : ℕ) (octets : List ℕ) → (answer_to s (relaid w layout) line octets).sends ≡ (answer_to s w line octets).sends }
+    ensures records { (s : Setting) (w : World) (layout : Layout) (line : ℕ) (octets : List ℕ) → (answer_to s (relaid w layout) line octets).records ≡ (answer_to s w line octets).records }
+    ensures circuits { (s : Setting) (w : World) (layout : Layout) (line : ℕ) (octets : List ℕ) → (after_message s (relaid w layout) line octets).holding ≡ (after_message s w line octets).holding }
+    ensures legs { (s : Setting) (w : World) (layout : Layout) (line : ℕ) (octets : List ℕ) → (after_message s (relaid w layout) line octets).legs ≡ (after_message s w line octets).legs }
 {}
 
 /// A call that is answered always gets both paths: whatever else stands, its two slots are silent once
 /// the caller's is cleared, so that they can be connected, and then they are.
 pub fn law_of_answered_calls()
-    ensures { (s : Setting) (w : World) (line : ℕ) (octets : List ℕ) (h : Held) (m : Message) → Valid s.dimensions.bridges w.holding → LegsStand s.dimensions.external w → line < s.dimensions.external → received w.legs line octets ≡ For_leg h m → act_on h.leg.state m ≡ act.Answer → (y : Slot) × (h.leg.peer ≡ peer.Leg y) × AreConnected s.dimensions.bridges w (after_message s w line octets) y h.slot }
+    ensures { (s : Setting) (w : World) (line : ℕ) (octets : List ℕ) (h : Held) → IsAnswered s w line octets h → GetsBothPaths s w line octets h }
 {}

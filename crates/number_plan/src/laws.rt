@@ -17,6 +17,8 @@ pub fn law_of_order()
 /// What all targets of a plan pass, they pass with one that passes it too, and what is found passes it.
 pub fn law_of_targets()
     ensures kept { (test : Target → Bool) (plan : List Number) (n : Number) → all_targets test plan ≡ true → test n.target ≡ true → all_targets test (with_number plan n) ≡ true }
-    ensures line { (test : Target → Bool) (plan : List Number) (digits : List ℕ) (l : ℕ) → all_targets test plan ≡ true → found plan digits ≡ answer.Line l → test (target.Line l) ≡ true }
-    ensures room { (test : Target → Bool) (plan : List Number) (digits : List ℕ) (r : ℕ) → all_targets test plan ≡ true → found plan digits ≡ answer.Room r → test (target.Room r) ≡ true }
+    ensures line { (test : Target → Bool) (plan : List Number) (digits : List ℕ) (l : ℕ) → all_targets test plan ≡ true
+        → found plan digits ≡ answer.Line l → test (target.Line l) ≡ true }
+    ensures room { (test : Target → Bool) (plan : List Number) (digits : List ℕ) (r : ℕ) → all_targets test plan ≡ true
+        → found plan digits ≡ answer.Room r → test (target.Room r) ≡ true }
 {}

@@ -29,7 +29,8 @@ pub fn carry(
     ensures highway_size { SameSize highway.old highway.new }
     ensures crossed_size { SameSize crossed.old crossed.new }
     ensures lines { out.new.lines ≡ out.old.lines }
-    ensures octets { (layout : Layout) → Legal (lines_of image.now) image.now.slots layout → HasLayout image.now layout → EachSlot (lines_of image.now) (λ at. octet_of out.new.filled at ≡ carried layout (octet_of buffer.now.readable) at) }
+    ensures octets { (layout : Layout) → Legal (lines_of image.now) image.now.slots layout → HasLayout image.now layout
+        → EachSlot (lines_of image.now) (λ at. octet_of out.new.filled at ≡ carried layout (octet_of buffer.now.readable) at) }
     ensures readable { out.new.readable ≡ out.old.readable }
 {
     incoming(buffer, image, highway);
