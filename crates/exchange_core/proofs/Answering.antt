@@ -82,7 +82,7 @@ answers_among state (kind.Unknown octet) cause b e = absurd cc
 
 module _ (external : ℕ) (w : World) (x : Slot) (leg : Leg) (ringing_state : is_among ringing leg.state ≡ true) where
   -- it hears nothing
-  silent_by : (o : Option Circuit) → MayHear leg o → o ≡ None
+  pub silent_by : (o : Option Circuit) → MayHear leg o → o ≡ None
   silent_by None may = refl
   silent_by (Some (Tone k to since)) may = absurd (grind (arith, common_steps, ringing_state, may))
   silent_by (Some (Pair from to since)) may = absurd (grind (arith, common_steps, ringing_state, may.0))
@@ -93,14 +93,14 @@ module _ (external : ℕ) (w : World) (x : Slot) (leg : Leg) (ringing_state : is
   called_by Caller y other one = let matched = one.matched in absurd (grind (arith, common_steps, ringing_state, matched))
   called_by Called y other one = one
 
-  caller_of : (p : Peer) → HasPeer external w.legs x leg p → (y : Slot) × (p ≡ peer.Leg y) × IsExternal external y × ((other : Leg) × (leg_at w.legs y ≡ Some other) × AreOneCall y other x leg)
+  pub caller_of : (p : Peer) → HasPeer external w.legs x leg p → (y : Slot) × (p ≡ peer.Leg y) × IsExternal external y × ((other : Leg) × (leg_at w.legs y ≡ Some other) × AreOneCall y other x leg)
   caller_of peer.Alone has = absurd (grind (arith, common_steps, ringing_state, has))
   caller_of (peer.Leg y) has = (y, refl, has.0, (has.1.0, has.1.1, called_by leg.side y has.1.0 has.1.2))
   caller_of (peer.Room room) has = let is = has.1 in absurd (grind (arith, common_steps, ringing_state, is))
 
 -- ---- the two slots are silent once the caller's is cleared
 
-cleared_by : (circuits : List Circuit) (y : Slot) (o : Option Circuit) → heard_by circuits y ≡ o → unless_naming y o ≡ None
+pub cleared_by : (circuits : List Circuit) (y : Slot) (o : Option Circuit) → heard_by circuits y ≡ o → unless_naming y o ≡ None
 cleared_by circuits y None e = refl
 cleared_by circuits y (Some c) e = rw (listener_is_named y c (heard_by-stands circuits y c e).1) refl
 

@@ -6,3 +6,17 @@ pub mod Refusals
 pub mod Named
 pub mod Answering
 pub mod Looking
+pub mod Beside
+pub mod Written
+pub mod Clearing
+pub mod Cleared
+pub mod ClearedBoth
+pub mod Clears
+pub mod Progress
+pub mod Advancing
+pub mod ForLegs
+pub mod Vacant
+pub mod Commands
+pub mod NewCalls
+pub mod Setups
+pub mod Happened

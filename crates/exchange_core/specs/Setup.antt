@@ -1,19 +1,18 @@
 -- SETUP: the checks in their order, and what is chosen. Which check comes first, and what is chosen, is this exchange's own profile of ITU-T
 -- Q.931 (05/98), 5.1 and 5.2.
-use Rattle.std.specs.Prelude.{ℕ, ◌%◌, ◌&&◌, ◌||◌, ◌==◌, not, nat_le, Bool, true, false, List, [], ◌∷◌, ◌++◌, map, length, drop, Option, Some, None, is_none, option_map, option_and_then, unwrap_or, if◌then◌else◌}
+use Rattle.std.specs.Prelude.{ℕ, Bool, true, false, List, [], ◌∷◌, ◌++◌, Option, Some, None, is_none, option_map, option_and_then, unwrap_or, if◌then◌else◌}
 use Rattle.std.specs.Option.{option_or}
-use Rattle.std.specs.List.{list_all}
 use Rattle.circuit_model.specs.declared.channel.Slot.{Slot}
-use Rattle.circuit_model.specs.Channels.{between, place_of, channel_at}
-use Rattle.q931_elements.specs.InformationElement.{first_of}
-use Rattle.q931_codec.specs.declared.codes.TheConstants.{BEARER_CAPABILITY, CALLING_PARTY_NUMBER, CALLED_PARTY_NUMBER, LOW_LAYER_COMPATIBILITY, HIGH_LAYER_COMPATIBILITY}
+use Rattle.circuit_model.specs.Channels.{place_of, channel_at}
+use Rattle.q931_codec.specs.declared.bearer.BearerCapability.{BearerCapability}
+use Rattle.q931_codec.specs.declared.bearer.BearerCapability.TheVariants as bearer
 use Rattle.q931_codec.specs.declared.contents.ChannelIdentification.{ChannelIdentification}
 use Rattle.q931_codec.specs.declared.contents.ChannelIdentification.TheVariants.{Any, Preferred, Exclusive, Invalid}
 use Rattle.q931_codec.specs.declared.kind.MessageKind.TheVariants as kind
 use Rattle.q931_codec.specs.declared.message.Message.{Message}
 use Rattle.q931_codec.specs.CallStates.{outgoing_call_proceeding, call_present, active}
 use Rattle.q931_codec.specs.Causes.{unallocated_number, invalid_number_format, no_channel_available, switching_equipment_congestion, requested_channel_not_available, bearer_capability_not_implemented, mandatory_element_missing, invalid_element_contents}
-use Rattle.q931_codec.specs.Contents.{channel_in}
+use Rattle.q931_codec.specs.Contents.{channel_in, bearer_in, bearer_of, called_in, dialled, calling_in, low_layer_in, high_layer_in}
 use Rattle.q931_codec.specs.Outgoing.{OutgoingMessage, bare}
 use Rattle.call_states.specs.declared.leg.Leg.{Leg}
 use Rattle.call_states.specs.declared.leg.Peer.{Peer}
@@ -37,29 +36,16 @@ pub record Setting : Type 0 where
 
 -- ---- what is read of a SETUP
 
--- the contents of the first element of a kind, none where there is no such element
-abbrev pub contents_in : ℕ → Message → List ℕ
-contents_in code m = unwrap_or (first_of code m.elements) []
+-- what its bearer capability is, and the digits that it dials
+abbrev pub bearer_asked : Message → Option BearerCapability
+bearer_asked m = option_map bearer_of (bearer_in m.elements)
 
--- a circuit of 64 kbit/s (90) for speech (80), for audio of 3.1 kHz (90) or for unrestricted digital information (88) (4.5.5)
-abbrev pub is_circuit : List ℕ → Bool
-is_circuit (transfer ∷ mode ∷ rest) = ((transfer == 0x80) || (transfer == 0x90) || (transfer == 0x88)) && (mode == 0x90)
-is_circuit _ = false
+abbrev pub digits_in : Message → Option (List ℕ)
+digits_in m = option_and_then dialled (called_in m.elements)
 
--- the digits of a called party number: behind its first octet, the low seven bits of each (4.5.8)
-abbrev pub digits_of : List ℕ → List ℕ
-digits_of contents = map (λ octet. octet % 0x80) (drop 1 contents)
-
--- 0 to 9, as characters
-abbrev pub is_digit : ℕ → Bool
-is_digit digit = between 0x30 0x39 digit
-
-abbrev pub digits_in : Message → List ℕ
-digits_in m = digits_of (contents_in CALLED_PARTY_NUMBER m)
-
--- contents that are passed on to the called user, where they aren't too long
-abbrev pub passed_on : ℕ → ℕ → Message → List ℕ
-passed_on code most m = if nat_le (length (contents_in code m)) most then contents_in code m else []
+-- what the plan knows of them
+abbrev pub target_of : Setting → Message → Found
+target_of s m = found s.plan (unwrap_or (digits_in m) [])
 
 -- ---- what is chosen
 
@@ -96,15 +82,22 @@ is_invalid (Some Invalid) = true
 is_invalid _ = false
 
 -- what the elements say: a bearer that this exchange carries, a channel that can be read, and a number of digits
+abbrev pub is_unreadable : Option BearerCapability → Bool
+is_unreadable (Some bearer.Invalid) = true
+is_unreadable _ = false
+
+abbrev pub is_not_carried : Option BearerCapability → Bool
+is_not_carried (Some bearer.NotCarried) = true
+is_not_carried _ = false
+
 abbrev pub element_checks : Message → List Check
 element_checks m =
-    let bearer = contents_in BEARER_CAPABILITY m in
-    (is_none (first_of BEARER_CAPABILITY m.elements), mandatory_element_missing)
-    ∷ (not (between 2 10 (length bearer)), invalid_element_contents)
-    ∷ (not (is_circuit bearer), bearer_capability_not_implemented)
+    (is_none (bearer_in m.elements), mandatory_element_missing)
+    ∷ (is_unreadable (bearer_asked m), invalid_element_contents)
+    ∷ (is_not_carried (bearer_asked m), bearer_capability_not_implemented)
     ∷ (is_invalid (channel_in m.elements), invalid_element_contents)
-    ∷ (not (between 1 21 (length (contents_in CALLED_PARTY_NUMBER m))), invalid_number_format)
-    ∷ (not (list_all is_digit (digits_in m)), invalid_number_format)
+    ∷ (is_none (called_in m.elements), invalid_number_format)
+    ∷ (is_none (digits_in m), invalid_number_format)
     ∷ []
 
 abbrev pub is_unknown : Found → Bool
@@ -147,9 +140,6 @@ slot_checks d w line channel target =
     ∷ (is_room_full d w target, switching_equipment_congestion)
     ∷ []
 
-abbrev pub target_of : Setting → Message → Found
-target_of s m = found s.plan (digits_in m)
-
 -- the twelve checks in their order
 abbrev pub checks : Setting → World → ℕ → Message → List Check
 checks s w line m = element_checks m ++ number_checks (target_of s m) ++ slot_checks s.dimensions w line (channel_in m.elements) (target_of s m)
@@ -181,12 +171,12 @@ proceeding x leg = record (message_to leg kind.CallProceeding) { channel = Some 
 abbrev pub offer : Message → Slot → Leg → OutgoingMessage
 offer m y leg = record (message_to leg kind.Setup) {
   complete = true;
-  bearer = contents_in BEARER_CAPABILITY m;
+  bearer = unwrap_or (bearer_in m.elements) [];
   channel = Some (channel_at y.place);
-  calling = passed_on CALLING_PARTY_NUMBER 22 m;
-  called = contents_in CALLED_PARTY_NUMBER m;
-  low = passed_on LOW_LAYER_COMPATIBILITY 16 m;
-  high = passed_on HIGH_LAYER_COMPATIBILITY 3 m;
+  calling = calling_in m.elements;
+  called = unwrap_or (called_in m.elements) [];
+  low = low_layer_in m.elements;
+  high = high_layer_in m.elements;
 }
 
 -- a call to a line: the caller waits, and the called user is offered the call

@@ -1,11 +1,13 @@
 //! Laws of calls, and worked calls.
-ghost use Rattle.std.specs.Prelude.{◌≡◌, [], ℕ, List, Some, None};
+ghost use Rattle.std.specs.Prelude.{◌≡◌, [], ℕ, List, All, Some, None};
 ghost use Rattle.control_memory.specs.Layout.{Layout};
 ghost use Rattle.exchange_core.specs.Answered.{IsAnswered, GetsBothPaths, relaid};
 ghost use Rattle.exchange_core.specs.Calls.{after_message, answer_to, refused_with};
+ghost use Rattle.exchange_core.specs.Happenings.{Happening, following, world_after};
+ghost use Rattle.exchange_core.specs.LegStanding.{CallsStand, IsPlanned, CanHappen};
 ghost use Rattle.exchange_core.specs.declared.leg_table.Held.{Held};
 ghost use Rattle.exchange_core.specs.Setup.{Setting};
-ghost use Rattle.exchange_core.specs.World.{World};
+ghost use Rattle.exchange_core.specs.World.{World, start};
 ghost use Rattle.exchange_core.specs.WorkedCalls.{two_lines, one_line, answers, whole_call, whole_call_answered, refused_or_moved, refused_or_moved_answered, clear_collision, clear_collision_answered, lenient_reading, lenient_reading_answered, call_to_room, call_to_room_answered, no_port_answered, unexpected, unexpected_answered, line_full, line_full_answered};
 
 /// The definitions of what is done for messages, evaluated on small exchanges.
@@ -40,4 +42,12 @@ pub fn law_of_paths()
 /// the caller's is cleared, so that they can be connected, and then they are.
 pub fn law_of_answered_calls()
     ensures { (s : Setting) (w : World) (line : ℕ) (octets : List ℕ) (h : Held) → IsAnswered s w line octets h → GetsBothPaths s w line octets h }
+{}
+
+/// How legs stand is kept by every event: peers name each other, in states that go together, each slot
+/// hears by what its leg's state says, and call references name one leg. So it stands in every run.
+pub fn law_of_legs()
+    ensures begins { (s : Setting) → CallsStand s (start s.dimensions) }
+    ensures kept { (s : Setting) (w : World) (h : Happening) → IsPlanned s → CanHappen s.dimensions.external h → CallsStand s w → CallsStand s (following s w h) }
+    ensures always { (s : Setting) (hs : List Happening) → IsPlanned s → All (CanHappen s.dimensions.external) hs → CallsStand s (world_after s (start s.dimensions) hs) }
 {}

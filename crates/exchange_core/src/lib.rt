@@ -10,7 +10,9 @@ mod signal;
 mod step;
 mod trace;
 
-pub use call_laws::{law_of_answered_calls, law_of_paths, law_of_refused_calls, worked_calls};
+pub use call_laws::{
+    law_of_answered_calls, law_of_legs, law_of_paths, law_of_refused_calls, worked_calls,
+};
 pub use laws::{file_order_is_lawful, later_frames_change_nothing, worlds_are_made};
 pub use leg_table::{Held, LegTable};
 pub use record::{CallRecord, Party};

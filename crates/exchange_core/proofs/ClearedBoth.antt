@@ -1,0 +1,111 @@
+-- The legs stand after one leg of a call is released and the other is disconnected.
+use Rattle.std.proofs.Common.{◌≡◌, ℕ, ◌<◌, inl, inr, length, set, Option, Some, None, refl, sym, ◌∙◌, ap, subst, length-set}
+use Rattle.circuit_model.specs.declared.channel.Slot.{Slot}
+use Rattle.circuit_model.specs.Circuits.{heard_by}
+use Rattle.circuit_model.specs.Extent.{IsExternal}
+use Rattle.circuit_model.specs.Holding.{Holding, Clear, after, Valid}
+use Rattle.circuit_model.proofs.Validity.{valid-clear}
+use Rattle.control_memory.specs.Layout.{number_of}
+use Rattle.call_states.specs.declared.leg.Leg.{Leg}
+use Rattle.call_states.specs.declared.leg.Peer.TheVariants as peer
+use Rattle.exchange_core.specs.Acts.{disconnected}
+use Rattle.exchange_core.specs.LegStanding.{LegStands, LegsStand}
+use Rattle.exchange_core.specs.Legs.{leg_at}
+use Rattle.exchange_core.specs.World.{World}
+use Rattle.exchange_core.proofs.Beside.{entry_here, entry_else, same_or_apart, named_back, Beside, each_stands, SameReferences, still_one}
+use Rattle.exchange_core.proofs.Clearing.{IsStrange, clear_both_keeps}
+use Rattle.exchange_core.proofs.Cleared.{IsLeft, left_stands, left_reference, disconnected_stands, deaf_once, deaf_still}
+
+-- two legs that name each other, and no others
+pub record ArePeers (external : ℕ) (w : World) (x y : Slot) (leg other : Leg) : Type 0 where
+  pub in_x : IsExternal external x
+  pub in_y : IsExternal external y
+  pub apart : y ≡ x → ⊥
+  pub at_x : leg_at w.legs x ≡ Some leg
+  pub at_y : leg_at w.legs y ≡ Some other
+  pub there : leg.peer ≡ peer.Leg y
+  pub back : other.peer ≡ peer.Leg x
+
+-- a third leg names neither of them
+pub strange_both : (external : ℕ) (w : World) (x y : Slot) (leg other : Leg) → LegsStand external w → ArePeers external w x y leg other
+    → (z : Slot) (l : Leg) → IsExternal external z → leg_at w.legs z ≡ Some l → (z ≡ x → ⊥) → (z ≡ y → ⊥) → IsStrange l x × IsStrange l y
+strange_both external w x y leg other stand peers z l in_z at_z not_x not_y =
+    let has = (stand.each z l in_z at_z).peer in (
+      λ p is same.
+          let e : peer.Leg y ≡ peer.Leg z = sym peers.there ∙ named_back external w.legs z p l leg is has (ap (leg_at w.legs) same ∙ peers.at_x) in
+          let slots : y ≡ z = cc in
+          not_y (sym slots),
+      λ p is same.
+          let e : peer.Leg x ≡ peer.Leg z = sym peers.back ∙ named_back external w.legs z p l other is has (ap (leg_at w.legs) same ∙ peers.at_y) in
+          let slots : x ≡ z = cc in
+          not_x (sym slots),
+    )
+
+module _ (external bridges : ℕ) (w v : World) (x y : Slot) (leg other : Leg) (o : Option Leg) (cause : ℕ) (small : cause < 128) (valid : Valid bridges w.holding) (stand : LegsStand external w)
+    (peers : ArePeers external w x y leg other) (left : IsLeft leg o)
+    (legs : v.legs ≡ set (set w.legs (number_of x) o) (number_of y) (Some (disconnected cause other)))
+    (holding : v.holding ≡ after (after w.holding (Clear x)) (Clear y)) where
+  legs_both : (z : Slot) → IsExternal external z → (z ≡ x → ⊥) → (z ≡ y → ⊥) → leg_at v.legs z ≡ leg_at w.legs z
+  legs_both z in_z not_x not_y =
+      ap (λ ls. leg_at ls z) legs
+      ∙ entry_else external (set w.legs (number_of x) o) y z (Some (disconnected cause other)) peers.in_y in_z not_y
+      ∙ entry_else external w.legs x z o peers.in_x in_z not_x
+
+  here_x : leg_at v.legs x ≡ o
+  here_x =
+      ap (λ ls. leg_at ls x) legs
+      ∙ entry_else external (set w.legs (number_of x) o) y x (Some (disconnected cause other)) peers.in_y peers.in_x (λ e. peers.apart (sym e))
+      ∙ entry_here external w.legs x o stand.count peers.in_x
+
+  here_y : leg_at v.legs y ≡ Some (disconnected cause other)
+  here_y =
+      ap (λ ls. leg_at ls y) legs
+      ∙ entry_here external (set w.legs (number_of x) o) y (Some (disconnected cause other)) (length-set w.legs (number_of x) o ∙ stand.count) peers.in_y
+
+  beside_both : Beside external w v x y
+  beside_both = record {
+    legs = legs_both;
+    heard = λ z l in_z at_z not_x not_y.
+        let strange = strange_both external w x y leg other stand peers z l in_z at_z not_x not_y in
+        ap (λ (h : Holding). heard_by h.circuits z) holding
+        ∙ clear_both_keeps bridges w.holding l z x y valid (stand.each z l in_z at_z).hears not_x strange.0 not_y strange.1;
+    strange = λ z l p in_z at_z not_x not_y is.
+        let strange = strange_both external w x y leg other stand peers z l in_z at_z not_x not_y in
+        (strange.0 p is, strange.1 p is);
+  }
+
+  deaf_x : heard_by v.holding.circuits x ≡ None
+  deaf_x = ap (λ (h : Holding). heard_by h.circuits x) holding ∙ deaf_still bridges (after w.holding (Clear x)) x y (valid-clear bridges w.holding x valid) (deaf_once bridges w.holding x valid)
+
+  deaf_y : heard_by v.holding.circuits y ≡ None
+  deaf_y = ap (λ (h : Holding). heard_by h.circuits y) holding ∙ deaf_once bridges (after w.holding (Clear x)) y (valid-clear bridges w.holding x valid)
+
+  new_x : (l : Leg) → leg_at v.legs x ≡ Some l → LegStands external v x l
+  new_x l is = left_stands external w v x leg o left (stand.each x leg peers.in_x peers.at_x) deaf_x l (sym here_x ∙ is)
+
+  new_y : (l : Leg) → leg_at v.legs y ≡ Some l → LegStands external v y l
+  new_y l is =
+      let e : Some (disconnected cause other) ≡ Some l = sym here_y ∙ is in
+      let same : disconnected cause other ≡ l = cc in
+      subst (LegStands external v y) same (disconnected_stands external w v y other cause small (stand.each y other peers.in_y peers.at_y) deaf_y)
+
+  references_both : SameReferences external w v
+  references_both z b in_z at_z = elim (same_or_apart z x) [
+    | inl is_x ↦
+        let kept = left_reference leg o left b (sym here_x ∙ sym (ap (leg_at v.legs) is_x) ∙ at_z) in
+        (leg, ap (leg_at w.legs) is_x ∙ peers.at_x, kept.0, kept.1)
+    | inr not_x ↦ elim (same_or_apart z y) [
+      | inl is_y ↦
+          let e : Some (disconnected cause other) ≡ Some b = sym here_y ∙ sym (ap (leg_at v.legs) is_y) ∙ at_z in
+          let same : disconnected cause other ≡ b = cc in
+          (other, ap (leg_at w.legs) is_y ∙ peers.at_y, ap (λ (l : Leg). l.side) same, ap (λ (l : Leg). l.reference) same)
+      | inr not_y ↦ (b, sym (legs_both z in_z not_x not_y) ∙ at_z, refl, refl)
+    ]
+  ]
+
+  pub both_cleared : LegsStand external v
+  both_cleared = record {
+    count = ap length legs ∙ length-set (set w.legs (number_of x) o) (number_of y) (Some (disconnected cause other)) ∙ length-set w.legs (number_of x) o ∙ stand.count;
+    each = each_stands external w v x y beside_both stand new_x new_y;
+    one = still_one external w v references_both stand;
+  }
