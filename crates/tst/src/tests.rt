@@ -193,7 +193,11 @@ fn a_failing_read_or_write_ends_the_call(rt: HostRuntime) -> Result<(), Fail> {
         let source = MemSource::new(spelled(alloc, input)?, read_piece, [read].to_vec(alloc)?);
         let sink = MemSink::new(alloc, 1000, write_piece, [write].to_vec(alloc)?)?;
         let ended = called::<Engine>(alloc, &words, source, sink);
-        assert_eq!(rt; (ended.status, ended.read_faults, ended.write_faults), ends, "{word}");
+        assert_eq!(rt;
+            (ended.status, ended.read_faults, ended.write_faults),
+            ends,
+            "{word}"
+        );
         assert_eq!(rt; ended.sink.bytes(), written, "{word}");
     }
     Ok(())
