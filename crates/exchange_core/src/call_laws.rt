@@ -32,10 +32,14 @@ pub fn law_of_refused_calls()
 /// What the fabric looks like decides nothing: with its paths laid in another way a message is answered
 /// by the same messages and records, and leaves the same circuits and legs.
 pub fn law_of_paths()
-    ensures sends { (s : Setting) (w : World) (layout : Layout) (line : ℕ) (octets : List ℕ) → (answer_to s (relaid w layout) line octets).sends ≡ (answer_to s w line octets).sends }
-    ensures records { (s : Setting) (w : World) (layout : Layout) (line : ℕ) (octets : List ℕ) → (answer_to s (relaid w layout) line octets).records ≡ (answer_to s w line octets).records }
-    ensures circuits { (s : Setting) (w : World) (layout : Layout) (line : ℕ) (octets : List ℕ) → (after_message s (relaid w layout) line octets).holding ≡ (after_message s w line octets).holding }
-    ensures legs { (s : Setting) (w : World) (layout : Layout) (line : ℕ) (octets : List ℕ) → (after_message s (relaid w layout) line octets).legs ≡ (after_message s w line octets).legs }
+    ensures sends { (s : Setting) (w : World) (layout : Layout) (line : ℕ) (octets : List ℕ)
+        → (answer_to s (relaid w layout) line octets).sends ≡ (answer_to s w line octets).sends }
+    ensures records { (s : Setting) (w : World) (layout : Layout) (line : ℕ) (octets : List ℕ)
+        → (answer_to s (relaid w layout) line octets).records ≡ (answer_to s w line octets).records }
+    ensures circuits { (s : Setting) (w : World) (layout : Layout) (line : ℕ) (octets : List ℕ)
+        → (after_message s (relaid w layout) line octets).holding ≡ (after_message s w line octets).holding }
+    ensures legs { (s : Setting) (w : World) (layout : Layout) (line : ℕ) (octets : List ℕ)
+        → (after_message s (relaid w layout) line octets).legs ≡ (after_message s w line octets).legs }
 {}
 
 /// A call that is answered always gets both paths: whatever else stands, its two slots are silent once
