@@ -1,7 +1,8 @@
 -- The connections after a member is seated are those of the holding after it.
-use Rattle.std.proofs.Common.{◌≡◌, ℕ, suc, ◌+◌, ◌*◌, ◌<◌, ◌≤◌, ◌⊎◌, true, false, List, [], ◌∷◌, cond, ltb, get_or, length, Option, Some, None, refl, sym, ◌∙◌, ap, subst, inl, inr, arith, if◌then◌else◌}
+use Rattle.std.proofs.Common.{◌≡◌, ℕ, suc, ◌+◌, ◌*◌, ◌==◌, ◌<◌, ◌≤◌, ◌⊎◌, true, false, List, [], ◌∷◌, cond, ltb, get_or, length, Option, Some, None, refl, sym, ◌∙◌, ap, subst, inl, inr, arith, if◌then◌else◌}
 use Rattle.std.specs.Prelude.{◌↔◌, is_some, is_none, position, option_map}
 use Rattle.std.specs.List.{count_by, position_or_len}
+use Rattle.std.proofs.lemmas.Bool.{ne_eqb}
 use Rattle.std.proofs.lemmas.List.{length-map}
 use Rattle.std.proofs.lemmas.List.Quantifiers.{position-Some}
 use Rattle.std.proofs.lemmas.Grind.{common_steps}
@@ -143,6 +144,12 @@ full_where m h ports holds long none = let full = none_free m.ports none in let 
 
 pub not_full : (m : Connections) (h : Holding) (ports : Ports) (k : ℕ) → Represents m h ports → length m.ports ≡ 30 * m.bridges → position is_none m.ports ≡ Some k → count_by is_member h.circuits ≡ 30 * m.bridges → ⊥
 not_full m h ports k holds long free full = let left = one_free m.ports k free in let same = ap (count_by is_some) holds.members in let taken = holds.taken in omega (arith, left, same, taken, long, full)
+
+-- whether any port is free tells whether there are as many members as ports
+pub told_full : (m : Connections) (h : Holding) (ports : Ports) (o : Option ℕ) → Represents m h ports → length m.ports ≡ 30 * m.bridges → position is_none m.ports ≡ o
+    → is_none o ≡ (count_by is_member h.circuits == 30 * m.bridges)
+told_full m h ports None holds long none = let full = full_where m h ports holds long none in grind (arith, common_steps, full)
+told_full m h ports (Some k) holds long free = sym (ne_eqb _ _ (not_full m h ports k holds long free))
 
 -- ---- a free port is joined to nothing
 pub free_port_slot : (external bridges : ℕ) (ports : Ports) (p : Slot) (k : ℕ) → position is_none ports ≡ Some k → length ports ≡ 30 * bridges → p ≡ port_numbered external k → IsSlot (external + bridges) p × (external ≤ p.line)

@@ -1,4 +1,4 @@
-ghost use Rattle.std.specs.Prelude.{◌≡◌, ◌≢◌, ◌+◌, ◌*◌, ◌<◌, ◌≤◌, ◌↔◌, ℕ, None, Some, IfSome, true, IfOk, IsOk, IsErr, IsTrue, OnErr, OnOk, count_by, is_none};
+ghost use Rattle.std.specs.Prelude.{◌≡◌, ◌≢◌, ◌+◌, ◌*◌, ◌==◌, ◌<◌, ◌≤◌, ◌↔◌, ℕ, None, Some, IfSome, true, IfOk, IsOk, IsErr, IsTrue, OnErr, OnOk, count_by, is_none};
 ghost use Rattle.circuit_model.specs.declared.channel.Slot.{Slot};
 ghost use Rattle.circuit_model.specs.declared.circuit.Circuit.{Circuit};
 ghost use Rattle.circuit_model.specs.Circuits.{is_idle, is_member, heard_by, listener};
@@ -127,6 +127,13 @@ impl<P: PathMap> CircuitMap<P> {
         ensures stands { (h : Holding) (ports : Members) → Represents self.now h ports → result ≡ heard_by h.circuits at }
     {
         self.heard[at.number()]
+    }
+
+    /// Whether every conference port is taken: there are as many members as ports.
+    pub fn is_full(&self) -> bool
+        ensures { (h : Holding) (ports : Members) → Represents self.now h ports → result ≡ (count_by is_member h.circuits == 30 * self.now.bridges) }
+    {
+        self.ports.is_full()
     }
 
     /// Gives a tone to an idle slot.

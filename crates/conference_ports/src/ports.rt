@@ -68,6 +68,13 @@ impl Ports {
         Some(port_at(self.external, port))
     }
 
+    /// Whether every port is taken.
+    pub fn is_full(&self) -> bool
+        ensures { result ≡ is_none (position is_none self.now.owners) }
+    {
+        lowest_free(&self.owners).is_none()
+    }
+
     /// Takes the member's port back.
     pub fn give(&mut self, member: Slot)
         requires external { IsMember self.old member }

@@ -9,9 +9,10 @@ use Rattle.circuit_model.specs.Holding.{Holding, Connect, Seat as Take_seat, Cle
 use Rattle.circuit_model.proofs.Slots.{true_or_false}
 use Rattle.circuit_model.proofs.Validity.{valid-clear, valid-connect, valid-seat, valid-frame}
 use Rattle.call_states.specs.declared.leg.Leg.{Leg}
-use Rattle.exchange_core.specs.declared.trace.Event.{Event}
 use Rattle.exchange_core.specs.declared.trace.Event.TheVariants.{Nail, Seat, Free, Frame}
-use Rattle.exchange_core.specs.Happenings.{may_nail, may_seat, command_next}
+use Rattle.exchange_core.specs.Setup.{Setting}
+use Rattle.exchange_core.specs.Step.{may_nail, may_seat, next}
+use Rattle.circuit_model.specs.FrameInput.{Input}
 use Rattle.exchange_core.specs.IdleSlots.{idle, nailed}
 use Rattle.exchange_core.specs.LegStanding.{LegStands, LegsStand, HasPeer, MayHear}
 use Rattle.exchange_core.specs.Legs.{Legs, leg_at}
@@ -25,6 +26,10 @@ use Rattle.exchange_core.proofs.Clears.{Kept}
 pub both_true : (a b : Bool) → (a && b) ≡ true → (a ≡ true) × (b ≡ true)
 both_true true b e = (refl, e)
 both_true false b e = absurd cc
+
+pub not_true : (b : Bool) → not b ≡ true → b ≡ false
+not_true true e = absurd cc
+not_true false e = refl
 
 pub is_empty : (o : Option Leg) → is_none o ≡ true → o ≡ None
 is_empty None e = refl
@@ -97,24 +102,29 @@ module _ (d : Dimensions) (w : World) (valid : Valid d.bridges w.holding) (stand
             (strange_to_empty d.external w x stand none z l in_z at_z)),
       )
 
-  not_true : (b : Bool) → not b ≡ true → b ≡ false
-  not_true true e = absurd cc
-  not_true false e = refl
+module _ (s : Setting) (w : World) (valid : Valid s.dimensions.bridges w.holding) (stand : LegsStand s.dimensions.external w) where
+  pub nail_kept : (x y : Slot) → Fits s.dimensions.external (Nail x y) → Kept s.dimensions (next s w (Nail x y))
+  nail_kept x y fits = elim (true_or_false (may_nail w x y)) [
+    | inl may ↦ let both = both_true (idle w x) (idle w y) may in rw may (connected_kept s.dimensions w valid stand x y fits.distinct both.0 both.1)
+    | inr not_now ↦ rw not_now (valid, stand)
+  ]
 
-  pub command_kept : (e : Event) → Fits d.external e → Kept d (command_next d w e)
-  command_kept (Nail x y) fits = elim (true_or_false (may_nail w x y)) [
-    | inl may ↦ let both = both_true (idle w x) (idle w y) may in rw may (connected_kept x y fits.distinct both.0 both.1)
+  pub seat_kept : (x : Slot) (room : ℕ) → Fits s.dimensions.external (Seat x room) → Kept s.dimensions (next s w (Seat x room))
+  seat_kept x room fits = elim (true_or_false (may_seat s.dimensions w x)) [
+    | inl may ↦
+        let both = both_true (idle w x) (not (is_full s.dimensions w)) may in
+        rw may (seated_kept s.dimensions w valid stand x room both.0 (not_true (is_full s.dimensions w) both.1))
     | inr not_now ↦ rw not_now (valid, stand)
   ]
-  command_kept (Seat x room) fits = elim (true_or_false (may_seat d w x)) [
-    | inl may ↦ let both = both_true (idle w x) (not (is_full d w)) may in rw may (seated_kept x room both.0 (not_true (is_full d w) both.1))
+
+  pub free_kept : (x : Slot) → Fits s.dimensions.external (Free x) → Kept s.dimensions (next s w (Free x))
+  free_kept x fits = elim (true_or_false (nailed w x)) [
+    | inl may ↦ rw may (freed_kept s.dimensions w valid stand x may)
     | inr not_now ↦ rw not_now (valid, stand)
   ]
-  command_kept (Free x) fits = elim (true_or_false (nailed w x)) [
-    | inl may ↦ rw may (freed_kept x may)
-    | inr not_now ↦ rw not_now (valid, stand)
-  ]
-  command_kept (Frame input) fits = (
-    valid-frame d.bridges w.holding valid,
-    still_stand d.external w (command_next d w (Frame input)) refl stand (λ z l in_z at_z. refl),
+
+  pub frame_kept : (input : Input) → Kept s.dimensions (next s w (Frame input))
+  frame_kept input = (
+    valid-frame s.dimensions.bridges w.holding valid,
+    still_stand s.dimensions.external w (next s w (Frame input)) refl stand (λ z l in_z at_z. refl),
   )

@@ -10,15 +10,18 @@ use Rattle.circuit_model.proofs.Validity.{valid-empty}
 use Rattle.q931_codec.specs.Reading.{reading}
 use Rattle.q931_codec.proofs.Messages.{read_message}
 use Rattle.exchange_core.specs.Calls.{Received, For_leg, New_call, Unanswered, received, course_for, made_by}
-use Rattle.exchange_core.specs.Happenings.{Happening, Command, Message, following, world_after}
-use Rattle.exchange_core.specs.LegStanding.{LegsStand, IsPlanned, CanHappen, CallsStand}
+use Rattle.exchange_core.specs.declared.trace.Event.{Event}
+use Rattle.exchange_core.specs.declared.trace.Event.TheVariants.{Nail, Seat, Free, Message, Frame}
+use Rattle.exchange_core.specs.Sound.{Fits, IsPlanned}
+use Rattle.exchange_core.specs.Step.{next, world}
+use Rattle.exchange_core.specs.LegStanding.{LegsStand, CallsStand}
 use Rattle.control_memory.specs.Layout.{number_of}
 use Rattle.call_states.specs.declared.leg.Leg.{Leg}
 use Rattle.exchange_core.specs.Legs.{Legs, leg_at, no_legs}
 use Rattle.exchange_core.specs.Setup.{Setting}
 use Rattle.exchange_core.specs.World.{World, start}
 use Rattle.exchange_core.proofs.Clears.{Kept}
-use Rattle.exchange_core.proofs.Commands.{command_kept}
+use Rattle.exchange_core.proofs.Commands.{nail_kept, seat_kept, free_kept, frame_kept}
 use Rattle.exchange_core.proofs.ForLegs.{leg_kept}
 use Rattle.exchange_core.proofs.Named.{received_stands}
 use Rattle.exchange_core.proofs.Setups.{setup_kept, new_from}
@@ -29,7 +32,10 @@ octets_small octets all i = elim (cases_lt i (length octets)) [
   | inr beyond ↦ subst (λ n. n < 256) (sym (get_or-eq_default octets 0 beyond)) (omega arith)
 ]
 
-module _ (s : Setting) (w : World) (line : ℕ) (octets : List ℕ) (planned : IsPlanned s) (can : CanHappen s.dimensions.external (Message line octets)) (valid : Valid s.dimensions.bridges w.holding)
+kept_stands : (s : Setting) (v : World) → Kept s.dimensions v → CallsStand s v
+kept_stands s v kept = record { circuits = kept.0; legs = kept.1 }
+
+module _ (s : Setting) (w : World) (line : ℕ) (octets : List ℕ) (planned : IsPlanned s) (can : Fits s.dimensions.external (Message line octets)) (valid : Valid s.dimensions.bridges w.holding)
     (stand : LegsStand s.dimensions.external w) where
   received_kept : (r : Received) → received w.legs line octets ≡ r → Kept s.dimensions (made_by s w (course_for s w line r)).world
   received_kept (For_leg h m) is =
@@ -42,13 +48,13 @@ module _ (s : Setting) (w : World) (line : ℕ) (octets : List ℕ) (planned : I
       setup_kept s w line m (record { planned = planned; valid = valid; stand = stand; below = can.0; own = (new.1, message.value); unused = new.2 })
   received_kept Unanswered is = (valid, stand)
 
-pub happened_kept : (s : Setting) (w : World) (h : Happening) → IsPlanned s → CanHappen s.dimensions.external h → CallsStand s w → CallsStand s (following s w h)
-happened_kept s w (Command event) planned can stands =
-    let kept = command_kept s.dimensions w stands.circuits stands.legs event can in
-    record { circuits = kept.0; legs = kept.1 }
-happened_kept s w (Message line octets) planned can stands =
-    let kept = received_kept s w line octets planned can stands.circuits stands.legs (received w.legs line octets) refl in
-    record { circuits = kept.0; legs = kept.1 }
+pub happened_kept : (s : Setting) (w : World) (e : Event) → IsPlanned s → Fits s.dimensions.external e → CallsStand s w → CallsStand s (next s w e)
+happened_kept s w (Nail x y) planned fits stands = kept_stands s (next s w (Nail x y)) (nail_kept s w stands.circuits stands.legs x y fits)
+happened_kept s w (Seat x room) planned fits stands = kept_stands s (next s w (Seat x room)) (seat_kept s w stands.circuits stands.legs x room fits)
+happened_kept s w (Free x) planned fits stands = kept_stands s (next s w (Free x)) (free_kept s w stands.circuits stands.legs x fits)
+happened_kept s w (Message line octets) planned fits stands =
+    kept_stands s (next s w (Message line octets)) (received_kept s w line octets planned fits stands.circuits stands.legs (received w.legs line octets) refl)
+happened_kept s w (Frame input) planned fits stands = kept_stands s (next s w (Frame input)) (frame_kept s w stands.circuits stands.legs input)
 
 -- ---- whole runs
 
@@ -74,7 +80,7 @@ start_stands s = record {
   };
 }
 
-pub run_stands : (s : Setting) (w : World) (hs : List Happening) → IsPlanned s → All (CanHappen s.dimensions.external) hs → CallsStand s w → CallsStand s (world_after s w hs)
-run_stands s w [] planned can stands = stands
-run_stands s w (h ∷ hs) planned can stands =
-    run_stands s (following s w h) hs planned (λ k d inside. can (suc k) d (omega (arith, inside))) (happened_kept s w h planned (can 0 h (omega arith)) stands)
+pub run_stands : (s : Setting) (w : World) (es : List Event) → IsPlanned s → All (Fits s.dimensions.external) es → CallsStand s w → CallsStand s (world s w es)
+run_stands s w [] planned fits stands = stands
+run_stands s w (e ∷ es) planned fits stands =
+    run_stands s (next s w e) es planned (λ k d inside. fits (suc k) d (omega (arith, inside))) (happened_kept s w e planned (fits 0 e (omega arith)) stands)

@@ -1,6 +1,6 @@
 -- Every world comes of one list of allowed commands.
 use Rattle.std.proofs.Common.{◌≡◌, ℕ, ◌+◌, ◌*◌, ◌<◌, ◌&&◌, not, Bool, true, false, List, [], ◌∷◌, ◌++◌, refl, sym, ◌∙◌, ap, subst, inl, inr, arith, length-append}
-use Rattle.std.specs.Prelude.{All, count_by}
+use Rattle.std.specs.Prelude.{All, count_by, is_none}
 use Rattle.std.proofs.lemmas.Grind.{common_steps}
 use Rattle.std.proofs.lemmas.List.Elements.{All-nil, All-cons, All-head, All-tail, All-append, All-filter}
 use Rattle.circuit_model.specs.declared.circuit.Circuit.{Circuit}
@@ -14,10 +14,22 @@ use Rattle.circuit_model.proofs.Recorded.{after_all-append, frames-boundary, fra
 use Rattle.circuit_model.proofs.Slots.{true_or_false}
 use Rattle.circuit_model.proofs.Validity.{valid-empty}
 use Rattle.exchange_core.specs.declared.trace.Event.{Event}
-use Rattle.exchange_core.specs.declared.trace.Event.TheVariants.{Nail, Seat as Seat_event, Free, Frame as Frame_event}
-use Rattle.exchange_core.specs.Sound.{Fits}
+use Rattle.exchange_core.specs.declared.trace.Event.TheVariants.{Nail, Seat as Seat_event, Free, Message, Frame as Frame_event}
+use Rattle.exchange_core.specs.Calls.{course}
+use Rattle.exchange_core.specs.IdleSlots.{idle, nailed}
+use Rattle.exchange_core.specs.LegStanding.{CallsStand}
+use Rattle.exchange_core.specs.Legs.{Legs, leg_at, with_leg, without_leg}
+use Rattle.exchange_core.specs.Operations.{Operation, Making, begun, performed, performed_all}
+use Rattle.exchange_core.specs.Operations as op
+use Rattle.exchange_core.specs.Permitted.{CanPair, CanSeat, IsPermitted, ArePermitted}
+use Rattle.exchange_core.specs.Setup.{Setting}
+use Rattle.exchange_core.specs.Sound.{Fits, IsPlanned}
 use Rattle.exchange_core.specs.Standing.{IsMade, is_tone, ports_after_all}
-use Rattle.exchange_core.specs.World.{Dimensions, World, start, obey, pass, next, world, can_nail, can_seat, is_full, is_nailed}
+use Rattle.exchange_core.specs.Step.{may_nail, may_seat, next, world}
+use Rattle.exchange_core.specs.World.{Dimensions, World, start, obey, pass, is_full}
+use Rattle.exchange_core.proofs.Commands.{both_true}
+use Rattle.exchange_core.proofs.Happened.{start_stands, happened_kept}
+use Rattle.exchange_core.proofs.Permits.{course_permitted}
 
 ports_after_all-append : (ports : Ports) (cs ds : List Command) → ports_after_all ports (cs ++ ds) ≡ ports_after_all (ports_after_all ports cs) ds
 ports_after_all-append ports [] ds = refl
@@ -82,11 +94,6 @@ module _ (d : Dimensions) (w : World) (made : IsMade d w) where
   pub made_valid : Valid d.bridges w.holding
   made_valid = subst (Valid d.bridges) (sym made.circuits) (valid-after_all d.bridges empty made.commands (valid-empty d.bridges) made.allowed)
 
-both : (a b : Bool) → (a && b) ≡ true → (a ≡ true) × (b ≡ true)
-both true true e = (refl, refl)
-both true false e = absurd cc
-both false b e = absurd cc
-
 -- a seat that is allowed finds fewer members than ports
 room_left : (d : Dimensions) (w : World) → Valid d.bridges w.holding → not (is_full d w) ≡ true → count_by is_member w.holding.circuits < 30 * d.bridges
 room_left d w valid free = grind (arith, common_steps, valid.seated, free)
@@ -100,31 +107,82 @@ one_more circuits c all one = All-append toneless circuits (c ∷ []) all (All-c
 two_more : (circuits : List Circuit) (b c : Circuit) → All toneless circuits → toneless b → toneless c → All toneless (circuits ++ b ∷ c ∷ [])
 two_more circuits b c all one two = All-append toneless circuits (b ∷ c ∷ []) all (All-cons toneless b (c ∷ []) one (All-cons toneless c [] two (All-nil toneless)))
 
-pub made_next : (d : Dimensions) (w : World) (e : Event) → Fits d.external e → IsMade d w → IsMade d (next d w e)
-made_next d w (Nail x y) fits made = elim (true_or_false (can_nail w x y)) [
-  | inl can ↦
-      let idle = both (is_idle w.holding.circuits x) (is_idle w.holding.circuits y) can in
-      rw can (made_obey d w made (Connect x y) (λ e. absurd cc) refl (fits.first, fits.second) (fits.distinct, idle.0, idle.1) (two_more w.holding.circuits (Pair x y w.holding.next) (Pair y x w.holding.next) made.toneless refl refl))
-  | inr not_can ↦ rw not_can made
+-- ---- a world in which a slot was cleared, two were connected, or one was seated
+
+module _ (d : Dimensions) (w : World) (made : IsMade d w) where
+  made_clear : (x : Slot) → IsMade d (obey d w (Clear x))
+  made_clear x = made_obey d w made (Clear x) (λ e. absurd cc) refl tt tt (All-filter (λ c. not (names x c)) toneless w.holding.circuits made.toneless)
+
+  made_pair : (x y : Slot) → CanPair d w x y → IsMade d (obey d w (Connect x y))
+  made_pair x y can =
+      made_obey d w made (Connect x y) (λ e. absurd cc) refl (can.first, can.second) (can.apart, can.idle_first, can.idle_second)
+      (two_more w.holding.circuits (Pair x y w.holding.next) (Pair y x w.holding.next) made.toneless refl refl)
+
+  made_seat : (x : Slot) (room : ℕ) → CanSeat d w x → IsMade d (obey d w (Seat x room))
+  made_seat x room can =
+      made_obey d w made (Seat x room) (λ e. absurd cc) refl can.within (can.idle, can.free) (one_more w.holding.circuits (Member room x w.holding.next) made.toneless refl)
+
+  made_legs : (legs : Legs) → IsMade d (record w { legs = legs })
+  made_legs legs = record {
+    commands = made.commands;
+    within = made.within;
+    allowed = made.allowed;
+    circuits = made.circuits;
+    ports = made.ports;
+    held = made.held;
+    seated = made.seated;
+    toneless = made.toneless;
+    arrived = made.arrived;
+  }
+
+-- ---- a world after operations that were permitted
+
+made_performed : (d : Dimensions) (m : Making) (o : Operation) → IsPermitted d m o → IsMade d m.world → IsMade d (performed d m o).world
+made_performed d m (op.Clear x) may made = made_clear d m.world made x
+made_performed d m (op.Pair x y) may made = made_pair d m.world made x y may
+made_performed d m (op.Seat x room) may made = made_seat d m.world made x room may
+made_performed d m (op.Put x leg) may made = made_legs d m.world made (with_leg m.world.legs x leg)
+made_performed d m (op.Remove x) may made = made_legs d m.world made (without_leg m.world.legs x)
+made_performed d m (op.Send line message) may made = made
+
+made_performed_all : (d : Dimensions) (m : Making) (os : List Operation) → ArePermitted d m os → IsMade d m.world → IsMade d (performed_all d m os).world
+made_performed_all d m [] may made = made
+made_performed_all d m (o ∷ os) may made = made_performed_all d (performed d m o) os may.1 (made_performed d m o may.0 made)
+
+-- ---- a world after an event
+
+pub made_next : (s : Setting) (w : World) (e : Event) → IsPlanned s → Fits s.dimensions.external e → CallsStand s w → IsMade s.dimensions w → IsMade s.dimensions (next s w e)
+made_next s w (Nail x y) planned fits stands made = elim (true_or_false (may_nail w x y)) [
+  | inl may ↦
+      let both = both_true (idle w x) (idle w y) may in
+      let at_x = both_true (is_idle w.holding.circuits x) (is_none (leg_at w.legs x)) both.0 in
+      let at_y = both_true (is_idle w.holding.circuits y) (is_none (leg_at w.legs y)) both.1 in
+      rw may (made_pair s.dimensions w made x y (record { first = fits.first; second = fits.second; apart = fits.distinct; idle_first = at_x.0; idle_second = at_y.0 }))
+  | inr not_now ↦ rw not_now made
 ]
-made_next d w (Seat_event x room) fits made = elim (true_or_false (can_seat d w x)) [
-  | inl can ↦
-      let free = both (is_idle w.holding.circuits x) (not (is_full d w)) can in
-      rw can (made_obey d w made (Seat x room) (λ e. absurd cc) refl fits (free.0, room_left d w (made_valid d w made) free.1) (one_more w.holding.circuits (Member room x w.holding.next) made.toneless refl))
-  | inr not_can ↦ rw not_can made
+made_next s w (Seat_event x room) planned fits stands made = elim (true_or_false (may_seat s.dimensions w x)) [
+  | inl may ↦
+      let both = both_true (idle w x) (not (is_full s.dimensions w)) may in
+      let at_x = both_true (is_idle w.holding.circuits x) (is_none (leg_at w.legs x)) both.0 in
+      rw may (made_seat s.dimensions w made x room (record { within = fits; idle = at_x.0; free = room_left s.dimensions w stands.circuits both.1 }))
+  | inr not_now ↦ rw not_now made
 ]
-made_next d w (Free x) fits made = elim (true_or_false (is_nailed w x)) [
-  | inl nailed ↦ rw nailed (made_obey d w made (Clear x) (λ e. absurd cc) refl tt tt (All-filter (λ c. not (names x c)) toneless w.holding.circuits made.toneless))
-  | inr idle ↦ rw idle made
+made_next s w (Free x) planned fits stands made = elim (true_or_false (nailed w x)) [
+  | inl may ↦ rw may (made_clear s.dimensions w made x)
+  | inr not_now ↦ rw not_now made
 ]
-made_next d w (Frame_event input) fits made = made_pass d w made input
+made_next s w (Message line octets) planned fits stands made =
+    made_performed_all s.dimensions (begun w) (course s w line octets).operations (course_permitted s w line octets planned fits stands) made
+made_next s w (Frame_event input) planned fits stands made = made_pass s.dimensions w made input
 
 pub made_start : (d : Dimensions) → IsMade d (start d)
 made_start d = record { commands = []; within = tt; allowed = tt; circuits = refl; ports = refl; held = refl; seated = refl; toneless = All-nil toneless; arrived = refl }
 
-made_world : (d : Dimensions) (w : World) (es : List Event) → All (Fits d.external) es → IsMade d w → IsMade d (world d w es)
-made_world d w [] fits made = made
-made_world d w (e ∷ es) fits made = made_world d (next d w e) es (All-tail (Fits d.external) e es fits) (made_next d w e (All-head (Fits d.external) e es fits) made)
+made_world : (s : Setting) (w : World) (es : List Event) → IsPlanned s → All (Fits s.dimensions.external) es → CallsStand s w → IsMade s.dimensions w → IsMade s.dimensions (world s w es)
+made_world s w [] planned fits stands made = made
+made_world s w (e ∷ es) planned fits stands made =
+    let fit = All-head (Fits s.dimensions.external) e es fits in
+    made_world s (next s w e) es planned (All-tail (Fits s.dimensions.external) e es fits) (happened_kept s w e planned fit stands) (made_next s w e planned fit stands made)
 
-pub made : (d : Dimensions) (es : List Event) → All (Fits d.external) es → IsMade d (world d (start d) es)
-made d es fits = made_world d (start d) es fits (made_start d)
+pub made : (s : Setting) (es : List Event) → IsPlanned s → All (Fits s.dimensions.external) es → IsMade s.dimensions (world s (start s.dimensions) es)
+made s es planned fits = made_world s (start s.dimensions) es planned fits (start_stands s) (made_start s.dimensions)

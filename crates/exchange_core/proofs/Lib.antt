@@ -1,6 +1,5 @@
 pub mod FileOrder
 pub mod Steps
-pub mod Histories
 pub mod EarlierFrames
 pub mod Refusals
 pub mod Named
@@ -20,3 +19,5 @@ pub mod Commands
 pub mod NewCalls
 pub mod Setups
 pub mod Happened
+pub mod Permits
+pub mod Histories

@@ -23,7 +23,8 @@ use Rattle.number_plan.proofs.Meanings.{found_passes}
 use Rattle.exchange_core.specs.declared.leg_table.Held.{Held}
 use Rattle.exchange_core.specs.Calls.{New_call, Unanswered, made_by, received_from, with_leg_named, without_leg as unnamed}
 use Rattle.exchange_core.specs.IdleSlots.{idle, lowest_idle, lowest_idle_beside}
-use Rattle.exchange_core.specs.LegStanding.{LegsStand, IsPlanned, is_reached}
+use Rattle.exchange_core.specs.LegStanding.{LegsStand}
+use Rattle.exchange_core.specs.Sound.{IsPlanned, is_reached}
 use Rattle.exchange_core.specs.Legs.{Legs, leg_named, new_reference}
 use Rattle.exchange_core.specs.Operations.{begun, performed_all}
 use Rattle.exchange_core.specs.Setup.{Setting, Check, checks, is_room_full, first_cause, refusal, setup, accept, call, slot_asked, if_idle, caller_slot, called_slot, target_of, course_of_setup}

@@ -1,5 +1,5 @@
 -- How the legs of a world stand. Source: this exchange's own; the states are those of ITU-T Q.931 (05/98), 2.1.2.
-use Rattle.std.specs.Prelude.{◌≡◌, ◌≢◌, ℕ, ◌*◌, ◌^◌, ◌<◌, ◌≤◌, ◌&&◌, ◌||◌, ◌==◌, Bool, true, nat_lt, IsTrue, All, List, [], ◌∷◌, length, Option, Some, None}
+use Rattle.std.specs.Prelude.{◌≡◌, ◌≢◌, ℕ, ◌*◌, ◌^◌, ◌<◌, ◌≤◌, ◌&&◌, ◌||◌, ◌==◌, Bool, true, IsTrue, List, [], ◌∷◌, length, Option, Some, None}
 use Rattle.circuit_model.specs.declared.channel.Slot.{Slot}
 use Rattle.circuit_model.specs.declared.circuit.Circuit.{Circuit}
 use Rattle.circuit_model.specs.declared.circuit.Circuit.TheVariants.{Pair, Member, Tone}
@@ -13,13 +13,8 @@ use Rattle.call_states.specs.declared.leg.Peer.{Peer}
 use Rattle.call_states.specs.declared.leg.Peer.TheVariants as peer
 use Rattle.call_states.specs.declared.leg.Side.{Side}
 use Rattle.call_states.specs.declared.leg.Side.TheVariants.{Caller, Called}
-use Rattle.number_plan.specs.declared.target.Target.{Target}
-use Rattle.number_plan.specs.declared.target.Target.TheVariants as target
-use Rattle.number_plan.specs.Plan.{all_targets}
-use Rattle.exchange_core.specs.Happenings.{Happening, Command, Message}
 use Rattle.exchange_core.specs.Legs.{Legs, leg_at}
 use Rattle.exchange_core.specs.Setup.{Setting}
-use Rattle.exchange_core.specs.Sound.{Fits}
 use Rattle.exchange_core.specs.World.{World}
 
 -- the states of a caller's leg and of its called leg
@@ -72,22 +67,6 @@ pub record LegsStand (external : ℕ) (w : World) : Type 0 where
   pub each : (x : Slot) (leg : Leg) → IsExternal external x → leg_at w.legs x ≡ Some leg → LegStands external w x leg
   pub one : (x y : Slot) (a b : Leg) → IsExternal external x → IsExternal external y → leg_at w.legs x ≡ Some a → leg_at w.legs y ≡ Some b
       → x.line ≡ y.line → a.side ≡ b.side → a.reference ≡ b.reference → x ≡ y
-
--- ---- what is asked of the setting and of the events
-
--- a number's line is one of so many
-abbrev pub is_reached : ℕ → Target → Bool
-is_reached external (target.Line line) = nat_lt line external
-is_reached external (target.Room room) = true
-
--- the lines that the numbers of the plan stand for exist
-abbrev pub IsPlanned : Setting → Type 0
-IsPlanned s = IsTrue (all_targets (is_reached s.dimensions.external) s.plan)
-
--- an event that the exchange can meet: one of its lines, and octets
-abbrev pub CanHappen : ℕ → Happening → Type 0
-CanHappen external (Command event) = Fits external event
-CanHappen external (Message line octets) = (line < external) × All (λ octet. octet < 256) octets
 
 -- each slot stands in one way, and the legs stand
 pub record CallsStand (s : Setting) (w : World) : Type 0 where

@@ -1,3 +1,4 @@
+pub mod Limits
 pub mod Legs
 pub mod Sound
 pub mod Orders
@@ -5,11 +6,12 @@ pub mod World
 pub mod IdleSlots
 pub mod Standing
 pub mod Operations
+pub mod Permitted
 pub mod Course
 pub mod Acts
 pub mod Setup
 pub mod Calls
 pub mod LegStanding
-pub mod Happenings
+pub mod Step
 pub mod WorkedCalls
 pub mod Answered

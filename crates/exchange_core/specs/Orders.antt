@@ -2,7 +2,7 @@
 use Rattle.std.specs.Prelude.{◌≡◌, ◌≢◌, ℕ, ◌-◌, ◌%◌, ◌<◌, ◌≤◌, ◌⊎◌, List, length, take, nat_lt, count_by, slice_get, slice_index, All, AllPairs, Contains, EachIndex, Some}
 use Rattle.std.specs.List.{range_with_len}
 use Rattle.exchange_core.specs.declared.trace.Event.{Event}
-use Rattle.exchange_core.specs.declared.trace.Event.TheVariants.{Nail, Seat, Free, Frame}
+use Rattle.exchange_core.specs.declared.trace.Event.TheVariants.{Nail, Seat, Free, Message, Frame}
 use Rattle.exchange_core.specs.declared.trace.Trace.{Trace}
 
 -- who does an event: one of the call processors, or the frame worker
@@ -10,11 +10,13 @@ pub data Worker : Type 0 where
   Processor : ℕ → Worker
   Frame_worker : Worker
 
--- the call processors share the lines in turn; a nail belongs to the line of its first slot, a seat and a free to that of their slot
+-- the call processors share the lines in turn; a nail belongs to the line of its first slot, a seat and a free to that of their slot, a message
+-- to that of its user
 abbrev pub worker_of : ℕ → Event → Worker
 worker_of processors (Nail x y) = Processor (x.line % processors)
 worker_of processors (Seat x room) = Processor (x.line % processors)
 worker_of processors (Free x) = Processor (x.line % processors)
+worker_of processors (Message line octets) = Processor (line % processors)
 worker_of processors (Frame input) = Frame_worker
 
 -- the segment of event number n, counted from 0: how many segments end before it

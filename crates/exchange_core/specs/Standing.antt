@@ -1,11 +1,14 @@
 -- What the map of circuits stands for, and how a world comes about. Source: this exchange's own.
-use Rattle.std.specs.Prelude.{◌≡◌, Bool, true, false, List, [], ◌∷◌, length, All}
+use Rattle.std.specs.Prelude.{◌≡◌, ℕ, Bool, true, false, List, [], ◌∷◌, length, All, Option}
 use Rattle.circuit_model.specs.declared.circuit.Circuit.{Circuit}
 use Rattle.circuit_model.specs.declared.circuit.Circuit.TheVariants.{Pair, Member, Tone}
 use Rattle.circuit_model.specs.Holding.{Command, empty, after_all, frames, AreAllowed}
 use Rattle.circuit_model.specs.Ports.{Ports, free_ports, ports_after, port_frames}
 use Rattle.circuit_model.specs.Extent.{AreWithin}
 use Rattle.circuit_map.specs.Connections.{Connections, Represents}
+use Rattle.exchange_core.specs.declared.signal.Signal.{Signal}
+use Rattle.exchange_core.specs.Legs.{Legs}
+use Rattle.exchange_core.specs.Operations.{Making}
 use Rattle.exchange_core.specs.World.{Dimensions, World}
 
 -- the dimensions of a map of circuits
@@ -16,6 +19,18 @@ dimensions_of m = record { external = m.external; bridges = m.bridges; slots = m
 pub record StandsFor (m : Connections) (w : World) : Type 0 where
   pub holds : Represents m w.holding w.ports
   pub layout : m.layout ≡ w.layout
+
+-- a map and legs of an exchange of this size are those of the world
+pub record Holds (d : Dimensions) (map : Connections) (legs : Legs) (w : World) : Type 0 where
+  pub sizes : dimensions_of map ≡ d
+  pub circuits : StandsFor map w
+  pub legs_are : legs ≡ w.legs
+
+-- they are those of a world in the making, and this was sent and moved so far
+pub record Makes (d : Dimensions) (map : Connections) (legs : Legs) (sends : List Signal) (moved : Option (ℕ × ℕ)) (m : Making) : Type 0 where
+  pub holds : Holds d map legs m.world
+  pub sent : sends ≡ m.sends
+  pub moves : moved ≡ m.moves
 
 -- what a list of commands makes of the ports
 abbrev pub ports_after_all : Ports → List Command → Ports

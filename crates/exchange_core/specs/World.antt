@@ -1,20 +1,17 @@
--- The exchange as a machine: what stands, what each event makes of that, and what it is answered. Source: this exchange's own; the paths
--- join the layout by Paull's rule.
-use Rattle.std.specs.Prelude.{ℕ, ◌+◌, ◌-◌, ◌*◌, ◌&&◌, ◌==◌, ◌≤◌, not, Bool, true, false, List, [], ◌∷◌, ◌++◌, filter_map, slice_get, count_by, replicate, Option, Some, None, if◌then◌else◌}
+-- What the exchange holds, and what commands make of it. Source: this exchange's own; the paths join the layout by Paull's rule.
+use Rattle.std.specs.Prelude.{ℕ, ◌+◌, ◌*◌, ◌==◌, Bool, List, [], ◌∷◌, ◌++◌, count_by, replicate, Option, Some, None}
 use Rattle.circuit_model.specs.declared.channel.Slot.{Slot}
 use Rattle.circuit_model.specs.declared.circuit.Circuit.{Circuit}
 use Rattle.circuit_model.specs.FrameInput.{Input}
-use Rattle.circuit_model.specs.Circuits.{is_idle, is_member, heard_by}
+use Rattle.circuit_model.specs.Circuits.{is_member, heard_by}
 use Rattle.circuit_model.specs.Holding.{Holding, empty, Command, Connect, Seat as Take_seat, Give_tone, Clear, Frame as Boundary, after}
 use Rattle.circuit_model.specs.Ports.{Ports, free_ports, ports_after, port_of, given}
 use Rattle.control_memory.specs.Layout.{Layout}
 use Rattle.control_memory.specs.Connecting.{connect, moved}
 use Rattle.circuit_map.specs.Connections.{without_both, partner}
 use Rattle.exchange_core.specs.Legs.{Legs, no_legs}
-use Rattle.exchange_core.specs.declared.trace.Event.{Event}
-use Rattle.exchange_core.specs.declared.trace.Event.TheVariants.{Nail, Seat, Free, Frame as Frame_event}
 use Rattle.exchange_core.specs.declared.reply.Reply.{Reply}
-use Rattle.exchange_core.specs.declared.reply.Reply.TheVariants.{Granted, Busy, Seated, NoPort, Freed, NotNailed, Frame as Frame_reply}
+use Rattle.exchange_core.specs.declared.reply.Reply.TheVariants.{Granted, Seated, NoPort}
 
 -- how many external lines, bridge lines and internal slots an exchange has
 pub record Dimensions : Type 0 where
@@ -81,21 +78,9 @@ pass w input = record w {
   seated = w.seated ++ w.ports ∷ [];
 }
 
--- a slot that isn't idle is nailed
-abbrev pub is_nailed : World → Slot → Bool
-is_nailed w x = not (is_idle w.holding.circuits x)
-
--- two slots can be nailed together where both are idle
-abbrev pub can_nail : World → Slot → Slot → Bool
-can_nail w x y = is_idle w.holding.circuits x && is_idle w.holding.circuits y
-
 -- every conference port is taken
 abbrev pub is_full : Dimensions → World → Bool
 is_full d w = count_by is_member w.holding.circuits == 30 * d.bridges
-
--- a slot can be seated where it is idle and a port is free
-abbrev pub can_seat : Dimensions → World → Slot → Bool
-can_seat d w x = is_idle w.holding.circuits x && not (is_full d w)
 
 -- the answer to a connection of x with y, or to a seat at a port: how many live paths were moved for the path there, and for the one back
 abbrev pub granted : Dimensions → Layout → Slot → Slot → Reply
@@ -104,54 +89,3 @@ granted d layout x y = Granted (moved layout (one_way d layout x y)) (moved (one
 abbrev pub seated : Dimensions → Layout → Slot → Option Slot → Reply
 seated d layout x None = NoPort
 seated d layout x (Some port) = Seated (moved layout (one_way d layout x port)) (moved (one_way d layout x port) (both_ways d layout x port))
-
--- what an event is answered
-abbrev pub reply : Dimensions → World → Event → Reply
-reply d w (Nail x y) = if can_nail w x y then granted d w.layout x y else Busy
-reply d w (Seat x room) =
-    if not (is_idle w.holding.circuits x) then Busy
-    else if is_full d w then NoPort
-    else seated d w.layout x (port_of d.external (given x w.ports) x)
-reply d w (Free x) = if is_nailed w x then Freed else NotNailed
-reply d w (Frame_event input) = Frame_reply w.holding.next
-
--- what an event makes of the world; where it is refused, nothing
-abbrev pub next : Dimensions → World → Event → World
-next d w (Nail x y) = if can_nail w x y then obey d w (Connect x y) else w
-next d w (Seat x room) = if can_seat d w x then obey d w (Take_seat x room) else w
-next d w (Free x) = if is_nailed w x then obey d w (Clear x) else w
-next d w (Frame_event input) = pass w input
-
--- an event that was refused
-abbrev pub is_refusal : Reply → Bool
-is_refusal (Granted a b) = false
-is_refusal Busy = true
-is_refusal (Seated a b) = false
-is_refusal NoPort = true
-is_refusal Freed = false
-is_refusal NotNailed = true
-is_refusal (Frame_reply k) = false
-
--- an answer tells of so many moved paths at the most, each way
-abbrev pub MovesAtMost : ℕ → Reply → Type 0
-MovesAtMost n (Granted a b) = (a ≤ n) × (b ≤ n)
-MovesAtMost n Busy = Unit {0}
-MovesAtMost n (Seated a b) = (a ≤ n) × (b ≤ n)
-MovesAtMost n NoPort = Unit {0}
-MovesAtMost n Freed = Unit {0}
-MovesAtMost n NotNailed = Unit {0}
-MovesAtMost n (Frame_reply k) = Unit {0}
-
--- the world after a list of events
-abbrev pub world : Dimensions → World → List Event → World
-world d w [] = w
-world d w (e ∷ es) = world d (next d w e) es
-
--- the replies of a run, in order: each is that of the world that the events before it made
-abbrev pub run : Dimensions → World → List Event → List Reply
-run d w [] = []
-run d w (e ∷ es) = reply d w e ∷ run d (next d w e) es
-
--- the events with these numbers, which count from 1
-abbrev pub events_of : List Event → List ℕ → List Event
-events_of events order = filter_map (λ n. slice_get events (n - 1)) order

@@ -3,10 +3,12 @@ ghost use Rattle.std.specs.Prelude.{◌≡◌, [], ℕ, List, All, Some, None};
 ghost use Rattle.control_memory.specs.Layout.{Layout};
 ghost use Rattle.exchange_core.specs.Answered.{IsAnswered, GetsBothPaths, relaid};
 ghost use Rattle.exchange_core.specs.Calls.{after_message, answer_to, refused_with};
-ghost use Rattle.exchange_core.specs.Happenings.{Happening, following, world_after};
-ghost use Rattle.exchange_core.specs.LegStanding.{CallsStand, IsPlanned, CanHappen};
+ghost use Rattle.exchange_core.specs.declared.trace.Event.{Event};
+ghost use Rattle.exchange_core.specs.LegStanding.{CallsStand};
 ghost use Rattle.exchange_core.specs.declared.leg_table.Held.{Held};
 ghost use Rattle.exchange_core.specs.Setup.{Setting};
+ghost use Rattle.exchange_core.specs.Sound.{Fits, IsPlanned};
+ghost use Rattle.exchange_core.specs.Step.{next, world};
 ghost use Rattle.exchange_core.specs.World.{World, start};
 ghost use Rattle.exchange_core.specs.WorkedCalls.{two_lines, one_line, answers, whole_call, whole_call_answered, refused_or_moved, refused_or_moved_answered, clear_collision, clear_collision_answered, lenient_reading, lenient_reading_answered, call_to_room, call_to_room_answered, no_port_answered, unexpected, unexpected_answered, line_full, line_full_answered};
 
@@ -52,6 +54,6 @@ pub fn law_of_answered_calls()
 /// hears by what its leg's state says, and call references name one leg. So it stands in every run.
 pub fn law_of_legs()
     ensures begins { (s : Setting) → CallsStand s (start s.dimensions) }
-    ensures kept { (s : Setting) (w : World) (h : Happening) → IsPlanned s → CanHappen s.dimensions.external h → CallsStand s w → CallsStand s (following s w h) }
-    ensures always { (s : Setting) (hs : List Happening) → IsPlanned s → All (CanHappen s.dimensions.external) hs → CallsStand s (world_after s (start s.dimensions) hs) }
+    ensures kept { (s : Setting) (w : World) (e : Event) → IsPlanned s → Fits s.dimensions.external e → CallsStand s w → CallsStand s (next s w e) }
+    ensures always { (s : Setting) (es : List Event) → IsPlanned s → All (Fits s.dimensions.external) es → CallsStand s (world s (start s.dimensions) es) }
 {}

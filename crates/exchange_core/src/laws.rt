@@ -8,9 +8,11 @@ ghost use Rattle.circuit_model.specs.Hears.{hears};
 ghost use Rattle.exchange_core.specs.declared.trace.Event.{Event};
 ghost use Rattle.exchange_core.specs.declared.trace.Trace.{Trace};
 ghost use Rattle.exchange_core.specs.Orders.{IsLawful, IsLawfulPrefix, file_order};
-ghost use Rattle.exchange_core.specs.Sound.{Fits};
+ghost use Rattle.exchange_core.specs.Setup.{Setting};
+ghost use Rattle.exchange_core.specs.Sound.{Fits, IsPlanned};
 ghost use Rattle.exchange_core.specs.Standing.{IsMade};
-ghost use Rattle.exchange_core.specs.World.{Dimensions, start, world};
+ghost use Rattle.exchange_core.specs.Step.{world};
+ghost use Rattle.exchange_core.specs.World.{start};
 
 /// The order of the file is lawful, and so is each of its beginnings.
 pub fn file_order_is_lawful()
@@ -21,7 +23,7 @@ pub fn file_order_is_lawful()
 /// Whatever events happen, the circuits and ports of each frame come of one list of commands, each
 /// of which was allowed when its turn came.
 pub fn worlds_are_made()
-    ensures { (d : Dimensions) (events : List Event) → All (Fits d.external) events → IsMade d (world d (start d) events) }
+    ensures { (s : Setting) (events : List Event) → IsPlanned s → All (Fits s.dimensions.external) events → IsMade s.dimensions (world s (start s.dimensions) events) }
 {}
 
 /// What a slot hears in a frame stays as it is, whatever frames come later.

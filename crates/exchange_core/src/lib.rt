@@ -1,13 +1,15 @@
 //! The events of a trace, and what the exchange makes of each: what stands, and what it answers.
 #![tactic(auto)]
 
+mod call_control;
 mod call_laws;
 mod laws;
 mod leg_table;
+mod nails;
 mod record;
 mod reply;
 mod signal;
-mod step;
+mod tool;
 mod trace;
 
 pub use call_laws::{
@@ -15,8 +17,8 @@ pub use call_laws::{
 };
 pub use laws::{file_order_is_lawful, later_frames_change_nothing, worlds_are_made};
 pub use leg_table::{Held, LegTable};
-pub use record::{CallRecord, Party};
+pub use record::{CallRecord, MOST_RECORDS, Party, Records};
 pub use reply::Reply;
-pub use signal::{Encoded, Signal};
-pub use step::Core;
-pub use trace::{Event, Events, Input, Segments, Trace};
+pub use signal::{Encoded, MOST_SENDS, Signal, Signals};
+pub use tool::Tool;
+pub use trace::{Event, Events, Input, Octets, Segments, Trace};

@@ -1,5 +1,8 @@
+use crate::record::Records;
+use crate::signal::Signals;
+
 /// What the exchange answers to an event.
-#[derive(Clone, Copy, Debug, PartialEq, Eq)]
+#[derive(Drop)]
 pub enum Reply {
     /// The slots of a nail are connected. The numbers say how many live paths of the fabric were
     /// moved for each of the two directions.
@@ -13,8 +16,25 @@ pub enum Reply {
     NoPort,
     /// The slot is free, and so is the one it was connected to.
     Freed,
-    /// No nail and no seat names the slot, and nothing has changed.
+    /// No nail and no seat names the slot, or it is held by the leg of a call, and nothing has changed.
     NotNailed,
-    /// The boundary of the frame with this number.
-    Frame(u32),
+    /// What was done for a message.
+    Sent {
+        /// The messages that were sent, in order.
+        sends: Signals,
+        /// Where the message made a connection or took a seat, how many live paths were moved for
+        /// the path there, and for the one back.
+        moved: Option<(u32, u32)>,
+        /// The records of the calls that the message began to clear, in order.
+        records: Records,
+    },
+    /// The boundary of a frame.
+    Frame {
+        /// The number of the frame.
+        number: u32,
+        /// The messages that were sent, in order.
+        sends: Signals,
+        /// The records of the calls that ended, in order.
+        records: Records,
+    },
 }

@@ -2,6 +2,7 @@ ghost use Rattle.std.specs.Prelude.{◌≡◌, List, ℕ};
 ghost use Rattle.exchange_core.specs.declared.trace.Event.{Event};
 
 use circuit_model::Slot;
+use number_plan::Plan;
 use std::marker::Model;
 
 /// What arrives in one frame: for each external line its thirty octets in order of place, or
@@ -35,6 +36,36 @@ impl Input {
     }
 }
 
+/// The octets of a message from the user of a line. Contracts see their list.
+#[derive(Drop)]
+pub struct Octets {
+    octets: Vec<u8>,
+}
+
+impl Model for Octets {
+    ghost use Rattle.std.specs.Prelude.{List, ℕ};
+
+    ghost Value = { List ℕ };
+
+    ghost view = { λ a. a.octets.items };
+}
+
+impl Octets {
+    /// These octets.
+    pub fn of(items: Vec<u8>) -> Octets
+        ensures { result ≡ items.items }
+    {
+        Octets { octets: items }
+    }
+
+    /// The octets in the order in which they arrived.
+    pub fn as_slice(&self) -> &[u8]
+        ensures { result.now ≡ self.now }
+    {
+        self.octets.as_slice()
+    }
+}
+
 /// One event of a trace.
 #[derive(Drop)]
 pub enum Event {
@@ -44,6 +75,8 @@ pub enum Event {
     Seat(Slot, u8),
     /// Undo the nail or the seat of a slot.
     Free(Slot),
+    /// A message from the user of a line: 0 to 260 octets.
+    Message(u8, Octets),
     /// The boundary of a frame, and what arrives in it.
     Frame(Input),
 }
@@ -109,7 +142,7 @@ impl Segments {
     }
 }
 
-/// A trace: the sizes of the exchange, and what happens to it.
+/// A trace: the sizes of the exchange, its number plan, and what happens to it.
 #[derive(Drop)]
 pub struct Trace {
     /// How many external lines there are, 1 to 32.
@@ -118,6 +151,8 @@ pub struct Trace {
     pub bridges: u8,
     /// How many call processors share the work, 1 to 8.
     pub processors: u8,
+    /// Which numbers lead to which lines and conference rooms.
+    pub plan: Plan,
     /// What happens, in file order.
     pub events: Events,
     /// Where the segments end.

@@ -1,0 +1,36 @@
+-- What an operation asks of the world in the making. Source: this exchange's own.
+use Rattle.std.specs.Prelude.{◌≡◌, ◌≢◌, ℕ, ◌*◌, ◌<◌, true, List, [], ◌∷◌, count_by}
+use Rattle.circuit_model.specs.declared.channel.Slot.{Slot}
+use Rattle.circuit_model.specs.Circuits.{is_idle, is_member}
+use Rattle.circuit_model.specs.Extent.{IsExternal}
+use Rattle.q931_codec.specs.Outgoing.{IsWritable}
+use Rattle.call_states.specs.Status.{IsTold}
+use Rattle.exchange_core.specs.Operations.{Operation, Clear, Pair, Seat, Put, Remove, Send, Making, performed}
+use Rattle.exchange_core.specs.World.{Dimensions, World}
+
+-- two different slots that no circuit names
+pub record CanPair (d : Dimensions) (w : World) (x y : Slot) : Type 0 where
+  pub first : IsExternal d.external x
+  pub second : IsExternal d.external y
+  pub apart : x ≢ y
+  pub idle_first : is_idle w.holding.circuits x ≡ true
+  pub idle_second : is_idle w.holding.circuits y ≡ true
+
+-- a slot that no circuit names, and a free port
+pub record CanSeat (d : Dimensions) (w : World) (x : Slot) : Type 0 where
+  pub within : IsExternal d.external x
+  pub idle : is_idle w.holding.circuits x ≡ true
+  pub free : count_by is_member w.holding.circuits < 30 * d.bridges
+
+abbrev pub IsPermitted : Dimensions → Making → Operation → Type 0
+IsPermitted d m (Clear x) = IsExternal d.external x
+IsPermitted d m (Pair x y) = CanPair d m.world x y
+IsPermitted d m (Seat x room) = CanSeat d m.world x
+IsPermitted d m (Put x leg) = IsExternal d.external x × IsTold leg
+IsPermitted d m (Remove x) = IsExternal d.external x
+IsPermitted d m (Send line message) = (line < d.external) × IsWritable message
+
+-- each operation, when its turn comes
+abbrev pub ArePermitted : Dimensions → Making → List Operation → Type 0
+ArePermitted d m [] = Unit {0}
+ArePermitted d m (o ∷ os) = IsPermitted d m o × ArePermitted d (performed d m o) os

@@ -1,0 +1,131 @@
+ghost use Rattle.std.specs.Prelude.{◌≡◌, ◌≢◌, ◌*◌, ◌<◌, ◌≤◌, ◌++◌, ℕ, [], ◌∷◌, length, None, Some};
+ghost use Rattle.circuit_model.specs.declared.channel.Slot.{Slot};
+ghost use Rattle.circuit_model.specs.Extent.{IsExternal};
+ghost use Rattle.circuit_model.specs.Holding.{Connect, Seat as Take_seat, Clear};
+ghost use Rattle.circuit_map.specs.Connections.{SameSizes, hears_at, hears_after};
+ghost use Rattle.q931_codec.specs.Outgoing.{IsWritable, encoding, outgoing_of};
+ghost use Rattle.call_states.specs.Status.{IsTold};
+ghost use Rattle.exchange_core.specs.Limits.{most_sends};
+ghost use Rattle.exchange_core.specs.Legs.{with_leg, without_leg};
+ghost use Rattle.exchange_core.specs.Operations.{moves_for, moves_of_seat};
+ghost use Rattle.exchange_core.specs.Permitted.{CanSeat};
+ghost use Rattle.exchange_core.specs.Standing.{Holds};
+ghost use Rattle.exchange_core.specs.World.{Dimensions, World, obey};
+
+use crate::leg_table::LegTable;
+use crate::signal::{Encoded, Signal, Signals};
+use call_states::Leg;
+use circuit_map::CircuitMap;
+use circuit_model::Slot;
+use control_memory::PathMap;
+use q931_codec::{Outgoing, write};
+
+/// The circuits that stand, with their paths and conference ports, and the legs of the calls: what
+/// call control works on. None of its operations takes memory.
+#[derive(Drop)]
+pub(crate) struct CallControl<P: PathMap> {
+    pub(crate) map: CircuitMap<P>,
+    pub(crate) legs: LegTable,
+}
+
+/// What a step has sent and moved so far.
+#[derive(Drop)]
+pub(crate) struct Sending {
+    /// The messages, in order.
+    pub(crate) sends: Signals,
+    /// How many live paths were moved for a connection or a seat, where one was made.
+    pub(crate) moved: Option<(u32, u32)>,
+}
+
+impl Sending {
+    /// Nothing yet.
+    pub(crate) fn new() -> Sending
+        ensures sends { result.sends ≡ [] }
+        ensures moved { result.moved ≡ None }
+    {
+        Sending {
+            sends: Signals::new(),
+            moved: None,
+        }
+    }
+
+    /// Sends a message to the user of a line.
+    pub(crate) fn send(&mut self, line: u8, message: &Outgoing)
+        requires room { length self.old.sends < most_sends }
+        requires writable { IsWritable (outgoing_of message.now) }
+        ensures sends { self.new.sends ≡ self.old.sends ++ record { line = line; octets = encoding (outgoing_of message.now) } ∷ [] }
+        ensures moved { self.new.moved ≡ self.old.moved }
+    {
+        self.sends.push(Signal {
+            line,
+            octets: Encoded::of(write(message)),
+        });
+    }
+}
+
+impl<P: PathMap> CallControl<P> {
+    /// Takes down every circuit that names a slot.
+    pub(crate) fn clear(&mut self, x: Slot)
+        requires external { IsExternal self.old.map.external x }
+        ensures holds { (d : Dimensions) (w : World) → Holds d self.old.map self.old.legs w → Holds d self.new.map self.new.legs (obey d w (Clear x)) }
+        ensures hears { (z : Slot) → hears_at self.new.map z ≡ hears_after self.old.map (Clear x) z }
+        ensures legs { self.new.legs ≡ self.old.legs }
+        ensures sizes { SameSizes self.old.map self.new.map }
+    {
+        self.map.clear(x);
+    }
+
+    /// Connects two slots that no circuit names, both ways, and answers how many live paths were
+    /// moved each way.
+    pub(crate) fn pair(&mut self, x: Slot, y: Slot) -> (u32, u32)
+        requires external_x { IsExternal self.old.map.external x }
+        requires external_y { IsExternal self.old.map.external y }
+        requires distinct { x ≢ y }
+        requires silent_x { hears_at self.old.map x ≡ None }
+        requires silent_y { hears_at self.old.map y ≡ None }
+        ensures holds { (d : Dimensions) (w : World) → Holds d self.old.map self.old.legs w → Holds d self.new.map self.new.legs (obey d w (Connect x y)) }
+        ensures moves { (d : Dimensions) (w : World) → Holds d self.old.map self.old.legs w → result ≡ moves_for d w.layout x y }
+        ensures few { (result.0 ≤ self.old.map.bound) × (result.1 ≤ self.old.map.bound) }
+        ensures legs { self.new.legs ≡ self.old.legs }
+        ensures sizes { SameSizes self.old.map self.new.map }
+    {
+        self.map.pair(x, y)
+    }
+
+    /// Seats a slot that no circuit names in a room that has a free port, and answers how many live
+    /// paths were moved each way.
+    pub(crate) fn seat(&mut self, x: Slot, room: u8) -> (u32, u32)
+        requires can { (d : Dimensions) × (w : World) × Holds d self.old.map self.old.legs w × CanSeat d w x }
+        ensures holds { (d : Dimensions) (w : World) → Holds d self.old.map self.old.legs w → Holds d self.new.map self.new.legs (obey d w (Take_seat x room)) }
+        ensures moves { (d : Dimensions) (w : World) → Holds d self.old.map self.old.legs w → Some result ≡ moves_of_seat d w x }
+        ensures few { (result.0 ≤ self.old.map.bound) × (result.1 ≤ self.old.map.bound) }
+        ensures legs { self.new.legs ≡ self.old.legs }
+        ensures sizes { SameSizes self.old.map self.new.map }
+    {
+        let Ok(moves) = self.map.seat(x, room) else {
+            unreachable!();
+        };
+        moves
+    }
+
+    /// Lets a leg hold a slot, in place of any other.
+    pub(crate) fn put(&mut self, x: Slot, leg: Leg)
+        requires external { IsExternal self.old.map.external x }
+        requires count { length self.old.legs ≡ 30 * self.old.map.external }
+        requires told { IsTold leg }
+        ensures legs { self.new.legs ≡ with_leg self.old.legs x leg }
+        ensures map { self.new.map ≡ self.old.map }
+    {
+        self.legs.put(x, leg);
+    }
+
+    /// Lets no leg hold a slot.
+    pub(crate) fn remove(&mut self, x: Slot)
+        requires external { IsExternal self.old.map.external x }
+        requires count { length self.old.legs ≡ 30 * self.old.map.external }
+        ensures legs { self.new.legs ≡ without_leg self.old.legs x }
+        ensures map { self.new.map ≡ self.old.map }
+    {
+        self.legs.remove(x);
+    }
+}
