@@ -14,4 +14,5 @@ pub mod Calls
 pub mod LegStanding
 pub mod Step
 pub mod WorkedCalls
+pub mod AtWork
 pub mod Answered

@@ -1,6 +1,7 @@
 //! The events of a trace, and what the exchange makes of each: what stands, and what it answers.
 #![tactic(auto)]
 
+mod acts;
 mod call_control;
 mod call_laws;
 mod laws;
@@ -8,6 +9,7 @@ mod leg_table;
 mod nails;
 mod record;
 mod reply;
+mod setup;
 mod signal;
 mod tool;
 mod trace;

@@ -1,0 +1,31 @@
+ghost use Rattle.std.specs.Prelude.{◌≡◌, ◌<◌, ◌≤◌, ◌^◌, ◌*◌, ℕ, [], None, Some, IfSome, length, false};
+ghost use Rattle.circuit_map.specs.Connections.{SameSizes, hears_at};
+ghost use Rattle.exchange_core.specs.AtWork.{IsAtWork};
+ghost use Rattle.exchange_core.specs.Calls.{made_by};
+ghost use Rattle.exchange_core.specs.Legs.{leg_named};
+ghost use Rattle.exchange_core.specs.Setup.{Setting, course_of_setup};
+ghost use Rattle.exchange_core.specs.Standing.{Makes};
+ghost use Rattle.exchange_core.specs.World.{World};
+
+use crate::call_control::{CallControl, Sending};
+use control_memory::PathMap;
+use number_plan::Plan;
+use q931_codec::Message;
+
+impl<P: PathMap> CallControl<P> {
+    /// Does what a SETUP asks for: refuses it with the cause of its first check that fails, or makes the
+    /// legs of its call.
+    pub(crate) fn setup(&mut self, out: &mut Sending, plan: &Plan, line: u8, message: &Message)
+        requires work { (s : Setting) × (w : World) × (s.plan ≡ plan.now) × IsAtWork s self.old.map self.old.legs w }
+        requires line { line < self.old.map.external }
+        requires reference { (1 ≤ message.now.reference) × (message.now.reference < 2 ^ 15) }
+        requires unused { leg_named self.old.legs line false message.now.reference ≡ None }
+        requires fresh { (out.old.sends ≡ []) × (out.old.moved ≡ None) }
+        ensures makes { (s : Setting) (w : World) → s.plan ≡ plan.now → IsAtWork s self.old.map self.old.legs w
+            → Makes s.dimensions self.new.map self.new.legs out.new.sends out.new.moved (made_by s w (course_of_setup s w line message.now)) }
+        ensures few { IfSome out.new.moved (λ moves. (moves.0 ≤ self.old.map.bound) × (moves.1 ≤ self.old.map.bound)) }
+        ensures sizes { SameSizes self.old.map self.new.map }
+    {
+        unreachable!()
+    }
+}
