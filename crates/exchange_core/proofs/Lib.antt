@@ -1,6 +1,7 @@
 pub mod FileOrder
 pub mod Steps
 pub mod Kept
+pub mod Taken
 pub mod EarlierFrames
 pub mod Refusals
 pub mod Named
@@ -20,5 +21,7 @@ pub mod Commands
 pub mod NewCalls
 pub mod Setups
 pub mod Happened
+pub mod BegunEnds
 pub mod Permits
 pub mod Histories
+pub mod Stepping

@@ -5,6 +5,7 @@ mod acts;
 mod call_control;
 mod call_laws;
 mod calls;
+mod happenings;
 mod laws;
 mod leg_table;
 mod nails;
