@@ -21,3 +21,4 @@ pub mod Setups
 pub mod Happened
 pub mod Permits
 pub mod Histories
+pub mod Ended

@@ -15,4 +15,5 @@ pub mod LegStanding
 pub mod Step
 pub mod WorkedCalls
 pub mod AtWork
+pub mod EndedCalls
 pub mod Answered
