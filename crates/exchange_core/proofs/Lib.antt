@@ -22,3 +22,4 @@ pub mod Happened
 pub mod Permits
 pub mod Histories
 pub mod Ended
+pub mod EndedByActs
