@@ -23,3 +23,4 @@ pub mod Permits
 pub mod Histories
 pub mod Ended
 pub mod EndedByActs
+pub mod ActPermits
