@@ -27,6 +27,7 @@ use Rattle.exchange_core.specs.Acts.{course_of, peer_of, with_peer, clear_with, 
 use Rattle.exchange_core.specs.LegStanding.{CallsStand, LegStands, LegsStand, HasPeer}
 use Rattle.exchange_core.specs.Legs.{Legs, leg_at}
 use Rattle.exchange_core.specs.Operations.{Operation, Making, begun, performed_all}
+use Rattle.exchange_core.specs.Peers.{IsThere, PeerIsThere}
 use Rattle.exchange_core.specs.Permitted.{CanPair, ArePermitted}
 use Rattle.exchange_core.specs.Setup.{Setting}
 use Rattle.exchange_core.specs.World.{Dimensions, World, obey}
@@ -89,16 +90,6 @@ unexpected_fits (kind.Unknown octet) = omega arith
 unexpected_fits _ = omega arith
 
 -- ---- what is known of the leg that a message is for, and of its peer
-
--- a leg at its slot, which can be told
-pub record IsThere (external : ℕ) (h : Held) : Type 0 where
-  pub within : IsExternal external h.slot
-  pub told : IsTold h.leg
-
--- so is the other leg of a call, which has another slot
-abbrev pub PeerIsThere : ℕ → Held → Option Held → Type 0
-PeerIsThere external h None = Unit {0}
-PeerIsThere external h (Some other) = IsThere external other × (other.slot ≡ h.slot → ⊥)
 
 module _ (external : ℕ) (w : World) (h : Held) (stand : LegsStand external w) (within : IsExternal external h.slot) (at : leg_at w.legs h.slot ≡ Some h.leg) where
   pub is_there : IsThere external h

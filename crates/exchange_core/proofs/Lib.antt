@@ -24,3 +24,5 @@ pub mod Histories
 pub mod Ended
 pub mod EndedByActs
 pub mod ActPermits
+pub mod AtWorkActs
+pub mod Makes

@@ -16,4 +16,5 @@ pub mod Step
 pub mod WorkedCalls
 pub mod AtWork
 pub mod EndedCalls
+pub mod Peers
 pub mod Answered
