@@ -1,5 +1,6 @@
 pub mod FileOrder
 pub mod Steps
+pub mod Kept
 pub mod EarlierFrames
 pub mod Refusals
 pub mod Named

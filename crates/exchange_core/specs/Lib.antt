@@ -17,4 +17,5 @@ pub mod WorkedCalls
 pub mod AtWork
 pub mod EndedCalls
 pub mod Peers
+pub mod Working
 pub mod Answered

@@ -4,6 +4,7 @@
 mod acts;
 mod call_control;
 mod call_laws;
+mod calls;
 mod laws;
 mod leg_table;
 mod nails;
@@ -12,6 +13,7 @@ mod records;
 mod reply;
 mod setup;
 mod signal;
+mod step;
 mod tool;
 mod trace;
 
@@ -23,5 +25,6 @@ pub use leg_table::{Held, LegTable};
 pub use record::{CallRecord, MOST_RECORDS, Party, Records};
 pub use reply::Reply;
 pub use signal::{Encoded, MOST_SENDS, Signal, Signals};
+pub use step::Core;
 pub use tool::Tool;
 pub use trace::{Event, Events, Input, Octets, Segments, Trace};
