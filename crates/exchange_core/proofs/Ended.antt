@@ -104,7 +104,7 @@ one_record external before after cause x leg size within at over others =
     let slot = numbered_number x within.1 in
     one_hit f 0 (length before.legs) (number_of x) (omega arith) (omega (arith, inside, size))
     (λ n low high apart.
-        untold before after cause (slot_numbered n)
-        (others (slot_numbered n) (in_numbered external n (omega (arith, high, size))) (λ e. apart (sym (number_numbered n) ∙ ap number_of e))))
+    untold before after cause (slot_numbered n)
+    (others (slot_numbered n) (in_numbered external n (omega (arith, high, size))) (λ e. apart (sym (number_numbered n) ∙ ap number_of e))))
     ∙ ap (λ (z : Slot). cons_option (record_at before after cause z) []) slot
     ∙ ap (λ (o : Option CallRecord). cons_option o []) (told before after cause x leg at over)

@@ -139,7 +139,7 @@ module _ (d : Dimensions) (w : World) (x : Slot) (leg : Leg) (o : Option Leg) (c
 
   peer_records : (p : Peer) → leg.peer ≡ p → HasPeer d.external w.legs x leg p
       → records w (performed_all d m (with_peer (peer_of w.legs p) (clear_with cause))).world cause
-          ≡ cons_option (option_and_then (record_calling w cause) (caller_in leg.side (record { slot = x; leg = leg }) (peer_of w.legs p))) []
+      ≡ cons_option (option_and_then (record_calling w cause) (caller_in leg.side (record { slot = x; leg = leg }) (peer_of w.legs p))) []
   peer_records peer.Alone is has = alone_records leg.side refl
   peer_records (peer.Leg y) is has =
       rw (held_there w.legs y has.1.0 has.1.1)

@@ -90,7 +90,10 @@ impl<P: PathMap> CallControl<P> {
             Act::Nothing => {}
             Act::Unexpected => out.send(held.slot.line, &unexpected(&held.leg, message)),
             Act::Enquiry => {
-                out.send(held.slot.line, &status(&held.leg, RESPONSE_TO_STATUS_ENQUIRY))
+                out.send(
+                    held.slot.line,
+                    &status(&held.leg, RESPONSE_TO_STATUS_ENQUIRY),
+                )
             }
             Act::Proceeding => self.put(held.slot, in_state(INCOMING_CALL_PROCEEDING, held.leg)),
             Act::Alerting => self.alert(out, held, peer),

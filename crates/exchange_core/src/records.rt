@@ -97,7 +97,10 @@ fn since(circuit: Circuit) -> u32
 fn is_calling(leg: &Leg) -> bool
     ensures { result ≡ is_calling (Some leg.now) }
 {
-    let is_up = matches!(leg.state, OUTGOING_CALL_PROCEEDING | CALL_DELIVERED | ACTIVE);
+    let is_up = matches!(
+        leg.state,
+        OUTGOING_CALL_PROCEEDING | CALL_DELIVERED | ACTIVE
+    );
     leg.side == Side::Caller && is_up
 }
 
