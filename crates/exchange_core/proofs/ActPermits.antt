@@ -1,5 +1,5 @@
 -- What an act does for a message to a leg is permitted.
-use Rattle.std.proofs.Common.{◌≡◌, ℕ, ◌<◌, ◌≤◌, ◌^◌, true, List, [], ◌∷◌, ◌++◌, Option, Some, None, refl, sym, ◌∙◌, ap, subst, arith}
+use Rattle.std.proofs.Common.{◌≡◌, ℕ, ◌<◌, true, Option, Some, None, arith}
 use Rattle.std.proofs.lemmas.Grind.{common_steps}
 use Rattle.circuit_model.specs.declared.channel.Slot.{Slot}
 use Rattle.circuit_model.specs.Circuits.{heard_by}
@@ -20,13 +20,12 @@ use Rattle.call_states.specs.declared.act.Act.TheVariants as act
 use Rattle.call_states.specs.declared.leg.Leg.{Leg}
 use Rattle.call_states.specs.declared.leg.Peer.{Peer}
 use Rattle.call_states.specs.declared.leg.Peer.TheVariants as peer
-use Rattle.call_states.specs.declared.leg.Side.{Side}
 use Rattle.call_states.proofs.Causes.{cause_fits}
 use Rattle.exchange_core.specs.declared.leg_table.Held.{Held}
 use Rattle.exchange_core.specs.Acts.{course_of, peer_of, with_peer, clear_with, in_state, message_to, disconnect, alerting, answer}
 use Rattle.exchange_core.specs.LegStanding.{CallsStand, LegStands, LegsStand, HasPeer}
-use Rattle.exchange_core.specs.Legs.{Legs, leg_at}
-use Rattle.exchange_core.specs.Operations.{Operation, Making, begun, performed_all}
+use Rattle.exchange_core.specs.Legs.{leg_at}
+use Rattle.exchange_core.specs.Operations.{Making, begun}
 use Rattle.exchange_core.specs.Peers.{IsThere, PeerIsThere}
 use Rattle.exchange_core.specs.Permitted.{CanPair, ArePermitted}
 use Rattle.exchange_core.specs.Setup.{Setting}

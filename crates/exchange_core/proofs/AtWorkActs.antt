@@ -1,5 +1,5 @@
 -- What is known of an exchange at work when a message to a leg comes.
-use Rattle.std.proofs.Common.{◌≡◌, ℕ, ◌<◌, Option, Some, None, refl, sym, ◌∙◌, ap, subst}
+use Rattle.std.proofs.Common.{◌≡◌, ℕ, Option, Some, None, sym, ◌∙◌, ap, subst}
 use Rattle.std.specs.Prelude.{IfSome}
 use Rattle.circuit_model.specs.declared.channel.Slot.{Slot}
 use Rattle.circuit_model.specs.Circuits.{unless_naming}
@@ -9,7 +9,6 @@ use Rattle.q931_codec.specs.declared.message.Message.{Message}
 use Rattle.call_states.specs.Acts.{act_on}
 use Rattle.call_states.specs.declared.act.Act.TheVariants as act
 use Rattle.exchange_core.specs.declared.leg_table.Held.{Held}
-use Rattle.exchange_core.specs.declared.record.CallRecord.{CallRecord}
 use Rattle.exchange_core.specs.Acts.{course_of, peer_of}
 use Rattle.exchange_core.specs.AtWork.{IsAtWork}
 use Rattle.exchange_core.specs.Calls.{sent_by}

@@ -1,5 +1,5 @@
 -- Which calls a step ends: none where callers go on calling, and where a leg begins to be cleared the one of its call.
-use Rattle.std.proofs.Common.{◌≡◌, ℕ, zero, suc, ◌+◌, ◌*◌, ◌<◌, ◌≤◌, Bool, true, false, not, ◌&&◌, ◌⊎◌, inl, inr, List, [], ◌∷◌, length, set, Option, Some, None, refl, sym, ◌∙◌, ap, subst, arith, cond}
+use Rattle.std.proofs.Common.{◌≡◌, ℕ, zero, suc, ◌+◌, ◌*◌, ◌<◌, ◌≤◌, Bool, true, false, not, ◌&&◌, ◌⊎◌, inl, inr, [], length, Option, Some, None, refl, sym, ◌∙◌, ap, arith}
 use Rattle.std.specs.Prelude.{filter_map, option_and_then, if◌then◌else◌, ◌==◌}
 use Rattle.std.specs.List.{range_with_len, cons_option}
 use Rattle.std.proofs.lemmas.Bool.{eqb-true, eq-eqb}
@@ -10,9 +10,8 @@ use Rattle.control_memory.specs.Layout.{number_of, slot_numbered}
 use Rattle.control_memory.proofs.Lookups.{number_numbered, numbered_number}
 use Rattle.control_memory.proofs.Steps.{number_inside}
 use Rattle.call_states.specs.declared.leg.Leg.{Leg}
-use Rattle.exchange_core.specs.declared.leg_table.Held.{Held}
 use Rattle.exchange_core.specs.declared.record.CallRecord.{CallRecord}
-use Rattle.exchange_core.specs.Calls.{is_calling, is_ended, record_at, record_of, records}
+use Rattle.exchange_core.specs.Calls.{is_calling, record_at, record_of, records}
 use Rattle.exchange_core.specs.EndedCalls.{record_calling}
 use Rattle.exchange_core.specs.Legs.{Legs, leg_at, held_at}
 use Rattle.exchange_core.specs.World.{World}

@@ -1,4 +1,4 @@
-ghost use Rattle.std.specs.Prelude.{◌≡◌, ◌≢◌, ◌<◌, ◌≤◌, ◌+◌, ◌*◌, ◌++◌, ℕ, [], ◌∷◌, None, Some, IfSome, length};
+ghost use Rattle.std.specs.Prelude.{◌≡◌, ◌≢◌, ◌<◌, ◌≤◌, ◌+◌, ◌*◌, ◌++◌, [], ◌∷◌, None, Some, IfSome, length};
 ghost use Rattle.circuit_model.specs.Extent.{IsExternal};
 ghost use Rattle.circuit_map.specs.Connections.{SameSizes, hears_at};
 ghost use Rattle.q931_codec.specs.MessageType.{IsNamed};

@@ -1,6 +1,6 @@
-use Rattle.std.proofs.Common.{◌≡◌, ◌<◌, Some, None, sym, ◌∙◌, ap, subst}
+use Rattle.std.proofs.Common.{◌<◌, sym, ◌∙◌, ap, subst}
 use Rattle.std.specs.Prelude.{IfSome}
-use Rattle.call_states.specs.Acts.{act_of, cause_of_act, clearing_cause, is_null}
+use Rattle.call_states.specs.Acts.{cause_of_act, clearing_cause, is_null}
 use Rattle.call_states.specs.declared.act.Act.{Act}
 use Rattle.call_states.proofs.Causes.{act_fits, cause_fits}
 use Rattle.q931_codec.specs.Contents.{call_state_in}
