@@ -22,7 +22,7 @@ use Rattle.call_states.specs.declared.leg.Peer.{Peer}
 use Rattle.call_states.specs.declared.leg.Peer.TheVariants as peer
 use Rattle.call_states.proofs.Causes.{cause_fits}
 use Rattle.exchange_core.specs.declared.leg_table.Held.{Held}
-use Rattle.exchange_core.specs.Acts.{course_of, peer_of, with_peer, clear_with, in_state, message_to, disconnect, alerting, answer}
+use Rattle.exchange_core.specs.Acts.{course_of, peer_of, with_peer, clear_with, in_state, released, disconnected, message_to, disconnect, alerting, answer}
 use Rattle.exchange_core.specs.LegStanding.{CallsStand, LegStands, LegsStand, HasPeer}
 use Rattle.exchange_core.specs.Legs.{leg_at}
 use Rattle.exchange_core.specs.Operations.{Making, begun}
@@ -120,16 +120,26 @@ Puts d h leg = IsExternal d.external h.slot × IsTold leg
 in_state_told : (leg : Leg) (state : ℕ) → IsTold leg → state < 64 → IsTold (in_state state leg)
 in_state_told leg state told small = record { state = small; reference = told.reference }
 
-clear_permitted : (d : Dimensions) (m : Making) (cause : ℕ) (c : Held) → IsThere d.external c → cause < 128 → ArePermitted d m (clear_with cause c)
-clear_permitted d m cause c there small = (there.within, ((there.within, record { state = omega arith; reference = there.told.reference }), ((there.within.0, disconnect_writable c.leg cause there.told small), tt)))
+clear_permitted : (d : Dimensions) (m : Making) (cause : ℕ) (c : Held) → IsThere d.external c → cause < 128
+    → ArePermitted d m (clear_with cause c)
+clear_permitted d m cause c there small =
+    let sends : Sends d c (disconnect c.leg cause) = (there.within.0, disconnect_writable c.leg cause there.told small) in
+    let goes : Puts d c (disconnected cause c.leg) = (there.within, record { state = omega arith; reference = there.told.reference }) in
+    (there.within, (goes, (sends, tt)))
 
-peer_permitted : (d : Dimensions) (m : Making) (h : Held) (cause : ℕ) (o : Option Held) → PeerIsThere d.external h o → cause < 128 → ArePermitted d m (with_peer o (clear_with cause))
+peer_permitted : (d : Dimensions) (m : Making) (h : Held) (cause : ℕ) (o : Option Held) → PeerIsThere d.external h o → cause < 128
+    → ArePermitted d m (with_peer o (clear_with cause))
 peer_permitted d m h cause None there small = tt
 peer_permitted d m h cause (Some c) there small = clear_permitted d m cause c there.0 small
 
-alerting_permitted : (d : Dimensions) (m : Making) (h : Held) → IsThere d.external h → (o : Option Held) → PeerIsThere d.external h o → ArePermitted d m (with_peer o (alerting h))
+alerting_permitted : (d : Dimensions) (m : Making) (h : Held) → IsThere d.external h → (o : Option Held) → PeerIsThere d.external h o
+    → ArePermitted d m (with_peer o (alerting h))
 alerting_permitted d m h there None is = tt
-alerting_permitted d m h there (Some c) is = ((there.within, in_state_told h.leg call_received there.told (omega arith)), ((is.0.within, in_state_told c.leg call_delivered is.0.told (omega arith)), ((is.0.within.0, message_writable c.leg kind.Alerting is.0.told tt), tt)))
+alerting_permitted d m h there (Some c) is =
+    let sends : Sends d c (message_to c.leg kind.Alerting) = (is.0.within.0, message_writable c.leg kind.Alerting is.0.told tt) in
+    let caller_goes : Puts d c (in_state call_delivered c.leg) = (is.0.within, in_state_told c.leg call_delivered is.0.told (omega arith)) in
+    let called_goes : Puts d h (in_state call_received h.leg) = (there.within, in_state_told h.leg call_received there.told (omega arith)) in
+    (called_goes, (caller_goes, (sends, tt)))
 
 module _ (s : Setting) (w : World) (h : Held) (stand : CallsStand s w) (within : IsExternal s.dimensions.external h.slot) (at : leg_at w.legs h.slot ≡ Some h.leg) where
   abbrev d : Dimensions
@@ -164,8 +174,13 @@ module _ (s : Setting) (w : World) (h : Held) (stand : CallsStand s w) (within :
   asked_permitted k act.Proceeding asks = ((within, in_state_told h.leg incoming_call_proceeding there.told (omega arith)), tt)
   asked_permitted k act.Alerting asks = alerting_permitted d (begun w) h there (peer_of w.legs h.leg.peer) peer_too
   asked_permitted k act.Answer asks = answer_permitted (rings_silent d.external w h stand.legs within at asks) (peer_of w.legs h.leg.peer) peer_too
-  asked_permitted k (act.Disconnect cause) asks = (within, ((within, record { state = omega arith; reference = there.told.reference }), ((within.0, message_writable h.leg kind.Release there.told tt), peer_permitted d _ h cause (peer_of w.legs h.leg.peer) peer_too asks)))
-  asked_permitted k (act.Released cause) asks = (within, (within, ((within.0, message_writable h.leg kind.ReleaseComplete there.told tt), peer_permitted d _ h cause (peer_of w.legs h.leg.peer) peer_too asks)))
+  asked_permitted k (act.Disconnect cause) asks =
+      let sends : Sends d h (message_to h.leg kind.Release) = (within.0, message_writable h.leg kind.Release there.told tt) in
+      let goes : Puts d h (released h.leg) = (within, record { state = omega arith; reference = there.told.reference }) in
+      (within, (goes, (sends, peer_permitted d _ h cause (peer_of w.legs h.leg.peer) peer_too asks)))
+  asked_permitted k (act.Released cause) asks =
+      let sends : Sends d h (message_to h.leg kind.ReleaseComplete) = (within.0, message_writable h.leg kind.ReleaseComplete there.told tt) in
+      (within, (within, (sends, peer_permitted d _ h cause (peer_of w.legs h.leg.peer) peer_too asks)))
   asked_permitted k (act.Gone cause) asks = (within, (within, peer_permitted d _ h cause (peer_of w.legs h.leg.peer) peer_too asks))
 
   pub act_permitted : (m : Message) → ArePermitted s.dimensions (begun w) (course_of w.legs h m.kind (act_on h.leg.state m)).operations

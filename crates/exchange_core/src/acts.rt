@@ -10,6 +10,7 @@ ghost use Rattle.exchange_core.specs.Acts.{course_of, peer_of, with_peer, messag
 ghost use Rattle.exchange_core.specs.AtWork.{IsAtWork};
 ghost use Rattle.exchange_core.specs.Calls.{made_by, sent_by};
 ghost use Rattle.exchange_core.specs.Legs.{leg_at};
+ghost use Rattle.exchange_core.specs.Limits.{most_sends};
 ghost use Rattle.exchange_core.specs.Operations.{Clear, Pair, Making, performed_all};
 ghost use Rattle.exchange_core.specs.Peers.{IsThere, PeerIsThere};
 ghost use Rattle.exchange_core.specs.Setup.{Setting};
@@ -56,10 +57,10 @@ impl<P: PathMap> CallControl<P> {
         ensures { result ≡ peer_of self.now.legs peer }
     {
         match peer {
-            Peer::Leg(slot) => match self.legs.at(slot) {
-                Some(leg) => Some(Held { slot, leg }),
-                None => None,
-            },
+            Peer::Leg(slot) => {
+                let leg = self.legs.at(slot)?;
+                Some(Held { slot, leg })
+            }
             Peer::Alone | Peer::Room(_) => None,
         }
     }
@@ -82,7 +83,8 @@ impl<P: PathMap> CallControl<P> {
         requires silent { act ≡ asked.Answer → hears_at self.old.map held.slot ≡ None }
         requires fresh { (out.old.sends ≡ []) × (out.old.moved ≡ None) }
         ensures makes { (d : Dimensions) (m : Making) → Makes d self.old.map self.old.legs out.old.sends out.old.moved m
-            → Makes d self.new.map self.new.legs out.new.sends out.new.moved (performed_all d m (course_of self.old.legs held message.now.kind act).operations) }
+            → Makes d self.new.map self.new.legs out.new.sends out.new.moved
+            (performed_all d m (course_of self.old.legs held message.now.kind act).operations) }
         ensures few { IfSome out.new.moved (λ moves. (moves.0 ≤ self.old.map.bound) × (moves.1 ≤ self.old.map.bound)) }
         ensures sizes { SameSizes self.old.map self.new.map }
     {
@@ -100,15 +102,15 @@ impl<P: PathMap> CallControl<P> {
             Act::Answer => self.answer(out, held, peer),
             Act::Disconnect(cause) => {
                 self.disconnect(out, held);
-                self.clear_peer(out, peer, cause)
+                self.clear_peer(out, peer, cause);
             }
             Act::Released(cause) => {
                 self.release(out, held);
-                self.clear_peer(out, peer, cause)
+                self.clear_peer(out, peer, cause);
             }
             Act::Gone(cause) => {
                 self.forget(held);
-                self.clear_peer(out, peer, cause)
+                self.clear_peer(out, peer, cause);
             }
         }
     }
@@ -118,7 +120,7 @@ impl<P: PathMap> CallControl<P> {
         requires there { IsThere self.old.map.external held }
         requires count { length self.old.legs ≡ 30 * self.old.map.external }
         requires peer_there { PeerIsThere self.old.map.external held peer }
-        requires room { length out.old.sends ≤ 60 }
+        requires room { length out.old.sends < most_sends }
         ensures makes { (d : Dimensions) (m : Making) → Makes d self.old.map self.old.legs out.old.sends out.old.moved m
             → Makes d self.new.map self.new.legs out.new.sends out.new.moved (performed_all d m (with_peer peer (alerting held))) }
         ensures moved { out.new.moved ≡ out.old.moved }
@@ -139,7 +141,8 @@ impl<P: PathMap> CallControl<P> {
         requires count { length self.old.legs ≡ 30 * self.old.map.external }
         requires peer_there { PeerIsThere self.old.map.external held peer }
         requires silent { hears_at self.old.map held.slot ≡ None }
-        requires fresh { (out.old.sends ≡ []) × (out.old.moved ≡ None) }
+        requires room { length out.old.sends + 1 < most_sends }
+        requires fresh { out.old.moved ≡ None }
         ensures makes { (d : Dimensions) (m : Making) → Makes d self.old.map self.old.legs out.old.sends out.old.moved m
             → Makes d self.new.map self.new.legs out.new.sends out.new.moved (performed_all d m (with_peer peer (answer held))) }
         ensures few { IfSome out.new.moved (λ moves. (moves.0 ≤ self.old.map.bound) × (moves.1 ≤ self.old.map.bound)) }
@@ -177,7 +180,7 @@ impl<P: PathMap> CallControl<P> {
     fn disconnect(&mut self, out: &mut Sending, held: Held)
         requires there { IsThere self.old.map.external held }
         requires count { length self.old.legs ≡ 30 * self.old.map.external }
-        requires room { length out.old.sends ≤ 60 }
+        requires room { length out.old.sends < most_sends }
         ensures makes { (d : Dimensions) (m : Making) → Makes d self.old.map self.old.legs out.old.sends out.old.moved m
             → Makes d self.new.map self.new.legs out.new.sends out.new.moved (performed_all d m (disconnecting held)) }
         ensures count { length self.new.legs ≡ length self.old.legs }
@@ -201,7 +204,7 @@ impl<P: PathMap> CallControl<P> {
     fn release(&mut self, out: &mut Sending, held: Held)
         requires there { IsThere self.old.map.external held }
         requires count { length self.old.legs ≡ 30 * self.old.map.external }
-        requires room { length out.old.sends ≤ 60 }
+        requires room { length out.old.sends < most_sends }
         ensures makes { (d : Dimensions) (m : Making) → Makes d self.old.map self.old.legs out.old.sends out.old.moved m
             → Makes d self.new.map self.new.legs out.new.sends out.new.moved (performed_all d m (releasing held)) }
         ensures count { length self.new.legs ≡ length self.old.legs }
@@ -230,7 +233,7 @@ impl<P: PathMap> CallControl<P> {
     fn clear_peer(&mut self, out: &mut Sending, peer: Option<Held>, cause: u8)
         requires there { IfSome peer (λ other. IsThere self.old.map.external other) }
         requires count { length self.old.legs ≡ 30 * self.old.map.external }
-        requires room { length out.old.sends ≤ 60 }
+        requires room { length out.old.sends < most_sends }
         requires cause { cause < 128 }
         ensures makes { (d : Dimensions) (m : Making) → Makes d self.old.map self.old.legs out.old.sends out.old.moved m
             → Makes d self.new.map self.new.legs out.new.sends out.new.moved (performed_all d m (with_peer peer (clear_with cause))) }
@@ -280,7 +283,7 @@ fn disconnect_message(leg: &Leg, cause: u8) -> Outgoing<'static>
 
 // Sends a message of a type, without elements, to the user of a leg.
 fn tell(out: &mut Sending, held: Held, kind: MessageKind)
-    requires room { length out.old.sends < 64 }
+    requires room { length out.old.sends < most_sends }
     requires told { IsTold held.leg }
     requires named { IsNamed kind }
     ensures sends { out.new.sends ≡ out.old.sends ++ record { line = held.slot.line; octets = encoding (message_to held.leg kind) } ∷ [] }

@@ -87,9 +87,8 @@ fn since(circuit: Circuit) -> u32
     ensures { result ≡ since_of circuit }
 {
     match circuit {
-        Circuit::Pair { since, .. } => since,
-        Circuit::Member { since, .. } => since,
-        Circuit::Tone { since, .. } => since,
+        Circuit::Pair { since, .. } | Circuit::Member { since, .. } | Circuit::Tone { since, .. } =>
+            since,
     }
 }
 
@@ -120,9 +119,7 @@ fn cause_of_act(act: Act) -> Option<u8>
     ensures { result ≡ cause_of_act act }
 {
     match act {
-        Act::Disconnect(cause) => Some(cause),
-        Act::Released(cause) => Some(cause),
-        Act::Gone(cause) => Some(cause),
+        Act::Disconnect(cause) | Act::Released(cause) | Act::Gone(cause) => Some(cause),
         _ => None,
     }
 }
