@@ -21,6 +21,11 @@ pub mod Commands
 pub mod NewCalls
 pub mod Setups
 pub mod Happened
+pub mod Ended
+pub mod EndedByActs
+pub mod ActPermits
+pub mod AtWorkActs
+pub mod Makes
 pub mod BegunEnds
 pub mod Permits
 pub mod Histories

@@ -10,6 +10,7 @@ mod laws;
 mod leg_table;
 mod nails;
 mod record;
+mod records;
 mod reply;
 mod setup;
 mod signal;
