@@ -18,6 +18,9 @@ pub mod Vacant
 pub mod Commands
 pub mod NewCalls
 pub mod Setups
+pub mod Makings
+pub mod Refusing
+pub mod Choosing
 pub mod Happened
 pub mod Permits
 pub mod Histories

@@ -2,11 +2,14 @@
 #![tactic(auto)]
 
 mod acts;
+mod asked;
 mod call_control;
 mod call_laws;
+mod choices;
 mod laws;
 mod leg_table;
 mod nails;
+mod new_call;
 mod record;
 mod reply;
 mod setup;
