@@ -31,10 +31,11 @@ module _ (d : Dimensions) (map map' : Connections) (legs legs' : Legs) (sends se
       → Makes d map' legs' sends moved' (performed d m (Seat x room))
   makes_seat x room holds moves = record { holds = holds m.world makes.holds; sent = makes.sent; moves = moves m.world makes.holds }
 
-  pub makes_send : (line : ℕ) (message : OutgoingMessage) → sends' ≡ sends ++ record { line = line; octets = encoding message } ∷ [] → moved' ≡ moved → Makes d map legs sends' moved' (performed d m (Send line message))
-  makes_send line message more same = record {
+  pub makes_send : (line : ℕ) (message named : OutgoingMessage) → message ≡ named → sends' ≡ sends ++ record { line = line; octets = encoding message } ∷ [] → moved' ≡ moved
+      → Makes d map legs sends' moved' (performed d m (Send line named))
+  makes_send line message named is more same = record {
     holds = makes.holds;
-    sent = more ∙ ap (λ ss. ss ++ record { line = line; octets = encoding message } ∷ []) makes.sent;
+    sent = more ∙ ap (λ (k : OutgoingMessage). sends ++ record { line = line; octets = encoding k } ∷ []) is ∙ ap (λ ss. ss ++ record { line = line; octets = encoding named } ∷ []) makes.sent;
     moves = same ∙ makes.moves;
   }
 
