@@ -1,5 +1,7 @@
 pub mod FileOrder
 pub mod Steps
+pub mod Kept
+pub mod Taken
 pub mod EarlierFrames
 pub mod Refusals
 pub mod Named
@@ -22,5 +24,12 @@ pub mod Makings
 pub mod Refusing
 pub mod Choosing
 pub mod Happened
+pub mod Ended
+pub mod EndedByActs
+pub mod ActPermits
+pub mod AtWorkActs
+pub mod Makes
+pub mod BegunEnds
 pub mod Permits
 pub mod Histories
+pub mod Stepping

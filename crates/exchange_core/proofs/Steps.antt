@@ -37,7 +37,7 @@ module _ (m : Connections) (w : World) (s : StandsFor m w) where
   }
 
   -- a member that was seated has a port
-  has_port : (n : Connections) (x : Slot) (room : ℕ) → Represents n (after w.holding (Seat x room)) (given x w.ports) → port_of m.external (given x w.ports) x ≡ None → ⊥
+  pub has_port : (n : Connections) (x : Slot) (room : ℕ) → Represents n (after w.holding (Seat x room)) (given x w.ports) → port_of m.external (given x w.ports) x ≡ None → ⊥
   has_port n x room holds none =
       let one : count_by (seats x) (Member room x w.holding.next ∷ []) ≡ 1 = rw (same_slot-refl x) refl in
       let sum = holds.ported x ∙ count_by-append (seats x) w.holding.circuits (Member room x w.holding.next ∷ []) in

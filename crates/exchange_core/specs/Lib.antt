@@ -16,4 +16,7 @@ pub mod LegStanding
 pub mod Step
 pub mod WorkedCalls
 pub mod AtWork
+pub mod EndedCalls
+pub mod Peers
+pub mod Working
 pub mod Answered

@@ -1,12 +1,10 @@
 //! What a SETUP makes: the legs of a new call, and what is sent to their users.
 ghost use Rattle.std.specs.Prelude.{◌≡◌, ◌*◌, ◌^◌, ◌<◌, ◌≤◌, ℕ, true, Some, length, IfSome};
-ghost use Rattle.std.specs.Option.{option_copied};
 ghost use Rattle.circuit_model.specs.Extent.{IsExternal};
 ghost use Rattle.circuit_map.specs.Connections.{Connections, SameSizes};
-ghost use Rattle.q931_codec.specs.Contents.{bearer_in, called_in};
+ghost use Rattle.q931_codec.specs.Contents.{bearer_in};
 ghost use Rattle.q931_codec.specs.declared.kind.MessageKind.TheVariants as kind;
 ghost use Rattle.q931_codec.specs.Outgoing.{outgoing_of, bare};
-ghost use Rattle.exchange_core.specs.Acts.{message_to};
 ghost use Rattle.exchange_core.specs.Legs.{Legs};
 ghost use Rattle.exchange_core.specs.Operations.{Making, performed_all};
 ghost use Rattle.exchange_core.specs.Permitted.{CanSeat};
@@ -14,6 +12,7 @@ ghost use Rattle.exchange_core.specs.Setup.{caller_leg, called_leg, proceeding, 
 ghost use Rattle.exchange_core.specs.Standing.{Holds, Makes};
 ghost use Rattle.exchange_core.specs.World.{Dimensions, World};
 
+use crate::acts::message_to;
 use crate::call_control::{CallControl, Sending};
 use call_states::{Leg, Peer, Side};
 use circuit_model::{Slot, channel_of};
@@ -45,13 +44,6 @@ fn called_leg(reference: u16, caller: Slot) -> Leg
         peer: Peer::Leg(caller),
         cause: 0,
     }
-}
-
-// A message to the user of a leg, without elements.
-fn message_to(leg: &Leg, kind: MessageKind) -> Outgoing<'static>
-    ensures { outgoing_of result ≡ message_to leg.now kind }
-{
-    Outgoing::new(leg.side.flag(), leg.reference, kind)
 }
 
 // The RELEASE COMPLETE that refuses a SETUP with this call reference.

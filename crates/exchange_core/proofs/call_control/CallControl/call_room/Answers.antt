@@ -14,10 +14,9 @@ seat-requires-clause-can g c κs within =
     let can = c.requires.can in
     (
       can.0,
-      (
-        record can.1 { legs = c.put.new.self.legs },
-        (holds_with can.0 c.args.self.now.map c.put.new.self.map c.args.self.now.legs c.put.new.self.legs can.1 can.2 c.put.ensures.map, can_still can.0 can.1 c.args.x c.put.new.self.legs can.3),
-      ),
+      record can.1 { legs = c.put.new.self.legs },
+      holds_with can.0 c.args.self.now.map c.put.new.self.map c.args.self.now.legs c.put.new.self.legs can.1 can.2 c.put.ensures.map,
+      can_still can.0 can.1 c.args.x c.put.new.self.legs can.3,
     )
 
 pub returns-clause-makes : goal.returns-clause-makes

@@ -1,0 +1,75 @@
+-- What contracts see of a core. Source: this exchange's own.
+use Rattle.std.specs.Prelude.{◌≡◌, ℕ, ◌+◌, ◌-◌, ◌≤◌, List, [], length, map, slice_get, Some, All}
+use Rattle.circuit_map.specs.Connections.{Connections}
+use Rattle.control_memory.specs.Image.{Control, SameSizes}
+use Rattle.control_memory.specs.Shown.{Shows}
+use Rattle.exchange_core.specs.declared.trace.Event.{Event}
+use Rattle.exchange_core.specs.declared.trace.Event.TheVariants.{Nail, Seat, Free, Message, Frame}
+use Rattle.exchange_core.specs.declared.trace.Trace.{Trace}
+use Rattle.exchange_core.specs.declared.tool.Tool.{Tool}
+use Rattle.exchange_core.specs.declared.tool.Tool.TheVariants as tool
+use Rattle.exchange_core.specs.Legs.{Legs}
+use Rattle.exchange_core.specs.Orders.{IsEvent}
+use Rattle.exchange_core.specs.Setup.{Setting}
+use Rattle.exchange_core.specs.Sound.{IsSound, setting_of}
+use Rattle.exchange_core.specs.Standing.{Holds}
+use Rattle.exchange_core.specs.Step.{events_of, world}
+use Rattle.exchange_core.specs.World.{Dimensions, World, start}
+
+-- who did an event, and the event's number
+abbrev pub Entry : Type 0
+Entry = ℕ × ℕ
+
+-- the numbers of the events of a journal, in the order in which they were done
+abbrev pub order_of : List Entry → List ℕ
+order_of journal = map (λ (entry : Entry). entry.1) journal
+
+-- the trace, how many internal slots the fabric has and how many live paths a new one moves at the most, and the journal
+pub record Working : Type 0 where
+  pub trace : Trace
+  pub slots : ℕ
+  pub bound : ℕ
+  pub journal : List Entry
+
+abbrev pub setting : Working → Setting
+setting x = setting_of x.slots x.trace
+
+-- the world after the events with these numbers, from the first on
+abbrev pub world_after : ℕ → Trace → List ℕ → World
+world_after slots trace order = let s = setting_of slots trace in world s (start s.dimensions) (events_of trace.events order)
+
+-- the world of the journal
+abbrev pub world_of : Working → World
+world_of x = world_after x.slots x.trace (order_of x.journal)
+
+-- the trace's event with this number
+abbrev pub IsNumbered : Trace → ℕ → Event → Type 0
+IsNumbered trace n e = slice_get trace.events (n - 1) ≡ Some e
+
+-- the core's map and legs are those of the world of its journal, whose entries are events of a sound trace; and the journal has room for all events
+pub record IsWorking (x : Working) (map : Connections) (legs : Legs) (room : ℕ) : Type 0 where
+  pub sound : IsSound x.trace
+  pub known : All (IsEvent x.trace) (order_of x.journal)
+  pub holds : Holds (setting x).dimensions map legs (world_of x)
+  pub bound : map.bound ≡ x.bound
+  pub reserved : length x.trace.events ≤ room
+
+-- ---- the tool of a step
+
+-- a control memory of an exchange of this size
+pub record IsOfSize (d : Dimensions) (image : Control) : Type 0 where
+  pub external : image.external ≡ d.external
+  pub bridges : image.bridges ≡ d.bridges
+  pub slots : image.slots ≡ d.slots
+
+-- the tool is a control memory of the exchange's size exactly where the event is a frame
+abbrev pub IsToolFor : Dimensions → Event → Tool → Type 0
+IsToolFor d (Frame input) (tool.Image image) = IsOfSize d image
+IsToolFor d (Frame input) tool.Nothing = ⊥
+IsToolFor d _ (tool.Image image) = ⊥
+IsToolFor d _ tool.Nothing = Unit {0}
+
+-- after a frame's step the tool shows the circuits, the ports and the number of the world before it
+abbrev pub ShowsWorld : World → Event → Tool → Type 0
+ShowsWorld w (Frame input) (tool.Image image) = Shows image w.holding.circuits w.ports w.holding.next
+ShowsWorld w _ _ = Unit {0}

@@ -1,0 +1,99 @@
+ghost use Rattle.std.specs.Prelude.{◌≡◌, ◌<◌, ◌≤◌, ◌^◌, ℕ, [], None, IfSome};
+ghost use Rattle.circuit_map.specs.Connections.{SameSizes};
+ghost use Rattle.exchange_core.specs.declared.trace.Event.TheVariants as event;
+ghost use Rattle.exchange_core.specs.AtWork.{IsAtWork};
+ghost use Rattle.exchange_core.specs.Calls.{with_leg_named, course, course_for, made_by, sent_by, answer_to};
+ghost use Rattle.exchange_core.specs.Legs.{leg_named};
+ghost use Rattle.exchange_core.specs.Setup.{Setting};
+ghost use Rattle.exchange_core.specs.Standing.{Holds, Makes};
+ghost use Rattle.exchange_core.specs.Step.{reply, next, MovesAtMost};
+ghost use Rattle.exchange_core.specs.World.{World};
+
+use crate::call_control::{CallControl, Sending};
+use crate::record::Records;
+use crate::reply::Reply;
+use control_memory::PathMap;
+use number_plan::Plan;
+use q931_codec::{Message, MessageKind, read};
+
+impl<P: PathMap> CallControl<P> {
+    /// Does what the octets that the user of a line has sent ask for. Octets that are no message have no
+    /// effect.
+    pub(crate) fn message(&mut self, plan: &Plan, line: u8, octets: &[u8]) -> Reply
+        requires work { (s : Setting) × (w : World) × (s.plan ≡ plan.now) × IsAtWork s self.old.map self.old.legs w }
+        requires line { line < self.old.map.external }
+        ensures reply { (s : Setting) (w : World) → s.plan ≡ plan.now → IsAtWork s self.old.map self.old.legs w → result ≡ reply s w (event.Message line octets.now) }
+        ensures world { (s : Setting) (w : World) → s.plan ≡ plan.now → IsAtWork s self.old.map self.old.legs w
+            → Holds s.dimensions self.new.map self.new.legs (next s w (event.Message line octets.now)) }
+        ensures few { MovesAtMost self.old.map.bound result }
+        ensures sizes { SameSizes self.old.map self.new.map }
+    {
+        let mut out = Sending::new();
+        let records = self.take(&mut out, plan, line, octets);
+        Reply::Sent {
+            sends: out.sends,
+            moved: out.moved,
+            records,
+        }
+    }
+
+    // Does what octets ask for, and answers the records of the calls that they begin to clear.
+    fn take(&mut self, out: &mut Sending, plan: &Plan, line: u8, octets: &[u8]) -> Records
+        requires work { (s : Setting) × (w : World) × (s.plan ≡ plan.now) × IsAtWork s self.old.map self.old.legs w }
+        requires line { line < self.old.map.external }
+        requires fresh { (out.old.sends ≡ []) × (out.old.moved ≡ None) }
+        ensures makes { (s : Setting) (w : World) → s.plan ≡ plan.now → IsAtWork s self.old.map self.old.legs w
+            → Makes s.dimensions self.new.map self.new.legs out.new.sends out.new.moved (made_by s w (course s w line octets.now)) }
+        ensures records { (s : Setting) (w : World) → s.plan ≡ plan.now → IsAtWork s self.old.map self.old.legs w → result ≡ (answer_to s w line octets.now).records }
+        ensures few { IfSome out.new.moved (λ moves. (moves.0 ≤ self.old.map.bound) × (moves.1 ≤ self.old.map.bound)) }
+        ensures sizes { SameSizes self.old.map self.new.map }
+    {
+        match read(octets) {
+            Ok(message) => self.receive(out, plan, line, &message),
+            Err(_) => Records::new(),
+        }
+    }
+
+    // Does what a message asks for, and answers the records of the calls that it begins to clear: one to a
+    // leg what the leg's state says, a SETUP from the side that chose the call reference a new call.
+    fn receive(&mut self, out: &mut Sending, plan: &Plan, line: u8, message: &Message) -> Records
+        requires work { (s : Setting) × (w : World) × (s.plan ≡ plan.now) × IsAtWork s self.old.map self.old.legs w }
+        requires line { line < self.old.map.external }
+        requires reference { message.now.reference < 2 ^ 15 }
+        requires fresh { (out.old.sends ≡ []) × (out.old.moved ≡ None) }
+        ensures makes { (s : Setting) (w : World) → s.plan ≡ plan.now → IsAtWork s self.old.map self.old.legs w → Makes s.dimensions self.new.map self.new.legs out.new.sends out.new.moved
+            (made_by s w (course_for s w line (with_leg_named message.now (leg_named self.old.legs line message.now.flag message.now.reference)))) }
+        ensures records { (s : Setting) (w : World) → s.plan ≡ plan.now → IsAtWork s self.old.map self.old.legs w
+            → result ≡ (sent_by s w (course_for s w line (with_leg_named message.now (leg_named self.old.legs line message.now.flag message.now.reference)))).records }
+        ensures few { IfSome out.new.moved (λ moves. (moves.0 ≤ self.old.map.bound) × (moves.1 ≤ self.old.map.bound)) }
+        ensures sizes { SameSizes self.old.map self.new.map }
+    {
+        match self.legs.named(line, message.flag, message.reference) {
+            Some(held) => self.act(out, held, message),
+            None => {
+                self.begin(out, plan, line, message);
+                Records::new()
+            }
+        }
+    }
+
+    // Does what a message that names no leg asks for.
+    fn begin(&mut self, out: &mut Sending, plan: &Plan, line: u8, message: &Message)
+        requires work { (s : Setting) × (w : World) × (s.plan ≡ plan.now) × IsAtWork s self.old.map self.old.legs w }
+        requires line { line < self.old.map.external }
+        requires reference { message.now.reference < 2 ^ 15 }
+        requires nameless { leg_named self.old.legs line message.now.flag message.now.reference ≡ None }
+        requires fresh { (out.old.sends ≡ []) × (out.old.moved ≡ None) }
+        ensures makes { (s : Setting) (w : World) → s.plan ≡ plan.now → IsAtWork s self.old.map self.old.legs w
+            → Makes s.dimensions self.new.map self.new.legs out.new.sends out.new.moved (made_by s w (course_for s w line (with_leg_named message.now None))) }
+        ensures few { IfSome out.new.moved (λ moves. (moves.0 ≤ self.old.map.bound) × (moves.1 ≤ self.old.map.bound)) }
+        ensures sizes { SameSizes self.old.map self.new.map }
+    {
+        match message.kind {
+            MessageKind::Setup if !message.flag && message.reference != 0 => {
+                self.setup(out, plan, line, message);
+            }
+            _ => {}
+        }
+    }
+}

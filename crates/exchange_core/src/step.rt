@@ -1,0 +1,109 @@
+ghost use Rattle.std.specs.Prelude.{◌≡◌, ◌+◌, ◌<◌, ◌++◌, [], ◌∷◌, length, IfOk};
+
+ghost use Rattle.exchange_core.specs.declared.trace.Event.{Event as An_event};
+ghost use Rattle.exchange_core.specs.Orders.{IsEvent};
+ghost use Rattle.exchange_core.specs.Sound.{IsSound, setting_of};
+ghost use Rattle.exchange_core.specs.Step.{reply, next, MovesAtMost};
+ghost use Rattle.exchange_core.specs.Working.{IsNumbered, IsToolFor, ShowsWorld, setting, world_of};
+ghost use Rattle.exchange_core.specs.World.{start};
+
+use crate::call_control::CallControl;
+use crate::leg_table::LegTable;
+use crate::reply::Reply;
+use crate::tool::Tool;
+use crate::trace::Trace;
+use circuit_map::CircuitMap;
+use control_memory::PathMap;
+use std::alloc::{AllocError, Global};
+use std::marker::Model;
+
+/// The exchange without its octets, at work on a trace: the circuits that stand with their live paths and
+/// conference ports, the legs of the calls, and the journal of the events that were done.
+///
+/// Contracts see the trace, how many internal slots the fabric has, how many live paths a new one moves at
+/// the most, and the journal; `world_of` says what stands. No call but `new` takes memory.
+#[derive(Drop)]
+pub struct Core<'t, P: PathMap> {
+    trace: &'t Trace,
+    control: CallControl<P>,
+    journal: Vec<(u32, u32)>,
+}
+
+impl<'t, P: PathMap> Model for Core<'t, P> {
+    ghost use Rattle.std.specs.Prelude.{vec_capacity};
+    ghost use Rattle.exchange_core.specs.Working.{Working, IsWorking};
+
+    ghost Value = { Working };
+
+    ghost view = { λ c. record {
+      trace = c.trace.now;
+      slots = c.control.map.slots;
+      bound = c.control.map.bound;
+      journal = c.journal.items;
+    } };
+
+    ghost invariant = { λ c. IsWorking (record {
+      trace = c.trace.now;
+      slots = c.control.map.slots;
+      bound = c.control.map.bound;
+      journal = c.journal.items;
+    }) c.control.map c.control.legs (vec_capacity c.journal) };
+}
+
+impl<'t, P: PathMap + Drop> Core<'t, P> {
+    /// An exchange before the first event of a trace, over a map of paths that has none yet and as many
+    /// lines as the trace. `AllocError` where memory is lacking.
+    pub fn new(alloc: Global, trace: &'t Trace, paths: P) -> Result<Core<'t, P>, AllocError>
+        requires sound { IsSound trace.now }
+        requires lines { P.width paths ≡ trace.now.external + trace.now.bridges }
+        requires bare { P.layout paths ≡ (start (setting_of (P.depth paths) trace.now).dimensions).layout }
+        ensures { IfOk result (λ c. c ≡ record { trace = trace.now; slots = P.depth paths; bound = P.bound paths; journal = [] }) }
+    {
+        let journal = Vec::with_capacity(alloc, trace.events.as_slice().len())?;
+        Ok(Core {
+            trace,
+            control: CallControl {
+                legs: LegTable::new(alloc, trace.external)?,
+                map: CircuitMap::new(alloc, paths, trace.external, trace.bridges)?,
+            },
+            journal,
+        })
+    }
+
+    /// The journal, when the work is over.
+    pub fn into_journal(self) -> Vec<(u32, u32)>
+        ensures { result.items ≡ self.entry.journal }
+    {
+        self.journal
+    }
+}
+
+impl<'t, P: PathMap> Core<'t, P> {
+    /// Does one event of the trace, by its number, counted from 1, and answers it; `by` is noted in the
+    /// journal with it. A frame's boundary is written into the control memory; every other event is done
+    /// without one.
+    pub fn step(&mut self, by: u32, event: u32, tool: &mut Tool) -> Reply
+        requires known { IsEvent self.old.trace event }
+        requires room { length self.old.journal < length self.old.trace.events }
+        requires tool { (e : An_event) → IsNumbered self.old.trace event e → IsToolFor (setting self.old).dimensions e tool.old }
+        ensures reply { (e : An_event) → IsNumbered self.old.trace event e → result ≡ reply (setting self.old) (world_of self.old) e }
+        ensures journal { self.new ≡ record self.old { journal = self.old.journal ++ (by, event) ∷ [] } }
+        ensures world { (e : An_event) → IsNumbered self.old.trace event e → world_of self.new ≡ next (setting self.old) (world_of self.old) e }
+        ensures few { MovesAtMost self.old.bound result }
+        ensures shows { (e : An_event) → IsNumbered self.old.trace event e → ShowsWorld (world_of self.old) e tool.new }
+        ensures tool { (e : An_event) → IsNumbered self.old.trace event e → IsToolFor (setting self.old).dimensions e tool.new }
+    {
+        let trace = self.trace;
+        let event_done = &trace.events.as_slice()[event as usize - 1];
+        let reply = self.control.happen(&trace.plan, event_done, tool);
+        self.journal.push_reserved((by, event));
+        reply
+    }
+
+    /// Who did which event, in the order in which they were done.
+    pub fn journal(&self) -> &[(u32, u32)]
+        ensures { result.now ≡ self.now.journal }
+    {
+        self.journal.as_slice()
+    }
+}
