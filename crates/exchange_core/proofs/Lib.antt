@@ -21,6 +21,7 @@ pub mod Commands
 pub mod NewCalls
 pub mod Setups
 pub mod Makings
+pub mod Accepted
 pub mod Refusing
 pub mod Choosing
 pub mod Happened

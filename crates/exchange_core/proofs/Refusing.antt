@@ -52,7 +52,7 @@ reaches external plan digits Nothing planned is = tt
 -- ---- the whole
 
 module _ (s : Setting) (w : World) (line : ℕ) (m : Message) (numbers : List Number) (target : Found) (plan : s.plan ≡ numbers) (is : target ≡ found numbers (unwrap_or (digits_in m) [])) where
-  same_target : target_of s m ≡ target
+  pub same_target : target_of s m ≡ target
   same_target = ap (λ ns. found ns (unwrap_or (digits_in m) [])) plan ∙ sym is
 
   pub element_refused : (cause : ℕ) → first_cause (element_checks m) ≡ Some cause → refusal s w line m ≡ Some cause

@@ -58,7 +58,8 @@ impl<P: PathMap> CallControl<P> {
                 self.call_line(out, message, caller, called, reference);
             }
             Found::Room(room) => self.call_room(out, message, caller, room),
-            Found::More | Found::Nothing => {}
+            Found::More => {}
+            Found::Nothing => {}
         }
     }
 }
