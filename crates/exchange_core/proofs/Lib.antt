@@ -20,6 +20,10 @@ pub mod Vacant
 pub mod Commands
 pub mod NewCalls
 pub mod Setups
+pub mod Makings
+pub mod Accepted
+pub mod Refusing
+pub mod Choosing
 pub mod Happened
 pub mod Ended
 pub mod EndedByActs

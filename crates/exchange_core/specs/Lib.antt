@@ -10,6 +10,7 @@ pub mod Permitted
 pub mod Course
 pub mod Acts
 pub mod Setup
+pub mod Choices
 pub mod Calls
 pub mod LegStanding
 pub mod Step

@@ -2,13 +2,16 @@
 #![tactic(auto)]
 
 mod acts;
+mod asked;
 mod call_control;
 mod call_laws;
 mod calls;
+mod choices;
 mod happenings;
 mod laws;
 mod leg_table;
 mod nails;
+mod new_call;
 mod record;
 mod records;
 mod reply;
