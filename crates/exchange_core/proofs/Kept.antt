@@ -1,10 +1,9 @@
 -- What each command makes of the map of circuits is what it makes of the world, whatever legs stand beside it.
-use Rattle.std.proofs.Common.{◌≡◌, ◌≢◌, ℕ, ◌*◌, ◌<◌, ◌==◌, Bool, true, Option, Some, None, refl, sym, ◌∙◌, ap, subst, arith}
+use Rattle.std.proofs.Common.{◌≡◌, ℕ, ◌*◌, ◌==◌, Bool, true, Option, Some, None, refl, ◌∙◌, ap, subst, arith}
 use Rattle.std.specs.Prelude.{count_by, option_map, IfSome}
-use Rattle.std.proofs.lemmas.Grind.{common_steps}
 use Rattle.circuit_model.specs.declared.channel.Slot.{Slot}
-use Rattle.circuit_model.specs.Circuits.{heard_by, is_idle, is_member}
-use Rattle.circuit_model.specs.Holding.{Connect, Seat, Clear, Frame}
+use Rattle.circuit_model.specs.Circuits.{is_idle, is_member}
+use Rattle.circuit_model.specs.Holding.{Connect, Seat, Clear}
 use Rattle.circuit_model.specs.Ports.{port_of, given}
 use Rattle.circuit_model.proofs.Slots.{idle_is_deaf}
 use Rattle.circuit_map.specs.Connections.{Connections, SameSizes, Obeys, AreMoves, joined_both, parted, hears_at}
