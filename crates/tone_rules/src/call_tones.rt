@@ -1,4 +1,5 @@
-ghost use Rattle.std.specs.Prelude.{◌≡◌};
+ghost use Rattle.std.specs.Prelude.{◌≡◌, IfSome};
+ghost use Rattle.tone_rules.specs.Tables.{IsGiven};
 ghost use Rattle.tone_rules.specs.CallTones.{tone_for, tone_given};
 
 use crate::tones::Tones;
@@ -21,7 +22,8 @@ pub fn tone_for(state: u8, cause: u8) -> Option<Kind>
 
 /// The tone that the slot of such a leg gets: that of [`tone_for`] where the trace gives it, else `None`.
 pub fn tone_given(tones: &Tones, state: u8, cause: u8) -> Option<Kind>
-    ensures { result ≡ tone_given tones.now state cause }
+    ensures tone { result ≡ tone_given tones.now state cause }
+    ensures octets { IfSome result (IsGiven tones.now) }
 {
     tone_for(state, cause).filter(|kind| tones.is_given(*kind))
 }

@@ -7,6 +7,6 @@ mod table;
 mod tones;
 
 pub use call_tones::{tone_for, tone_given};
-pub use laws::worked_tones;
+pub use laws::{law_of_given_tones, worked_tones};
 pub use table::octet_of;
 pub use tones::{ToneOctets, Tones};
