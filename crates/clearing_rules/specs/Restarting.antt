@@ -61,7 +61,10 @@ IsOnLine (Interface class) = Unit {0}
 
 -- ---- the acknowledgement
 
--- RESTART ACKNOWLEDGE: with what was asked for (5.5.2), towards the side that chose the call reference
+-- RESTART ACKNOWLEDGE: towards the side that chose the call reference, with what was asked for (5.5.2)
+abbrev pub acknowledge : OutgoingMessage
+acknowledge = bare true global_call_reference kind.RestartAcknowledge
+
 abbrev pub acknowledgement : Restart → OutgoingMessage
-acknowledgement (Channel place) = record (bare true global_call_reference kind.RestartAcknowledge) { channel = Some (channel_at place); restart = Some indicated_channels }
-acknowledgement (Interface class) = record (bare true global_call_reference kind.RestartAcknowledge) { restart = Some class }
+acknowledgement (Channel place) = record acknowledge { channel = Some (channel_at place); restart = Some indicated_channels }
+acknowledgement (Interface class) = record acknowledge { restart = Some class }

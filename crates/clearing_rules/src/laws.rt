@@ -1,5 +1,5 @@
 // Laws about the definitions alone: these functions do nothing, and their contracts are the laws.
-ghost use Rattle.std.specs.Prelude.{◌≡◌, ◌<◌, ◌^◌, [], ◌∷◌, Some, None, IfSome};
+ghost use Rattle.std.specs.Prelude.{◌≡◌, ◌<◌, ◌^◌, Some, None, IfSome};
 ghost use Rattle.q931_codec.specs.declared.message.Message.{Message};
 ghost use Rattle.q931_codec.specs.Outgoing.{IsWritable};
 ghost use Rattle.q931_codec.specs.RestartClasses.{single_interface, all_interfaces};
@@ -8,6 +8,7 @@ ghost use Rattle.clearing_rules.specs.declared.scope.Restart.TheVariants.{Channe
 ghost use Rattle.clearing_rules.specs.Restarting.{acknowledgement, global_call_reference, IsOnLine};
 ghost use Rattle.clearing_rules.specs.UnknownReference.{answer_without_call};
 ghost use Rattle.clearing_rules.specs.Worked.{answer_to_octets, restart_in_octets, acknowledgement_of_octets};
+ghost use Rattle.clearing_rules.specs.Worked as worked;
 
 use crate::restart_message::GLOBAL_CALL_REFERENCE;
 
@@ -23,36 +24,32 @@ pub fn law_of_global_reference()
     ensures { GLOBAL_CALL_REFERENCE ≡ global_call_reference }
 {}
 
-/// Messages on a call reference that names no call, and the octets that answer them: STATUS ENQUIRY of
-/// either flag, DISCONNECT, RELEASE, RESTART on a reference of its own, an unknown type, and RELEASE
-/// COMPLETE, STATUS and SETUP, which nothing answers.
+/// What answers messages on call references that name no call, from octets to octets.
 pub fn worked_answers()
-    ensures enquiry { answer_to_octets (0x08 ∷ 0x02 ∷ 0x00 ∷ 0x01 ∷ 0x75 ∷ []) ≡ Some (0x08 ∷ 0x02 ∷ 0x80 ∷ 0x01 ∷ 0x7D ∷ 0x08 ∷ 0x02 ∷ 0x82 ∷ 0x9E ∷ 0x14 ∷ 0x01 ∷ 0x00 ∷ []) }
-    ensures enquiry_back { answer_to_octets (0x08 ∷ 0x02 ∷ 0x81 ∷ 0x07 ∷ 0x75 ∷ []) ≡ Some (0x08 ∷ 0x02 ∷ 0x01 ∷ 0x07 ∷ 0x7D ∷ 0x08 ∷ 0x02 ∷ 0x82 ∷ 0x9E ∷ 0x14 ∷ 0x01 ∷ 0x00 ∷ []) }
-    ensures disconnect { answer_to_octets (0x08 ∷ 0x02 ∷ 0x00 ∷ 0x01 ∷ 0x45 ∷ []) ≡ Some (0x08 ∷ 0x02 ∷ 0x80 ∷ 0x01 ∷ 0x5A ∷ 0x08 ∷ 0x02 ∷ 0x82 ∷ 0xD1 ∷ []) }
-    ensures release { answer_to_octets (0x08 ∷ 0x02 ∷ 0x80 ∷ 0x01 ∷ 0x4D ∷ []) ≡ Some (0x08 ∷ 0x02 ∷ 0x00 ∷ 0x01 ∷ 0x5A ∷ 0x08 ∷ 0x02 ∷ 0x82 ∷ 0xD1 ∷ []) }
-    ensures restart { answer_to_octets (0x08 ∷ 0x02 ∷ 0x00 ∷ 0x01 ∷ 0x46 ∷ 0x79 ∷ 0x01 ∷ 0x86 ∷ []) ≡ Some (0x08 ∷ 0x02 ∷ 0x80 ∷ 0x01 ∷ 0x5A ∷ 0x08 ∷ 0x02 ∷ 0x82 ∷ 0xD1 ∷ []) }
-    ensures unknown { answer_to_octets (0x08 ∷ 0x02 ∷ 0x00 ∷ 0x01 ∷ 0x3F ∷ []) ≡ Some (0x08 ∷ 0x02 ∷ 0x80 ∷ 0x01 ∷ 0x5A ∷ 0x08 ∷ 0x02 ∷ 0x82 ∷ 0xD1 ∷ []) }
-    ensures release_complete { answer_to_octets (0x08 ∷ 0x02 ∷ 0x00 ∷ 0x01 ∷ 0x5A ∷ []) ≡ None }
-    ensures status { answer_to_octets (0x08 ∷ 0x02 ∷ 0x00 ∷ 0x01 ∷ 0x7D ∷ 0x14 ∷ 0x01 ∷ 0x0A ∷ []) ≡ None }
-    ensures setup { answer_to_octets (0x08 ∷ 0x02 ∷ 0x80 ∷ 0x01 ∷ 0x05 ∷ []) ≡ None }
+    ensures enquiry { answer_to_octets worked.enquiry ≡ Some worked.no_call }
+    ensures enquiry_from_called { answer_to_octets worked.enquiry_from_called ≡ Some worked.no_call_to_called }
+    ensures disconnect { answer_to_octets worked.disconnect ≡ Some worked.no_such_reference }
+    ensures release { answer_to_octets worked.release_from_called ≡ Some worked.no_such_reference_to_called }
+    ensures restart { answer_to_octets worked.restart_on_a_call ≡ Some worked.no_such_reference }
+    ensures unknown { answer_to_octets worked.unknown_type ≡ Some worked.no_such_reference }
+    ensures release_complete { answer_to_octets worked.release_complete ≡ None }
+    ensures status { answer_to_octets worked.status ≡ None }
+    ensures setup { answer_to_octets worked.setup_from_called ≡ None }
 {}
 
-/// RESTARTs, what they ask for, and the octets that acknowledge it: of an interface, of all, and of
-/// channels 1, 17 and 31. Nothing is restarted by "any channel", by channel 16, without an indicator, with
-/// flag 1, on another call reference, and by a RESTART ACKNOWLEDGE.
+/// What octets ask to be restarted, and the octets that acknowledge it.
 pub fn worked_restarts()
-    ensures interface { restart_in_octets (0x08 ∷ 0x02 ∷ 0x00 ∷ 0x00 ∷ 0x46 ∷ 0x79 ∷ 0x01 ∷ 0x86 ∷ []) ≡ Some (Interface single_interface) }
-    ensures all { restart_in_octets (0x08 ∷ 0x02 ∷ 0x00 ∷ 0x00 ∷ 0x46 ∷ 0x18 ∷ 0x01 ∷ 0xA3 ∷ 0x79 ∷ 0x01 ∷ 0x87 ∷ []) ≡ Some (Interface all_interfaces) }
-    ensures first { restart_in_octets (0x08 ∷ 0x02 ∷ 0x00 ∷ 0x00 ∷ 0x46 ∷ 0x18 ∷ 0x03 ∷ 0xA9 ∷ 0x83 ∷ 0x81 ∷ 0x79 ∷ 0x01 ∷ 0x80 ∷ []) ≡ Some (Channel 0) }
-    ensures after_signalling { restart_in_octets (0x08 ∷ 0x02 ∷ 0x00 ∷ 0x00 ∷ 0x46 ∷ 0x18 ∷ 0x03 ∷ 0xA9 ∷ 0x83 ∷ 0x91 ∷ 0x79 ∷ 0x01 ∷ 0x80 ∷ []) ≡ Some (Channel 15) }
-    ensures preferred { restart_in_octets (0x08 ∷ 0x02 ∷ 0x00 ∷ 0x00 ∷ 0x46 ∷ 0x18 ∷ 0x03 ∷ 0xA1 ∷ 0x83 ∷ 0x9F ∷ 0x79 ∷ 0x01 ∷ 0x80 ∷ []) ≡ Some (Channel 29) }
-    ensures any { restart_in_octets (0x08 ∷ 0x02 ∷ 0x00 ∷ 0x00 ∷ 0x46 ∷ 0x18 ∷ 0x01 ∷ 0xA3 ∷ 0x79 ∷ 0x01 ∷ 0x80 ∷ []) ≡ None }
-    ensures signalling { restart_in_octets (0x08 ∷ 0x02 ∷ 0x00 ∷ 0x00 ∷ 0x46 ∷ 0x18 ∷ 0x03 ∷ 0xA9 ∷ 0x83 ∷ 0x90 ∷ 0x79 ∷ 0x01 ∷ 0x80 ∷ []) ≡ None }
-    ensures no_indicator { restart_in_octets (0x08 ∷ 0x02 ∷ 0x00 ∷ 0x00 ∷ 0x46 ∷ 0x18 ∷ 0x03 ∷ 0xA9 ∷ 0x83 ∷ 0x81 ∷ []) ≡ None }
-    ensures flag { restart_in_octets (0x08 ∷ 0x02 ∷ 0x80 ∷ 0x00 ∷ 0x46 ∷ 0x79 ∷ 0x01 ∷ 0x86 ∷ []) ≡ None }
-    ensures reference { restart_in_octets (0x08 ∷ 0x02 ∷ 0x00 ∷ 0x01 ∷ 0x46 ∷ 0x79 ∷ 0x01 ∷ 0x86 ∷ []) ≡ None }
-    ensures acknowledge { restart_in_octets (0x08 ∷ 0x02 ∷ 0x00 ∷ 0x00 ∷ 0x4E ∷ 0x79 ∷ 0x01 ∷ 0x86 ∷ []) ≡ None }
-    ensures interface_acknowledged { acknowledgement_of_octets (0x08 ∷ 0x02 ∷ 0x00 ∷ 0x00 ∷ 0x46 ∷ 0x79 ∷ 0x01 ∷ 0x86 ∷ []) ≡ Some (0x08 ∷ 0x02 ∷ 0x80 ∷ 0x00 ∷ 0x4E ∷ 0x79 ∷ 0x01 ∷ 0x86 ∷ []) }
-    ensures channel_acknowledged { acknowledgement_of_octets (0x08 ∷ 0x02 ∷ 0x00 ∷ 0x00 ∷ 0x46 ∷ 0x18 ∷ 0x03 ∷ 0xA9 ∷ 0x83 ∷ 0x81 ∷ 0x79 ∷ 0x01 ∷ 0x80 ∷ []) ≡ Some (0x08 ∷ 0x02 ∷ 0x80 ∷ 0x00 ∷ 0x4E ∷ 0x18 ∷ 0x03 ∷ 0xA9 ∷ 0x83 ∷ 0x81 ∷ 0x79 ∷ 0x01 ∷ 0x80 ∷ []) }
+    ensures interface { restart_in_octets worked.restart_interface ≡ Some (Interface single_interface) }
+    ensures all { restart_in_octets worked.restart_all ≡ Some (Interface all_interfaces) }
+    ensures first { restart_in_octets worked.restart_1 ≡ Some (Channel 0) }
+    ensures after_signalling { restart_in_octets worked.restart_17 ≡ Some (Channel 15) }
+    ensures preferred { restart_in_octets worked.restart_31 ≡ Some (Channel 29) }
+    ensures any { restart_in_octets worked.restart_any ≡ None }
+    ensures signalling { restart_in_octets worked.restart_16 ≡ None }
+    ensures no_indicator { restart_in_octets worked.restart_nothing ≡ None }
+    ensures flag { restart_in_octets worked.restart_from_called ≡ None }
+    ensures reference { restart_in_octets worked.restart_on_a_call ≡ None }
+    ensures acknowledge { restart_in_octets worked.restart_acknowledge ≡ None }
+    ensures interface_acknowledged { acknowledgement_of_octets worked.restart_interface ≡ Some worked.interface_acknowledged }
+    ensures channel_acknowledged { acknowledgement_of_octets worked.restart_1 ≡ Some worked.channel_1_acknowledged }
 {}

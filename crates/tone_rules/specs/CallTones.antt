@@ -1,5 +1,5 @@
 -- Which tone a user hears while a call is set up or cleared (ITU-T Q.931 (05/98), 5.3.4.1 and 5.4). Which states have a tone is this
--- exchange's own choice; ITU-T E.180 names ringing tone and busy tone.
+-- exchange's own choice; ITU-T E.180/Q.35 names ringing tone and busy tone.
 use Rattle.std.specs.Prelude.{ℕ, ◌==◌, ◌&&◌, Bool, nat_lt, length, Option, Some, None, option_and_then, if◌then◌else◌}
 use Rattle.circuit_model.specs.declared.circuit.Kind.{Kind}
 use Rattle.circuit_model.specs.declared.circuit.Kind.TheVariants.{Ringback, Busy}
