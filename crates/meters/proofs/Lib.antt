@@ -1,0 +1,4 @@
+pub mod Zips
+mod Registering
+mod Rings
+mod Appending
