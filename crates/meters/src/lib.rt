@@ -6,6 +6,8 @@
 
 mod call_detail;
 mod holding_time;
+#[cfg(test)]
+mod keeper;
 mod laws;
 mod meter;
 mod peg_count;
@@ -16,7 +18,7 @@ mod texts;
 
 pub use call_detail::CallDetail;
 pub use holding_time::HoldingTime;
-pub use laws::law_of_texts;
+pub use laws::{law_of_texts, worked_texts};
 pub use meter::Meter;
 pub use peg_count::PegCount;
 pub use summaries::append_summaries;
