@@ -1,5 +1,5 @@
 -- Meters that are told of calls, one list after the other.
-use Rattle.std.proofs.Common.{◌≡◌, ℕ, List, [], ◌∷◌, ◌++◌, refl, sym, ap, ◌∙◌, subst}
+use Rattle.std.proofs.Common.{◌≡◌, ℕ, List, [], ◌++◌, refl, sym, ap, ◌∙◌, subst}
 use Rattle.std.proofs.lemmas.List.{append_assoc, append-nil}
 use Rattle.exchange_core.specs.declared.record.CallRecord.{CallRecord}
 use Rattle.meters.specs.Telling.{IsTold, IsToldFront}

@@ -20,11 +20,14 @@ abbrev pub party_text : Party → List ℕ
 party_text (Line at) = slot_text at
 party_text (Room number) = codes "room " ++ decimal number
 
+-- a number behind a blank
+abbrev pub figure : ℕ → List ℕ
+figure number = codes " " ++ decimal number
+
 -- the line of a call: who called whom, the first frame, the one in which its clearing began, and the cause value
 abbrev pub call_line : CallRecord → List ℕ
 call_line call =
-    codes "call " ++ slot_text call.caller ++ codes " " ++ party_text call.called ++ codes " " ++ decimal call.from
-    ++ codes " " ++ decimal call.to ++ codes " " ++ decimal call.cause ++ codes "\n"
+    codes "call " ++ slot_text call.caller ++ codes " " ++ party_text call.called ++ figure call.from ++ figure call.to ++ figure call.cause ++ codes "\n"
 
 abbrev pub call_lines : List CallRecord → List ℕ
 call_lines [] = []

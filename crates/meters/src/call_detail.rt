@@ -71,7 +71,7 @@ impl Meter for CallDetail {
     /// Appends the text of the calls that the meter stands for.
     fn summary(&self, out: &mut Vec<u8>) -> Result<(), AllocError>
         ensures text { OnOk result (out.new.items ≡ out.old.items ++ detail_text_with self.now []) }
-        ensures calls { OnOk result ((calls : List CallRecord) → IsRingOf calls self.now → out.new.items ≡ out.old.items ++ detail_text self.now.keep calls) }
+        ensures calls { OnOk result ((told : _) → IsRingOf told self.now → out.new.items ≡ out.old.items ++ detail_text self.now.keep told) }
         ensures kept { OnErr result (out.new.items ≡ out.old.items) }
     {
         let start = out.len();

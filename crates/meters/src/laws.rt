@@ -7,9 +7,9 @@ ghost use Rattle.meters.specs.Registers.{Pegs, Held, register_value, ArePegsOf, 
 /// The law of texts: what a meter that stands for some calls would say once it is told some more is
 /// the text over them all. So what it says now is the text over the calls that it stands for.
 pub fn law_of_texts()
-    ensures detail { (ring : Ring) (calls more : List CallRecord) → IsRingOf calls ring → detail_text_with ring more ≡ detail_text ring.keep (calls ++ more) }
-    ensures pegs { (pegs : Pegs) (calls more : List CallRecord) → ArePegsOf calls pegs → peg_text_with pegs more ≡ peg_text (calls ++ more) }
-    ensures holding { (held : Held) (calls more : List CallRecord) → IsHeldBy calls held → holding_text_with held more ≡ holding_text (calls ++ more) }
+    ensures detail { (ring : Ring) (calls more : _) → IsRingOf calls ring → detail_text_with ring more ≡ detail_text ring.keep (calls ++ more) }
+    ensures pegs { (pegs : Pegs) (calls more : _) → ArePegsOf calls pegs → peg_text_with pegs more ≡ peg_text (calls ++ more) }
+    ensures holding { (held : Held) (calls more : _) → IsHeldBy calls held → holding_text_with held more ≡ holding_text (calls ++ more) }
 {}
 
 /// Three calls, and what the definitions make of them.
@@ -20,5 +20,4 @@ pub fn worked_texts()
     ensures holding { holding_text three_calls ≡ codes "holding 4008 4000\n" }
     ensures none { (detail_text 3 [] ≡ []) × (peg_text [] ≡ codes "peg 0 0\n") × (holding_text [] ≡ codes "holding 0 0\n") }
     ensures full { register_value (2 ^ 64 + 5) ≡ 18446744073709551615 }
-{
-}
+{}

@@ -3,7 +3,7 @@ use crate::keeper::Keeper;
 use crate::{CallDetail, HoldingTime, Meter, PegCount, append_summaries};
 use circuit_model::Slot;
 use exchange_core::{CallRecord, Party};
-use std::alloc::{AllocError, Global};
+use std::alloc::AllocError;
 use std::test::Fail;
 
 // An answered call between slots, one to a room that lasted longer, and one that wasn't answered
@@ -47,16 +47,6 @@ const OF_NONE: &str = "peg 0 0\nholding 0 0\n";
 const OF_THREE: &str =
     "call 31/15 room 63 100 4100 102\ncall 7/17 0/2 9 8 17\npeg 3 2\nholding 4008 4000\nAAN";
 
-// A ring of two, the registers and the keeper.
-fn meters(alloc: Global) -> Result<Vec<Box<dyn Meter>>, AllocError> {
-    let mut meters: Vec<Box<dyn Meter>> = Vec::new(alloc);
-    meters.push(Box::new(alloc, CallDetail::new(alloc, 2)?)?)?;
-    meters.push(Box::new(alloc, PegCount::new())?)?;
-    meters.push(Box::new(alloc, HoldingTime::new())?)?;
-    meters.push(Box::new(alloc, Keeper::new(alloc))?)?;
-    Ok(meters)
-}
-
 fn note_to_each(meters: &mut [Box<dyn Meter>], call: &CallRecord) -> Result<(), AllocError> {
     for meter in meters.iter_mut() {
         meter.note(call)?;
@@ -67,7 +57,11 @@ fn note_to_each(meters: &mut [Box<dyn Meter>], call: &CallRecord) -> Result<(), 
 #[test]
 fn meters_say_what_they_were_told(rt: HostRuntime) -> Result<(), Fail> {
     let alloc = rt.alloc();
-    let mut meters = meters(alloc)?;
+    let mut meters: Vec<Box<dyn Meter>> = Vec::new(alloc);
+    meters.push(Box::new(alloc, CallDetail::new(alloc, 2)?)?)?;
+    meters.push(Box::new(alloc, PegCount::new())?)?;
+    meters.push(Box::new(alloc, HoldingTime::new())?)?;
+    meters.push(Box::new(alloc, Keeper::new(alloc))?)?;
     let mut out = vec![in alloc; b'>']?;
     append_summaries(&meters, &mut out)?;
     for call in &CALLS {

@@ -1,7 +1,7 @@
 // The pieces of the meters' texts. Each leaves a front of what it appends where memory is wanting.
 ghost use Rattle.std.specs.Prelude.{◌≡◌, ◌++◌, length, take, codes, decimal, OnOk};
 ghost use Rattle.circuit_model.specs.Channels.{channel_at};
-ghost use Rattle.meters.specs.Details.{slot_text, party_text, call_line};
+ghost use Rattle.meters.specs.Details.{slot_text, party_text, figure, call_line};
 
 use circuit_model::{PLACES, Slot, channel_of};
 use exchange_core::{CallRecord, Party};
@@ -54,7 +54,7 @@ fn put_called(out: &mut Vec<u8>, called: Party) -> Result<(), AllocError>
 
 // The frames and the cause of a call, each behind a blank, and the end of the line.
 fn put_figures(out: &mut Vec<u8>, from: u32, to: u32, cause: u8) -> Result<(), AllocError>
-    ensures figures { OnOk result (out.new.items ≡ out.old.items ++ (codes " " ++ decimal from) ++ (codes " " ++ decimal to) ++ (codes " " ++ decimal cause) ++ codes "\n") }
+    ensures figures { OnOk result (out.new.items ≡ out.old.items ++ figure from ++ figure to ++ figure cause ++ codes "\n") }
     ensures front { take (length out.old.items) out.new.items ≡ out.old.items }
 {
     put_figure(out, u64::from(from))?;
@@ -65,7 +65,7 @@ fn put_figures(out: &mut Vec<u8>, from: u32, to: u32, cause: u8) -> Result<(), A
 
 // A number behind a blank.
 fn put_figure(out: &mut Vec<u8>, number: u64) -> Result<(), AllocError>
-    ensures figure { OnOk result (out.new.items ≡ out.old.items ++ codes " " ++ decimal number) }
+    ensures figure { OnOk result (out.new.items ≡ out.old.items ++ figure number) }
     ensures front { take (length out.old.items) out.new.items ≡ out.old.items }
 {
     out.extend_from_slice(b" ")?;

@@ -1,4 +1,4 @@
-use Rattle.std.proofs.Common.{rules, ◌∙◌, ap, ◌++◌, [], ◌∷◌}
+use Rattle.std.proofs.Common.{◌∙◌, ap, ◌++◌, [], ◌∷◌}
 use Rattle.meters.proofs.Rings.{detail_more}
 use Rattle.meters.proofs.call_detail.CallDetailMeter.note.Goals as goal
 
