@@ -1,0 +1,5 @@
+pub mod Calls
+pub mod Draws
+pub mod Lines
+pub mod Messages
+pub mod Traffic
