@@ -42,6 +42,10 @@ abbrev pub message_from : Callee → List ℕ → List Line
 message_from (callee.Line line) octets = message_of line octets
 message_from callee.Room octets = []
 
+-- what the caller clears a call with
+abbrev pub clearing_of : ℕ → List Line
+clearing_of caller = message_of caller disconnect ++ message_of caller release_complete
+
 -- the line that speaks beside the caller's, where there is one: nobody else does where a line calls itself
 abbrev pub far_line : ℕ → Callee → Option ℕ
 far_line caller (callee.Line line) = if line == caller then None else Some line
@@ -76,8 +80,7 @@ call_lines call state =
     message_of call.caller (setup (number_of call.callee))
     ++ message_from call.callee connect
     ++ segment (frames_drawn call.caller (far_line call.caller call.callee) call.frames state)
-    ++ message_of call.caller disconnect
-    ++ message_of call.caller release_complete
+    ++ clearing_of call.caller
     ++ message_from call.callee release
 
 abbrev pub state_after_call : Call → ℕ → ℕ

@@ -48,5 +48,5 @@ line_text (Frame parts) = codes "F" ++ flat_map part_text parts
 line_text Sync = codes "sync"
 
 -- lines, each ended by a line feed
-abbrev pub text : List Line → List ℕ
+unfoldable pub text : List Line → List ℕ
 text lines = flat_map (λ line. line_text line ++ codes "\n") lines

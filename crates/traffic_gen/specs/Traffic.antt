@@ -6,13 +6,16 @@ use Rattle.traffic_gen.specs.Lines.{Line, Header, ToLine, ToRoom, Nail, text}
 use Rattle.traffic_gen.specs.Calls.{calls_drawn, number_of, segment}
 use Rattle.traffic_gen.specs.declared.callee.Callee.TheVariants as callee
 
--- the number of a line
+-- the numbers of a line, and of the conference room 0
 abbrev pub number_line : ℕ → Line
 number_line line = ToLine (number_of (callee.Line line)) line
 
+abbrev pub room_line : Line
+room_line = ToRoom (number_of callee.Room) 0
+
 -- eight external lines, one bridge line, four call processors; a number for each line, and one for the room
 unfoldable pub header : List Line
-header = Header 8 1 4 ∷ map number_line (range_with_len 0 8) ++ ToRoom (number_of callee.Room) 0 ∷ []
+header = Header 8 1 4 ∷ map number_line (range_with_len 0 8) ++ room_line ∷ []
 
 -- a line at a place is nailed to one of the lines 4 to 7, another one at the next place
 abbrev pub nail_line : ℕ → ℕ → Line

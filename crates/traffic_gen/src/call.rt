@@ -1,8 +1,7 @@
 ghost use Rattle.std.specs.Prelude.{◌≡◌, [], ◌∷◌, ◌++◌, OnOk};
-ghost use Rattle.traffic_gen.specs.Calls.{IsCallee, call_drawn, call_lines, far_line, frame_drawn, frames_drawn, message_of, segment, state_after_call, state_after_frame};
+ghost use Rattle.traffic_gen.specs.Calls.{IsCallee, call_drawn, call_lines, clearing_of, far_line, frame_drawn, frames_drawn, segment, state_after_call, state_after_frame};
 ghost use Rattle.traffic_gen.specs.Draws.{state_after};
 ghost use Rattle.traffic_gen.specs.Lines.{text};
-ghost use Rattle.traffic_gen.specs.Messages.{disconnect, release_complete};
 
 use crate::callee::Callee;
 use crate::draws::Draws;
@@ -49,7 +48,7 @@ impl Call {
 
     // Appends what the caller clears the call with.
     fn put_clearing(&self, out: &mut Vec<u8>) -> Result<(), AllocError>
-        ensures { OnOk result (out.new.items ≡ out.old.items ++ text (message_of self.now.caller disconnect ++ message_of self.now.caller release_complete)) }
+        ensures { OnOk result (out.new.items ≡ out.old.items ++ text (clearing_of self.now.caller)) }
     {
         put_message(out, self.caller, b"080200014508028090")?;
         put_message(out, self.caller, b"080200015A")
@@ -79,6 +78,7 @@ impl Call {
 }
 
 // Appends a frame, in which the caller's line speaks, and the far one where there is one.
+#[tactic(auto, unfolding(crate::specs::Lines::text))]
 fn put_frame(
     out: &mut Vec<u8>,
     caller: u8,

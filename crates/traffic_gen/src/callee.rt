@@ -37,11 +37,14 @@ impl Callee {
         ensures { result ≡ encode_upper (setup (number_of self)) }
     {
         let mut digits = SETUP;
-        if let Callee::Line(line) = self {
-            digits[27] = b'2';
-            digits[29] = b'0' + line;
+        match self {
+            Callee::Line(line) => {
+                digits[27] = b'2';
+                digits[29] = b'0' + line;
+                digits
+            }
+            Callee::Room => digits,
         }
-        digits
     }
 
     /// Appends its CONNECT, where it is a line.

@@ -1,5 +1,6 @@
-ghost use Rattle.std.specs.Prelude.{◌≡◌, ◌<◌, [], ◌∷◌, ◌++◌, codes, decimal, slice_index, OnOk};
+ghost use Rattle.std.specs.Prelude.{◌≡◌, ◌<◌, ℕ, List, [], ◌∷◌, ◌++◌, decimal, slice_index, OnOk};
 ghost use Rattle.hex.specs.Hex.{encode_upper, upper_digits};
+ghost use Rattle.traffic_gen.specs.Calls.{message_of};
 ghost use Rattle.traffic_gen.specs.Lines.{Part, part_text, channel_at, slot_text, text};
 ghost use Rattle.traffic_gen.specs.Lines.{Message, Nail, Sync};
 
@@ -7,8 +8,9 @@ use itoa::Buffer;
 use std::alloc::AllocError;
 
 /// Appends a message that arrives on a line, given by its hexadecimal digits, as a segment.
+#[tactic(auto, unfolding(crate::specs::Lines::text))]
 pub fn put_message(out: &mut Vec<u8>, line: u8, digits: &[u8]) -> Result<(), AllocError>
-    ensures { OnOk result (out.new.items ≡ out.old.items ++ codes "M " ++ decimal line ++ codes " " ++ digits.now ++ codes "\nsync\n") }
+    ensures { (octets : List ℕ) → digits.now ≡ encode_upper octets → OnOk result (out.new.items ≡ out.old.items ++ text (message_of line octets)) }
 {
     out.extend_from_slice(b"M ")?;
     put_number(out, line)?;
@@ -18,6 +20,7 @@ pub fn put_message(out: &mut Vec<u8>, line: u8, digits: &[u8]) -> Result<(), All
 }
 
 /// Appends the end of a segment.
+#[tactic(auto, unfolding(crate::specs::Lines::text))]
 pub fn put_sync(out: &mut Vec<u8>) -> Result<(), AllocError>
     ensures { OnOk result (out.new.items ≡ out.old.items ++ text (Sync ∷ [])) }
 {
@@ -35,6 +38,7 @@ pub fn put_part(out: &mut Vec<u8>, line: u8, octets: &[u8; 30]) -> Result<(), Al
 }
 
 /// Appends a line that nails two slots at one place.
+#[tactic(auto, unfolding(crate::specs::Lines::text))]
 pub fn put_nail(out: &mut Vec<u8>, one: u8, other: u8, place: u8) -> Result<(), AllocError>
     requires { place < 30 }
     ensures { OnOk result (out.new.items ≡ out.old.items ++ text (Nail one other place ∷ [])) }

@@ -1,7 +1,7 @@
 ghost use Rattle.std.specs.Prelude.{◌≡◌, ◌<◌, ◌≤◌, [], ◌∷◌, ◌++◌, OnOk, IfOk};
 ghost use Rattle.traffic_gen.specs.Calls.{calls_drawn, number_of, segment};
-ghost use Rattle.traffic_gen.specs.Lines.{text};
-ghost use Rattle.traffic_gen.specs.Traffic.{header, nails, nails_at, number_line, traffic};
+ghost use Rattle.traffic_gen.specs.Lines.{Header, text};
+ghost use Rattle.traffic_gen.specs.Traffic.{header, nails, nails_at, number_line, room_line, traffic};
 
 use crate::call::Call;
 use crate::draws::Draws;
@@ -9,10 +9,10 @@ use crate::lines::{put_nail, put_number, put_sync};
 use std::alloc::{AllocError, Global};
 
 // Room for the lines before the first call, and for those of a call, in octets: a call of three
-// frames in which two lines speak takes 502.
-const ROOM_BEFORE: usize = 2048;
+// frames in which two lines speak takes 517.
+const ROOM_BEFORE: usize = 1500;
 
-const ROOM_OF_A_CALL: usize = 512;
+const ROOM_OF_A_CALL: usize = 520;
 
 /// The trace of a seed with so many calls, 1 to 2000, as octets: lines, each ended by a line feed.
 ///
@@ -41,14 +41,28 @@ pub fn generate(alloc: Global, seed: u64, calls: u32) -> Result<Vec<u8>, AllocEr
 fn put_header(out: &mut Vec<u8>) -> Result<(), AllocError>
     ensures { OnOk result (out.new.items ≡ out.old.items ++ text header) }
 {
-    out.extend_from_slice(b"exchange 1 8 1 4\n")?;
+    put_sizes(out)?;
     for line in 0..8 {
         put_number_line(out, line)?;
     }
+    put_room_line(out)
+}
+
+fn put_sizes(out: &mut Vec<u8>) -> Result<(), AllocError>
+    ensures { OnOk result (out.new.items ≡ out.old.items ++ text (Header 8 1 4 ∷ [])) }
+{
+    out.extend_from_slice(b"exchange 1 8 1 4\n")
+}
+
+// The number of the conference room.
+fn put_room_line(out: &mut Vec<u8>) -> Result<(), AllocError>
+    ensures { OnOk result (out.new.items ≡ out.old.items ++ text (room_line ∷ [])) }
+{
     out.extend_from_slice(b"number 30 room 0\n")
 }
 
 // The number of a line.
+#[tactic(auto, unfolding(crate::specs::Lines::text))]
 fn put_number_line(out: &mut Vec<u8>, line: u8) -> Result<(), AllocError>
     ensures { OnOk result (out.new.items ≡ out.old.items ++ text (number_line line ∷ [])) }
 {
