@@ -1,5 +1,5 @@
 -- Octets that are drawn one by one.
-use Rattle.std.proofs.Common.{◌≡◌, ℕ, zero, suc, ◌+◌, ◌-◌, ◌<◌, ◌≤◌, List, [], ◌∷◌, ◌++◌, length, take, slice_set, refl, ap, sym, ◌∙◌, arith}
+use Rattle.std.proofs.Common.{◌≡◌, ℕ, zero, suc, ◌+◌, ◌-◌, ◌<◌, ◌≤◌, List, ◌∷◌, ◌++◌, length, take, slice_set, refl, arith}
 use Rattle.std.proofs.lemmas.List.{append_assoc, append-nil, take_all, take_more_set}
 use Rattle.traffic_gen.specs.Draws.{drawn, next_state, octets_drawn, state_after}
 

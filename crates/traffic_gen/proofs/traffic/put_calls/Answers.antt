@@ -1,4 +1,4 @@
-use Rattle.std.proofs.Common.{◌≡◌, ◌+◌, ◌-◌, arith, ap, ◌∙◌}
+use Rattle.std.proofs.Common.{◌≡◌, ◌+◌, ◌-◌, arith, ◌∙◌}
 use Rattle.traffic_gen.proofs.Texts.{calls_end, calls_step}
 use Rattle.traffic_gen.proofs.traffic.put_calls.Goals as goal
 

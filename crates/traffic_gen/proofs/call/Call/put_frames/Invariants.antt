@@ -1,5 +1,5 @@
 use Rattle.std.proofs.Common.{◌≡◌, ◌-◌, ◌++◌}
-use Rattle.traffic_gen.specs.Calls.{far_line, frames_drawn, state_after_frames}
+use Rattle.traffic_gen.specs.Calls.{frames_drawn, state_after_frames}
 use Rattle.traffic_gen.specs.Lines.{text}
 use Rattle.traffic_gen.proofs.call.Call.put_frames.Given as goal
 

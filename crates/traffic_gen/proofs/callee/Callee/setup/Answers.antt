@@ -1,6 +1,4 @@
 use Rattle.traffic_gen.proofs.Digits.{setup_of_line, setup_of_room}
-use Rattle.traffic_gen.specs.Calls.{IsCallee}
-use Rattle.std.proofs.Common.{subst}
 use Rattle.traffic_gen.proofs.callee.Callee.setup.Goals as goal
 
 pub returns-in-Line : goal.returns-in-Line
