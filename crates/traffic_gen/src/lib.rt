@@ -5,7 +5,10 @@
 mod call;
 mod callee;
 mod draws;
+pub mod laws;
 mod lines;
+#[cfg(test)]
+mod tests;
 mod traffic;
 
 pub use traffic::generate;
