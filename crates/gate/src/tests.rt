@@ -1,6 +1,7 @@
 // What a gate says it saw.
 use crate::{Gate, OpenGate, TestGate};
 use std::test::Fail;
+use std::thread::{Threads, join};
 
 // A call that a thread makes at a gate.
 #[derive(Clone, Copy, Debug)]
@@ -40,12 +41,20 @@ fn a_new_gate_has_not_passed(rt: HostRuntime) -> Result<(), Fail> {
 #[test]
 fn one_thread_alone_passes_only_where_nothing_is_held(rt: HostRuntime) -> Result<(), Fail> {
     for (calls, wanted) in [
-        // The turn was over when the crossing began, and nobody waited.
+        // The turn was over when the crossing began, and other events and frames are not held.
         (
             [
+                Call::BeforeTurn(6),
                 Call::AfterTurn(7),
                 Call::BeforeCrossing(3),
-                Call::AfterCrossing(3),
+            ],
+            true,
+        ),
+        (
+            [
+                Call::BeforeCrossing(2),
+                Call::AfterTurn(7),
+                Call::BeforeCrossing(3),
             ],
             true,
         ),
@@ -67,18 +76,18 @@ fn one_thread_alone_passes_only_where_nothing_is_held(rt: HostRuntime) -> Result
             ],
             false,
         ),
-        // Other events and frames are neither held nor counted.
+        // Other events and frames don't count.
         (
             [
-                Call::BeforeTurn(6),
-                Call::AfterTurn(7),
-                Call::BeforeCrossing(2),
+                Call::AfterTurn(8),
+                Call::BeforeTurn(8),
+                Call::BeforeCrossing(3),
             ],
             false,
         ),
         (
             [
-                Call::AfterTurn(8),
+                Call::AfterTurn(7),
                 Call::BeforeCrossing(2),
                 Call::AfterCrossing(3),
             ],
@@ -87,5 +96,28 @@ fn one_thread_alone_passes_only_where_nothing_is_held(rt: HostRuntime) -> Result
     ] {
         assert_eq!(rt; passes(&calls), wanted, "{calls:?}");
     }
+    Ok(())
+}
+
+// Two threads at one gate: a processor takes its turn at event 7 while the frame worker moves the
+// octets of frame 3.
+fn passes_side_by_side<R: Threads + Sync>(rt: &R, gate: &TestGate) -> bool {
+    join(
+        rt,
+        || {
+            gate.before_turn(0, 7);
+            gate.after_turn(0, 7);
+        },
+        || {
+            gate.before_crossing(3);
+            gate.after_crossing(3);
+        },
+    );
+    gate.passed()
+}
+
+#[test]
+fn two_threads_pass_where_they_run_at_once(rt: HostRuntime) -> Result<(), Fail> {
+    assert!(rt; passes_side_by_side(&rt, &TestGate::new(7, 3)));
     Ok(())
 }
