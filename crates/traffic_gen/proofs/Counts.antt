@@ -1,14 +1,13 @@
 -- How many lines, events and octets a generated trace has.
-use Rattle.std.proofs.Common.{◌≡◌, ℕ, zero, suc, ◌+◌, ◌*◌, ◌<◌, ◌≤◌, List, [], ◌∷◌, ◌++◌, length, length-append, map, Option, Some, None, refl, ap, sym, ◌∙◌, arith}
+use Rattle.std.proofs.Common.{◌≡◌, ℕ, zero, suc, ◌+◌, ◌*◌, ◌≤◌, List, [], ◌∷◌, ◌++◌, length, length-append, Option, Some, None, refl, arith}
 use Rattle.std.specs.Prelude.{codes}
-use Rattle.std.specs.List.{AllByRecursion, flat_map, range_with_len}
-use Rattle.std.proofs.lemmas.List.FromFn.{length-map-range_with_len}
+use Rattle.std.specs.List.{AllByRecursion, flat_map}
 use Rattle.traffic_gen.specs.Calls.{call_drawn, call_lines, calls_drawn, clearing_of, far_line, frame_drawn, frames_drawn, message_from, message_of, number_of, segment, state_after_call, state_after_frame}
 use Rattle.traffic_gen.specs.Draws.{state_after}
-use Rattle.traffic_gen.specs.Fitting.{Fits, event_count, is_event}
+use Rattle.traffic_gen.specs.Fitting.{Fits, event_count}
 use Rattle.traffic_gen.specs.Lines.{Line, Sync, line_text, text}
 use Rattle.traffic_gen.specs.Messages.{connect, disconnect, release, release_complete, setup}
-use Rattle.traffic_gen.specs.Traffic.{header, nail_line, nails, nails_at, number_line, room_line, traffic, traffic_lines}
+use Rattle.traffic_gen.specs.Traffic.{header, nails, nails_at, traffic, traffic_lines}
 use Rattle.traffic_gen.specs.declared.call.Call.{Call}
 use Rattle.traffic_gen.specs.declared.callee.Callee.{Callee}
 use Rattle.traffic_gen.specs.declared.callee.Callee.TheVariants as callee
@@ -26,9 +25,9 @@ record Counts (lines : List Line) (most events : ℕ) : Type 0 where
 
 counts-append : (xs ys : List Line) (m n e f : ℕ) → Counts xs m e → Counts ys n f → Counts (xs ++ ys) (m + n) (e + f)
 counts-append xs ys m n e f left right = record {
-    few = omega (arith, length-append xs ys, left.few, right.few);
-    fewer = omega (arith, event_count-append xs ys, left.fewer, right.fewer);
-  }
+  few = omega (arith, length-append xs ys, left.few, right.few);
+  fewer = omega (arith, event_count-append xs ys, left.fewer, right.fewer);
+}
 
 message_counts : (line : ℕ) (octets : List ℕ) → Counts (message_of line octets) 2 1
 message_counts line octets = record { few = omega arith; fewer = omega arith }

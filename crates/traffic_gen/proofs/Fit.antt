@@ -1,15 +1,14 @@
 -- Each line of a generated trace fits the exchange.
-use Rattle.std.proofs.Common.{◌≡◌, ◌≢◌, ℕ, zero, suc, ◌+◌, ◌/◌, ◌%◌, ◌^◌, ◌<◌, ◌≤◌, Bool, true, false, cond, eqb, ◌&&◌, List, [], ◌∷◌, ◌++◌, length, map, Option, Some, None, refl, ap, sym, ◌∙◌, arith}
-use Rattle.std.specs.Prelude.{decimal}
+use Rattle.std.proofs.Common.{◌≡◌, ◌≢◌, ℕ, zero, suc, ◌+◌, ◌/◌, ◌^◌, ◌<◌, ◌≤◌, Bool, true, false, cond, eqb, List, [], ◌∷◌, ◌++◌, length, map, Option, Some, None, refl, ap, arith}
 use Rattle.std.specs.List.{AllByRecursion, flat_map, list_all, range_with_len}
-use Rattle.std.proofs.lemmas.Bool.{cases_eq, lt-ltb, le-ltb}
+use Rattle.std.proofs.lemmas.Bool.{lt-ltb}
 use Rattle.std.proofs.lemmas.Bool.Decides.{nat_tests}
 use Rattle.std.proofs.lemmas.Fmt.{decimal_digit}
 use Rattle.std.proofs.lemmas.Nat.{mod_below}
-use Rattle.traffic_gen.specs.Calls.{IsCallee, call_drawn, call_lines, callee_drawn, calls_drawn, clearing_of, far_line, frame_drawn, frames_drawn, message_from, message_of, number_of, part_drawn, segment, state_after_call, state_after_frame}
+use Rattle.traffic_gen.specs.Calls.{IsCallee, call_drawn, call_lines, callee_drawn, calls_drawn, clearing_of, far_line, frame_drawn, frames_drawn, message_from, message_of, number_of, part_drawn, segment, state_after_frame}
 use Rattle.traffic_gen.specs.Draws.{drawn, next_state, octets_drawn, state_after}
-use Rattle.traffic_gen.specs.Fitting.{Fits, FitsMessage, FitsNail, FitsNumber, FitsPart, is_digit, is_octet}
-use Rattle.traffic_gen.specs.Lines.{Line, Header, ToLine, ToRoom, Nail, Message, Frame, Sync}
+use Rattle.traffic_gen.specs.Fitting.{Fits, FitsPart, is_digit, is_octet}
+use Rattle.traffic_gen.specs.Lines.{Sync}
 use Rattle.traffic_gen.specs.Messages.{connect, disconnect, release, release_complete, setup}
 use Rattle.traffic_gen.specs.Traffic.{header, nail_line, nails, nails_at, number_line, room_line, traffic_lines}
 use Rattle.traffic_gen.specs.declared.call.Call.{Call}
@@ -43,10 +42,12 @@ number_fits line within =
 
 header_fits : AllByRecursion Fits header
 unfolding header
-header_fits =
-    ((refl, refl, refl), each-append Fits (map number_line (range_with_len 0 8)) (room_line ∷ [])
-    (each_counted Fits number_line 0 8 (λ k low high. number_fits k (omega arith)))
-    ((record { each = refl; some = omega arith; most = omega arith }, refl), tt))
+header_fits = (
+  (refl, refl, refl),
+  each-append Fits (map number_line (range_with_len 0 8)) (room_line ∷ [])
+      (each_counted Fits number_line 0 8 (λ k low high. number_fits k (omega arith)))
+      ((record { each = refl; some = omega arith; most = omega arith }, refl), tt),
+)
 
 -- the nails
 nails_fit : AllByRecursion Fits nails
