@@ -84,7 +84,8 @@ static void answer(Slot x) {
     Slot y = leg(x)->other;
     leg(x)->state = leg(y)->state = ACTIVE;
     clear(y);
-    pair(" moved ", y, x);
+    put(" moved ");
+    pair(y, x);
     put_to(x, leg(x), CONNECT_ACKNOWLEDGE);
     put_to(y, leg(y), CONNECT);
 }
@@ -229,7 +230,8 @@ static void call_line(uint16_t reference, const Route *r, const Element said[SAI
 static void call_room(uint16_t reference, const Route *r) {
     Slot x = r->caller;
     add_leg(x, (Leg){ ACTIVE, 0, ROOM, reference, x });
-    sit(" moved ", x, r->to->target);
+    put(" moved ");
+    sit(x, r->to->target);
     put_to(x, leg(x), CALL_PROCEEDING);
     put_channel(x.place);
     put_to(x, leg(x), CONNECT);

@@ -24,13 +24,13 @@ static void hear(Slot x, uint32_t from) {
 }
 
 // Two slots without a circuit hear each other. Writes how many paths were moved for each way.
-static void pair(const char *word, Slot x, Slot y) {
+static void pair(Slot x, Slot y) {
     *circuit(x) = (Circuit){ PAIR, y };
     *circuit(y) = (Circuit){ PAIR, x };
     hear(x, frame_number + 2);
     hear(y, frame_number + 2);
     unsigned there = connect(x, y), back = connect(y, x);
-    put_numbers(word, there, back);
+    put_numbers(there, back);
 }
 
 static int has_port(void) {
@@ -39,8 +39,8 @@ static int has_port(void) {
     return bridges && all != ALL_SLOTS;
 }
 
-// A slot without a circuit sits in a room; a port is free.
-static void sit(const char *word, Slot x, uint8_t room) {
+// A slot without a circuit sits in a room; a port is free. Writes how many paths were moved for each way.
+static void sit(Slot x, uint8_t room) {
     unsigned b = 0;
     while (ports[b] == ALL_SLOTS) b++;
     Slot port = { external + b, __builtin_ctz(~ports[b]) };
@@ -50,7 +50,7 @@ static void sit(const char *word, Slot x, uint8_t room) {
     hear(x, frame_number + 2);
     hear(port, frame_number + 2);
     unsigned there = connect(x, port), back = connect(port, x);
-    put_numbers(word, there, back);
+    put_numbers(there, back);
 }
 
 // A slot without a circuit hears a tone from the next frame on, where the trace gives it; answers whether.
@@ -92,7 +92,8 @@ static void nail(Slot x, Slot y) {
     }
     add(taken, x);
     add(taken, y);
-    pair(" granted ", x, y);
+    put(" granted ");
+    pair(x, y);
 }
 
 static void seat(Slot x, uint8_t room) {
@@ -102,7 +103,8 @@ static void seat(Slot x, uint8_t room) {
         put(" noport");
     } else {
         add(taken, x);
-        sit(" seated ", x, room);
+        put(" seated ");
+        sit(x, room);
     }
 }
 

@@ -102,15 +102,12 @@ static void put_message(unsigned line, unsigned flag, uint16_t reference, Type t
     put(" ");
     put_number(line);
     put(":0802");
-    put_octet(flag << 7 | reference >> 8);
-    put_octet(reference);
-    put_octet(type);
+    put_few((uint8_t[]){ flag << 7 | reference >> 8, reference, type }, 3);
 }
 
 static void put_element(Code code, const uint8_t *octets, unsigned length) {
-    put_octet(code);
-    put_octet(length);
-    for (unsigned k = 0; k < length; k++) put_octet(octets[k]);
+    put_few((uint8_t[]){ code, length }, 2);
+    put_few(octets, length);
 }
 
 static void put_channel(uint8_t place) {

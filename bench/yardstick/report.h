@@ -19,7 +19,13 @@ static _Noreturn void refuse(const char *why) {
     exit(1);
 }
 
-static void put(const char *text) { while (*text) out[out_len++] = *text++; }
+// The length of the text is known where this is used, so that the compiler writes it whole.
+#define put(text) put_text(text, sizeof text - 1)
+
+static inline void put_text(const char *text, size_t length) {
+    memcpy(out + out_len, text, length);
+    out_len += length;
+}
 
 static void put_number(unsigned n) {
     char digits[10];
@@ -28,18 +34,24 @@ static void put_number(unsigned n) {
     while (len) out[out_len++] = digits[--len];
 }
 
-static void put_numbers(const char *word, unsigned a, unsigned b) {
-    put(word);
+static void put_numbers(unsigned a, unsigned b) {
     put_number(a);
     put(" ");
     put_number(b);
 }
 
-static void put_octet(uint8_t octet) {
+// The digits of a few octets.
+static inline void put_few(const uint8_t *octets, size_t length) {
     static const char digits[] = "0123456789ABCDEF";
-    out[out_len++] = digits[octet >> 4];
-    out[out_len++] = digits[octet & 15];
+    uint8_t *to = out + out_len;
+    for (size_t k = 0; k < length; k++) {
+        to[2 * k] = digits[octets[k] >> 4];
+        to[2 * k + 1] = digits[octets[k] & 15];
+    }
+    out_len += 2 * length;
 }
+
+static inline void put_octet(uint8_t octet) { put_few(&octet, 1); }
 
 // The digits of a whole row: of the idle octets behind its thirty they are written over.
 static void put_octets(const uint8_t *octets) {

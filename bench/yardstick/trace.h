@@ -100,11 +100,12 @@ static int read_octets(uint8_t *octets, const uint8_t *digits) {
     return !bad;
 }
 
+static const uint8_t one_more_than_value[256] = {
+    ['0'] = 1, 2, 3, 4, 5, 6, 7, 8, 9, 10, ['A'] = 11, 12, 13, 14, 15, 16, ['a'] = 11, 12, 13, 14, 15, 16,
+};
+
 // The value of a digit, above 15 where it is none.
-static unsigned digit_value(uint8_t c) {
-    unsigned figure = c - '0', letter = (c | 0x20) - 'a';
-    return figure < 10 ? figure : letter < 6 ? letter + 10 : 16;
-}
+static unsigned digit_value(uint8_t c) { return one_more_than_value[c] - 1u; }
 
 // The octets that a word's digits write, at most so many; answers how many they are.
 static unsigned read_hex(Word word, uint8_t *octets, size_t most) {
@@ -242,14 +243,14 @@ static void read_words(Word *words, size_t count) {
         if (count != 1) refuse("word");
     } else if (is(words[0], "F")) {
         read_frame(words, count);
-    } else if (is(words[0], "M")) {
-        read_message_line(words, count);
     } else if (is(words[0], "nail")) {
         read_command(NAIL, words, count);
     } else if (is(words[0], "seat")) {
         read_command(SEAT, words, count);
     } else if (is(words[0], "free")) {
         read_command(FREE, words, count);
+    } else if (is(words[0], "M")) {
+        read_message_line(words, count);
     } else if (is(words[0], "number")) {
         read_number(words, count);
     } else if (is(words[0], "tone")) {
