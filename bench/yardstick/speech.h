@@ -114,7 +114,7 @@ static void send(void) {
         const uint8_t *restrict from = crossed[l], *restrict by = read_from[l];
         Row heard;
         for (int k = 0; k < CELLS; k++) heard[k] = from[by[k]];
-        if (toned[l]) put_tones(l, heard);
+        if (__builtin_expect(toned[l] != 0, 0)) put_tones(l, heard); // few lines ring
         if (!memcmp(heard, idle_row, sizeof heard)) continue;
         put(" ");
         put_number(l);
