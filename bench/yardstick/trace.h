@@ -289,7 +289,9 @@ static void read_trace(void) {
     if (len > MOST_BYTES) refuse("limit");
     for (const uint8_t *p = bytes, *end = bytes + len; p < end;) {
         line_number++;
-        const uint8_t *next = !external ? NULL : *p == 'F' ? read_plain_frame(p, end) : *p == 'M' ? read_plain_message(p, end) : NULL;
+        const uint8_t *next = NULL;
+        if (external && *p == 'F') next = read_plain_frame(p, end);
+        else if (external && *p == 'M') next = read_plain_message(p, end);
         p = next ? next : read_line(p, end);
     }
     line_number++;
