@@ -1,6 +1,7 @@
 ghost use Rattle.std.specs.Prelude.{◌≡◌};
 ghost use Rattle.trace_text.specs.declared.fault.LineFault.TheVariants.{Memory, Refused};
 
+use number_plan::PlanFault;
 use std::alloc::{AllocError, AllocFailed};
 
 /// Why a line of a trace is refused: the first of its checks that fails.
@@ -83,5 +84,19 @@ impl From<Reason> for LineFault {
 
     fn from(reason: Reason) -> LineFault {
         LineFault::Refused(reason)
+    }
+}
+
+impl From<PlanFault> for LineFault {
+    ghost use Rattle.trace_text.specs.TraceDraft.{of_plan};
+
+    ghost from_gives = { λ fault e. e ≡ of_plan fault };
+
+    fn from(fault: PlanFault) -> LineFault {
+        match fault {
+            PlanFault::Prefix => LineFault::Refused(Reason::Prefix),
+            PlanFault::TooMany => LineFault::Refused(Reason::Limit),
+            PlanFault::Memory => LineFault::Memory,
+        }
     }
 }
