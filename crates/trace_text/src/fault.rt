@@ -11,7 +11,8 @@ use std::alloc::{AllocError, AllocFailed};
 pub enum Reason {
     /// The first line that is neither blank nor a comment is no header, or there is none.
     Header,
-    /// An octet that isn't printable, an unknown first word, or a wrong count of words.
+    /// An octet that isn't printable, an unknown first word, a number behind an event, a wrong count of
+    /// words, or a number that stands for neither a line nor a room.
     Word,
     /// A word that writes no line or no slot of the exchange, a line given twice in one frame, or a
     /// slot nailed to itself.
