@@ -35,7 +35,7 @@ use Rattle.exchange_core.proofs.Clears.{Kept, held_there, peers_of, disconnect_k
 
 -- ---- what is known of a leg in whose state an act was asked, and of the act's cause
 
-abbrev Asked : ℕ → Act → Type 0
+abbrev pub Asked : ℕ → Act → Type 0
 Asked state act.Nothing = Unit {0}
 Asked state act.Unexpected = Unit {0}
 Asked state act.Enquiry = Unit {0}
@@ -54,7 +54,7 @@ either : (b : Bool) (state : ℕ) (a c : Act) → Asked state a → Asked state 
 either true state a c p q = p
 either false state a c p q = q
 
-asked : (state : ℕ) (k : MessageKind) (cause : ℕ) (tells_null : Bool) → cause < 128 → Asked state (act_of state k cause tells_null)
+pub asked : (state : ℕ) (k : MessageKind) (cause : ℕ) (tells_null : Bool) → cause < 128 → Asked state (act_of state k cause tells_null)
 asked state kind.CallProceeding cause tells_null small = expected (is_among (call_present ∷ []) state) state act.Proceeding (λ among. among)
 asked state kind.Alerting cause tells_null small = expected (is_among (call_present ∷ incoming_call_proceeding ∷ []) state) state act.Alerting (λ among. among)
 asked state kind.Connect cause tells_null small = expected (is_among ringing state) state act.Answer (λ among. among)
@@ -77,15 +77,15 @@ asked state kind.RestartAcknowledge cause tells_null small = tt
 asked state kind.Information cause tells_null small = tt
 asked state (kind.Unknown octet) cause tells_null small = tt
 
-two_ring : (state : ℕ) → is_among (call_present ∷ incoming_call_proceeding ∷ []) state ≡ true → is_among ringing state ≡ true
+pub two_ring : (state : ℕ) → is_among (call_present ∷ incoming_call_proceeding ∷ []) state ≡ true → is_among ringing state ≡ true
 two_ring state among = grind (arith, common_steps, among)
 
-one_rings : (state : ℕ) → is_among (call_present ∷ []) state ≡ true → is_among ringing state ≡ true
+pub one_rings : (state : ℕ) → is_among (call_present ∷ []) state ≡ true → is_among ringing state ≡ true
 one_rings state among = grind (arith, common_steps, among)
 
 -- ---- what is done with a leg whose call has a caller
 
-with_caller : (legs : Legs) (p : Peer) (y : Slot) (other : Leg) (does : Held → List Operation) → p ≡ peer.Leg y → leg_at legs y ≡ Some other
+pub with_caller : (legs : Legs) (p : Peer) (y : Slot) (other : Leg) (does : Held → List Operation) → p ≡ peer.Leg y → leg_at legs y ≡ Some other
     → with_peer (peer_of legs p) does ≡ does (record { slot = y; leg = other })
 with_caller legs p y other does is at = rw (is, held_there legs y other at) refl
 

@@ -26,7 +26,7 @@ use Rattle.exchange_core.proofs.ForLegs.{leg_kept}
 use Rattle.exchange_core.proofs.Named.{received_stands}
 use Rattle.exchange_core.proofs.Setups.{setup_kept, new_from}
 
-octets_small : (octets : List ℕ) → All (λ octet. octet < 256) octets → (i : ℕ) → get_or octets i 0 < 256
+pub octets_small : (octets : List ℕ) → All (λ octet. octet < 256) octets → (i : ℕ) → get_or octets i 0 < 256
 octets_small octets all i = elim (cases_lt i (length octets)) [
   | inl inside ↦ all i 0 inside
   | inr beyond ↦ subst (λ n. n < 256) (sym (get_or-eq_default octets 0 beyond)) (omega arith)

@@ -10,10 +10,13 @@ pub mod Permitted
 pub mod Course
 pub mod Acts
 pub mod Setup
+pub mod Choices
 pub mod Calls
 pub mod LegStanding
 pub mod Step
 pub mod WorkedCalls
 pub mod AtWork
+pub mod EndedCalls
+pub mod Peers
 pub mod Working
 pub mod Answered

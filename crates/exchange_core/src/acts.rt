@@ -1,20 +1,34 @@
-ghost use Rattle.std.specs.Prelude.{◌≡◌, ◌<◌, ◌≤◌, ◌*◌, ℕ, [], None, Some, IfSome, length};
+ghost use Rattle.std.specs.Prelude.{◌≡◌, ◌≢◌, ◌<◌, ◌≤◌, ◌+◌, ◌*◌, ◌++◌, [], ◌∷◌, None, Some, IfSome, length};
 ghost use Rattle.circuit_model.specs.Extent.{IsExternal};
 ghost use Rattle.circuit_map.specs.Connections.{SameSizes, hears_at};
-ghost use Rattle.call_states.specs.Acts.{act_on};
-ghost use Rattle.exchange_core.specs.Acts.{course_of, peer_of};
+ghost use Rattle.q931_codec.specs.MessageType.{IsNamed};
+ghost use Rattle.q931_codec.specs.Outgoing.{encoding, outgoing_of};
+ghost use Rattle.call_states.specs.Acts.{act_on, cause_of_act};
+ghost use Rattle.call_states.specs.Status.{IsTold};
+ghost use Rattle.call_states.specs.declared.act.Act.TheVariants as asked;
+ghost use Rattle.exchange_core.specs.Acts.{course_of, peer_of, with_peer, message_to, disconnect, in_state, alerting, answer, disconnecting, releasing, removing, clear_with};
 ghost use Rattle.exchange_core.specs.AtWork.{IsAtWork};
 ghost use Rattle.exchange_core.specs.Calls.{made_by, sent_by};
 ghost use Rattle.exchange_core.specs.Legs.{leg_at};
+ghost use Rattle.exchange_core.specs.Limits.{most_sends};
+ghost use Rattle.exchange_core.specs.Operations.{Clear, Pair, Making, performed_all};
+ghost use Rattle.exchange_core.specs.Peers.{IsThere, PeerIsThere};
 ghost use Rattle.exchange_core.specs.Setup.{Setting};
-ghost use Rattle.exchange_core.specs.Standing.{Makes};
-ghost use Rattle.exchange_core.specs.World.{World};
+ghost use Rattle.exchange_core.specs.Standing.{Holds, Makes};
+ghost use Rattle.exchange_core.specs.World.{Dimensions, World};
 
 use crate::call_control::{CallControl, Sending};
 use crate::leg_table::Held;
 use crate::record::Records;
+use call_states::{Act, Leg, Peer, on_message, status, unexpected};
+use circuit_model::Slot;
 use control_memory::PathMap;
-use q931_codec::Message;
+use q931_codec::causes::RESPONSE_TO_STATUS_ENQUIRY;
+use q931_codec::states::{
+    ACTIVE, CALL_DELIVERED, CALL_RECEIVED, DISCONNECT_INDICATION, INCOMING_CALL_PROCEEDING,
+    RELEASE_REQUEST,
+};
+use q931_codec::{Message, MessageKind, Outgoing};
 
 impl<P: PathMap> CallControl<P> {
     /// Does with a leg what a message to it asks for, and answers the records of the calls that this
@@ -31,6 +45,249 @@ impl<P: PathMap> CallControl<P> {
         ensures few { IfSome out.new.moved (λ moves. (moves.0 ≤ self.old.map.bound) × (moves.1 ≤ self.old.map.bound)) }
         ensures sizes { SameSizes self.old.map self.new.map }
     {
-        unreachable!()
+        let act = on_message(&held.leg, message);
+        let peer = self.peer_of(held.leg.peer);
+        let records = self.records_of_act(held, peer, act);
+        self.perform(out, held, peer, act, message);
+        records
     }
+
+    // The other leg of a call.
+    fn peer_of(&self, peer: Peer) -> Option<Held>
+        ensures { result ≡ peer_of self.now.legs peer }
+    {
+        match peer {
+            Peer::Leg(slot) => {
+                let leg = self.legs.at(slot)?;
+                Some(Held { slot, leg })
+            }
+            Peer::Alone | Peer::Room(_) => None,
+        }
+    }
+
+    // Does what an act is.
+    fn perform(
+        &mut self,
+        out: &mut Sending,
+        held: Held,
+        peer: Option<Held>,
+        act: Act,
+        message: &Message,
+    )
+        requires work { (d : Dimensions) × (w : World) × Holds d self.old.map self.old.legs w }
+        requires there { IsThere self.old.map.external held }
+        requires count { length self.old.legs ≡ 30 * self.old.map.external }
+        requires peer { peer ≡ peer_of self.old.legs held.leg.peer }
+        requires peer_there { PeerIsThere self.old.map.external held peer }
+        requires cause { IfSome (cause_of_act act) (λ cause. cause < 128) }
+        requires silent { act ≡ asked.Answer → hears_at self.old.map held.slot ≡ None }
+        requires fresh { (out.old.sends ≡ []) × (out.old.moved ≡ None) }
+        ensures makes { (d : Dimensions) (m : Making) → Makes d self.old.map self.old.legs out.old.sends out.old.moved m
+            → Makes d self.new.map self.new.legs out.new.sends out.new.moved
+            (performed_all d m (course_of self.old.legs held message.now.kind act).operations) }
+        ensures few { IfSome out.new.moved (λ moves. (moves.0 ≤ self.old.map.bound) × (moves.1 ≤ self.old.map.bound)) }
+        ensures sizes { SameSizes self.old.map self.new.map }
+    {
+        match act {
+            Act::Nothing => {}
+            Act::Unexpected => out.send(held.slot.line, &unexpected(&held.leg, message)),
+            Act::Enquiry => {
+                out.send(
+                    held.slot.line,
+                    &status(&held.leg, RESPONSE_TO_STATUS_ENQUIRY),
+                )
+            }
+            Act::Proceeding => self.put(held.slot, in_state(INCOMING_CALL_PROCEEDING, held.leg)),
+            Act::Alerting => self.alert(out, held, peer),
+            Act::Answer => self.answer(out, held, peer),
+            Act::Disconnect(cause) => {
+                self.disconnect(out, held);
+                self.clear_peer(out, peer, cause);
+            }
+            Act::Released(cause) => {
+                self.release(out, held);
+                self.clear_peer(out, peer, cause);
+            }
+            Act::Gone(cause) => {
+                self.forget(held);
+                self.clear_peer(out, peer, cause);
+            }
+        }
+    }
+
+    // The called user is being alerted, and the caller is told so.
+    fn alert(&mut self, out: &mut Sending, held: Held, peer: Option<Held>)
+        requires there { IsThere self.old.map.external held }
+        requires count { length self.old.legs ≡ 30 * self.old.map.external }
+        requires peer_there { PeerIsThere self.old.map.external held peer }
+        requires room { length out.old.sends < most_sends }
+        ensures makes { (d : Dimensions) (m : Making) → Makes d self.old.map self.old.legs out.old.sends out.old.moved m
+            → Makes d self.new.map self.new.legs out.new.sends out.new.moved (performed_all d m (with_peer peer (alerting held))) }
+        ensures moved { out.new.moved ≡ out.old.moved }
+        ensures sizes { SameSizes self.old.map self.new.map }
+    {
+        let Some(caller) = peer else {
+            return;
+        };
+        self.put(held.slot, in_state(CALL_RECEIVED, held.leg));
+        self.put(caller.slot, in_state(CALL_DELIVERED, caller.leg));
+        tell(out, caller, MessageKind::Alerting);
+    }
+
+    // The called user has answered: the two slots are connected.
+    fn answer(&mut self, out: &mut Sending, held: Held, peer: Option<Held>)
+        requires work { (d : Dimensions) × (w : World) × Holds d self.old.map self.old.legs w }
+        requires there { IsThere self.old.map.external held }
+        requires count { length self.old.legs ≡ 30 * self.old.map.external }
+        requires peer_there { PeerIsThere self.old.map.external held peer }
+        requires silent { hears_at self.old.map held.slot ≡ None }
+        requires room { length out.old.sends + 1 < most_sends }
+        requires fresh { out.old.moved ≡ None }
+        ensures makes { (d : Dimensions) (m : Making) → Makes d self.old.map self.old.legs out.old.sends out.old.moved m
+            → Makes d self.new.map self.new.legs out.new.sends out.new.moved (performed_all d m (with_peer peer (answer held))) }
+        ensures few { IfSome out.new.moved (λ moves. (moves.0 ≤ self.old.map.bound) × (moves.1 ≤ self.old.map.bound)) }
+        ensures sizes { SameSizes self.old.map self.new.map }
+    {
+        let Some(caller) = peer else {
+            return;
+        };
+        out.moved = Some(self.connect(caller.slot, held.slot));
+        self.put(held.slot, in_state(ACTIVE, held.leg));
+        self.put(caller.slot, in_state(ACTIVE, caller.leg));
+        tell(out, held, MessageKind::ConnectAcknowledge);
+        tell(out, caller, MessageKind::Connect);
+    }
+
+    // Takes down whatever a caller hears, connects it with the called slot, and answers how many live
+    // paths were moved each way.
+    fn connect(&mut self, caller: Slot, called: Slot) -> (u32, u32)
+        requires work { (d : Dimensions) × (w : World) × Holds d self.old.map self.old.legs w }
+        requires caller_external { IsExternal self.old.map.external caller }
+        requires called_external { IsExternal self.old.map.external called }
+        requires distinct { caller ≢ called }
+        requires silent { hears_at self.old.map called ≡ None }
+        ensures makes { (d : Dimensions) (m : Making) → Makes d self.old.map self.old.legs m.sends m.moves m
+            → Makes d self.new.map self.new.legs m.sends (Some result) (performed_all d m (Clear caller ∷ Pair caller called ∷ [])) }
+        ensures few { (result.0 ≤ self.old.map.bound) × (result.1 ≤ self.old.map.bound) }
+        ensures legs { self.new.legs ≡ self.old.legs }
+        ensures sizes { SameSizes self.old.map self.new.map }
+    {
+        self.clear(caller);
+        self.pair(caller, called)
+    }
+
+    // The user of the leg has asked for the call to be cleared.
+    fn disconnect(&mut self, out: &mut Sending, held: Held)
+        requires there { IsThere self.old.map.external held }
+        requires count { length self.old.legs ≡ 30 * self.old.map.external }
+        requires room { length out.old.sends < most_sends }
+        ensures makes { (d : Dimensions) (m : Making) → Makes d self.old.map self.old.legs out.old.sends out.old.moved m
+            → Makes d self.new.map self.new.legs out.new.sends out.new.moved (performed_all d m (disconnecting held)) }
+        ensures count { length self.new.legs ≡ length self.old.legs }
+        ensures sends { length out.new.sends ≡ length out.old.sends + 1 }
+        ensures moved { out.new.moved ≡ out.old.moved }
+        ensures sizes { SameSizes self.old.map self.new.map }
+    {
+        self.clear(held.slot);
+        self.put(
+            held.slot,
+            Leg {
+                state: RELEASE_REQUEST,
+                peer: Peer::Alone,
+                ..held.leg
+            },
+        );
+        tell(out, held, MessageKind::Release);
+    }
+
+    // The user of the leg has released its channel, or its call reference too.
+    fn release(&mut self, out: &mut Sending, held: Held)
+        requires there { IsThere self.old.map.external held }
+        requires count { length self.old.legs ≡ 30 * self.old.map.external }
+        requires room { length out.old.sends < most_sends }
+        ensures makes { (d : Dimensions) (m : Making) → Makes d self.old.map self.old.legs out.old.sends out.old.moved m
+            → Makes d self.new.map self.new.legs out.new.sends out.new.moved (performed_all d m (releasing held)) }
+        ensures count { length self.new.legs ≡ length self.old.legs }
+        ensures sends { length out.new.sends ≡ length out.old.sends + 1 }
+        ensures moved { out.new.moved ≡ out.old.moved }
+        ensures sizes { SameSizes self.old.map self.new.map }
+    {
+        self.forget(held);
+        tell(out, held, MessageKind::ReleaseComplete);
+    }
+
+    // The leg is gone, and every circuit that names its slot.
+    fn forget(&mut self, held: Held)
+        requires external { IsExternal self.old.map.external held.slot }
+        requires count { length self.old.legs ≡ 30 * self.old.map.external }
+        ensures makes { (d : Dimensions) (m : Making) → Makes d self.old.map self.old.legs m.sends m.moves m
+            → Makes d self.new.map self.new.legs m.sends m.moves (performed_all d m (removing held)) }
+        ensures count { length self.new.legs ≡ length self.old.legs }
+        ensures sizes { SameSizes self.old.map self.new.map }
+    {
+        self.clear(held.slot);
+        self.remove(held.slot);
+    }
+
+    // The other leg of a call is cleared with a cause.
+    fn clear_peer(&mut self, out: &mut Sending, peer: Option<Held>, cause: u8)
+        requires there { IfSome peer (λ other. IsThere self.old.map.external other) }
+        requires count { length self.old.legs ≡ 30 * self.old.map.external }
+        requires room { length out.old.sends < most_sends }
+        requires cause { cause < 128 }
+        ensures makes { (d : Dimensions) (m : Making) → Makes d self.old.map self.old.legs out.old.sends out.old.moved m
+            → Makes d self.new.map self.new.legs out.new.sends out.new.moved (performed_all d m (with_peer peer (clear_with cause))) }
+        ensures moved { out.new.moved ≡ out.old.moved }
+        ensures sizes { SameSizes self.old.map self.new.map }
+    {
+        let Some(other) = peer else {
+            return;
+        };
+        self.clear(other.slot);
+        self.put(
+            other.slot,
+            Leg {
+                state: DISCONNECT_INDICATION,
+                peer: Peer::Alone,
+                cause,
+                ..other.leg
+            },
+        );
+        out.send(other.slot.line, &disconnect_message(&other.leg, cause));
+    }
+}
+
+// The leg in another state.
+fn in_state(state: u8, leg: Leg) -> Leg
+    ensures { result ≡ in_state state leg }
+{
+    Leg { state, ..leg }
+}
+
+// A message of a type, without elements, to the user of a leg.
+pub(crate) fn message_to(leg: &Leg, kind: MessageKind) -> Outgoing<'static>
+    ensures { outgoing_of result ≡ message_to leg.now kind }
+{
+    Outgoing::new(leg.side.flag(), leg.reference, kind)
+}
+
+// The DISCONNECT with a cause to the user of a leg.
+fn disconnect_message(leg: &Leg, cause: u8) -> Outgoing<'static>
+    ensures { outgoing_of result ≡ disconnect leg.now cause }
+{
+    Outgoing {
+        cause: Some(cause),
+        ..message_to(leg, MessageKind::Disconnect)
+    }
+}
+
+// Sends a message of a type, without elements, to the user of a leg.
+fn tell(out: &mut Sending, held: Held, kind: MessageKind)
+    requires room { length out.old.sends < most_sends }
+    requires told { IsTold held.leg }
+    requires named { IsNamed kind }
+    ensures sends { out.new.sends ≡ out.old.sends ++ record { line = held.slot.line; octets = encoding (message_to held.leg kind) } ∷ [] }
+    ensures moved { out.new.moved ≡ out.old.moved }
+{
+    out.send(held.slot.line, &message_to(&held.leg, kind));
 }

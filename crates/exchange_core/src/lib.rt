@@ -2,13 +2,18 @@
 #![tactic(auto)]
 
 mod acts;
+mod asked;
 mod call_control;
 mod call_laws;
 mod calls;
+mod choices;
+mod happenings;
 mod laws;
 mod leg_table;
 mod nails;
+mod new_call;
 mod record;
+mod records;
 mod reply;
 mod setup;
 mod signal;

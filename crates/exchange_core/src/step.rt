@@ -1,18 +1,17 @@
 ghost use Rattle.std.specs.Prelude.{◌≡◌, ◌+◌, ◌<◌, ◌++◌, [], ◌∷◌, length, IfOk};
-ghost use Rattle.control_memory.specs.Layout.{IsBare};
+
 ghost use Rattle.exchange_core.specs.declared.trace.Event.{Event as An_event};
 ghost use Rattle.exchange_core.specs.Orders.{IsEvent};
-ghost use Rattle.exchange_core.specs.Sound.{IsSound};
+ghost use Rattle.exchange_core.specs.Sound.{IsSound, setting_of};
 ghost use Rattle.exchange_core.specs.Step.{reply, next, MovesAtMost};
 ghost use Rattle.exchange_core.specs.Working.{IsNumbered, IsToolFor, ShowsWorld, setting, world_of};
+ghost use Rattle.exchange_core.specs.World.{start};
 
 use crate::call_control::CallControl;
 use crate::leg_table::LegTable;
-use crate::record::Records;
 use crate::reply::Reply;
-use crate::signal::Signals;
 use crate::tool::Tool;
-use crate::trace::{Event, Trace};
+use crate::trace::Trace;
 use circuit_map::CircuitMap;
 use control_memory::PathMap;
 use std::alloc::{AllocError, Global};
@@ -57,7 +56,7 @@ impl<'t, P: PathMap + Drop> Core<'t, P> {
     pub fn new(alloc: Global, trace: &'t Trace, paths: P) -> Result<Core<'t, P>, AllocError>
         requires sound { IsSound trace.now }
         requires lines { P.width paths ≡ trace.now.external + trace.now.bridges }
-        requires bare { IsBare (P.layout paths) }
+        requires bare { P.layout paths ≡ (start (setting_of (P.depth paths) trace.now).dimensions).layout }
         ensures { IfOk result (λ c. c ≡ record { trace = trace.now; slots = P.depth paths; bound = P.bound paths; journal = [] }) }
     {
         let journal = Vec::with_capacity(alloc, trace.events.as_slice().len())?;
@@ -95,22 +94,8 @@ impl<'t, P: PathMap> Core<'t, P> {
         ensures tool { (e : An_event) → IsNumbered self.old.trace event e → IsToolFor (setting self.old).dimensions e tool.new }
     {
         let trace = self.trace;
-        let reply = match &trace.events.as_slice()[event as usize - 1] {
-            Event::Nail(x, y) => self.control.nail(*x, *y),
-            Event::Seat(x, room) => self.control.take_seat(*x, *room),
-            Event::Free(x) => self.control.free(*x),
-            Event::Message(line, octets) => {
-                self.control.message(&trace.plan, *line, octets.as_slice())
-            }
-            Event::Frame(_) => match tool.image() {
-                Some(image) => Reply::Frame {
-                    number: self.control.boundary(image),
-                    sends: Signals::new(),
-                    records: Records::new(),
-                },
-                None => unreachable!(),
-            },
-        };
+        let event_done = &trace.events.as_slice()[event as usize - 1];
+        let reply = self.control.happen(&trace.plan, event_done, tool);
         self.journal.push_reserved((by, event));
         reply
     }

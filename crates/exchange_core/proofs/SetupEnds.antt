@@ -1,0 +1,2 @@
+-- A SETUP ends no call.
+use Rattle.std.proofs.Common.{◌≡◌}
