@@ -76,9 +76,9 @@ pub(crate) fn leg_at(legs: &[Leg], x: Slot) -> Option<Leg> {
 /// reference, so that of a message from a caller is clear.
 pub(crate) fn leg_named(legs: &[Leg], line: u8, flag: bool, reference: u16) -> Option<Leg> {
     let side = if flag { Side::Called } else { Side::Caller };
-    legs.iter()
-        .copied()
-        .find(|leg| leg.at.line == line && leg.side == side && leg.reference == reference)
+    legs.iter().copied().find(|leg| leg.at.line == line
+        && leg.side == side
+        && leg.reference == reference)
 }
 
 /// The lowest reference that no called leg of a line has. A line has no more legs than places.

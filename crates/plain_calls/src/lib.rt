@@ -6,13 +6,10 @@
 //! the messages of ITU-T Q.931 (05/98), its own call table and its own number plan, so that two programs
 //! which were written apart can be compared. The circuits and what is heard by them are those of
 //! `plain_model`.
-//!
-//! [`draw_traffic`] draws traces of calls for such a comparison.
 #![tactic(auto)]
 
 mod acts;
 mod channels;
-mod counts;
 mod elements;
 mod exchange;
 mod legs;
@@ -20,26 +17,20 @@ mod new_call;
 mod numbers;
 mod paths;
 mod ports;
-mod random;
 mod report;
 mod sent;
 mod setup;
 mod table;
-mod traffic;
-mod types;
-mod users;
+pub mod types;
 mod writing;
 
-pub use counts::Counts;
 pub use exchange::PlainExchange;
 pub use legs::{Leg, Peer, Side, State};
 pub use numbers::{Number, Target};
-pub use random::Random;
-pub use report::{PlainEvent, PlainRun, plain_report};
+pub use report::{PlainEvent, PlainRun, append_octets, plain_report};
 pub use sent::{CallRecord, Course, Party, Sent, Signal};
 pub use setup::Refusal;
 pub use table::Act;
-pub use traffic::{Drawn, draw_traffic};
 
 #[cfg(test)]
 mod tests;

@@ -8,7 +8,7 @@ use crate::numbers::{Found, Target, look};
 use crate::sent::{Course, Sent};
 use crate::setup::{Asked, Channel, Refusal, read_setup};
 use crate::types::{
-    BEARER_CAPABILITY, CALLED_PARTY_NUMBER, CALLING_PARTY_NUMBER, CALL_PROCEEDING, CONNECT,
+    BEARER_CAPABILITY, CALL_PROCEEDING, CALLED_PARTY_NUMBER, CALLING_PARTY_NUMBER, CONNECT,
     HIGH_LAYER_COMPATIBILITY, LOW_LAYER_COMPATIBILITY, RELEASE_COMPLETE, SENDING_COMPLETE, SETUP,
 };
 use crate::writing::{add_cause, add_channel, add_element, bare_message};

@@ -34,7 +34,12 @@ impl Paths {
     }
 
     /// Adds a path, and counts the paths whose internal slot was changed for it.
-    pub(crate) fn connect(&mut self, alloc: Global, from: Slot, to: Slot) -> Result<u32, AllocError> {
+    pub(crate) fn connect(
+        &mut self,
+        alloc: Global,
+        from: Slot,
+        to: Slot,
+    ) -> Result<u32, AllocError> {
         let before = Vec::from_slice(alloc, self.paths.as_slice())?;
         if let Some(internal) = self.make_room(alloc, from.line, to.line)? {
             let moved = self.moved_since(before.as_slice());

@@ -1,7 +1,6 @@
-use crate::counts::Counts;
 use crate::exchange::PlainExchange;
 use crate::numbers::Number;
-use crate::sent::{CallRecord, Sent};
+use crate::sent::{CallRecord, Course, Sent};
 use circuit_model::{IDLE, PLACES, Slot};
 use std::alloc::{AllocError, Global};
 
@@ -27,7 +26,7 @@ pub struct PlainRun {
     events: u32,
     report: String,
     records: Vec<CallRecord>,
-    counts: Counts,
+    moved: u32,
 }
 
 impl PlainRun {
@@ -38,7 +37,7 @@ impl PlainRun {
             events: 0,
             report: String::new(alloc),
             records: Vec::new(alloc),
-            counts: Counts::new(),
+            moved: 0,
         }
     }
 
@@ -57,49 +56,51 @@ impl PlainRun {
         self.records.as_slice()
     }
 
-    /// What became of the messages so far.
-    pub fn counts(&self) -> &Counts {
-        &self.counts
+    /// How many paths were moved so far.
+    pub fn moved(&self) -> u32 {
+        self.moved
     }
 
-    /// The report and the counts.
-    pub fn finish(self) -> (String, Counts) {
+    /// The report of the whole run.
+    pub fn into_report(self) -> String {
         let PlainRun {
             exchange: _,
             events: _,
             report,
             records: _,
-            counts,
+            moved: _,
         } = self;
-        (report, counts)
+        report
     }
 
-    /// Takes an event and adds its line to the report.
-    pub fn step(&mut self, alloc: Global, event: &PlainEvent) -> Result<(), AllocError> {
+    /// Takes an event and adds its line to the report. What became of a message.
+    pub fn step(
+        &mut self,
+        alloc: Global,
+        event: &PlainEvent,
+    ) -> Result<Option<Course>, AllocError> {
         self.events = self.events.saturating_add(1);
         write!(self.report, "{} ", self.events)?;
+        let mut course = None;
         match event {
             PlainEvent::Nail(x, y) => self.nail(alloc, *x, *y)?,
             PlainEvent::Seat(x, room) => self.seat(alloc, *x, *room)?,
-            PlainEvent::Free(x) => {
-                let freed = self.exchange.free(*x);
-                self.report
-                    .push_str(if freed { "freed" } else { "notnailed" })?;
-            }
+            PlainEvent::Free(x) => self.free(*x)?,
             PlainEvent::Message(line, octets) => {
-                let sent = self.exchange.message(alloc, *line, octets.as_slice())?;
-                self.counts.note(sent.course);
-                self.records.extend_from_slice(sent.records.as_slice())?;
-                append_sent(&mut self.report, &sent)?;
+                course = Some(self.message(alloc, *line, octets.as_slice())?);
             }
             PlainEvent::Frame(input) => self.frame(alloc, input.as_slice())?,
         }
-        self.report.push_str("\n")
+        self.report.push_str("\n")?;
+        Ok(course)
     }
 
     fn nail(&mut self, alloc: Global, x: Slot, y: Slot) -> Result<(), AllocError> {
         match self.exchange.nail(alloc, x, y)? {
-            Some((there, back)) => write!(self.report, "granted {there} {back}"),
+            Some((there, back)) => {
+                self.count_moved(there, back);
+                write!(self.report, "granted {there} {back}")
+            }
             None => self.report.push_str("busy"),
         }
     }
@@ -109,9 +110,28 @@ impl PlainRun {
             return self.report.push_str("busy");
         }
         match self.exchange.seat(alloc, x, room)? {
-            Some((there, back)) => write!(self.report, "seated {there} {back}"),
+            Some((there, back)) => {
+                self.count_moved(there, back);
+                write!(self.report, "seated {there} {back}")
+            }
             None => self.report.push_str("noport"),
         }
+    }
+
+    fn free(&mut self, x: Slot) -> Result<(), AllocError> {
+        let freed = self.exchange.free(x);
+        self.report
+            .push_str(if freed { "freed" } else { "notnailed" })
+    }
+
+    fn message(&mut self, alloc: Global, line: u8, octets: &[u8]) -> Result<Course, AllocError> {
+        let sent = self.exchange.message(alloc, line, octets)?;
+        self.records.extend_from_slice(sent.records.as_slice())?;
+        if let Some((there, back)) = sent.moved {
+            self.count_moved(there, back);
+        }
+        append_sent(&mut self.report, &sent)?;
+        Ok(sent.course)
     }
 
     fn frame(&mut self, alloc: Global, input: &[Option<[u8; 30]>]) -> Result<(), AllocError> {
@@ -123,6 +143,10 @@ impl PlainRun {
             self.line(frame, line)?;
         }
         Ok(())
+    }
+
+    fn count_moved(&mut self, there: u32, back: u32) {
+        self.moved = self.moved.saturating_add(there).saturating_add(back);
     }
 
     // What a line hears in a frame, where that isn't all idle.
@@ -152,8 +176,8 @@ fn append_sent(report: &mut String, sent: &Sent) -> Result<(), AllocError> {
     Ok(())
 }
 
-/// Adds the digits of octets.
-pub(crate) fn append_octets(text: &mut String, octets: &[u8]) -> Result<(), AllocError> {
+/// Adds the upper-case hexadecimal digits of octets to a text.
+pub fn append_octets(text: &mut String, octets: &[u8]) -> Result<(), AllocError> {
     for octet in octets {
         write!(text, "{octet:02X}")?;
     }
@@ -174,6 +198,5 @@ pub fn plain_report(
     for event in events {
         run.step(alloc, event)?;
     }
-    let (report, _) = run.finish();
-    Ok(report.into_bytes())
+    Ok(run.into_report().into_bytes())
 }

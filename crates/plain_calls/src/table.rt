@@ -1,8 +1,9 @@
 use crate::elements::Received;
 use crate::legs::State;
 use crate::types::{
-    ALERTING, CALL_PROCEEDING, CONNECT, CONNECT_ACKNOWLEDGE, DISCONNECT, FACILITY, NOTIFY, PROGRESS,
-    RELEASE, RELEASE_COMPLETE, SETUP, STATUS, STATUS_ENQUIRY, TEMPORARY_FAILURE, USER_INFORMATION,
+    ALERTING, CALL_PROCEEDING, CONNECT, CONNECT_ACKNOWLEDGE, DISCONNECT, FACILITY, NOTIFY,
+    PROGRESS, RELEASE, RELEASE_COMPLETE, SETUP, STATUS, STATUS_ENQUIRY, TEMPORARY_FAILURE,
+    USER_INFORMATION,
 };
 
 /// What the exchange does for a message to a leg.
@@ -56,24 +57,83 @@ const NOT_RELEASING: &[State] = &[
     State::Disconnected,
 ];
 
-
 // This exchange's profile of basic call control; what isn't listed is unexpected.
 const TABLE: [Row; 15] = [
-    Row { kind: CALL_PROCEEDING, states: &[State::Present], act: Act::Proceeding },
-    Row { kind: ALERTING, states: &[State::Present, State::Incoming], act: Act::Alerting },
-    Row { kind: CONNECT, states: &[State::Present, State::Alerted, State::Incoming], act: Act::Answer },
-    Row { kind: CONNECT_ACKNOWLEDGE, states: &[State::Active], act: Act::Nothing },
-    Row { kind: PROGRESS, states: EVERY, act: Act::Nothing },
-    Row { kind: NOTIFY, states: EVERY, act: Act::Nothing },
-    Row { kind: FACILITY, states: EVERY, act: Act::Nothing },
-    Row { kind: USER_INFORMATION, states: EVERY, act: Act::Nothing },
-    Row { kind: SETUP, states: EVERY, act: Act::Nothing },
-    Row { kind: DISCONNECT, states: NOT_RELEASING, act: Act::Disconnect },
-    Row { kind: RELEASE, states: NOT_RELEASING, act: Act::Released },
-    Row { kind: RELEASE, states: &[State::Releasing], act: Act::Gone },
-    Row { kind: RELEASE_COMPLETE, states: EVERY, act: Act::Gone },
-    Row { kind: STATUS, states: EVERY, act: Act::Nothing },
-    Row { kind: STATUS_ENQUIRY, states: EVERY, act: Act::Enquiry },
+    Row {
+        kind: CALL_PROCEEDING,
+        states: &[State::Present],
+        act: Act::Proceeding,
+    },
+    Row {
+        kind: ALERTING,
+        states: &[State::Present, State::Incoming],
+        act: Act::Alerting,
+    },
+    Row {
+        kind: CONNECT,
+        states: &[State::Present, State::Alerted, State::Incoming],
+        act: Act::Answer,
+    },
+    Row {
+        kind: CONNECT_ACKNOWLEDGE,
+        states: &[State::Active],
+        act: Act::Nothing,
+    },
+    Row {
+        kind: PROGRESS,
+        states: EVERY,
+        act: Act::Nothing,
+    },
+    Row {
+        kind: NOTIFY,
+        states: EVERY,
+        act: Act::Nothing,
+    },
+    Row {
+        kind: FACILITY,
+        states: EVERY,
+        act: Act::Nothing,
+    },
+    Row {
+        kind: USER_INFORMATION,
+        states: EVERY,
+        act: Act::Nothing,
+    },
+    Row {
+        kind: SETUP,
+        states: EVERY,
+        act: Act::Nothing,
+    },
+    Row {
+        kind: DISCONNECT,
+        states: NOT_RELEASING,
+        act: Act::Disconnect,
+    },
+    Row {
+        kind: RELEASE,
+        states: NOT_RELEASING,
+        act: Act::Released,
+    },
+    Row {
+        kind: RELEASE,
+        states: &[State::Releasing],
+        act: Act::Gone,
+    },
+    Row {
+        kind: RELEASE_COMPLETE,
+        states: EVERY,
+        act: Act::Gone,
+    },
+    Row {
+        kind: STATUS,
+        states: EVERY,
+        act: Act::Nothing,
+    },
+    Row {
+        kind: STATUS_ENQUIRY,
+        states: EVERY,
+        act: Act::Enquiry,
+    },
 ];
 
 /// The act of a message in a state. A STATUS of the null state ends the leg in every state.

@@ -231,21 +231,3 @@ fn unexpected_messages(rt: HostRuntime) -> Result<(), Fail> {
     check(&rt, rt.alloc(), 0, &steps, wanted)?;
     Ok(())
 }
-
-// Draws so many traces, and tells what became of their messages.
-fn draw(alloc: Global, traces: u32, events: u32) -> Result<Counts, AllocError> {
-    let mut random = Random::new(1976);
-    let mut counts = Counts::new();
-    for _ in 0..traces {
-        let drawn = draw_traffic(alloc, &mut random, events)?;
-        counts.add(&drawn.counts);
-    }
-    Ok(counts)
-}
-
-#[test]
-fn each_course_is_drawn(rt: HostRuntime) -> Result<(), Fail> {
-    let counts = draw(rt.alloc(), 60, 250)?;
-    assert!(rt; !counts.is_whole(), "{counts}");
-    Ok(())
-}

@@ -29,7 +29,7 @@ pub(crate) fn add_element(octets: &mut Vec<u8>, code: u8, contents: &[u8]) -> Re
     octets.extend_from_slice(contents)
 }
 
-/// Adds a cause of a private network that serves the local user.
+/// Adds a cause, located in the public network that serves the local user.
 pub(crate) fn add_cause(octets: &mut Vec<u8>, cause: u8) -> Result<(), AllocError> {
     add_element(octets, CAUSE, &[0x82, cause | 0x80])
 }
@@ -44,5 +44,9 @@ pub(crate) fn add_channel(octets: &mut Vec<u8>, place: u8) -> Result<(), AllocEr
     requires { place < 30 }
 {
     let channel = channel_at(place);
-    add_element(octets, CHANNEL_IDENTIFICATION, &[0xA9, 0x83, channel | 0x80])
+    add_element(
+        octets,
+        CHANNEL_IDENTIFICATION,
+        &[0xA9, 0x83, channel | 0x80],
+    )
 }

@@ -1,6 +1,4 @@
-use crate::sent::Course;
-use crate::setup::Refusal;
-use crate::table::Act;
+use plain_calls::{Act, Course, Refusal};
 use std::fmt;
 
 /// How often each course of a message came.
@@ -71,23 +69,22 @@ impl fmt::Display for Counts {
         let mut separator = "";
         for entry in self.counts.iter() {
             let (course, count) = *entry;
-            write!(f, "{separator}{count} {course}")?;
+            let words = words_for(course);
+            write!(f, "{separator}{count} {words}")?;
             separator = ", ";
         }
         Ok(())
     }
 }
 
-impl fmt::Display for Course {
-    fn fmt<W: fmt::Write>(&self, f: &mut fmt::Formatter<W>) -> fmt::Result {
-        match *self {
-            Course::Discarded => f.write_str("discarded"),
-            Course::Unanswered => f.write_str("unanswered"),
-            Course::Offered => f.write_str("offered"),
-            Course::Seated => f.write_str("seated"),
-            Course::For(act) => f.write_str(name_of(act)),
-            Course::Refused(refusal) => f.write_str(words_of(refusal)),
-        }
+fn words_for(course: Course) -> &'static str {
+    match course {
+        Course::Discarded => "discarded",
+        Course::Unanswered => "unanswered",
+        Course::Offered => "offered",
+        Course::Seated => "seated",
+        Course::For(act) => name_of(act),
+        Course::Refused(refusal) => words_of(refusal),
     }
 }
 

@@ -1,14 +1,13 @@
 ghost use Rattle.std.specs.Prelude.{◌<◌};
 
-use crate::exchange::PlainExchange;
-use crate::legs::{Leg, Side, State};
 use crate::random::Random;
-use crate::types::{
-    ALERTING, BEARER_CAPABILITY, CALLED_PARTY_NUMBER, CALLING_PARTY_NUMBER, CALL_PROCEEDING,
-    CALL_STATE, CAUSE, CHANNEL_IDENTIFICATION, CONNECT, CONNECT_ACKNOWLEDGE, DISCONNECT, FACILITY,
-    HIGH_LAYER_COMPATIBILITY, LOW_LAYER_COMPATIBILITY, NAMED_TYPES, NOTIFY, PROGRESS, RELEASE,
-    RELEASE_COMPLETE, SETUP, STATUS, STATUS_ENQUIRY, USER_INFORMATION,
+use plain_calls::types::{
+    ALERTING, BEARER_CAPABILITY, CALL_PROCEEDING, CALL_STATE, CALLED_PARTY_NUMBER,
+    CALLING_PARTY_NUMBER, CAUSE, CHANNEL_IDENTIFICATION, CONNECT, CONNECT_ACKNOWLEDGE, DISCONNECT,
+    FACILITY, HIGH_LAYER_COMPATIBILITY, LOW_LAYER_COMPATIBILITY, NAMED_TYPES, NOTIFY, PROGRESS,
+    RELEASE, RELEASE_COMPLETE, SETUP, STATUS, STATUS_ENQUIRY, USER_INFORMATION,
 };
+use plain_calls::{Leg, PlainExchange, Side, State};
 use std::alloc::{AllocError, Global};
 
 // What a user mostly sends in a state: each type as often as it stands here.
@@ -31,7 +30,14 @@ fn mostly_sent(state: State) -> &'static [u8] {
             RELEASE_COMPLETE,
         ],
         State::Incoming => &[ALERTING, ALERTING, ALERTING, CONNECT, CONNECT, DISCONNECT],
-        State::Alerted => &[CONNECT, CONNECT, CONNECT, CONNECT, DISCONNECT, STATUS_ENQUIRY],
+        State::Alerted => &[
+            CONNECT,
+            CONNECT,
+            CONNECT,
+            CONNECT,
+            DISCONNECT,
+            STATUS_ENQUIRY,
+        ],
         State::Active => &[
             CONNECT_ACKNOWLEDGE,
             CONNECT_ACKNOWLEDGE,
@@ -193,7 +199,11 @@ fn add_shift(octets: &mut Vec<u8>, random: &mut Random) -> Result<(), AllocError
 }
 
 // A SETUP, mostly one that a call comes of. Its elements come in any order.
-fn setup(alloc: Global, random: &mut Random, exchange: &PlainExchange) -> Result<Vec<u8>, AllocError> {
+fn setup(
+    alloc: Global,
+    random: &mut Random,
+    exchange: &PlainExchange,
+) -> Result<Vec<u8>, AllocError> {
     let flag = random.once_in(30);
     let reference = draw_reference(random);
     let mut octets = header(alloc, flag, reference, SETUP)?;
@@ -273,7 +283,11 @@ fn add_called(
         5 => b"123456789012345678901",
         _ => drawn_digits(random, exchange),
     };
-    let extra = if random.once_in(6) && digits.len() < 20 { 1 } else { 0 };
+    let extra = if random.once_in(6) && digits.len() < 20 {
+        1
+    } else {
+        0
+    };
     let cut = if random.once_in(20) { 1 } else { 0 };
     let whole = digits.len().min(24) as u8;
     let length = (whole + extra).saturating_sub(cut);

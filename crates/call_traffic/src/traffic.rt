@@ -1,13 +1,10 @@
-ghost use Rattle.std.specs.Prelude.{◌<◌, ◌≤◌, IfOk};
+ghost use Rattle.std.specs.Prelude.{◌<◌};
 
-use crate::channels::channel_at;
 use crate::counts::Counts;
-use crate::exchange::PlainExchange;
-use crate::numbers::{Number, Target};
 use crate::random::Random;
-use crate::report::{PlainEvent, PlainRun, append_octets};
 use crate::users::draw_message;
-use circuit_model::{PLACES, Slot};
+use circuit_model::{Slot, channel_of};
+use plain_calls::{Number, PlainEvent, PlainExchange, PlainRun, Target, append_octets};
 use std::alloc::{AllocError, Global};
 
 /// A trace of calls, and what the plain exchange makes of it.
@@ -21,6 +18,8 @@ pub struct Drawn {
     pub counts: Counts,
     /// How many events it has.
     pub events: u32,
+    /// How many paths were moved.
+    pub moved: u32,
 }
 
 // A trace that is being written. Wherever the worker of the events changes, a segment ends, so that
@@ -52,7 +51,11 @@ fn worker_of(event: &PlainEvent, processors: u8) -> u8 {
         PlainEvent::Message(line, _) => *line,
         PlainEvent::Frame(_) => return processors,
     };
-    if processors == 0 { 0 } else { line % processors }
+    if processors == 0 {
+        0
+    } else {
+        line % processors
+    }
 }
 
 fn append_event(text: &mut String, event: &PlainEvent) -> Result<(), AllocError> {
@@ -83,7 +86,7 @@ fn append_event(text: &mut String, event: &PlainEvent) -> Result<(), AllocError>
 }
 
 fn append_slot(text: &mut String, at: Slot) -> Result<(), AllocError> {
-    let channel = channel_at(at.place.min(29));
+    let channel = channel_of(at.place.min(29));
     write!(text, " {}/{channel}", at.line)
 }
 
@@ -137,7 +140,8 @@ fn append_numbers(text: &mut String, numbers: &[Number]) -> Result<(), AllocErro
 }
 
 /// Draws a trace of so many events: calls on several lines with the replies of both sides, beside nails,
-/// seats, frees and frames. Some traces begin with a line that is all but full.
+/// seats, frees and frames. Some traces begin
+/// with a line that is all but full, or with many nails.
 pub fn draw_traffic(alloc: Global, random: &mut Random, events: u32) -> Result<Drawn, AllocError> {
     let external = 1 + random.below(4);
     let bridges = random.below(3);
@@ -152,22 +156,47 @@ pub fn draw_traffic(alloc: Global, random: &mut Random, events: u32) -> Result<D
     };
     let exchange = PlainExchange::new(alloc, external, bridges, numbers);
     let mut run = PlainRun::new(alloc, exchange);
-    let crowded = if random.once_in(2) { random.below(16) } else { 0 };
+    let mut counts = Counts::new();
+    let crowd = Crowd::draw(random);
     for number in 0..events {
         let event = match u8::try_from(number) {
-            Ok(number) if number < crowded => nail_in_itself(number),
+            Ok(number) if number < crowd.within => nail_in_itself(number),
+            Ok(number) if number < crowd.circuits => draw_circuit(random, run.exchange()),
             _ => draw_event(alloc, random, run.exchange())?,
         };
         script.append(&event, random.once_in(8))?;
-        run.step(alloc, &event)?;
+        if let Some(course) = run.step(alloc, &event)? {
+            counts.note(course);
+        }
     }
-    let (report, counts) = run.finish();
+    let moved = run.moved();
     Ok(Drawn {
         trace: script.text,
-        report,
+        report: run.into_report(),
         counts,
         events,
+        moved,
     })
+}
+
+// How many commands a trace begins with: nails that fill the first line, or circuits of any slots.
+#[derive(Clone, Copy)]
+struct Crowd {
+    within: u8,
+    circuits: u8,
+}
+
+impl Crowd {
+    fn draw(random: &mut Random) -> Crowd
+        ensures { result.within < 16 }
+    {
+        let (within, circuits) = match random.below(4) {
+            0 => (0, 0),
+            1 => (10 + random.below(6), 0),
+            _ => (0, 60 + random.below(100)),
+        };
+        Crowd { within, circuits }
+    }
 }
 
 // A nail of two slots of the first line.
@@ -176,7 +205,13 @@ fn nail_in_itself(number: u8) -> PlainEvent
 {
     let line = 0;
     let place = 2 * number;
-    PlainEvent::Nail(Slot { line, place }, Slot { line, place: place + 1 })
+    PlainEvent::Nail(
+        Slot { line, place },
+        Slot {
+            line,
+            place: place + 1,
+        },
+    )
 }
 
 fn draw_event(
@@ -184,12 +219,9 @@ fn draw_event(
     random: &mut Random,
     exchange: &PlainExchange,
 ) -> Result<PlainEvent, AllocError> {
-    let lines = exchange.external().max(1);
-    match random.below(20) {
-        0 | 1 => draw_frame(alloc, random, lines),
-        2 => Ok(PlainEvent::Free(random.slot(lines))),
-        3 => Ok(PlainEvent::Seat(random.slot(lines), random.below(3))),
-        4 | 5 => Ok(draw_nail(random, lines)),
+    match random.below(10) {
+        0 => draw_frame(alloc, random, exchange.external()),
+        1 | 2 => Ok(draw_circuit(random, exchange)),
         _ => {
             let (line, octets) = draw_message(alloc, random, exchange)?;
             Ok(PlainEvent::Message(line, octets))
@@ -197,24 +229,45 @@ fn draw_event(
     }
 }
 
-// A nail of two slots, or the free of one that was drawn twice.
-fn draw_nail(random: &mut Random, lines: u8) -> PlainEvent
-    requires { 0 < lines }
-{
-    let x = random.slot(lines);
-    let y = random.slot(lines);
-    if x == y {
-        PlainEvent::Free(x)
-    } else {
-        PlainEvent::Nail(x, y)
+// A nail, a seat or a free, mostly one that isn't refused.
+fn draw_circuit(random: &mut Random, exchange: &PlainExchange) -> PlainEvent {
+    let lines = exchange.external().max(1);
+    let x = draw_spare(random, exchange);
+    match random.below(6) {
+        0 => PlainEvent::Free(random.slot(lines)),
+        1 | 2 => PlainEvent::Seat(x, random.below(3)),
+        _ => {
+            let y = draw_spare(random, exchange);
+            if x == y {
+                PlainEvent::Free(x)
+            } else {
+                PlainEvent::Nail(x, y)
+            }
+        }
     }
+}
+
+// A slot that is mostly idle: the first idle one of seven, or the last of them.
+fn draw_spare(random: &mut Random, exchange: &PlainExchange) -> Slot {
+    let lines = exchange.external().max(1);
+    for _ in 0..6 {
+        let at = random.slot(lines);
+        if exchange.is_idle(at) {
+            return at;
+        }
+    }
+    random.slot(lines)
 }
 
 // A frame in which about every fourth line is idle.
 fn draw_frame(alloc: Global, random: &mut Random, lines: u8) -> Result<PlainEvent, AllocError> {
     let mut input = Vec::new(alloc);
     for _ in 0..lines {
-        let octets = if random.once_in(4) { None } else { Some(random.row()) };
+        let octets = if random.once_in(4) {
+            None
+        } else {
+            Some(random.row())
+        };
         input.push(octets)?;
     }
     Ok(PlainEvent::Frame(input))
