@@ -192,7 +192,7 @@ fn add_shift(octets: &mut Vec<u8>, random: &mut Random) -> Result<(), AllocError
     match random.below(6) {
         0 => octets.push(0x96)?,
         1 => octets.extend_from_slice(&[0x9E, 0x9E])?,
-        2 => octets.extend_from_slice(&[0x9F, 0xA1])?,
+        2 => octets.extend_from_slice(&[0x9F, CAUSE, 2, 0x80, 0x91])?,
         _ => octets.extend_from_slice(&[0x9E, CALLED_PARTY_NUMBER, 1, 0x80])?,
     }
     Ok(())
