@@ -3,7 +3,7 @@ use Rattle.std.proofs.lemmas.Bool.{ne_eqb}
 use Rattle.std.proofs.lemmas.Grind.{common_steps}
 use Rattle.exchange_core.specs.IdleSlots.{idle}
 use Rattle.exchange_core.specs.World.{is_full}
-use Rattle.exchange_core.proofs.Kept.{seat_holds, seat_answer, full_is}
+use Rattle.exchange_core.proofs.Obeying.{seat_holds, seat_answer, full_is}
 use Rattle.exchange_core.proofs.call_control.CallControl.take_seat.Goals as goal
 
 false_is_no : false ≡ true → ⊥
