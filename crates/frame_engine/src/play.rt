@@ -23,18 +23,17 @@ pub(crate) fn play(read: &FrameBuffer, image: &Image, tones: &Tones, out: &mut [
     ensures { PlaysOut image.now.external (played_at (table_of tones.now) image.now (octet_of read.now.readable)) out.new }
 {
     for line in 0..image.external() {
-        out[usize::from(line)] = play_line(read, image, tones, line);
+        play_line(read, image, tones, line, &mut out[usize::from(line)]);
     }
 }
 
-// What one external line sends.
-fn play_line(read: &FrameBuffer, image: &Image, tones: &Tones, line: u8) -> [u8; 30]
+// Writes what one external line sends.
+fn play_line(read: &FrameBuffer, image: &Image, tones: &Tones, line: u8, octets: &mut [u8; 30])
     requires read { read.now.lines ≡ lines_of image.now }
     requires line { line < image.now.external }
     requires tones { TonesGiven tones.now image.now }
-    ensures { HasLine line (played_at (table_of tones.now) image.now (octet_of read.now.readable)) result }
+    ensures { HasLine line (played_at (table_of tones.now) image.now (octet_of read.now.readable)) octets.new }
 {
-    let mut octets = [IDLE; 30];
     for place in 0..PLACES {
         let at = Slot { line, place };
         octets[usize::from(place)] = play_octet(
@@ -44,7 +43,6 @@ fn play_line(read: &FrameBuffer, image: &Image, tones: &Tones, line: u8) -> [u8;
             image.frame(),
         );
     }
-    octets
 }
 
 // What is heard of an octet that was read out, or the octet of a tone.

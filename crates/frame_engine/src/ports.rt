@@ -20,38 +20,36 @@ pub(crate) fn mix_ports(read: &FrameBuffer, image: &Image, speech: &mut FrameBuf
     ensures ports { (k : ℕ) → k < 30 * image.now.bridges → octet_of speech.new.filled (port_numbered image.now.external k) ≡ given_to image.now (octet_of read.now.readable) k }
     ensures readable { speech.new.readable ≡ speech.old.readable }
 {
-    let octets = mixed(read, image);
+    let mut octets = [IDLE; MAX_MEMBERS];
+    mix_all(read, image, &mut octets);
     for bridge in 0..image.bridges() {
         speech.put_line(image.external() + bridge, &line_of(&octets, bridge));
     }
 }
 
-// What each port is given, port by port.
-fn mixed(read: &FrameBuffer, image: &Image) -> [u8; MAX_MEMBERS]
+// Writes what each port is given, port by port.
+fn mix_all(read: &FrameBuffer, image: &Image, octets: &mut [u8; MAX_MEMBERS])
     requires few { image.now.bridges ≤ 2 }
     requires lines { lines_of image.now ≤ 255 }
     requires read { read.now.lines ≡ lines_of image.now }
-    ensures { (k : ℕ) → k < 30 * image.now.bridges → slice_index result k ≡ given_to image.now (octet_of read.now.readable) k }
-{
-    let places = members(read, image);
-    let ports = usize::from(image.bridges() * PLACES);
-    let mut octets = [IDLE; MAX_MEMBERS];
-    mix_rooms(&places[..ports], &mut octets[..ports]);
-    octets
-}
-
-// The member in each port, and what counts of it.
-fn members(read: &FrameBuffer, image: &Image) -> [Option<Seated>; MAX_MEMBERS]
-    requires few { image.now.bridges ≤ 2 }
-    requires lines { lines_of image.now ≤ 255 }
-    requires read { read.now.lines ≡ lines_of image.now }
-    ensures { (k : ℕ) → k < 30 * image.now.bridges → slice_index_or result k None ≡ member_in image.now (octet_of read.now.readable) k }
+    ensures { (k : ℕ) → k < 30 * image.now.bridges → slice_index octets.new k ≡ given_to image.now (octet_of read.now.readable) k }
 {
     let mut places = [None; MAX_MEMBERS];
+    find_members(read, image, &mut places);
+    let ports = usize::from(image.bridges() * PLACES);
+    mix_rooms(&places[..ports], &mut octets[..ports]);
+}
+
+// Writes the member in each port, and what counts of it.
+fn find_members(read: &FrameBuffer, image: &Image, places: &mut [Option<Seated>; MAX_MEMBERS])
+    requires few { image.now.bridges ≤ 2 }
+    requires lines { lines_of image.now ≤ 255 }
+    requires read { read.now.lines ≡ lines_of image.now }
+    ensures { (k : ℕ) → k < 30 * image.now.bridges → slice_index_or places.new k None ≡ member_in image.now (octet_of read.now.readable) k }
+{
     for port in 0..image.bridges() * PLACES {
         places[usize::from(port)] = member(read, image, port);
     }
-    places
 }
 
 // The member in a port, and what counts of it: the octet that was read out for it, and nothing
