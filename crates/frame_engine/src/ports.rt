@@ -2,10 +2,10 @@ ghost use Rattle.std.specs.Prelude.{◌≡◌, ℕ, ◌+◌, ◌*◌, ◌≤◌,
 ghost use Rattle.circuit_model.specs.Ports.{port_numbered};
 ghost use Rattle.frame_buffer.specs.Speech.{octet_of};
 ghost use Rattle.control_memory.specs.Image.{lines_of};
-ghost use Rattle.frame_engine.specs.Ports.{counted, member_in, given_to};
+ghost use Rattle.frame_engine.specs.Ports.{counted, seated_by, member_in, given_to};
 
 use crate::age::is_through;
-use circuit_model::{IDLE, PLACES, Slot};
+use circuit_model::{IDLE, PLACES};
 use conference_mix::{MAX_MEMBERS, Seated, mix_rooms};
 use control_memory::Image;
 use frame_buffer::FrameBuffer;
@@ -43,28 +43,24 @@ fn mix_all(read: &FrameBuffer, image: &Image, octets: &mut [u8; MAX_MEMBERS])
 // Writes the member in each port, and what counts of it.
 fn find_members(read: &FrameBuffer, image: &Image, places: &mut [Option<Seated>; MAX_MEMBERS])
     requires few { image.now.bridges ≤ 2 }
-    requires lines { lines_of image.now ≤ 255 }
     requires read { read.now.lines ≡ lines_of image.now }
     ensures { (k : ℕ) → k < 30 * image.now.bridges → slice_index_or places.new k None ≡ member_in image.now (octet_of read.now.readable) k }
 {
-    for port in 0..image.bridges() * PLACES {
-        places[usize::from(port)] = member(read, image, port);
+    let octets = read.rows_from(image.external());
+    for (port, seat) in image.seats().iter().enumerate() {
+        places[port] = member(*seat, octets[port], image.frame());
     }
 }
 
-// The member in a port, and what counts of it: the octet that was read out for it, and nothing
+// The member of a seat, and what counts of it: the octet that was read out for it, and nothing
 // before it has sat there for two frames.
-fn member(read: &FrameBuffer, image: &Image, port: u8) -> Option<Seated>
-    requires lines { lines_of image.now ≤ 255 }
-    requires read { read.now.lines ≡ lines_of image.now }
-    requires port { port < 30 * image.now.bridges }
-    ensures { result ≡ member_in image.now (octet_of read.now.readable) port }
+fn member(seat: Option<(u8, u32)>, octet: u8, frame: u32) -> Option<Seated>
+    ensures { result ≡ seated_by frame octet seat }
 {
-    let at = slot_of_port(image, port);
-    match image.room(at) {
+    match seat {
         Some((room, since)) => Some(Seated {
             room,
-            octet: counted(read.get(at), since, image.frame()),
+            octet: counted(octet, since, frame),
         }),
         None => None,
     }
@@ -78,20 +74,6 @@ fn counted(octet: u8, since: u32, frame: u32) -> Option<u8>
         Some(octet)
     } else {
         None
-    }
-}
-
-// The slot of a conference port: ports are numbered by bridge line and place.
-fn slot_of_port(image: &Image, port: u8) -> Slot
-    requires lines { lines_of image.now ≤ 255 }
-    requires port { port < 30 * image.now.bridges }
-    ensures slot { result ≡ port_numbered image.now.external port }
-    ensures line { result.line < lines_of image.now }
-    ensures place { result.place < 30 }
-{
-    Slot {
-        line: image.external() + port / PLACES,
-        place: port % PLACES,
     }
 }
 
