@@ -1,6 +1,6 @@
 use Rattle.std.proofs.Common.{◌≡◌, ℕ, ◌*◌, ◌<◌, ◌≤◌, take, slice_index_or, pos, nat_abs}
 use Rattle.conference_mix.specs.Rooms.{room_total}
-use Rattle.conference_mix.proofs.rooms.total_rooms.Given as goal
+use Rattle.conference_mix.proofs.rooms.add_members.Given as goal
 
 abbrev pub invariant-loop-k : goal.invariant-loop-k
 invariant-loop-k l = record {

@@ -1,16 +1,16 @@
-use Rattle.std.proofs.Common.{◌≤◌, List, Option, get_or, None, ℤ, pos, ◌+ℤ◌, nat_abs, length, sym, ap, ◌∙◌, subst, arith}
+use Rattle.std.proofs.Common.{◌≤◌, List, Option, get_or, None, ℤ, ◌+ℤ◌, nat_abs, length, sym, ap, ◌∙◌, subst, arith}
 use Rattle.std.proofs.lemmas.Int.{ints}
-use Rattle.std.proofs.lemmas.List.{get_or-replicate, take_all}
+use Rattle.std.proofs.lemmas.List.{take_all}
 use Rattle.conference_mix.specs.declared.rooms.Seated.{Seated}
 use Rattle.conference_mix.specs.Bridge.{value_of}
 use Rattle.conference_mix.specs.Rooms.{counted_in, room_total}
 use Rattle.conference_mix.proofs.RoomTotals.{total-more}
-use Rattle.conference_mix.proofs.rooms.total_rooms.Goals as goal
+use Rattle.conference_mix.proofs.rooms.add_members.Goals as goal
 
 pub loop-k-init : goal.loop-k-init
 loop-k-init c = record {
-  totals = λ room near. get_or-replicate 256 room (pos 0) (pos 0) near;
-  within = λ room near. subst (λ (z : ℤ). nat_abs z ≤ 0) (sym (get_or-replicate 256 room (pos 0) (pos 0) near)) (omega (arith, ints));
+  totals = λ room near. c.requires.empty room near;
+  within = λ room near. subst (λ (z : ℤ). nat_abs z ≤ 0) (sym (c.requires.empty room near)) (omega (arith, ints));
 }
 
 pub loop-k-preserved : goal.loop-k-preserved
