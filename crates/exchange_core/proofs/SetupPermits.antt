@@ -105,8 +105,7 @@ module _ (s : Setting) (w : World) (line : ℕ) (m : Message) (planned : IsPlann
       → ArePermitted s.dimensions (begun w) (call_line m x y reference)
   line_permitted x y reference in_x in_y small readable =
       let caller : IsTold _ = record { state = omega arith; reference = own.1 } in
-      let called : IsTold _ = record { state = omega arith; reference = small } in
-      (
+      let called : IsTold _ = record { state = omega arith; reference = small } in (
         (in_x, caller),
         (
           (in_y, called),
@@ -119,8 +118,7 @@ module _ (s : Setting) (w : World) (line : ℕ) (m : Message) (planned : IsPlann
 
   room_permitted : (x : Slot) (room : ℕ) → IsExternal s.dimensions.external x → CanSeat s.dimensions w x → ArePermitted s.dimensions (begun w) (call_room m x room)
   room_permitted x room in_x can =
-      let told : IsTold _ = record { state = omega arith; reference = own.1 } in
-      (
+      let told : IsTold _ = record { state = omega arith; reference = own.1 } in (
         (in_x, told),
         (
           can_still s.dimensions w x _ can,
