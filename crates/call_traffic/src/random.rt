@@ -55,7 +55,8 @@ impl Random {
     /// A slot of one of so many lines.
     pub fn slot(&mut self, lines: u8) -> Slot
         requires { 0 < lines }
-        ensures { result.place < 30 }
+        ensures line { result.line < lines }
+        ensures place { result.place < 30 }
     {
         Slot {
             line: self.below(lines),
