@@ -1,10 +1,9 @@
 -- One row of a table that is kept row after row.
-use Rattle.std.proofs.Common.{◌≡◌, ◌≢◌, ℕ, ◌+◌, ◌*◌, ◌<◌, ◌≤◌, eqb, Bool, true, false, not, List, length, length-set, get_or, set, get_or-set_other, refl, map, take, drop, length-take-le, get_or-take, get_or-drop, Option, Some, None, IfSome, subst, sym, ap, ◌∙◌, ◌⊎◌, inl, inr, arith}
+use Rattle.std.proofs.Common.{◌≡◌, ◌≢◌, ℕ, ◌+◌, ◌*◌, ◌<◌, ◌≤◌, eqb, List, length, get_or, map, take, drop, length-take-le, get_or-take, get_or-drop, Option, Some, None, IfSome, subst, sym, ap, ◌∙◌, ◌⊎◌, inl, inr, arith}
 use Rattle.std.proofs.lemmas.Bool.{cases_eq, eq-eqb, ne_eqb, cond-true, cond-false}
-use Rattle.std.proofs.lemmas.List.{length-drop, get_or-map, get_or_default}
-use Rattle.std.proofs.lemmas.Nat.{mul-add-lt, same_from_place}
-use Rattle.std.proofs.lemmas.Grind.{get_or-set_at}
-use Rattle.control_memory.specs.Tables.{number_in, entry_in, IsRow, AreBytesOf}
+use Rattle.std.proofs.lemmas.List.{length-drop, get_or-map}
+use Rattle.std.proofs.lemmas.Nat.{mul-add-lt}
+use Rattle.control_memory.specs.Tables.{number_in, entry_in, IsRow}
 
 -- a byte that is no mark of a missing number is its number
 number_within : (byte limit : ℕ) → (byte ≢ 255 → byte < limit) → IfSome (number_in byte) (λ number. number < limit)
@@ -40,43 +39,3 @@ module _ (bytes : List ℕ) (rows columns limit row : ℕ) (size : length bytes 
         (sym (get_or-map number_in bytes (row * columns + column) 0 None (here column near)))
         (number_within (get_or bytes (row * columns + column) 0) limit (below (row * columns + column) (here column near)));
   }
-
--- ---- marks of rows
-not_true : (b : Bool) → not b ≡ true → b ≡ false
-not_true true e = absurd (cc)
-not_true false e = refl
-
--- a row without a mark has no number
-pub bare_entry : (rows columns limit : ℕ) (bytes : List ℕ) (marks : List Bool) (row column : ℕ) (mark : Bool) → AreBytesOf rows columns limit bytes marks → row < rows → column < columns → get_or marks row false ≡ mark → not mark ≡ true
-    → entry_in columns (map number_in bytes) row column ≡ None
-bare_entry rows columns limit bytes marks row column mark is inside near at unmarked =
-    let size = is.size in
-    let here : row * columns + column < length bytes = grind (arith, mul-add-lt row columns column rows inside near, size) in
-    get_or-map number_in bytes (row * columns + column) 0 None here
-    ∙ ap number_in (is.bare row column inside near (sym (get_or_default marks row false true (omega (arith, inside, is.marked))) ∙ at ∙ not_true mark unmarked))
-
--- a number written, and the mark of its row
-pub marked_set : (rows columns limit : ℕ) (bytes : List ℕ) (marks : List Bool) (row column byte at r : ℕ) → AreBytesOf rows columns limit bytes marks → row < rows → column < columns → byte < limit → at ≡ row * columns + column → r ≡ row
-    → AreBytesOf rows columns limit (set bytes at byte) (set marks r true)
-marked_set rows columns limit bytes marks row column byte at r is inside near small place same_row =
-    let size = is.size in
-    let marked = is.marked in
-    let here : at < length bytes = grind (arith, mul-add-lt row columns column rows inside near, size, place) in
-    record {
-      size = length-set bytes at byte ∙ size;
-      below = λ i within number. elim (cases_eq i at) [
-        | inl same ↦ subst (λ b. b < limit) (sym (get_or-set_at bytes at i byte 0 same here)) small
-        | inr other ↦
-            let kept = get_or-set_other bytes at i byte 0 other in
-            subst (λ b. b < limit) (sym kept) (is.below i (omega (arith, within, length-set bytes at byte)) (subst (λ b. b ≢ 255) kept number))
-      ];
-      marked = length-set marks r true ∙ marked;
-      bare = λ q c q_in c_in unmarked. elim (cases_eq q row) [
-        | inl same ↦
-            let set_there : get_or (set marks r true) q true ≡ true = get_or-set_at marks r q true true (same ∙ sym same_row) (omega (arith, inside, marked, same_row)) in
-            absurd (cc)
-        | inr other ↦
-            get_or-set_other bytes at (q * columns + c) byte 0 (λ e. other (same_from_place q c row column columns c_in near (e ∙ place)).0)
-            ∙ is.bare q c q_in c_in (sym (get_or-set_other marks r q true true (λ e. other (e ∙ same_row))) ∙ unmarked)
-      ];
-    }

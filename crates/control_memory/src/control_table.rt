@@ -1,4 +1,4 @@
-ghost use Rattle.std.specs.Prelude.{◌≡◌, ℕ, ◌<◌, true, Some, None, IfOk, IfSome};
+ghost use Rattle.std.specs.Prelude.{◌≡◌, ◌<◌, Some, None, IfOk, IfSome};
 ghost use Rattle.control_memory.specs.Tables.{entry, HasSize, SameSize, Agree, IsRow, written, nothing};
 
 use std::alloc::{AllocError, Global};
@@ -9,16 +9,13 @@ const NONE: u8 = 0xFF;
 
 /// A control table of a switching stage: rows of numbers below a limit, some of them missing.
 ///
-/// A row is one piece of memory, one byte for each entry. Beside the rows stands a mark for each that
-/// may have a number.
+/// A row is one piece of memory, one byte for each entry.
 #[derive(Drop)]
 pub struct ControlTable {
     rows: u8,
     columns: u8,
     limit: u8,
     bytes: Vec<u8>,
-    // Which rows may have a number. A row without a mark has none.
-    marks: Vec<bool>,
 }
 
 impl Model for ControlTable {
@@ -29,7 +26,7 @@ impl Model for ControlTable {
 
     ghost view = { λ t. record { rows = t.rows; columns = t.columns; limit = t.limit; entries = map number_in t.bytes.items } };
 
-    ghost invariant = { λ t. AreBytesOf t.rows t.columns t.limit t.bytes.items t.marks.items };
+    ghost invariant = { λ t. AreBytesOf t.rows t.columns t.limit t.bytes.items };
 }
 
 impl ControlTable {
@@ -44,7 +41,6 @@ impl ControlTable {
             columns,
             limit,
             bytes: vec![in alloc; NONE; entries]?,
-            marks: vec![in alloc; false; usize::from(rows)]?,
         })
     }
 
@@ -71,15 +67,6 @@ impl ControlTable {
         &self.bytes[start..start + columns]
     }
 
-    /// Whether a row is known to have no number. It is not known of a row whose numbers were all
-    /// taken out one by one.
-    pub fn is_bare(&self, row: u8) -> bool
-        requires { row < self.now.rows }
-        ensures { result ≡ true → (column : ℕ) → column < self.now.columns → entry self.now row column ≡ None }
-    {
-        !self.marks[usize::from(row)]
-    }
-
     /// Writes a number into a column of a row.
     pub fn set(&mut self, row: u8, column: u8, number: u8)
         requires row { row < self.old.rows }
@@ -90,7 +77,6 @@ impl ControlTable {
     {
         let at = usize::from(row) * usize::from(self.columns) + usize::from(column);
         self.bytes[at] = number;
-        self.marks[usize::from(row)] = true;
     }
 
     /// Takes the number out of a column of a row.
@@ -110,7 +96,6 @@ impl ControlTable {
         ensures empty { Agree self.old.rows self.old.columns (entry self.new) nothing }
     {
         self.bytes.fill(NONE);
-        self.marks.fill(false);
     }
 
     /// Takes over the entries of a table of the same size, in one copy.
@@ -119,6 +104,5 @@ impl ControlTable {
         ensures { self.new ≡ other.now }
     {
         self.bytes.copy_from_slice(&other.bytes);
-        self.marks.copy_from_slice(&other.marks);
     }
 }
