@@ -1,6 +1,6 @@
 pub mod FileOrder
 pub mod Steps
-pub mod Kept
+pub mod Obeying
 pub mod Taken
 pub mod EarlierFrames
 pub mod Refusals
@@ -20,11 +20,17 @@ pub mod Vacant
 pub mod Commands
 pub mod NewCalls
 pub mod Setups
+pub mod Makings
+pub mod Accepted
+pub mod Refusing
+pub mod Choosing
 pub mod Happened
 pub mod Ended
 pub mod EndedByActs
 pub mod ActPermits
 pub mod AtWorkActs
+pub mod SetupPermits
+pub mod SetupEnds
 pub mod Makes
 pub mod BegunEnds
 pub mod Permits

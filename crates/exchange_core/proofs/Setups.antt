@@ -42,11 +42,11 @@ pass : (fails : Bool) (cause : ℕ) (others : List Check) → (first_cause other
 pass true cause others later e = absurd cc
 pass false cause others later e = (refl, later e)
 
-all_pass : (cs : List Check) → first_cause cs ≡ None → AllByRecursion (λ (c : Check). c.0 ≡ false) cs
+pub all_pass : (cs : List Check) → first_cause cs ≡ None → AllByRecursion (λ (c : Check). c.0 ≡ false) cs
 all_pass [] e = tt
 all_pass ((fails, cause) ∷ others) e = pass fails cause others (all_pass others) e
 
-all_from : (k : ℕ) (cs : List Check) → AllByRecursion (λ (c : Check). c.0 ≡ false) cs → AllByRecursion (λ (c : Check). c.0 ≡ false) (drop k cs)
+pub all_from : (k : ℕ) (cs : List Check) → AllByRecursion (λ (c : Check). c.0 ≡ false) cs → AllByRecursion (λ (c : Check). c.0 ≡ false) (drop k cs)
 all_from zero cs all = all
 all_from (suc k) [] all = tt
 all_from (suc k) (c ∷ cs) all = all_from k cs all.1
@@ -99,7 +99,7 @@ where_idle w (Some y) x e = elim (true_or_false (idle w y)) [
   | inr taken ↦ let f : None ≡ Some x = rw taken at e in absurd cc
 ]
 
-caller_is : (w : World) (line : ℕ) (channel : Option ChannelIdentification) (x : Slot) → caller_slot w line channel ≡ Some x → (idle w x ≡ true) × IsOn line x
+pub caller_is : (w : World) (line : ℕ) (channel : Option ChannelIdentification) (x : Slot) → caller_slot w line channel ≡ Some x → (idle w x ≡ true) × IsOn line x
 caller_is w line channel x e = elim (either_of (option_and_then (if_idle w) (slot_asked line channel)) (lowest_idle w line) x e) [
   | inl named ↦ let is = where_idle w (slot_asked line channel) x named in (is.0, asked_on line channel x is.1)
   | inr lowest ↦ found_on (idle w) line x lowest
@@ -108,7 +108,7 @@ caller_is w line channel x e = elim (either_of (option_and_then (if_idle w) (slo
 not_same : (x y : Slot) → not (same_slot x y) ≡ true → y ≡ x → ⊥
 not_same x y other same = let e : same_slot x y ≡ true = subst (λ (z : Slot). same_slot x z ≡ true) (sym same) (same_slot-refl x) in let f : not (same_slot x y) ≡ false = ap not e in cc
 
-called_is : (w : World) (x : Slot) (line : ℕ) (y : Slot) → lowest_idle_beside w x line ≡ Some y → (idle w y ≡ true) × (y ≡ x → ⊥) × IsOn line y
+pub called_is : (w : World) (x : Slot) (line : ℕ) (y : Slot) → lowest_idle_beside w x line ≡ Some y → (idle w y ≡ true) × (y ≡ x → ⊥) × IsOn line y
 called_is w x line y e =
     let is = found_on (λ z. idle w z && not (same_slot x z)) line y e in
     let both = both_true (idle w y) (not (same_slot x y)) is.0 in
@@ -120,7 +120,7 @@ none_of : (o : Option Held) → is_none o ≡ true → o ≡ None
 none_of None e = refl
 none_of (Some h) e = absurd cc
 
-offered : (s : Setting) (w : World) (x : Slot) (line : ℕ) (y : Slot) → line < s.dimensions.external → lowest_idle_beside w x line ≡ Some y → MayOffer s.dimensions w x y (new_reference w.legs line)
+pub offered : (s : Setting) (w : World) (x : Slot) (line : ℕ) (y : Slot) → line < s.dimensions.external → lowest_idle_beside w x line ≡ Some y → MayOffer s.dimensions w x y (new_reference w.legs line)
 offered s w x line y below e =
     let is = called_is w x line y e in
     let unused = new_unused w.legs line y is.2 (empty_slot w y is.0) in
@@ -132,7 +132,7 @@ offered s w x line y below e =
       free = subst (λ n. leg_named w.legs n true (new_reference w.legs line) ≡ None) (sym is.2.0) (none_of (leg_named w.legs line true (new_reference w.legs line)) unused.0);
     }
 
-reached : (s : Setting) (m : Message) (line : ℕ) → IsPlanned s → target_of s m ≡ Line line → line < s.dimensions.external
+pub reached : (s : Setting) (m : Message) (line : ℕ) → IsPlanned s → target_of s m ≡ Line line → line < s.dimensions.external
 reached s m line planned is =
     let passes = found_passes (is_reached s.dimensions.external) s.plan _ (target.Line line) planned is in
     grind (arith, nat_tests, passes)
@@ -193,11 +193,11 @@ named_new : (n : Message) (o : Option Held) (m : Message) → with_leg_named n o
 named_new n None m e = let is = asked_for n n.kind m e in (refl, is.0, is.1)
 named_new n (Some h) m e = absurd cc
 
-pub flag_of : (flag zero_reference : Bool) → (flag || zero_reference) ≡ false → (flag ≡ false) × (zero_reference ≡ false)
+flag_of : (flag zero_reference : Bool) → (flag || zero_reference) ≡ false → (flag ≡ false) × (zero_reference ≡ false)
 flag_of true b e = absurd cc
 flag_of false b e = (refl, e)
 
-pub positive : (n : ℕ) → (n == 0) ≡ false → 1 ≤ n
+positive : (n : ℕ) → (n == 0) ≡ false → 1 ≤ n
 positive n e = grind (arith, nat_tests, e)
 
 pub new_from : (legs : Legs) (line : ℕ) (r : Result Message Discard) (m : Message) → received_from legs line r ≡ New_call m

@@ -1,4 +1,5 @@
 pub mod Limits
+pub mod Kept
 pub mod Legs
 pub mod Sound
 pub mod Orders
@@ -10,6 +11,7 @@ pub mod Permitted
 pub mod Course
 pub mod Acts
 pub mod Setup
+pub mod Choices
 pub mod Calls
 pub mod LegStanding
 pub mod Step

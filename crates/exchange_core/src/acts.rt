@@ -265,7 +265,7 @@ fn in_state(state: u8, leg: Leg) -> Leg
 }
 
 // A message of a type, without elements, to the user of a leg.
-fn message_to(leg: &Leg, kind: MessageKind) -> Outgoing<'static>
+pub(crate) fn message_to(leg: &Leg, kind: MessageKind) -> Outgoing<'static>
     ensures { outgoing_of result ≡ message_to leg.now kind }
 {
     Outgoing::new(leg.side.flag(), leg.reference, kind)
