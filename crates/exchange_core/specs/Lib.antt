@@ -20,4 +20,5 @@ pub mod AtWork
 pub mod EndedCalls
 pub mod Peers
 pub mod Working
+pub mod Responses
 pub mod Answered
