@@ -166,11 +166,7 @@ impl Answer {
         ensures reply { IfOk result (λ a. a.reply ≡ kept reply.now) }
         ensures octets { IfOk result (λ a. a.octets ≡ octets.now) }
     {
-        Ok(Answer {
-            event,
-            reply: keep_reply(alloc, reply)?,
-            octets: Rows::of(Vec::from_slice(alloc, octets)?),
-        })
+        answer_of(alloc, event, keep_reply(alloc, reply)?, octets)
     }
 }
 
@@ -191,12 +187,26 @@ impl Answer {
         ensures reply { IfOk result (λ a. a.reply ≡ kept (reply_of response out.now)) }
         ensures octets { IfOk result (λ a. a.octets ≡ octets.now) }
     {
-        Ok(Answer {
-            event,
-            reply: keep_with(alloc, response, out)?,
-            octets: Rows::of(Vec::from_slice(alloc, octets)?),
-        })
+        answer_of(alloc, event, keep_with(alloc, response, out)?, octets)
     }
+}
+
+// The answer with a kept reply.
+fn answer_of(
+    alloc: Global,
+    event: u32,
+    reply: Kept,
+    octets: &[[u8; 30]],
+) -> Result<Answer, AllocError>
+    ensures event { IfOk result (λ a. a.event ≡ event) }
+    ensures reply { IfOk result (λ a. a.reply ≡ reply) }
+    ensures octets { IfOk result (λ a. a.octets ≡ octets.now) }
+{
+    Ok(Answer {
+        event,
+        reply,
+        octets: Rows::of(Vec::from_slice(alloc, octets)?),
+    })
 }
 
 fn keep_with(alloc: Global, response: Response, out: &Outbox) -> Result<Kept, AllocError>

@@ -146,7 +146,11 @@ fn what_is_no_trace_is_refused_at_its_first_fault(rt: HostRuntime) -> Result<(),
         ),
         (b"exchange 1 1 0 1\nnail 0/1 0/16\n", "refused 2 slot\n"),
         (b"exchange 1 1 0 1\n\nhold\n", "refused 3 word\n"),
-        (b"exchange 1 1 1 1\nM 0\n", "refused 2 later\n"),
+        (b"exchange 1 1 1 1\ntone busy D5\n", "refused 2 later\n"),
+        (
+            b"exchange 1 1 1 1\nnumber 12 line 0\nnumber 1 room 3\n",
+            "refused 3 prefix\n",
+        ),
         (b"exchange 1 1 1 1\nseat 0/1 64\n", "refused 2 number\n"),
         (too_many.as_slice(), "refused 65537 limit\n"),
     ] {
