@@ -20,3 +20,4 @@ pub mod EndedCalls
 pub mod Peers
 pub mod Working
 pub mod Answered
+pub mod Seats
