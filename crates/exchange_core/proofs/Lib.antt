@@ -29,6 +29,8 @@ pub mod Ended
 pub mod EndedByActs
 pub mod ActPermits
 pub mod AtWorkActs
+pub mod SetupPermits
+pub mod SetupEnds
 pub mod Makes
 pub mod BegunEnds
 pub mod Permits

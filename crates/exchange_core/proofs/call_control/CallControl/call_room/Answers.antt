@@ -11,8 +11,7 @@ use Rattle.exchange_core.proofs.call_control.CallControl.call_room.Goals as goal
 
 pub seat-requires-clause-can : goal.seat-requires-clause-can
 seat-requires-clause-can g c κs within =
-    let can = c.requires.can in
-    (
+    let can = c.requires.can in (
       can.0,
       record can.1 { legs = c.put.new.self.legs },
       holds_with can.0 c.args.self.now.map c.put.new.self.map c.args.self.now.legs c.put.new.self.legs can.1 can.2 c.put.ensures.map,
