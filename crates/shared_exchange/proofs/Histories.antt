@@ -31,11 +31,11 @@ starts_same log seen s = (history_of s.0, ap history_of s.1 ∙ map-append entry
 
 pub entries_same : (n : ℕ) (ts : List Turn) → entries_of n (history_of ts) ≡ history_of (turns.entries_of n ts)
 entries_same n [] = refl
-entries_same n (t ∷ ts) = go (eqb t.by n)
+entries_same n (t ∷ ts) = go (entries_same n ts) (eqb t.by n)
   where
-    go : (b : Bool) → cond b (entry_of t ∷ entries_of n (history_of ts)) (entries_of n (history_of ts)) ≡ history_of (cond b (t ∷ turns.entries_of n ts) (turns.entries_of n ts))
-    go true = ap (λ (l : List Entry). entry_of t ∷ l) (entries_same n ts)
-    go false = entries_same n ts
+    go : entries_of n (history_of ts) ≡ history_of (turns.entries_of n ts) → (b : Bool) → cond b (entry_of t ∷ entries_of n (history_of ts)) (entries_of n (history_of ts)) ≡ history_of (cond b (t ∷ turns.entries_of n ts) (turns.entries_of n ts))
+    go rest true = ap (λ (l : List Entry). entry_of t ∷ l) rest
+    go rest false = rest
 
 pub longer_same : (a b : List Turn) → longer (history_of a) (history_of b) ≡ history_of (turns.longer a b)
 longer_same a b = subst (λ (n : ℕ). cond (ltb n (length (history_of b))) (history_of b) (history_of a) ≡ history_of (turns.longer a b)) (sym (length-map a entry_of))
@@ -46,12 +46,12 @@ longer_same a b = subst (λ (n : ℕ). cond (ltb n (length (history_of b))) (his
     go false = refl
 
 pub all_of : {X Y : Type 0} (f : X → Y) (P : X → Type 0) (Q : Y → Type 0) (xs : List X) → ((x : X) → P x → Q (f x)) → Every P xs → All Q (map f xs)
-all_of f P Q [] g a = All-nil
-all_of f P Q (x ∷ xs) g a = All-cons (f x) (map f xs) (g x a.0) (all_of f P Q xs g a.1)
+all_of f P Q [] g a = λ k d below. absurd (omega arith)
+all_of f P Q (x ∷ xs) g a = All-cons Q (f x) (map f xs) (g x a.0) (all_of f P Q xs g a.1)
 
 pub once_of : (ks : List Turns_kept) → Once ks → AllPairs (λ (k m : Kept). m.number ≢ k.number) (map kept_of ks)
-once_of [] a i j d lt within = absurd (omega arith)
-once_of (k ∷ ks) a = AllPairs-cons (kept_of k) (map kept_of ks) (all_of kept_of _ _ ks (λ m h. h) a.0) (once_of ks a.1)
+once_of [] a = λ i j d lt within. absurd (omega arith)
+once_of (k ∷ ks) a = AllPairs-cons (λ (i j : Kept). j.number ≢ i.number) (kept_of k) (map kept_of ks) (all_of kept_of (λ (m : Turns_kept). m.number ≢ k.number) (λ (m : Kept). m.number ≢ k.number) ks (λ m h. h) a.0) (once_of ks a.1)
 
 numbers_same : (ks : List Turns_kept) → map (λ (k : Kept). k.number) (map kept_of ks) ≡ map (λ (k : Turns_kept). k.number) ks
 numbers_same [] = refl
@@ -63,12 +63,12 @@ accounts_same seat n a = subst (λ (l : List ℕ). IsTrue (nat_eq n seat.number 
 pub settled_same : (board : Board) (seat : Holder Board) (turns_there : seat.budget ≡ turns_of board) → lock.Settled seat → Settled (turns_of board) (known seat)
 settled_same board seat there s = record {
   own = ap history_of s.own ∙ sym (entries_same seat.number seat.seen);
-  kept = all_of kept_of _ _ seat.kept (λ k h. ap history_of h ∙ sym (entries_same k.number seat.seen)) s.kept;
-  others = all_of kept_of _ _ seat.kept (λ k h. h) s.others;
+  kept = all_of kept_of (λ (k : Turns_kept). k.own ≡ turns.entries_of k.number seat.seen) (λ (k : Kept). k.own ≡ entries_of k.number (history_of seat.seen)) seat.kept (λ k h. ap history_of h ∙ sym (entries_same k.number seat.seen)) s.kept;
+  others = all_of kept_of (λ (k : Turns_kept). (k.number ≢ seat.number) × (k.number ≤ seat.made)) (λ (k : Kept). (k.number ≢ seat.number) × (k.number ≤ seat.made)) seat.kept (λ k h. h) s.others;
   once = once_of seat.kept s.once;
-  entries_made = all_of entry_of _ _ seat.seen (λ e h. h) s.entries_made;
+  entries_made = all_of entry_of (λ (t : Turn). t.by ≤ seat.made) (λ (e : Entry). e.0 ≤ seat.made) seat.seen (λ e h. h) s.entries_made;
   within = subst (λ (n : ℕ). seat.left ≤ n) there s.within;
-  accounted = λ all. all_of entry_of _ _ seat.seen (λ e h. accounts_same seat e.by h) (s.accounted (all ∙ length-map seat.kept kept_of));
+  accounted = λ all. all_of entry_of (λ (t : Turn). lock.Accounts seat t.by) (λ (e : Entry). Accounts (known seat) e.0) seat.seen (λ e h. accounts_same seat e.by h) (s.accounted (all ∙ length-map seat.kept kept_of));
   whole = λ all. ap (λ (n : ℕ). n + seat.left) (length-map seat.seen entry_of) ∙ (s.whole (all ∙ length-map seat.kept kept_of) ∙ there);
 }
 
@@ -76,4 +76,6 @@ pub joining_same : (seat other : Holder Board) → known (lock.joining seat othe
 joining_same seat other = ap (λ (l : List Entry). record (joining (known seat) (known other)) { seen = l }) (sym (longer_same seat.seen other.seen))
 
 pub stepping_same : (log : List Turn) (event : ℕ) (seat : Holder Board) → known (lock.stepping log event seat) ≡ handling (history_of log) event (known seat)
-stepping_same log event seat = grind (history_more log seat.number event, history_more seat.own seat.number event)
+stepping_same log event seat =
+    ap (λ (l : List Entry). record (known (lock.stepping log event seat)) { seen = l }) (history_more log seat.number event)
+    ∙ ap (λ (l : List Entry). record (handling (history_of log) event (known seat)) { own = l }) (history_more seat.own seat.number event)
