@@ -2,6 +2,7 @@
 #![tactic(auto)]
 
 mod acts;
+mod answer;
 mod asked;
 mod call_control;
 mod call_laws;
@@ -22,8 +23,10 @@ mod switchboard;
 mod tool;
 mod trace;
 
+pub use answer::{Answer, Kept, RecordList, Rows, SignalList};
 pub use call_laws::{
-    law_of_answered_calls, law_of_legs, law_of_paths, law_of_refused_calls, worked_calls,
+    law_of_answered_calls, law_of_legs, law_of_paths, law_of_refusals, law_of_refused_calls,
+    worked_calls,
 };
 pub use laws::{file_order_is_lawful, later_frames_change_nothing, worlds_are_made};
 pub use leg_table::{Held, LegTable};
