@@ -1,11 +1,12 @@
 -- What the lock says of its histories, said of the exchange's.
-use Rattle.std.proofs.Common.{◌≡◌, ◌≢◌, ℕ, eqb, ltb, cond, Bool, true, false, List, [], ◌∷◌, ◌++◌, length, map, take, drop, filter, sym, refl, ap, ◌∙◌, subst, arith}
+use Rattle.std.proofs.Common.{◌≡◌, ◌≢◌, ℕ, eqb, cond, Bool, true, false, List, [], ◌∷◌, length, map, take, drop, sym, refl, ap, ◌∙◌, subst, arith}
 use Rattle.std.specs.Prelude.{All, AllPairs, ◌+◌, ◌≤◌, ◌||◌, IsTrue, nat_eq}
 use Rattle.std.specs.List.{list_any}
 use Rattle.std.proofs.lemmas.List.{map-append, length-map, take-map, drop-map}
-use Rattle.std.proofs.lemmas.List.Elements.{All-nil, All-cons}
+use Rattle.std.proofs.lemmas.List.Elements.{All-cons}
 use Rattle.std.proofs.lemmas.List.Kept.{AllPairs-cons}
-use Rattle.exchange_core.specs.Seats.{Board, Known, Kept, Settled, Accounts, StartsWith, before, unseen, entries_of, longer, handling, joining, turns_of}
+use Rattle.exchange_core.specs.declared.trace.Trace.{Trace}
+use Rattle.exchange_core.specs.Seats.{Board, Kept, Settled, Accounts, StartsWith, IsFrame, NoFrames, before, unseen, entries_of, turns_of}
 use Rattle.exchange_core.specs.Working.{Entry}
 use Rattle.turn_lock.specs.declared.history.Entry.{Entry as Turn}
 use Rattle.turn_lock.specs.declared.history.Kept.{Kept as Turns_kept}
@@ -13,18 +14,12 @@ use Rattle.turn_lock.specs.History.{entry, Every, Once}
 use Rattle.turn_lock.specs.History as turns
 use Rattle.turn_lock.specs.Seats.{Lock, Known as Holder}
 use Rattle.turn_lock.specs.Seats as lock
-use Rattle.shared_exchange.specs.Sharing.{turn_of, entry_of, turns_in, history_of, kept_of, known}
+use Rattle.shared_exchange.specs.Sharing.{entry_of, turns_in, history_of, kept_of, known}
 
 -- the lock's history of a journal is that journal
 pub history_in : (journal : List Entry) → history_of (turns_in journal) ≡ journal
 history_in [] = refl
 history_in (e ∷ es) = ap (λ (l : List Entry). e ∷ l) (history_in es)
-
-pub turns_more : (journal : List Entry) (by event : ℕ) → turns_in (journal ++ (by, event) ∷ []) ≡ turns_in journal ++ entry by event ∷ []
-turns_more journal by event = map-append turn_of journal ((by, event) ∷ [])
-
-pub history_more : (ts : List Turn) (by event : ℕ) → history_of (ts ++ entry by event ∷ []) ≡ history_of ts ++ (by, event) ∷ []
-history_more ts by event = map-append entry_of ts (entry by event ∷ [])
 
 pub starts_same : (log seen : List Turn) → turns.StartsWith log seen → StartsWith (history_of log) (history_of seen)
 starts_same log seen s = (history_of s.0, ap history_of s.1 ∙ map-append entry_of seen s.0)
@@ -36,14 +31,6 @@ entries_same n (t ∷ ts) = go (entries_same n ts) (eqb t.by n)
     go : entries_of n (history_of ts) ≡ history_of (turns.entries_of n ts) → (b : Bool) → cond b (entry_of t ∷ entries_of n (history_of ts)) (entries_of n (history_of ts)) ≡ history_of (cond b (t ∷ turns.entries_of n ts) (turns.entries_of n ts))
     go rest true = ap (λ (l : List Entry). entry_of t ∷ l) rest
     go rest false = rest
-
-pub longer_same : (a b : List Turn) → longer (history_of a) (history_of b) ≡ history_of (turns.longer a b)
-longer_same a b = subst (λ (n : ℕ). cond (ltb n (length (history_of b))) (history_of b) (history_of a) ≡ history_of (turns.longer a b)) (sym (length-map a entry_of))
-    (subst (λ (n : ℕ). cond (ltb (length a) n) (history_of b) (history_of a) ≡ history_of (turns.longer a b)) (sym (length-map b entry_of)) (go (ltb (length a) (length b))))
-  where
-    go : (t : Bool) → cond t (history_of b) (history_of a) ≡ history_of (cond t b a)
-    go true = refl
-    go false = refl
 
 pub all_of : {X Y : Type 0} (f : X → Y) (P : X → Type 0) (Q : Y → Type 0) (xs : List X) → ((x : X) → P x → Q (f x)) → Every P xs → All Q (map f xs)
 all_of f P Q [] g a = λ k d below. absurd (omega arith)
@@ -72,10 +59,13 @@ settled_same board seat there s = record {
   whole = λ all. ap (λ (n : ℕ). n + seat.left) (length-map seat.seen entry_of) ∙ (s.whole (all ∙ length-map seat.kept kept_of) ∙ there);
 }
 
-pub joining_same : (seat other : Holder Board) → known (lock.joining seat other) ≡ joining (known seat) (known other)
-joining_same seat other = ap (λ (l : List Entry). record (joining (known seat) (known other)) { seen = l }) (sym (longer_same seat.seen other.seen))
+pub unseen_same : (seen log : List Turn) (place : ℕ) → unseen (history_of seen) (before place (history_of log)) ≡ history_of (turns.unseen seen (turns.before place log))
+unseen_same seen log place =
+    ap (λ (n : ℕ). drop n (take place (history_of log))) (length-map seen entry_of)
+    ∙ (ap (λ (l : List Entry). drop (length seen) l) (take-map entry_of place log) ∙ drop-map entry_of (length seen) (take place log))
 
-pub stepping_same : (log : List Turn) (event : ℕ) (seat : Holder Board) → known (lock.stepping log event seat) ≡ handling (history_of log) event (known seat)
-stepping_same log event seat =
-    ap (λ (l : List Entry). record (known (lock.stepping log event seat)) { seen = l }) (history_more log seat.number event)
-    ∙ ap (λ (l : List Entry). record (handling (history_of log) event (known seat)) { own = l }) (history_more seat.own seat.number event)
+pub frames_same : (trace : Trace) (seen log : List Turn) (place : ℕ) → Every (λ (t : Turn). IsFrame trace t.event → ⊥) (turns.unseen seen (turns.before place log))
+    → NoFrames trace (unseen (history_of seen) (before place (history_of log)))
+frames_same trace seen log place none =
+    subst (NoFrames trace) (sym (unseen_same seen log place))
+    (all_of entry_of (λ (t : Turn). IsFrame trace t.event → ⊥) (λ (e : Entry). IsFrame trace e.1 → ⊥) (turns.unseen seen (turns.before place log)) (λ t h. h) none)
