@@ -12,6 +12,7 @@ use std::sync::Wait;
 use turn_lock::TurnLock;
 
 /// A core that many callers share: a switchboard. Contracts see the lock, whose setting is the board.
+#[derive(Drop)]
 pub struct SharedExchange<'t, P: PathMap> {
     lock: TurnLock<Exchange<'t, P>>,
 }

@@ -1,5 +1,5 @@
 //! Seats at work at any switchboard, one after the other and in threads of their own.
-ghost use Rattle.std.specs.Prelude.{◌≡◌, ◌≤◌, ◌<◌, ◌+◌, ◌×◌, ◌^◌, length, IsTrue, true};
+ghost use Rattle.std.specs.Prelude.{◌≡◌, ◌≤◌, ◌<◌, ◌+◌, ◌^◌, length, IsTrue, true};
 ghost use Rattle.std.specs.Thread.{IsSync};
 ghost use Rattle.exchange_core.specs.Seats.{IsToolAt};
 ghost use Rattle.control_memory.specs.Image.{Control};
@@ -19,7 +19,7 @@ pub enum Told {
     Other,
 }
 
-fn told(reply: &Reply) -> Told {
+fn answer_of(reply: &Reply) -> Told {
     match reply {
         Reply::Granted(there, back) => Told::Granted(*there, *back),
         Reply::Busy => Told::Busy,
@@ -52,7 +52,7 @@ pub fn nail<B: Switchboard, R: Wait>(
     }
     let mut tool = Tool::Nothing;
     let (place, reply) = board.handle(rt, seat, event, &mut tool);
-    Some((place, told(&reply)))
+    Some((place, answer_of(&reply)))
 }
 
 /// Does a frame, by the holder of the baton. `None` where the event is none.
@@ -82,7 +82,7 @@ pub fn frame<B: Switchboard, R: Wait>(
     }
     let mut tool = Tool::Image(image);
     let (place, reply) = board.handle(rt, seat, event, &mut tool);
-    Some((place, told(&reply)))
+    Some((place, answer_of(&reply)))
 }
 
 /// Every second event from `first` on is done, so many. How many were granted.
