@@ -4,7 +4,7 @@ use Rattle.std.specs.Prelude.{filter_map, is_some}
 use Rattle.std.specs.List.{range_with_len}
 use Rattle.control_memory.specs.Layout.{Layout, slot_numbered}
 use Rattle.exchange_core.specs.declared.record.CallRecord.{CallRecord}
-use Rattle.exchange_core.specs.Calls.{Received, For_leg, New_call, Unanswered, received, course_for, refusal_for, after_message, answer_to, refused_with, course, record_at, records, is_ended, is_calling, made_by}
+use Rattle.exchange_core.specs.Calls.{Received, For_leg, New_call, On_no_call, Unanswered, received, course_for, refusal_for, after_message, answer_to, refused_with, course, record_at, records, is_ended, is_calling, made_by}
 use Rattle.exchange_core.specs.Legs.{Legs, leg_at}
 use Rattle.exchange_core.specs.Operations.{Operation, Clear, Pair, Seat, Put, Remove, Send, Making, begun, performed, performed_all}
 use Rattle.exchange_core.specs.declared.trace.Event.{Event}
@@ -39,6 +39,7 @@ made_refused : (s : Setting) (w : World) (line : ℕ) (r : Received) (cause : �
     → ((made_by s w (course_for s w line r)).world ≡ w) × ((made_by s w (course_for s w line r)).moves ≡ None)
 made_refused s w line (For_leg h m) cause e = absurd cc
 made_refused s w line (New_call m) cause e = rw e (refl, refl)
+made_refused s w line (On_no_call m) cause e = absurd cc
 made_refused s w line Unanswered cause e = absurd cc
 
 pub refused_world : (s : Setting) (w : World) (line : ℕ) (octets : List ℕ) (cause : ℕ) → refused_with s w line octets ≡ Some cause → after_message s w line octets ≡ w

@@ -10,13 +10,14 @@ ghost use Rattle.exchange_core.specs.Setup.{Setting};
 ghost use Rattle.exchange_core.specs.Sound.{Fits, IsPlanned};
 ghost use Rattle.exchange_core.specs.Step.{is_refused, next, world};
 ghost use Rattle.exchange_core.specs.World.{World, start};
-ghost use Rattle.exchange_core.specs.WorkedCalls.{two_lines, one_line, answers, whole_call, whole_call_answered, refused_or_moved, refused_or_moved_answered, clear_collision, clear_collision_answered, lenient_reading, lenient_reading_answered, call_to_room, call_to_room_answered, no_port_answered, unexpected, unexpected_answered, line_full, line_full_answered};
+ghost use Rattle.exchange_core.specs.WorkedCalls.{two_lines, one_line, answers, whole_call, whole_call_answered, refused_or_moved, refused_or_moved_answered, clear_collision, clear_collision_answered, on_no_call, on_no_call_answered, lenient_reading, lenient_reading_answered, call_to_room, call_to_room_answered, no_port_answered, unexpected, unexpected_answered, line_full, line_full_answered};
 
 /// The definitions of what is done for messages, evaluated on small exchanges.
 pub fn worked_calls()
     ensures whole { answers two_lines whole_call ≡ whole_call_answered }
     ensures channel { answers two_lines refused_or_moved ≡ refused_or_moved_answered }
     ensures collision { answers two_lines clear_collision ≡ clear_collision_answered }
+    ensures no_call { answers two_lines on_no_call ≡ on_no_call_answered }
     ensures lenient { answers two_lines lenient_reading ≡ lenient_reading_answered }
     ensures room { answers (one_line 1) call_to_room ≡ call_to_room_answered }
     ensures no_port { answers (one_line 0) call_to_room ≡ no_port_answered }

@@ -12,6 +12,7 @@ ghost use Rattle.exchange_core.specs.World.{World};
 use crate::call_control::{CallControl, Sending};
 use crate::record::Records;
 use crate::reply::Reply;
+use clearing_rules::{GLOBAL_CALL_REFERENCE, unknown_reference};
 use control_memory::PathMap;
 use number_plan::Plan;
 use q931_codec::{Message, MessageKind, read};
@@ -89,11 +90,46 @@ impl<P: PathMap> CallControl<P> {
         ensures few { IfSome out.new.moved (λ moves. (moves.0 ≤ self.old.map.bound) × (moves.1 ≤ self.old.map.bound)) }
         ensures sizes { SameSizes self.old.map self.new.map }
     {
-        match message.kind {
-            MessageKind::Setup if !message.flag && message.reference != 0 => {
-                self.setup(out, plan, line, message);
-            }
-            _ => {}
+        if message.reference == GLOBAL_CALL_REFERENCE {
+            return;
+        }
+        if asks_for_call(message) {
+            self.setup(out, plan, line, message);
+        } else {
+            out.answer_on_no_call(line, message);
         }
     }
+}
+
+impl Sending {
+    ghost use Rattle.std.specs.Prelude.{◌<◌, length, Option};
+    ghost use Rattle.circuit_map.specs.Connections.{Connections};
+    ghost use Rattle.clearing_rules.specs.UnknownReference.{answer_without_call};
+    ghost use Rattle.exchange_core.specs.Calls.{answer_back};
+    ghost use Rattle.exchange_core.specs.Legs.{Legs};
+    ghost use Rattle.exchange_core.specs.Limits.{most_sends};
+    ghost use Rattle.exchange_core.specs.Operations.{Making, performed_all};
+    ghost use Rattle.exchange_core.specs.World.{Dimensions};
+
+    // Answers a message on the call reference of no call, where there is an answer.
+    fn answer_on_no_call(&mut self, line: u8, message: &Message)
+        requires room { length self.old.sends < most_sends }
+        requires reference { message.now.reference < 2 ^ 15 }
+        ensures makes { (d : Dimensions) (map : Connections) (legs : Legs) (m : Making) → Makes d map legs self.old.sends self.old.moved m
+            → Makes d map legs self.new.sends self.new.moved (performed_all d m (answer_back line (answer_without_call message.now))) }
+        ensures moved { self.new.moved ≡ self.old.moved }
+    {
+        if let Some(answer) = unknown_reference(message) {
+            self.send(line, &answer);
+        }
+    }
+}
+
+ghost use Rattle.exchange_core.specs.Calls.{asks_for_call};
+
+// Whether the message is a SETUP from the side that chose the call reference.
+fn asks_for_call(message: &Message) -> bool
+    ensures { result ≡ asks_for_call message.now }
+{
+    message.kind == MessageKind::Setup && !message.flag
 }
