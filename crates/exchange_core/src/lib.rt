@@ -13,6 +13,7 @@ mod laws;
 mod leg_table;
 mod nails;
 mod new_call;
+mod outbox;
 mod record;
 mod records;
 mod reply;
@@ -30,6 +31,7 @@ pub use call_laws::{
 };
 pub use laws::{file_order_is_lawful, later_frames_change_nothing, worlds_are_made};
 pub use leg_table::{Held, LegTable};
+pub use outbox::{Outbox, Response};
 pub use record::{CallRecord, MOST_RECORDS, Party, Records};
 pub use reply::Reply;
 pub use signal::{Encoded, MOST_SENDS, Signal, Signals};

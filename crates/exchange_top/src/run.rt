@@ -17,7 +17,7 @@ use crate::switch::Switch;
 use circuit_model::IDLE;
 use control_memory::PathMap;
 use ex_io::{Failed, Sink};
-use exchange_core::{Answer, Event, Trace};
+use exchange_core::{Answer, Event, Outbox, Trace};
 use frame_engine::Carrier;
 use report_text::append_answer;
 use std::alloc::{AllocError, Global};
@@ -114,9 +114,18 @@ fn report_events<P: PathMap, K: Sink, C: Carrier>(
 {
     let mut octets = vec![in alloc; [IDLE; 30]; usize::from(trace.external)]?;
     let mut text = Vec::with_capacity(alloc, PIECE + LONG_LINE)?;
+    let mut out = Outbox::new();
     for (index, event) in trace.events.as_slice().iter().enumerate() {
         let number = index as u32 + 1;
-        report_event(alloc, switch, &mut octets, number, event, &mut text)?;
+        report_event(
+            alloc,
+            switch,
+            &mut octets,
+            &mut out,
+            number,
+            event,
+            &mut text,
+        )?;
         flush_full(sink, &mut text)?;
     }
     flush(sink, &mut text)?;
@@ -128,6 +137,7 @@ fn report_event<P: PathMap, C: Carrier>(
     alloc: Global,
     switch: &mut Switch<'_, P, C>,
     octets: &mut [[u8; 30]],
+    out: &mut Outbox,
     number: u32,
     event: &Event,
     text: &mut Vec<u8>,
@@ -143,12 +153,15 @@ fn report_event<P: PathMap, C: Carrier>(
     ensures few { MovesAtMost switch.old.core.bound (reply (setting switch.old.core) (world_of switch.old.core) event.now) }
     ensures kept { OnErr result (text.new.items ≡ text.old.items) }
 {
-    let reply = switch.step(number, event, octets);
+    let response = switch.step(number, event, octets, out);
     let sent: &[[u8; 30]] = match event {
         Event::Frame(_) => octets,
         _ => &[],
     };
-    append_answer(text, &Answer::keep(alloc, number, &reply, sent)?)
+    append_answer(
+        text,
+        &Answer::keep_response(alloc, number, response, out, sent)?,
+    )
 }
 
 // Notes the numbers of the events of a journal.

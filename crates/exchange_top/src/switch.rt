@@ -1,5 +1,6 @@
 ghost use Rattle.std.specs.Prelude.{◌≡◌, ◌<◌, ◌+◌, ◌++◌, ◌∷◌, [], IfOk, length};
 ghost use Rattle.exchange_core.specs.Orders.{IsEvent};
+ghost use Rattle.exchange_core.specs.Responses.{reply_of};
 ghost use Rattle.exchange_core.specs.Sound.{IsSound};
 ghost use Rattle.exchange_core.specs.Step.{reply, next, MovesAtMost};
 ghost use Rattle.exchange_core.specs.Working.{IsNumbered, setting, world_of};
@@ -7,7 +8,7 @@ ghost use Rattle.exchange_top.specs.Report.{engine_dimensions};
 ghost use Rattle.exchange_top.specs.Switching.{IsReady, Works, AreSent};
 
 use control_memory::{Image, PathMap};
-use exchange_core::{Core, Event, Reply, Tool, Trace};
+use exchange_core::{Core, Event, Outbox, Response, Tool, Trace};
 use frame_engine::Carrier;
 use std::alloc::{AllocError, Global};
 use tone_rules::Tones;
@@ -58,9 +59,15 @@ impl<'t, P: PathMap + Drop, C: Carrier> Switch<'t, P, C> {
 }
 
 impl<'t, P: PathMap, C: Carrier> Switch<'t, P, C> {
-    /// Does the event of the trace that has this number. At a frame, the engine writes what each
-    /// external line sends to `octets`.
-    pub fn step(&mut self, number: u32, event: &Event, octets: &mut [[u8; 30]]) -> Reply
+    /// Does the event of the trace that has this number, with what is sent and told in `out`. At a frame,
+    /// the engine writes what each external line sends to `octets`.
+    pub fn step(
+        &mut self,
+        number: u32,
+        event: &Event,
+        octets: &mut [[u8; 30]],
+        out: &mut Outbox,
+    ) -> Response
         requires works { Works C.carries self.old.core self.old.engine self.old.tool }
         requires known { IsEvent self.old.core.trace number }
         requires event { IsNumbered self.old.core.trace number event.now }
@@ -68,21 +75,21 @@ impl<'t, P: PathMap, C: Carrier> Switch<'t, P, C> {
         requires lines { length octets.old ≡ self.old.core.trace.external }
         ensures works { Works C.carries self.new.core self.new.engine self.new.tool }
         ensures journal { self.new.core ≡ record self.old.core { journal = self.old.core.journal ++ (0, number) ∷ [] } }
-        ensures reply { result ≡ reply (setting self.old.core) (world_of self.old.core) event.now }
+        ensures reply { reply_of result out.new ≡ reply (setting self.old.core) (world_of self.old.core) event.now }
         ensures octets { AreSent C.plays (setting self.old.core) (world_of self.old.core) event.now octets.new }
-        ensures few { MovesAtMost self.old.core.bound result }
+        ensures few { MovesAtMost self.old.core.bound (reply_of result out.new) }
     {
         match event {
             Event::Frame(input) => {
-                let reply = self.core.step(BY, number, &mut self.tool);
+                let response = self.core.work(BY, number, &mut self.tool, out);
                 let Tool::Image(image) = &mut self.tool else {
                     unreachable!()
                 };
                 self.engine
                     .frame(image, &self.tones, input.as_slice(), octets);
-                reply
+                response
             }
-            _ => self.core.step(BY, number, &mut Tool::Nothing),
+            _ => self.core.work(BY, number, &mut Tool::Nothing, out),
         }
     }
 

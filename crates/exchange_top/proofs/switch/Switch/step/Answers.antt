@@ -11,7 +11,7 @@ use Rattle.exchange_top.proofs.switch.Switch.step.Goals as goal
 
 pub frame-requires-clause-frame : goal.frame-requires-clause-frame
 frame-requires-clause-frame g c =
-    let a = asked c.args.self.now.core c.args.number c.args.event.now c.in-Frame.input c.step-reply.new.tool c.in-Image.image c.requires.works.sound c.requires.event c.in-Frame.is c.in-Image.is c.step-reply.ensures.shows c.step-reply.ensures.tool in
+    let a = asked c.args.self.now.core c.args.number c.args.event.now c.in-Frame.input c.work-response.new.tool c.in-Image.image c.requires.works.sound c.requires.event c.in-Frame.is c.in-Image.is c.work-response.ensures.shows c.work-response.ensures.tool in
     a.shows.1.frame ∙ sym c.args.self.now.next
 
 pub frame-requires-clause-last : goal.frame-requires-clause-last
@@ -27,7 +27,7 @@ frame-requires-clause-input g c =
 
 pub frame-requires-clause-tones : goal.frame-requires-clause-tones
 frame-requires-clause-tones g c = λ at line place kind since sounds.
-    let a = asked c.args.self.now.core c.args.number c.args.event.now c.in-Frame.input c.step-reply.new.tool c.in-Image.image c.requires.works.sound c.requires.event c.in-Frame.is c.in-Image.is c.step-reply.ensures.shows c.step-reply.ensures.tool in
+    let a = asked c.args.self.now.core c.args.number c.args.event.now c.in-Frame.input c.work-response.new.tool c.in-Image.image c.requires.works.sound c.requires.event c.in-Frame.is c.in-Image.is c.work-response.ensures.shows c.work-response.ensures.tool in
     let made = made_of c.args.self.now.core c.requires.works.sound in
     absurd (sounds_none c.in-Image.image _ _ _ made.toneless a.shows at line place kind since sounds)
 
@@ -35,10 +35,10 @@ frame-requires-clause-tones g c = λ at line place kind since sounds.
 pub invariant_of-self : goal.invariant_of-self
 invariant_of-self g c =
     let old = c.args.self.now in
-    let e = c.step-reply.ensures in
+    let e = c.work-response.ensures in
     let f = c.frame.ensures in
-    let same = same_dimensions g.C.Carrier.carries old.core c.step-reply.new.self old.engine old.tool c.requires.works _ e.journal in
-    let world : world_of c.step-reply.new.self ≡ next (setting old.core) (world_of old.core) (Frame c.in-Frame.input) = e.world c.args.event.now c.requires.event ∙ ap (next (setting old.core) (world_of old.core)) c.in-Frame.is in
+    let same = same_dimensions g.C.Carrier.carries old.core c.work-response.new.self old.engine old.tool c.requires.works _ e.journal in
+    let world : world_of c.work-response.new.self ≡ next (setting old.core) (world_of old.core) (Frame c.in-Frame.input) = e.world c.args.event.now c.requires.event ∙ ap (next (setting old.core) (world_of old.core)) c.in-Frame.is in
     record {
       sizes = (λ i. record { external = f.external i; bridges = f.bridges i; slots = f.slots i }) ∙ old.sizes ∙ sym same;
       next = f.next ∙ ap (λ n. n + 1) old.next ∙ sym (ap (λ (w : World). w.holding.next) world);
@@ -49,8 +49,8 @@ invariant_of-self g c =
 pub invariant_of-self-in_default : goal.invariant_of-self-in_default
 invariant_of-self-in_default g c =
     let old = c.args.self.now in
-    let e = c.step.ensures in
-    let same = same_dimensions g.C.Carrier.carries old.core c.step.new.self old.engine old.tool c.requires.works _ e.journal in
+    let e = c.work.ensures in
+    let same = same_dimensions g.C.Carrier.carries old.core c.work.new.self old.engine old.tool c.requires.works _ e.journal in
     let still = quiet (setting old.core) (world_of old.core) c.args.event.now c.in_default.not-Frame in
     record {
       sizes = old.sizes ∙ sym same;
@@ -62,17 +62,17 @@ invariant_of-self-in_default g c =
 pub returns-in-Image-clause-works : goal.returns-in-Image-clause-works
 returns-in-Image-clause-works g c =
     let old = c.args.self.now in
-    let e = c.step-reply.ensures in
-    let a = asked c.args.self.now.core c.args.number c.args.event.now c.in-Frame.input c.step-reply.new.tool c.in-Image.image c.requires.works.sound c.requires.event c.in-Frame.is c.in-Image.is c.step-reply.ensures.shows c.step-reply.ensures.tool in
-    let world : world_of c.step-reply.new.self ≡ next (setting old.core) (world_of old.core) (Frame c.in-Frame.input) = e.world c.args.event.now c.requires.event ∙ ap (next (setting old.core) (world_of old.core)) c.in-Frame.is in
+    let e = c.work-response.ensures in
+    let a = asked c.args.self.now.core c.args.number c.args.event.now c.in-Frame.input c.work-response.new.tool c.in-Image.image c.requires.works.sound c.requires.event c.in-Frame.is c.in-Image.is c.work-response.ensures.shows c.work-response.ensures.tool in
+    let world : world_of c.work-response.new.self ≡ next (setting old.core) (world_of old.core) (Frame c.in-Frame.input) = e.world c.args.event.now c.requires.event ∙ ap (next (setting old.core) (world_of old.core)) c.in-Frame.is in
     let carried = c.frame.ensures.carries (boundary (world_of old.core)) (next_frame (g.C.Carrier.carries old.engine) c.in-Image.image _ (world_of old.core) a c.requires.works.carried) in
-    works_frame g.C.Carrier.carries old.core c.step-reply.new.self old.engine old.tool c.requires.works _ e.journal c.frame.new.self c.in-Image.image c.frame.new.image c.in-Frame.input a.size
+    works_frame g.C.Carrier.carries old.core c.work-response.new.self old.engine old.tool c.requires.works _ e.journal c.frame.new.self c.in-Image.image c.frame.new.image c.in-Frame.input a.size
     c.frame.ensures.image world (rw c.as_slice.ensures at carried)
 
 pub returns-in-Image-clause-octets : goal.returns-in-Image-clause-octets
 returns-in-Image-clause-octets g c =
     let old = c.args.self.now in
-    let a = asked c.args.self.now.core c.args.number c.args.event.now c.in-Frame.input c.step-reply.new.tool c.in-Image.image c.requires.works.sound c.requires.event c.in-Frame.is c.in-Image.is c.step-reply.ensures.shows c.step-reply.ensures.tool in
+    let a = asked c.args.self.now.core c.args.number c.args.event.now c.in-Frame.input c.work-response.new.tool c.in-Image.image c.requires.works.sound c.requires.event c.in-Frame.is c.in-Image.is c.work-response.ensures.shows c.work-response.ensures.tool in
     let plays = c.frame.ensures.plays (boundary (world_of old.core)) (next_frame (g.C.Carrier.carries old.engine) c.in-Image.image _ (world_of old.core) a c.requires.works.carried) in
     let octets = rw (a.size.external, silent old.tones old.no_ringback old.no_busy, c.as_slice.ensures, a.shows.1.frame) at plays in
     rw c.in-Frame.is (sent_played old.core.trace.external _ c.frame.new.out octets)
@@ -80,9 +80,9 @@ returns-in-Image-clause-octets g c =
 pub returns-in_default : goal.returns-in_default
 returns-in_default g c =
     let old = c.args.self.now in
-    let e = c.step.ensures in
+    let e = c.work.ensures in
     record {
-      works = works_quiet g.C.Carrier.carries old.core c.step.new.self old.engine old.tool c.requires.works _ e.journal c.args.event.now c.in_default.not-Frame (e.world c.args.event.now c.requires.event);
+      works = works_quiet g.C.Carrier.carries old.core c.work.new.self old.engine old.tool c.requires.works _ e.journal c.args.event.now c.in_default.not-Frame (e.world c.args.event.now c.requires.event);
       journal = e.journal;
       reply = e.reply c.args.event.now c.requires.event;
       octets = none_sent g.C.Carrier.plays (setting old.core) (world_of old.core) c.args.event.now c.args.octets.now c.in_default.not-Frame;
