@@ -20,6 +20,7 @@ mod reply;
 mod setup;
 mod signal;
 mod step;
+mod switchboard;
 mod tool;
 mod trace;
 
@@ -35,5 +36,6 @@ pub use record::{CallRecord, MOST_RECORDS, Party, Records};
 pub use reply::Reply;
 pub use signal::{Encoded, MOST_SENDS, Signal, Signals};
 pub use step::Core;
+pub use switchboard::Switchboard;
 pub use tool::Tool;
 pub use trace::{Event, Events, Input, Octets, Segments, Trace};

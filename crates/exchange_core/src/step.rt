@@ -120,6 +120,14 @@ impl<'t, P: PathMap> Core<'t, P> {
         response
     }
 
+    /// The trace that it is at work on. It is a sound one.
+    pub fn trace(&self) -> &'t Trace
+        ensures trace { result.now ≡ self.now.trace }
+        ensures sound { IsSound self.now.trace }
+    {
+        self.trace
+    }
+
     /// Who did which event, in the order in which they were done.
     pub fn journal(&self) -> &[(u32, u32)]
         ensures { result.now ≡ self.now.journal }

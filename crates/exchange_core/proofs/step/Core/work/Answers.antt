@@ -8,14 +8,14 @@ use Rattle.exchange_core.proofs.Stepping.{next_few, stepped, facts, of_each, wor
 use Rattle.exchange_core.proofs.step.Core.work.Goals as goal
 
 pub happen-response-requires-clause-work : goal.happen-response-requires-clause-work
-happen-response-requires-clause-work g c lifetimes outlive =
+happen-response-requires-clause-work g c =
     let e = c.index-as_slice-event.result in
     let f = facts _ c.args.self.now _ _ _ c.args.event _ e c.self.view_is c.self.invariant c.requires.known c.as_slice.ensures c.index-as_slice-event.is in
     let tools = subst (λ (x : Working). (e : Event) → IsNumbered x.trace c.args.event e → IsToolFor (setting x).dimensions e c.args.tool.now) (sym c.self.view_is) c.requires.tool in
     (_, _, refl, f.at, tools e f.number)
 
 pub happen-response-requires-clause-room : goal.happen-response-requires-clause-room
-happen-response-requires-clause-room g c lifetimes outlive =
+happen-response-requires-clause-room g c =
     next_few _ _ _ _ c.self.invariant (subst (λ (x : Working). length x.journal < length x.trace.events) (sym c.self.view_is) c.requires.room)
 
 pub invariant_of-self : goal.invariant_of-self

@@ -1,0 +1,85 @@
+ghost use Rattle.std.specs.Prelude.{◌≡◌, ◌+◌, ◌<◌, ◌≤◌, ◌^◌, length, IsTrue};
+ghost use Rattle.exchange_core.specs.Orders.{IsEvent};
+ghost use Rattle.exchange_core.specs.Seats.{Board, Known, Settled, StartsWith, NoFrames, IsFrame, IsToolAt, AnswersAt, ShowsAt, before, unseen, entries_of, giving, getting, handling, joining, turns_of};
+ghost use Rattle.exchange_core.specs.Sound.{IsSound};
+ghost use Rattle.exchange_core.specs.Step.{MovesAtMost};
+
+use crate::reply::Reply;
+use crate::tool::Tool;
+use std::sync::Wait;
+
+/// An exchange at which many callers do the events of one trace, each in its turn. All that is done
+/// stands in one history.
+///
+/// A caller has a seat, with a number and so many turns. Seat 0 makes other seats, and joins them
+/// again. A seat knows a beginning of the history, which is what it has seen, and its own entries.
+/// Frames are done by the seat that holds the baton alone, which has seen every frame before. No call
+/// takes memory.
+pub trait Switchboard: Sync {
+    /// The right to do so many events.
+    type Seat: Send + Drop;
+
+    /// The trace and its fabric.
+    ghost board: { Self → Board };
+
+    /// What a seat knows.
+    ghost known: { Self.Seat → Known };
+
+    /// The seat is of this board.
+    ghost seated: { Self → Self.Seat → Type 0 };
+
+    /// Seat 0 makes a new seat, which gets `budget` of its turns, and the baton where `baton` is true.
+    fn split(&self, seat: &mut Self::Seat, budget: u32, baton: bool) -> Self::Seat
+        requires seated { seated self.now seat.old }
+        requires chief { (known seat.old).number ≡ 0 }
+        requires turns { budget ≤ (known seat.old).left }
+        requires baton { IsTrue baton → IsTrue (known seat.old).baton }
+        requires numbers { (known seat.old).made + 1 < 2 ^ 32 }
+        ensures sound { IsSound (board self.now).trace }
+        ensures seated { seated self.now seat.new × seated self.now result }
+        ensures old { known seat.new ≡ giving budget baton (known seat.old) }
+        ensures new { known result ≡ getting budget baton (known seat.old) };
+
+    /// Does one event of the trace, by its number, counted from 1, once the seat's turn has come; waits
+    /// for it. Answers the place in the history, counted from 0, and the exchange's reply.
+    ///
+    /// A frame asks for the baton and for a control memory of the exchange's size, into which its
+    /// boundary is written; every other event is done without one.
+    fn handle<R: Wait>(
+        &self,
+        rt: &R,
+        seat: &mut Self::Seat,
+        event: u32,
+        tool: &mut Tool,
+    ) -> (u32, Reply)
+        requires seated { seated self.now seat.old }
+        requires known { IsEvent (board self.now).trace event }
+        requires turn { 0 < (known seat.old).left }
+        requires baton { IsFrame (board self.now).trace event → IsTrue (known seat.old).baton }
+        requires tool { IsToolAt (board self.now) event tool.old }
+        ensures sound { IsSound (board self.now).trace }
+        ensures seated { seated self.now seat.new }
+        // One turn less, and its entry behind the history before it and among its own. The rest of what the seat knows is as it was.
+        ensures seat { known seat.new ≡ handling (before result.0 (known seat.new).seen) event (known seat.old) }
+        ensures place { length (known seat.new).seen ≡ result.0 + 1 }
+        ensures below { result.0 < turns_of (board self.now) }
+        ensures begins { StartsWith (before result.0 (known seat.new).seen) (known seat.old).seen }
+        ensures own { (known seat.new).own ≡ entries_of (known seat.new).number (known seat.new).seen }
+        // The holder of the baton had seen every frame of the history before.
+        ensures frames { IsTrue (known seat.old).baton → NoFrames (board self.now).trace (unseen (known seat.old).seen (before result.0 (known seat.new).seen)) }
+        ensures reply { AnswersAt (board self.now) (before result.0 (known seat.new).seen) event result.1 }
+        ensures few { MovesAtMost (board self.now).bound result.1 }
+        ensures shows { ShowsAt (board self.now) (before result.0 (known seat.new).seen) event tool.new }
+        ensures tool { IsToolAt (board self.now) event tool.new };
+
+    /// Seat 0 takes another seat in, with its turns, its baton and its entries.
+    fn join(&self, seat: &mut Self::Seat, other: Self::Seat)
+        requires seated { seated self.now seat.old × seated self.now other }
+        requires chief { (known seat.old).number ≡ 0 }
+        ensures sound { IsSound (board self.now).trace }
+        ensures seated { seated self.now seat.new }
+        ensures seat { known seat.new ≡ joining (known seat.old) (known other) }
+        ensures first { StartsWith (known seat.new).seen (known seat.old).seen }
+        ensures second { StartsWith (known seat.new).seen (known other).seen }
+        ensures settled { Settled (turns_of (board self.now)) (known seat.new) };
+}

@@ -1,0 +1,114 @@
+ghost use Rattle.std.specs.Prelude.{◌≡◌, [], IfOk, length};
+ghost use Rattle.exchange_core.specs.Seats.{IsFrame, Settled, first_seat, turns_of};
+ghost use Rattle.shared_exchange.specs.Sharing.{board_of, known};
+ghost use Rattle.turn_lock.specs.Seats.{IsSeatOf};
+
+use crate::stepper::Exchange;
+use control_memory::PathMap;
+use exchange_core::{Core, Reply, Switchboard, Tool};
+use std::alloc::{AllocError, Global};
+use std::marker::Model;
+use std::sync::Wait;
+use turn_lock::TurnLock;
+
+/// A core that many callers share: a switchboard. Contracts see the lock, whose setting is the board.
+#[derive(Drop)]
+pub struct SharedExchange<'t, P: PathMap> {
+    lock: TurnLock<Exchange<'t, P>>,
+}
+
+impl<'t, P: PathMap> Model for SharedExchange<'t, P> {
+    ghost use Rattle.exchange_core.specs.Seats.{Board};
+    ghost use Rattle.shared_exchange.specs.Sharing.{IsBoard};
+    ghost use Rattle.turn_lock.specs.Seats.{Lock};
+
+    ghost Value = { Lock Board };
+
+    ghost view = { λ x. x.lock };
+
+    ghost invariant = { λ x. IsBoard x.lock };
+}
+
+/// A seat at a shared exchange: the right to do so many events. Contracts see what it knows.
+#[derive(Drop)]
+pub struct Seat<'t, P: PathMap> {
+    turns: turn_lock::Seat<Exchange<'t, P>>,
+}
+
+impl<'t, P: PathMap> Model for Seat<'t, P> {
+    ghost use Rattle.exchange_core.specs.Seats.{Board};
+    ghost use Rattle.turn_lock.specs.Seats.{Known};
+
+    ghost Value = { Known Board };
+
+    ghost view = { λ s. s.turns };
+}
+
+impl<'t, P: PathMap + Drop> SharedExchange<'t, P> {
+    /// Shares a core that has done nothing yet. Seat 0 gets a turn for each event of the trace, and the
+    /// baton. `AllocError` where memory is lacking; then the core is dropped.
+    pub fn open(
+        alloc: Global,
+        core: Core<'t, P>,
+    ) -> Result<(SharedExchange<'t, P>, Seat<'t, P>), AllocError>
+        requires empty { core.journal ≡ [] }
+        ensures board { IfOk result (λ r. r.0.setting ≡ board_of core.entry) }
+        ensures of { IfOk result (λ r. IsSeatOf r.0 r.1) }
+        ensures seat { IfOk result (λ r. known r.1 ≡ first_seat (length core.entry.trace.events)) }
+    {
+        let turns = core.trace().events.as_slice().len() as u32;
+        match TurnLock::open(alloc, Exchange { core }, turns) {
+            Ok((lock, turns)) => Ok((SharedExchange { lock }, Seat { turns })),
+            Err((_, refused)) => Err(refused),
+        }
+    }
+}
+
+impl<'t, P: PathMap> SharedExchange<'t, P> {
+    /// Ends the sharing once seat 0 has joined all other seats, and hands the core out. Its journal is
+    /// the whole history, which is what seat 0 has seen.
+    pub fn close(self, seat: Seat<'t, P>) -> Core<'t, P>
+        requires of { IsSeatOf self seat }
+        requires chief { seat.number ≡ 0 }
+        requires all { seat.made ≡ length seat.kept }
+        ensures board { board_of result ≡ self.entry.setting }
+        ensures journal { result.journal ≡ (known seat.entry).seen }
+        ensures settled { Settled (turns_of self.entry.setting) (known seat.entry) }
+    {
+        let SharedExchange { lock } = self;
+        let Seat { turns } = seat;
+        let Exchange { core } = lock.close(turns);
+        core
+    }
+}
+
+impl<'t, P: PathMap + Send> Switchboard for SharedExchange<'t, P> {
+    type Seat = Seat<'t, P>;
+
+    ghost board = { λ x. x.setting };
+
+    ghost known = { λ s. known s };
+
+    ghost seated = { IsSeatOf };
+
+    fn split(&self, seat: &mut Seat<'t, P>, budget: u32, baton: bool) -> Seat<'t, P> {
+        Seat {
+            turns: seat.turns.split(&self.lock, budget, baton),
+        }
+    }
+
+    fn handle<R: Wait>(
+        &self,
+        rt: &R,
+        seat: &mut Seat<'t, P>,
+        event: u32,
+        tool: &mut Tool,
+    ) -> (u32, Reply) {
+        self.lock.step(rt, &mut seat.turns, event, tool)
+    }
+
+    fn join(&self, seat: &mut Seat<'t, P>, other: Seat<'t, P>) {
+        let Seat { turns } = other;
+        seat.turns.join(&self.lock, turns);
+    }
+}

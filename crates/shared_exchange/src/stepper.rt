@@ -1,0 +1,55 @@
+//! The core as the lock steps it.
+ghost use Rattle.std.specs.Prelude.{◌-◌, length};
+ghost use Rattle.exchange_core.specs.Orders.{IsEvent};
+ghost use Rattle.exchange_core.specs.Seats.{IsFrame, IsToolAt};
+ghost use Rattle.shared_exchange.specs.Sharing.{Answers, board_of, history_of, turns_in};
+
+use control_memory::PathMap;
+use exchange_core::{Core, Reply, Tool, Trace};
+use std::marker::Model;
+use turn_lock::Stepper;
+
+/// What no step changes. No value of it is made.
+pub struct Setting {
+    trace: Trace,
+    slots: u64,
+    bound: u64,
+}
+
+impl Model for Setting {
+    ghost use Rattle.exchange_core.specs.Seats.{Board};
+
+    ghost Value = { Board };
+
+    ghost view = { λ s. record { trace = s.trace; slots = s.slots; bound = s.bound } };
+}
+
+/// The core, each of whose steps is a turn of the lock.
+#[derive(Drop)]
+pub struct Exchange<'t, P: PathMap> {
+    pub core: Core<'t, P>,
+}
+
+impl<'t, P: PathMap> Stepper for Exchange<'t, P> {
+    type Tool = Tool;
+
+    type Reply = Reply;
+
+    type Setting = Setting;
+
+    ghost setting = { λ x. board_of x.core };
+
+    ghost journal = { λ x. turns_in x.core.journal };
+
+    ghost room = { λ x. length x.core.trace.events - length x.core.journal };
+
+    ghost reserved = { λ board event. IsFrame board.trace event };
+
+    ghost ready = { λ board event tool. IsEvent board.trace event × IsToolAt board event tool };
+
+    ghost answers = { λ board turns by event reply tool. Answers board (history_of turns) event reply tool };
+
+    fn step(&mut self, by: u32, event: u32, tool: &mut Tool) -> Reply {
+        self.core.step(by, event, tool)
+    }
+}

@@ -1,0 +1,202 @@
+//! Seats at work at any switchboard, one after the other and in threads of their own.
+ghost use Rattle.std.specs.Prelude.{◌≡◌, ◌≤◌, ◌<◌, ◌+◌, ◌^◌, length, IsTrue, true};
+ghost use Rattle.std.specs.Thread.{IsSync};
+ghost use Rattle.exchange_core.specs.Seats.{IsToolAt};
+ghost use Rattle.control_memory.specs.Image.{Control};
+
+use control_memory::Image;
+use exchange_core::{Event, Reply, Switchboard, Tool, Trace};
+use std::alloc::Global;
+use std::sync::Wait;
+use std::thread::{Threads, join};
+
+/// What an event is answered.
+#[derive(Clone, Copy, Debug, PartialEq, Eq)]
+pub enum Told {
+    Granted(u32, u32),
+    Busy,
+    Frame(u32),
+    Other,
+}
+
+fn answer_of(reply: &Reply) -> Told {
+    match reply {
+        Reply::Granted(there, back) => Told::Granted(*there, *back),
+        Reply::Busy => Told::Busy,
+        Reply::Frame { number, .. } => Told::Frame(*number),
+        _ => Told::Other,
+    }
+}
+
+// Does a nail. `None` where the event is none.
+fn nail<B: Switchboard, R: Wait>(
+    rt: &R,
+    board: &B,
+    trace: &Trace,
+    seat: &mut B::Seat,
+    event: u32,
+) -> Option<(u32, Told)>
+    requires trace { trace.now ≡ (B.board board.now).trace }
+    requires seated { B.seated board.now seat.old }
+    requires turn { 0 < (B.known seat.old).left }
+    ensures seated { B.seated board.now seat.new }
+    ensures left { (B.known seat.old).left ≤ (B.known seat.new).left + 1 }
+    ensures baton { (B.known seat.new).baton ≡ (B.known seat.old).baton }
+    ensures number { (B.known seat.new).number ≡ (B.known seat.old).number }
+    ensures seats { ((B.known seat.new).made ≡ (B.known seat.old).made) × (length (B.known seat.new).kept ≡ length (B.known seat.old).kept) }
+{
+    let index = (event as usize).checked_sub(1)?;
+    match trace.events.as_slice().get(index)? {
+        Event::Nail(_, _) => {}
+        _ => return None,
+    }
+    let mut tool = Tool::Nothing;
+    let (place, reply) = board.handle(rt, seat, event, &mut tool);
+    Some((place, answer_of(&reply)))
+}
+
+// Does a frame, by the holder of the baton. `None` where the event is none.
+fn frame<B: Switchboard, R: Wait>(
+    rt: &R,
+    board: &B,
+    trace: &Trace,
+    seat: &mut B::Seat,
+    event: u32,
+    image: Image,
+) -> Option<(u32, Told)>
+    requires trace { trace.now ≡ (B.board board.now).trace }
+    requires image { (image.external ≡ trace.now.external) × (image.bridges ≡ trace.now.bridges) × (image.slots ≡ (B.board board.now).slots) }
+    requires seated { B.seated board.now seat.old }
+    requires turn { 0 < (B.known seat.old).left }
+    requires baton { IsTrue (B.known seat.old).baton }
+    ensures seated { B.seated board.now seat.new }
+    ensures left { (B.known seat.old).left ≤ (B.known seat.new).left + 1 }
+    ensures baton { (B.known seat.new).baton ≡ (B.known seat.old).baton }
+    ensures number { (B.known seat.new).number ≡ (B.known seat.old).number }
+    ensures seats { ((B.known seat.new).made ≡ (B.known seat.old).made) × (length (B.known seat.new).kept ≡ length (B.known seat.old).kept) }
+{
+    let index = (event as usize).checked_sub(1)?;
+    match trace.events.as_slice().get(index)? {
+        Event::Frame(_) => {}
+        _ => return None,
+    }
+    let mut tool = Tool::Image(image);
+    let (place, reply) = board.handle(rt, seat, event, &mut tool);
+    Some((place, answer_of(&reply)))
+}
+
+// Does a nail or a frame, by the holder of the baton. `None` where the event is neither, or memory is lacking.
+fn nail_or_frame<B: Switchboard, R: Wait>(
+    rt: &R,
+    alloc: Global,
+    board: &B,
+    trace: &Trace,
+    seat: &mut B::Seat,
+    event: u32,
+) -> Option<(u32, Told)>
+    requires trace { trace.now ≡ (B.board board.now).trace }
+    requires sizes { (trace.now.external ≡ 4) × (trace.now.bridges ≡ 0) × ((B.board board.now).slots ≡ 30) }
+    requires seated { B.seated board.now seat.old }
+    requires turn { 0 < (B.known seat.old).left }
+    requires baton { IsTrue (B.known seat.old).baton }
+    ensures seated { B.seated board.now seat.new }
+    ensures left { (B.known seat.old).left ≤ (B.known seat.new).left + 1 }
+    ensures baton { (B.known seat.new).baton ≡ (B.known seat.old).baton }
+    ensures number { (B.known seat.new).number ≡ (B.known seat.old).number }
+    ensures seats { ((B.known seat.new).made ≡ (B.known seat.old).made) × (length (B.known seat.new).kept ≡ length (B.known seat.old).kept) }
+{
+    if event <= 60 {
+        return nail(rt, board, trace, seat, event);
+    }
+    let image = Image::new(alloc, 4, 0, 30).ok()?;
+    frame(rt, board, trace, seat, event, image)
+}
+
+/// Steps of two seats in this order, each a seat's number and an event; seat 0 holds the baton. The place and the answer of each.
+pub fn do_all<B: Switchboard, R: Wait>(
+    rt: &R,
+    alloc: Global,
+    board: &B,
+    trace: &Trace,
+    zero: &mut B::Seat,
+    one: &mut B::Seat,
+    steps: &[(u32, u32)],
+) -> Option<Vec<(u32, Told)>>
+    requires trace { trace.now ≡ (B.board board.now).trace }
+    requires sizes { (trace.now.external ≡ 4) × (trace.now.bridges ≡ 0) × ((B.board board.now).slots ≡ 30) }
+    requires zero { B.seated board.now zero.old × IsTrue (B.known zero.old).baton × (length steps.now ≤ (B.known zero.old).left) }
+    requires one { B.seated board.now one.old × (length steps.now ≤ (B.known one.old).left) }
+    ensures seated { B.seated board.now zero.new × B.seated board.now one.new }
+    ensures number { (B.known zero.new).number ≡ (B.known zero.old).number }
+    ensures seats { ((B.known zero.new).made ≡ (B.known zero.old).made) × (length (B.known zero.new).kept ≡ length (B.known zero.old).kept) }
+{
+    let mut answers = Vec::new(alloc);
+    for &(number, event) in steps {
+        let answer = match number {
+            0 => nail_or_frame(rt, alloc, board, trace, zero, event),
+            _ => nail(rt, board, trace, one, event),
+        };
+        answers.push(answer?).ok()?;
+    }
+    Some(answers)
+}
+
+/// Every second event from `first` on is done, so many. How many were granted.
+pub fn every_second<B: Switchboard, R: Wait>(
+    rt: &R,
+    board: &B,
+    trace: &Trace,
+    seat: &mut B::Seat,
+    first: u32,
+    count: u32,
+) -> u32
+    requires trace { trace.now ≡ (B.board board.now).trace }
+    requires seated { B.seated board.now seat.old }
+    requires turns { (count ≤ (B.known seat.old).left) × (count ≤ 30) × (first ≤ 2) }
+    ensures seated { B.seated board.now seat.new }
+    ensures number { (B.known seat.new).number ≡ (B.known seat.old).number }
+    ensures seats { ((B.known seat.new).made ≡ (B.known seat.old).made) × (length (B.known seat.new).kept ≡ length (B.known seat.old).kept) }
+{
+    let mut granted = 0;
+    for i in 0..count {
+        if let Some((_, Told::Granted(0, 0))) = nail(rt, board, trace, seat, first + 2 * i) {
+            granted += 1;
+        }
+    }
+    granted
+}
+
+/// Two seats do the nails, each every second one and in a thread of its own. How many each was granted, and seat 0, which has joined the other.
+pub fn side_by_side<B: Switchboard, R: Threads + Wait + Sync>(
+    rt: &R,
+    board: &B,
+    trace: &Trace,
+    mut seat: B::Seat,
+) -> ((u32, u32), B::Seat)
+    requires trace { trace.now ≡ (B.board board.now).trace }
+    requires seated { B.seated board.now seat }
+    requires chief { ((B.known seat).number ≡ 0) × (60 ≤ (B.known seat).left) × ((B.known seat).made ≡ 0) × (length (B.known seat).kept ≡ 0) }
+    ensures seated { B.seated board.now result.1 }
+    ensures chief { ((B.known result.1).number ≡ 0) × ((B.known result.1).made ≡ length (B.known result.1).kept) }
+{
+    let mut other = board.split(&mut seat, 30, false);
+    let ((odd, mut seat), (even, other)) = join(
+        rt,
+        move || -> (u32, B::Seat)
+            requires { (trace.now ≡ (B.board board.now).trace) × B.seated board.now seat × (30 ≤ (B.known seat).left) × ((B.known seat).number ≡ 0) × ((B.known seat).made ≡ 1) × (length (B.known seat).kept ≡ 0) }
+            ensures { B.seated board.entry.now result.1 × ((B.known result.1).number ≡ 0) × ((B.known result.1).made ≡ 1) × (length (B.known result.1).kept ≡ 0) }
+        {
+            let odd = every_second(rt, board, trace, &mut seat, 1, 30);
+            (odd, seat)
+        },
+        move || -> (u32, B::Seat)
+            requires { (trace.now ≡ (B.board board.now).trace) × B.seated board.now other × (30 ≤ (B.known other).left) }
+            ensures { B.seated board.entry.now result.1 }
+        {
+            let even = every_second(rt, board, trace, &mut other, 2, 30);
+            (even, other)
+        },
+    );
+    board.join(&mut seat, other);
+    ((odd, even), seat)
+}
