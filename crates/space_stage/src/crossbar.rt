@@ -4,7 +4,7 @@ ghost use Rattle.control_memory.specs.Image.{lines_of};
 ghost use Rattle.space_stage.specs.Crossing.{gets, IsCrossedPart, IsCrossed};
 
 use control_memory::Image;
-use frame_buffer::{Crossed, Highway};
+use frame_buffer::{Crossed, Highway, make_idle};
 
 /// Crosses one frame: in each internal slot each outgoing line gets the octet of the incoming line
 /// that the control memory names, and the idle octet where it names none.
@@ -38,9 +38,25 @@ pub fn cross_part(highway: &Highway, image: &Image, slots: u8, first: u8, part: 
     }
 }
 
-// Crosses to one outgoing line. A byte that names no line is 255, which comes after wrapping to the
-// idle row.
+// Crosses to one outgoing line. One that gets nothing is idle.
 fn cross_row(highway: &Highway, image: &Image, line: u8, row: &mut [u8])
+    requires lines { highway.now.lines ≡ lines_of image.now }
+    requires slots { highway.now.slots ≡ image.now.slots }
+    requires line { line < lines_of image.now }
+    requires row { length row.old ≡ image.now.slots }
+    ensures size { length row.new ≡ length row.old }
+    ensures octets { (slot : ℕ) → slot < length row.new → slice_index row.new slot ≡ gets image.now highway.now line slot }
+{
+    if image.gets_nothing(line) {
+        make_idle(row);
+    } else {
+        gather_row(highway, image, line, row);
+    }
+}
+
+// Gathers the octets of one outgoing line from the incoming ones. A byte that names no line is 255,
+// which comes after wrapping to the idle row.
+fn gather_row(highway: &Highway, image: &Image, line: u8, row: &mut [u8])
     requires lines { highway.now.lines ≡ lines_of image.now }
     requires slots { highway.now.slots ≡ image.now.slots }
     requires line { line < lines_of image.now }
