@@ -1,6 +1,7 @@
 ghost use Rattle.std.specs.Prelude.{◌≡◌, ℕ, true, ◌<◌, ◌≤◌, [], length, slice_index, slice_index_or};
 ghost use Rattle.circuit_model.specs.declared.channel.Slot.{Slot};
 ghost use Rattle.circuit_model.specs.declared.circuit.Kind.{Kind};
+ghost use Rattle.circuit_model.specs.FrameInput.{idle_octet};
 ghost use Rattle.frame_buffer.specs.Speech.{octet_of};
 ghost use Rattle.control_memory.specs.declared.heard.Heard.TheVariants.{Silent, Tone};
 ghost use Rattle.control_memory.specs.Image.{lines_of, heard_at};
@@ -13,6 +14,9 @@ use circuit_model::IDLE;
 use control_memory::{Heard, Image};
 use frame_buffer::FrameBuffer;
 use tone_rules::{Tones, octet_of};
+
+// The idle octets of a line and two more, so that whole vectors are compared.
+const IDLE_ROW: [u8; 32] = [IDLE; 32];
 
 // Writes what each external slot sends.
 pub(crate) fn play(read: &FrameBuffer, image: &Image, tones: &Tones, out: &mut [[u8; 30]])
@@ -56,8 +60,32 @@ fn gives_none(tones: &Tones) -> bool
     tones.ringback.as_slice().is_empty() && tones.busy.as_slice().is_empty()
 }
 
-// Writes what a line sends by its paths alone.
+// Writes what a line sends by its paths alone. Where only idle octets were read out for it, whatever
+// its places hear is idle.
 fn play_paths(read: &[u8], heard: &[Heard], frame: u32, octets: &mut [u8; 30])
+    requires read { length read.now ≡ 30 }
+    requires heard { length heard.now ≡ 30 }
+    ensures { (place : ℕ) → place < 30 → slice_index octets.new place ≡ by_path frame (slice_index read.now place) (slice_index_or heard.now place Silent) }
+{
+    if is_idle(read) {
+        *octets = [IDLE; 30];
+    } else {
+        play_each(read, heard, frame, octets);
+    }
+}
+
+// Whether none but idle octets were read out for a line.
+fn is_idle(read: &[u8]) -> bool
+    requires { length read.now ≡ 30 }
+    ensures { result ≡ true → (place : ℕ) → place < 30 → slice_index read.now place ≡ idle_octet }
+{
+    let mut row = IDLE_ROW;
+    row[..30].copy_from_slice(read);
+    row == IDLE_ROW
+}
+
+// Writes what each place of a line sends by its path.
+fn play_each(read: &[u8], heard: &[Heard], frame: u32, octets: &mut [u8; 30])
     requires read { length read.now ≡ 30 }
     requires heard { length heard.now ≡ 30 }
     ensures { (place : ℕ) → place < 30 → slice_index octets.new place ≡ by_path frame (slice_index read.now place) (slice_index_or heard.now place Silent) }
