@@ -1,4 +1,4 @@
-use Rattle.std.proofs.Common.{◌∙◌, ap, sym, subst, ◌<◌, arith, length, get_or, ◌++◌, ◌∷◌, [], ◌≡◌, rules}
+use Rattle.std.proofs.Common.{◌∙◌, ap, sym, subst, ◌<◌, get_or, ◌∷◌, []}
 use Rattle.circuit_model.specs.FrameInput.{idle_octet}
 use Rattle.frame_engine.proofs.IdleRows.{idle_front}
 use Rattle.frame_engine.proofs.play.is_idle.Goals as goal
