@@ -4,10 +4,8 @@ use Rattle.std.specs.Cmp.Lexicographic.{pointwise}
 use Rattle.std.proofs.lemmas.Bool.{cases_eq, ne_eqb}
 use Rattle.std.proofs.lemmas.List.{get_or-replicate}
 use Rattle.circuit_model.specs.FrameInput.{idle_octet}
-use Rattle.circuit_model.specs.Hears.{is_through}
 use Rattle.control_memory.specs.declared.heard.Heard.{Heard}
-use Rattle.control_memory.specs.declared.heard.Heard.TheVariants.{Silent, Path, Tone}
-use Rattle.frame_engine.specs.Playing.{by_path}
+use Rattle.frame_engine.specs.Playing.{hears_path, by_path}
 
 first_true : (a b : Bool) → (a && b) ≡ true → a ≡ true
 first_true true b e = refl
@@ -31,18 +29,13 @@ idle_front (x ∷ row) more octet (suc n) e zero near = from_eqb x octet (first_
 idle_front (x ∷ row) more octet (suc n) e (suc at) near =
     idle_front row more octet n (second_true (eqb x octet) (pointwise eqb (row ++ more) (replicate n octet)) e) at (omega (arith, near))
 
+-- whether it is heard or not, an idle octet is played as one
 same_either : (b : Bool) (octet : ℕ) → (if b then octet else octet) ≡ octet
 same_either true octet = refl
 same_either false octet = refl
-
--- whatever a place hears by a path, an idle octet that was read out for it is played as one
-idle_played : (f : ℕ) (heard : Heard) → by_path f idle_octet heard ≡ idle_octet
-idle_played f Silent = refl
-idle_played f (Path since) = same_either (is_through since f) idle_octet
-idle_played f (Tone kind since) = refl
 
 -- an idle octet at each of thirty places is what is played there
 pub idle_there : (f octet place : ℕ) (heard : Heard) → octet ≡ idle_octet → place < 30 → get_or (replicate 30 idle_octet) place 0 ≡ by_path f octet heard
 idle_there f octet place heard idle near =
     get_or-replicate 30 place idle_octet 0 near
-    ∙ sym (ap (λ (o : ℕ). by_path f o heard) idle ∙ idle_played f heard)
+    ∙ sym (ap (λ (o : ℕ). by_path f o heard) idle ∙ same_either (hears_path f heard) idle_octet)

@@ -7,7 +7,7 @@ ghost use Rattle.control_memory.specs.declared.heard.Heard.TheVariants.{Silent, 
 ghost use Rattle.control_memory.specs.Image.{lines_of, heard_at};
 ghost use Rattle.tone_rules.specs.Tables.{table_of, IsGiven};
 ghost use Rattle.frame_engine.specs.Frames.{PlaysOut, TonesGiven};
-ghost use Rattle.frame_engine.specs.Playing.{by_path, played_as, played_at};
+ghost use Rattle.frame_engine.specs.Playing.{by_path, hears_path, played_as, played_at};
 
 use crate::age::is_through;
 use circuit_model::IDLE;
@@ -84,24 +84,30 @@ fn is_idle(read: &[u8]) -> bool
     row == IDLE_ROW
 }
 
-// Writes what each place of a line sends by its path.
+// Writes what each place of a line sends by its path. Each octet is read before it is known whether
+// it is heard, so that no branch is needed.
 fn play_each(read: &[u8], heard: &[Heard], frame: u32, octets: &mut [u8; 30])
     requires read { length read.now ≡ 30 }
     requires heard { length heard.now ≡ 30 }
     ensures { (place : ℕ) → place < 30 → slice_index octets.new place ≡ by_path frame (slice_index read.now place) (slice_index_or heard.now place Silent) }
 {
     for (place, octet) in octets.iter_mut().enumerate() {
-        *octet = path_octet(heard[place], read[place], frame);
+        let sent = read[place];
+        *octet = if hears_path(heard[place], frame) {
+            sent
+        } else {
+            IDLE
+        };
     }
 }
 
-// What is heard of an octet that was read out.
-fn path_octet(heard: Heard, octet: u8, frame: u32) -> u8
-    ensures { result ≡ by_path frame octet heard }
+// Whether what a place hears is a path that is old enough.
+fn hears_path(heard: Heard, frame: u32) -> bool
+    ensures { result ≡ hears_path frame heard }
 {
     match heard {
-        Heard::Path { since } if is_through(since, frame) => octet,
-        _ => IDLE,
+        Heard::Path { since } => is_through(since, frame),
+        _ => false,
     }
 }
 
