@@ -4,7 +4,7 @@ use Rattle.std.proofs.lemmas.Bool.{cases_eq, eq-eqb, ne_eqb, and_from, and_left,
 use Rattle.std.proofs.lemmas.List.{length-map, map-set}
 use Rattle.std.proofs.lemmas.Grind.{get_or-set_at}
 use Rattle.std.proofs.lemmas.Nat.{same_from_place, mul-add-lt}
-use Rattle.control_memory.specs.Tables.{number_in, written, entry_in}
+use Rattle.control_memory.specs.Tables.{Table, HasSize, Agree, nothing, entry, number_in, written, entry_in}
 
 -- a table that is filled with the byte of a missing entry has none
 filled : (n i : ℕ) → get_or (map number_in (replicate n 255)) i None ≡ None
@@ -42,3 +42,7 @@ byte_set bytes rows columns row column byte r c value size inside near at is =
 
 pub number_in-below : (byte limit : ℕ) → byte < limit → limit < 256 → number_in byte ≡ Some byte
 number_in-below byte limit below small = cond-false (eqb byte 255) None (Some byte) (ne_eqb byte 255 (omega arith))
+
+-- a table without numbers has none in rows of its width
+pub none_in : (t : Table) (rows columns limit : ℕ) → HasSize t rows columns limit → Agree rows columns (entry t) nothing → Agree rows columns (entry_in columns t.entries) nothing
+none_in t rows columns limit size empty row column inside near = ap (λ w. entry_in w t.entries row column) (sym size.columns) ∙ empty row column inside near

@@ -1,9 +1,13 @@
 -- One row of a table that is kept row after row.
-use Rattle.std.proofs.Common.{◌≡◌, ◌≢◌, ℕ, ◌+◌, ◌*◌, ◌<◌, ◌≤◌, eqb, List, length, get_or, map, take, drop, length-take-le, get_or-take, get_or-drop, Option, Some, None, IfSome, subst, sym, ap, ◌∙◌, ◌⊎◌, inl, inr, arith}
+use Rattle.std.proofs.Common.{◌≡◌, ◌≢◌, ℕ, ◌+◌, ◌*◌, ◌/◌, ◌%◌, ◌^◌, ◌<◌, ◌≤◌, eqb, List, length, length-set, get_or, set, get_or-set_other, refl, map, take, drop, length-take-le, get_or-take, get_or-drop, Option, Some, None, IfSome, subst, sym, ap, ◌∙◌, ◌⊎◌, inl, inr, arith}
+use Rattle.std.specs.Prelude.{bit_or, bit_and}
+use Rattle.std.specs.Int.{bit_at}
+use Rattle.std.proofs.lemmas.Nat.Bits.{bit_at-lt, bit_at_or, bit_at-pow_same, bit_at-pow_other, shr_and_one}
 use Rattle.std.proofs.lemmas.Bool.{cases_eq, eq-eqb, ne_eqb, cond-true, cond-false}
 use Rattle.std.proofs.lemmas.List.{length-drop, get_or-map}
-use Rattle.std.proofs.lemmas.Nat.{mul-add-lt}
-use Rattle.control_memory.specs.Tables.{number_in, entry_in, IsRow}
+use Rattle.std.proofs.lemmas.Nat.{mul-add-lt, same_from_place, one_shl, mod_below}
+use Rattle.std.proofs.lemmas.Grind.{get_or-set_at}
+use Rattle.control_memory.specs.Tables.{number_in, entry_in, IsRow, AreBytesOf}
 
 -- a byte that is no mark of a missing number is its number
 number_within : (byte limit : ℕ) → (byte ≢ 255 → byte < limit) → IfSome (number_in byte) (λ number. number < limit)
@@ -39,3 +43,49 @@ module _ (bytes : List ℕ) (rows columns limit row : ℕ) (size : length bytes 
         (sym (get_or-map number_in bytes (row * columns + column) 0 None (here column near)))
         (number_within (get_or bytes (row * columns + column) 0) limit (below (row * columns + column) (here column near)));
   }
+
+-- ---- marks of rows
+set_here : (n s : ℕ) → bit_at (bit_or n (2 ^ s)) s ≡ 1
+set_here n s = omega (arith, bit_at_or n (2 ^ s) s, bit_at-pow_same s, bit_at-lt n s)
+
+set_other : (n s t : ℕ) → t ≢ s → bit_at (bit_or n (2 ^ s)) t ≡ bit_at n t
+set_other n s t apart = omega (arith, bit_at_or n (2 ^ s) t, bit_at-pow_other s t apart)
+
+-- a row without a mark has no number
+pub bare_entry : (rows columns limit : ℕ) (bytes : List ℕ) (marks : ℕ) (row column : ℕ) → AreBytesOf rows columns limit bytes marks → row < rows → column < columns → bit_and (marks / 2 ^ (row % 64)) 1 ≡ 0
+    → entry_in columns (map number_in bytes) row column ≡ None
+bare_entry rows columns limit bytes marks row column is inside near unmarked =
+    let size = is.size in
+    let here : row * columns + column < length bytes = grind (arith, mul-add-lt row columns column rows inside near, size) in
+    get_or-map number_in bytes (row * columns + column) 0 None here
+    ∙ ap number_in (is.bare row column inside near (sym (shr_and_one marks (row % 64)) ∙ unmarked))
+
+-- a number written, and the mark of its row
+marked_by : (rows columns limit : ℕ) (bytes : List ℕ) (marks : ℕ) (row column byte at : ℕ) → AreBytesOf rows columns limit bytes marks → row < rows → column < columns → byte < limit → at ≡ row * columns + column
+    → AreBytesOf rows columns limit (set bytes at byte) (bit_or marks (2 ^ (row % 64)))
+marked_by rows columns limit bytes marks row column byte at is inside near small place =
+    let size = is.size in
+    let here : at < length bytes = grind (arith, mul-add-lt row columns column rows inside near, size, place) in
+    record {
+      size = length-set bytes at byte ∙ size;
+      below = λ i within number. elim (cases_eq i at) [
+        | inl same ↦ subst (λ b. b < limit) (sym (get_or-set_at bytes at i byte 0 same here)) small
+        | inr other ↦
+            let kept = get_or-set_other bytes at i byte 0 other in
+            subst (λ b. b < limit) (sym kept) (is.below i (omega (arith, within, length-set bytes at byte)) (subst (λ b. b ≢ 255) kept number))
+      ];
+      bare = λ q c q_in c_in unmarked. elim (cases_eq (q % 64) (row % 64)) [
+        | inl same ↦
+            let set_there : bit_at (bit_or marks (2 ^ (row % 64))) (q % 64) ≡ 1 = ap (bit_at (bit_or marks (2 ^ (row % 64)))) same ∙ set_here marks (row % 64) in
+            absurd (cc)
+        | inr other ↦
+            get_or-set_other bytes at (q * columns + c) byte 0 (λ e. other (ap (λ k. k % 64) (same_from_place q c row column columns c_in near (e ∙ place)).0))
+            ∙ is.bare q c q_in c_in (sym (set_other marks (row % 64) (q % 64) other) ∙ unmarked)
+      ];
+    }
+
+-- the same, as the code sets a bit
+pub marked_set : (rows columns limit : ℕ) (bytes : List ℕ) (marks : ℕ) (row column byte at : ℕ) → AreBytesOf rows columns limit bytes marks → row < rows → column < columns → byte < limit → at ≡ row * columns + column
+    → AreBytesOf rows columns limit (set bytes at byte) (bit_or marks (1 * 2 ^ (row % 64) % 2 ^ 64))
+marked_set rows columns limit bytes marks row column byte at is inside near small place =
+    subst (λ mark. AreBytesOf rows columns limit (set bytes at byte) (bit_or marks mark)) (sym (one_shl (row % 64) 64 (mod_below row 64 (omega arith)))) (marked_by rows columns limit bytes marks row column byte at is inside near small place)

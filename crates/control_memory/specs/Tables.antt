@@ -1,6 +1,7 @@
 -- The control tables of a time-space-time fabric: which place, line or slot an octet is fetched from. Source: this exchange's own; each
 -- stage of a digital switch has its control memory.
-use Rattle.std.specs.Prelude.{◌≡◌, ◌≢◌, ℕ, ◌+◌, ◌*◌, ◌<◌, ◌&&◌, ◌==◌, List, Option, Some, None, IfSome, length, slice_index, slice_index_or, if◌then◌else◌}
+use Rattle.std.specs.Prelude.{◌≡◌, ◌≢◌, ℕ, ◌+◌, ◌*◌, ◌%◌, ◌<◌, ◌&&◌, ◌==◌, List, Option, Some, None, IfSome, length, slice_index, slice_index_or, if◌then◌else◌}
+use Rattle.std.specs.Int.{bit_at}
 use Rattle.control_memory.specs.Layout.{Layout, place_sent, line_received, slot_read}
 
 -- a table: rows of entries, each a number below the limit or none
@@ -53,10 +54,12 @@ pub record HasNoPaths (lines slots : ℕ) (places crossed read : ℕ → ℕ →
 abbrev pub number_in : ℕ → Option ℕ
 number_in byte = if byte == 255 then None else Some byte
 
--- the bytes of a table with so many rows and columns: one for each entry, and each number is below the limit
-pub record AreBytesOf (rows columns limit : ℕ) (bytes : List ℕ) : Type 0 where
+-- the bytes of a table with so many rows and columns: one for each entry, and each number is below the limit; and a word of marks, a bit for each
+-- row by its number modulo 64, without which the row has no number
+pub record AreBytesOf (rows columns limit : ℕ) (bytes : List ℕ) (marks : ℕ) : Type 0 where
   pub size : length bytes ≡ rows * columns
   pub below : (i : ℕ) → i < length bytes → slice_index bytes i ≢ 255 → slice_index bytes i < limit
+  pub bare : (row column : ℕ) → row < rows → column < columns → bit_at marks (row % 64) ≡ 0 → slice_index bytes (row * columns + column) ≡ 255
 
 -- the bytes of one row of so many columns: each is the number that the table has there, below the limit, or 255 where it has none
 pub record IsRow (columns limit : ℕ) (numbers : ℕ → Option ℕ) (bytes : List ℕ) : Type 0 where

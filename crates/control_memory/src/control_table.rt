@@ -1,4 +1,4 @@
-ghost use Rattle.std.specs.Prelude.{◌≡◌, ◌<◌, Some, None, IfOk, IfSome};
+ghost use Rattle.std.specs.Prelude.{◌≡◌, ℕ, ◌<◌, true, Some, None, IfOk, IfSome};
 ghost use Rattle.control_memory.specs.Tables.{entry, HasSize, SameSize, Agree, IsRow, written, nothing};
 
 use std::alloc::{AllocError, Global};
@@ -9,13 +9,17 @@ const NONE: u8 = 0xFF;
 
 /// A control table of a switching stage: rows of numbers below a limit, some of them missing.
 ///
-/// A row is one piece of memory, one byte for each entry.
+/// A row is one piece of memory, one byte for each entry. Beside the rows stands a word of marks
+/// of the rows that may have a number.
 #[derive(Drop)]
 pub struct ControlTable {
     rows: u8,
     columns: u8,
     limit: u8,
     bytes: Vec<u8>,
+    // Which rows may have a number: a bit for each, by the row's number modulo 64. A row without a
+    // bit has none.
+    marks: u64,
 }
 
 impl Model for ControlTable {
@@ -26,7 +30,7 @@ impl Model for ControlTable {
 
     ghost view = { λ t. record { rows = t.rows; columns = t.columns; limit = t.limit; entries = map number_in t.bytes.items } };
 
-    ghost invariant = { λ t. AreBytesOf t.rows t.columns t.limit t.bytes.items };
+    ghost invariant = { λ t. AreBytesOf t.rows t.columns t.limit t.bytes.items t.marks };
 }
 
 impl ControlTable {
@@ -41,6 +45,7 @@ impl ControlTable {
             columns,
             limit,
             bytes: vec![in alloc; NONE; entries]?,
+            marks: 0,
         })
     }
 
@@ -67,6 +72,15 @@ impl ControlTable {
         &self.bytes[start..start + columns]
     }
 
+    /// Whether a row is known to have no number. It is not known of a row whose numbers were all
+    /// taken out one by one.
+    pub fn is_bare(&self, row: u8) -> bool
+        requires { row < self.now.rows }
+        ensures { result ≡ true → (column : ℕ) → column < self.now.columns → entry self.now row column ≡ None }
+    {
+        (self.marks >> (row % 64)) & 1 == 0
+    }
+
     /// Writes a number into a column of a row.
     pub fn set(&mut self, row: u8, column: u8, number: u8)
         requires row { row < self.old.rows }
@@ -77,6 +91,7 @@ impl ControlTable {
     {
         let at = usize::from(row) * usize::from(self.columns) + usize::from(column);
         self.bytes[at] = number;
+        self.marks |= 1 << (row % 64);
     }
 
     /// Takes the number out of a column of a row.
@@ -96,6 +111,7 @@ impl ControlTable {
         ensures empty { Agree self.old.rows self.old.columns (entry self.new) nothing }
     {
         self.bytes.fill(NONE);
+        self.marks = 0;
     }
 
     /// Takes over the entries of a table of the same size, in one copy.
@@ -104,5 +120,6 @@ impl ControlTable {
         ensures { self.new ≡ other.now }
     {
         self.bytes.copy_from_slice(&other.bytes);
+        self.marks = other.marks;
     }
 }

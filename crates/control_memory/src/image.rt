@@ -1,4 +1,4 @@
-ghost use Rattle.std.specs.Prelude.{◌≡◌, ℕ, ◌+◌, ◌<◌, ◌≤◌, ◌*◌, All, Some, None, IfOk, IfSome, length, slice_index_or, if◌then◌else◌};
+ghost use Rattle.std.specs.Prelude.{◌≡◌, ℕ, true, ◌+◌, ◌<◌, ◌≤◌, ◌*◌, All, Some, None, IfOk, IfSome, length, slice_index_or, if◌then◌else◌};
 ghost use Rattle.circuit_model.specs.Circuits.{same_slot};
 ghost use Rattle.control_memory.specs.Tables.{HasSize, entry, Agree, IsRow, written};
 ghost use Rattle.control_memory.specs.Image.{lines_of, port_number, sent, received, read, heard_at, room_at, IsCleared, IsQuiet, SameSizes, SameTables, EachSlot};
@@ -161,6 +161,31 @@ impl Image {
         ensures { IsRow 30 self.now.slots (read self.now line) result.now }
     {
         self.outgoing.row(line)
+    }
+
+    /// Whether an incoming line is known to send no place. It is not known of a line whose entries
+    /// were taken out one by one.
+    pub fn sends_nothing(&self, line: u8) -> bool
+        requires { line < lines_of self.now }
+        ensures { result ≡ true → (slot : ℕ) → slot < self.now.slots → sent self.now line slot ≡ None }
+    {
+        self.incoming.is_bare(line)
+    }
+
+    /// Whether an outgoing line is known to get no octet, as `sends_nothing` tells.
+    pub fn gets_nothing(&self, line: u8) -> bool
+        requires { line < lines_of self.now }
+        ensures { result ≡ true → (slot : ℕ) → slot < self.now.slots → received self.now line slot ≡ None }
+    {
+        self.space.is_bare(line)
+    }
+
+    /// Whether an outgoing line is known to have no place that reads a slot, as `sends_nothing` tells.
+    pub fn reads_nothing(&self, line: u8) -> bool
+        requires { line < lines_of self.now }
+        ensures { result ≡ true → (place : ℕ) → place < 30 → read self.now line place ≡ None }
+    {
+        self.outgoing.is_bare(line)
     }
 
     /// What a slot hears.

@@ -4,9 +4,11 @@
 mod crossed;
 mod delay_line;
 mod highway;
+mod idle;
 mod memory;
 
 pub use crossed::Crossed;
 pub use delay_line::DelayLine;
 pub use highway::Highway;
+pub use idle::make_idle;
 pub use memory::FrameBuffer;

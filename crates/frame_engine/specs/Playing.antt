@@ -1,5 +1,5 @@
 -- What an engine plays on a slot. Source: this exchange's own.
-use Rattle.std.specs.Prelude.{◌≡◌, ℕ, ◌<◌, ◌-◌, List, slice_index, if◌then◌else◌}
+use Rattle.std.specs.Prelude.{◌≡◌, ℕ, ◌<◌, ◌-◌, Bool, false, List, slice_index, if◌then◌else◌}
 use Rattle.circuit_model.specs.declared.channel.Slot.{Slot}
 use Rattle.circuit_model.specs.declared.circuit.Kind.{Kind}
 use Rattle.circuit_model.specs.FrameInput.{idle_octet}
@@ -14,11 +14,15 @@ played_as tones f octet Silent = idle_octet
 played_as tones f octet (Path since) = if is_through since f then octet else idle_octet
 played_as tones f octet (Tone kind since) = tone_octet (tones kind) (f - since)
 
--- the same by a path alone
+-- whether a path is heard in frame f that is two frames old
+abbrev pub hears_path : ℕ → Heard → Bool
+hears_path f Silent = false
+hears_path f (Path since) = is_through since f
+hears_path f (Tone kind since) = false
+
+-- the same as is played, by a path alone
 abbrev pub by_path : ℕ → ℕ → Heard → ℕ
-by_path f octet Silent = idle_octet
-by_path f octet (Path since) = if is_through since f then octet else idle_octet
-by_path f octet (Tone kind since) = idle_octet
+by_path f octet heard = if hears_path f heard then octet else idle_octet
 
 -- on each slot, given the tones, the control memory of the frame and the octets that were read out
 abbrev pub played_at : (Kind → List ℕ) → Control → (Slot → ℕ) → Slot → ℕ

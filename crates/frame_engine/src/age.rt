@@ -6,5 +6,5 @@ ghost use Rattle.circuit_model.specs.Hears.{is_through};
 pub(crate) fn is_through(since: u32, frame: u32) -> bool
     ensures { result ≡ is_through since frame }
 {
-    u64::from(since) + 2 <= u64::from(frame)
+    since < frame.saturating_sub(1)
 }

@@ -1,18 +1,22 @@
 ghost use Rattle.std.specs.Prelude.{◌≡◌, ℕ, true, ◌<◌, ◌≤◌, [], length, slice_index, slice_index_or};
 ghost use Rattle.circuit_model.specs.declared.channel.Slot.{Slot};
 ghost use Rattle.circuit_model.specs.declared.circuit.Kind.{Kind};
+ghost use Rattle.circuit_model.specs.FrameInput.{idle_octet};
 ghost use Rattle.frame_buffer.specs.Speech.{octet_of};
 ghost use Rattle.control_memory.specs.declared.heard.Heard.TheVariants.{Silent, Tone};
 ghost use Rattle.control_memory.specs.Image.{lines_of, heard_at};
 ghost use Rattle.tone_rules.specs.Tables.{table_of, IsGiven};
 ghost use Rattle.frame_engine.specs.Frames.{PlaysOut, TonesGiven};
-ghost use Rattle.frame_engine.specs.Playing.{by_path, played_as, played_at};
+ghost use Rattle.frame_engine.specs.Playing.{by_path, hears_path, played_as, played_at};
 
 use crate::age::is_through;
 use circuit_model::IDLE;
 use control_memory::{Heard, Image};
 use frame_buffer::FrameBuffer;
 use tone_rules::{Tones, octet_of};
+
+// The idle octets of a line and two more, so that whole vectors are compared.
+const IDLE_ROW: [u8; 32] = [IDLE; 32];
 
 // Writes what each external slot sends.
 pub(crate) fn play(read: &FrameBuffer, image: &Image, tones: &Tones, out: &mut [[u8; 30]])
@@ -56,24 +60,54 @@ fn gives_none(tones: &Tones) -> bool
     tones.ringback.as_slice().is_empty() && tones.busy.as_slice().is_empty()
 }
 
-// Writes what a line sends by its paths alone.
+// Writes what a line sends by its paths alone. Where only idle octets were read out for it, whatever
+// its places hear is idle.
 fn play_paths(read: &[u8], heard: &[Heard], frame: u32, octets: &mut [u8; 30])
     requires read { length read.now ≡ 30 }
     requires heard { length heard.now ≡ 30 }
     ensures { (place : ℕ) → place < 30 → slice_index octets.new place ≡ by_path frame (slice_index read.now place) (slice_index_or heard.now place Silent) }
 {
-    for (place, octet) in octets.iter_mut().enumerate() {
-        *octet = path_octet(heard[place], read[place], frame);
+    if is_idle(read) {
+        *octets = [IDLE; 30];
+    } else {
+        play_each(read, heard, frame, octets);
     }
 }
 
-// What is heard of an octet that was read out.
-fn path_octet(heard: Heard, octet: u8, frame: u32) -> u8
-    ensures { result ≡ by_path frame octet heard }
+// Whether none but idle octets were read out for a line.
+fn is_idle(read: &[u8]) -> bool
+    requires { length read.now ≡ 30 }
+    ensures { result ≡ true → (place : ℕ) → place < 30 → slice_index read.now place ≡ idle_octet }
+{
+    let mut row = IDLE_ROW;
+    row[..30].copy_from_slice(read);
+    row == IDLE_ROW
+}
+
+// Writes what each place of a line sends by its path. Each octet is read before it is known whether
+// it is heard, so that no branch is needed.
+fn play_each(read: &[u8], heard: &[Heard], frame: u32, octets: &mut [u8; 30])
+    requires read { length read.now ≡ 30 }
+    requires heard { length heard.now ≡ 30 }
+    ensures { (place : ℕ) → place < 30 → slice_index octets.new place ≡ by_path frame (slice_index read.now place) (slice_index_or heard.now place Silent) }
+{
+    for (place, octet) in octets.iter_mut().enumerate() {
+        let sent = read[place];
+        *octet = if hears_path(heard[place], frame) {
+            sent
+        } else {
+            IDLE
+        };
+    }
+}
+
+// Whether what a place hears is a path that is old enough.
+fn hears_path(heard: Heard, frame: u32) -> bool
+    ensures { result ≡ hears_path frame heard }
 {
     match heard {
-        Heard::Path { since } if is_through(since, frame) => octet,
-        _ => IDLE,
+        Heard::Path { since } => is_through(since, frame),
+        _ => false,
     }
 }
 

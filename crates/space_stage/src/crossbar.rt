@@ -1,10 +1,10 @@
 ghost use Rattle.std.specs.Prelude.{◌≡◌, ℕ, ◌<◌, length, slice_index};
 ghost use Rattle.frame_buffer.specs.Highways.{SameSize, IsPart};
 ghost use Rattle.control_memory.specs.Image.{lines_of};
-ghost use Rattle.space_stage.specs.Crossing.{gets, IsCrossedPart, IsCrossed};
+ghost use Rattle.space_stage.specs.Crossing.{gets, IsCrossedPart, IsCrossed, AreStarts};
 
 use control_memory::Image;
-use frame_buffer::{Crossed, Highway};
+use frame_buffer::{Crossed, Highway, make_idle};
 
 /// Crosses one frame: in each internal slot each outgoing line gets the octet of the incoming line
 /// that the control memory names, and the idle octet where it names none.
@@ -29,19 +29,58 @@ pub fn cross_part(highway: &Highway, image: &Image, slots: u8, first: u8, part: 
     ensures size { length part.new ≡ length part.old }
     ensures octets { IsCrossedPart image.now highway.now first part.new }
 {
+    let mut starts = [0; 256];
+    find_starts(highway, &mut starts);
     let slots = usize::from(slots);
     for line in first..highway.lines() {
         let start = usize::from(line - first) * slots;
         if start < part.len() {
-            cross_row(highway, image, line, &mut part[start..start + slots]);
+            cross_row(
+                highway,
+                &starts,
+                image,
+                line,
+                &mut part[start..start + slots],
+            );
         }
     }
 }
 
-// Crosses to one outgoing line. A byte that names no line is 255, which comes after wrapping to the
-// idle row.
-fn cross_row(highway: &Highway, image: &Image, line: u8, row: &mut [u8])
+// Finds where the row of each incoming line begins among the rows of a highway, by the byte of a
+// control table that names the line. A byte that names none is 255, where the idle row begins.
+fn find_starts(highway: &Highway, starts: &mut [u16; 256])
+    requires { slice_index starts.old 255 ≡ 0 }
+    ensures { AreStarts highway.now.lines highway.now.slots starts.new }
+{
+    let slots = u16::from(highway.slots());
+    let mut start = 0;
+    for line in 0..highway.lines() {
+        start += slots;
+        starts[usize::from(line)] = start;
+    }
+}
+
+// Crosses to one outgoing line. One that gets nothing is idle.
+fn cross_row(highway: &Highway, starts: &[u16; 256], image: &Image, line: u8, row: &mut [u8])
     requires lines { highway.now.lines ≡ lines_of image.now }
+    requires starts { AreStarts highway.now.lines highway.now.slots starts.now }
+    requires slots { highway.now.slots ≡ image.now.slots }
+    requires line { line < lines_of image.now }
+    requires row { length row.old ≡ image.now.slots }
+    ensures size { length row.new ≡ length row.old }
+    ensures octets { (slot : ℕ) → slot < length row.new → slice_index row.new slot ≡ gets image.now highway.now line slot }
+{
+    if image.gets_nothing(line) {
+        make_idle(row);
+    } else {
+        gather_row(highway, starts, image, line, row);
+    }
+}
+
+// Gathers the octets of one outgoing line from the incoming ones.
+fn gather_row(highway: &Highway, starts: &[u16; 256], image: &Image, line: u8, row: &mut [u8])
+    requires lines { highway.now.lines ≡ lines_of image.now }
+    requires starts { AreStarts highway.now.lines highway.now.slots starts.now }
     requires slots { highway.now.slots ≡ image.now.slots }
     requires line { line < lines_of image.now }
     requires row { length row.old ≡ image.now.slots }
@@ -50,9 +89,8 @@ fn cross_row(highway: &Highway, image: &Image, line: u8, row: &mut [u8])
 {
     let rows = highway.rows_behind_idle();
     let table = image.space_row(line);
-    let slots = row.len();
     for (slot, octet) in row.iter_mut().enumerate() {
-        let behind_idle = usize::from(table[slot].wrapping_add(1));
-        *octet = rows[behind_idle * slots + slot];
+        let start = usize::from(starts[usize::from(table[slot])]);
+        *octet = rows[start + slot];
     }
 }

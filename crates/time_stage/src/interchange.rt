@@ -6,7 +6,7 @@ ghost use Rattle.time_stage.specs.Interchange.{sends, reads, IsSent, IsRead};
 use crate::store::Store;
 use circuit_model::PLACES;
 use control_memory::Image;
-use frame_buffer::{Crossed, FrameBuffer, Highway};
+use frame_buffer::{Crossed, FrameBuffer, Highway, make_idle};
 
 /// The incoming time stage of one frame: each line sends in each internal slot the octet of the
 /// place that the control memory names, out of the half of the buffer that is read, and the idle
@@ -54,8 +54,12 @@ fn send_row(buffer: &FrameBuffer, image: &Image, line: u8, store: &mut Store, ro
     ensures size { length row.new ≡ length row.old }
     ensures octets { (slot : ℕ) → slot < length row.new → slice_index row.new slot ≡ sends image.now buffer.now line slot }
 {
-    store.load(buffer.row(line));
-    store.fetch(image.incoming_row(line), row);
+    if image.sends_nothing(line) {
+        make_idle(row);
+    } else {
+        store.load(buffer.row(line));
+        store.fetch(image.incoming_row(line), row);
+    }
 }
 
 /// The outgoing time stage of one frame: each place of a line reads the octet of the internal slot
@@ -107,6 +111,10 @@ fn read_row(crossed: &Crossed, table: &Image, line: u8, store: &mut Store, row: 
     ensures size { length row.new ≡ length row.old }
     ensures octets { (place : ℕ) → place < length row.new → slice_index row.new place ≡ reads table.now crossed.now line place }
 {
-    store.load(crossed.row(line));
-    store.fetch(table.outgoing_row(line), row);
+    if table.reads_nothing(line) {
+        make_idle(row);
+    } else {
+        store.load(crossed.row(line));
+        store.fetch(table.outgoing_row(line), row);
+    }
 }

@@ -1,4 +1,4 @@
-use Rattle.std.proofs.Common.{◌≡◌, ◌≤◌}
+use Rattle.std.proofs.Common.{◌≡◌}
 use Rattle.frame_engine.proofs.tests.a_path_that_moves_is_heard_two_frames_late_and_loses_no_octet.Given as goal
 
 abbrev pub invariant-loop-frame : goal.invariant-loop-frame

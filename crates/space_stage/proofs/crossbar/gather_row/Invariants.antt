@@ -1,6 +1,6 @@
 use Rattle.std.proofs.Common.{◌≡◌, ℕ, ◌<◌, get_or}
 use Rattle.space_stage.specs.Crossing.{gets}
-use Rattle.space_stage.proofs.crossbar.cross_row.Given as goal
+use Rattle.space_stage.proofs.crossbar.gather_row.Given as goal
 
 abbrev pub invariant-loop-slot : goal.invariant-loop-slot
 invariant-loop-slot l = (k : ℕ) → k < l.slot → get_or l.row k 0 ≡ gets l.image l.highway l.line k
