@@ -1,4 +1,4 @@
--- The cause values that this exchange gives by itself (ITU-T Q.931 (05/98), 4.5.12), named as in ITU-T Q.850.
+-- The cause values that this exchange gives or knows (ITU-T Q.931 (05/98), 4.5.12), named as in ITU-T Q.850.
 use Rattle.std.specs.Prelude.{ℕ}
 
 abbrev pub unallocated_number : ℕ
@@ -6,6 +6,9 @@ unallocated_number = 1
 
 abbrev pub normal_call_clearing : ℕ
 normal_call_clearing = 16
+
+abbrev pub user_busy : ℕ
+user_busy = 17
 
 abbrev pub invalid_number_format : ℕ
 invalid_number_format = 28

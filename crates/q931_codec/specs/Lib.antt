@@ -7,3 +7,4 @@ pub mod Outgoing
 pub mod Fields
 pub mod CallStates
 pub mod Causes
+pub mod RestartClasses

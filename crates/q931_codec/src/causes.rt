@@ -1,10 +1,13 @@
-//! The cause values (Q.931, 4.5.12) that this exchange gives by itself, named as in ITU-T Q.850.
+//! The cause values (Q.931, 4.5.12) that this exchange gives or knows, named as in ITU-T Q.850.
 
 /// Unallocated (unassigned) number.
 pub const UNALLOCATED_NUMBER: u8 = 1;
 
 /// Normal call clearing.
 pub const NORMAL_CALL_CLEARING: u8 = 16;
+
+/// User busy. The exchange never gives it by itself: a user does, and the other one hears busy tone.
+pub const USER_BUSY: u8 = 17;
 
 /// Invalid number format (address incomplete).
 pub const INVALID_NUMBER_FORMAT: u8 = 28;

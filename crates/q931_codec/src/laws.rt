@@ -2,6 +2,7 @@
 ghost use Rattle.std.specs.Prelude.{◌≡◌, ℕ, List};
 ghost use Rattle.q931_codec.specs.CallStates as state;
 ghost use Rattle.q931_codec.specs.Causes as cause;
+ghost use Rattle.q931_codec.specs.RestartClasses as class;
 ghost use Rattle.q931_codec.specs.declared.message.Message.{Message};
 ghost use Rattle.q931_codec.specs.Grammar.{IsMessage};
 ghost use Rattle.q931_codec.specs.Outgoing.{OutgoingMessage, IsWritable, received};
@@ -12,8 +13,9 @@ use crate::causes::{
     INVALID_NUMBER_FORMAT, MANDATORY_ELEMENT_MISSING, MESSAGE_NOT_COMPATIBLE_WITH_CALL_STATE,
     MESSAGE_TYPE_NOT_IMPLEMENTED, NO_CHANNEL_AVAILABLE, NORMAL_CALL_CLEARING,
     REQUESTED_CHANNEL_NOT_AVAILABLE, RESPONSE_TO_STATUS_ENQUIRY, SWITCHING_EQUIPMENT_CONGESTION,
-    TEMPORARY_FAILURE, UNALLOCATED_NUMBER,
+    TEMPORARY_FAILURE, UNALLOCATED_NUMBER, USER_BUSY,
 };
+use crate::restart_classes::{ALL_INTERFACES, INDICATED_CHANNELS, SINGLE_INTERFACE};
 use crate::states::{
     ACTIVE, CALL_DELIVERED, CALL_PRESENT, CALL_RECEIVED, DISCONNECT_INDICATION,
     INCOMING_CALL_PROCEEDING, NULL, OUTGOING_CALL_PROCEEDING, RELEASE_REQUEST,
@@ -46,6 +48,7 @@ pub fn law_of_states()
 pub fn law_of_causes()
     ensures unallocated { UNALLOCATED_NUMBER ≡ cause.unallocated_number }
     ensures normal { NORMAL_CALL_CLEARING ≡ cause.normal_call_clearing }
+    ensures busy { USER_BUSY ≡ cause.user_busy }
     ensures format { INVALID_NUMBER_FORMAT ≡ cause.invalid_number_format }
     ensures enquiry { RESPONSE_TO_STATUS_ENQUIRY ≡ cause.response_to_status_enquiry }
     ensures no_channel { NO_CHANNEL_AVAILABLE ≡ cause.no_channel_available }
@@ -58,4 +61,11 @@ pub fn law_of_causes()
     ensures unknown_type { MESSAGE_TYPE_NOT_IMPLEMENTED ≡ cause.message_type_not_implemented }
     ensures contents { INVALID_ELEMENT_CONTENTS ≡ cause.invalid_element_contents }
     ensures incompatible { MESSAGE_NOT_COMPATIBLE_WITH_CALL_STATE ≡ cause.message_not_compatible_with_call_state }
+{}
+
+/// The classes of restart of the code are those of the definitions.
+pub fn law_of_restart_classes()
+    ensures channels { INDICATED_CHANNELS ≡ class.indicated_channels }
+    ensures interface { SINGLE_INTERFACE ≡ class.single_interface }
+    ensures interfaces { ALL_INTERFACES ≡ class.all_interfaces }
 {}

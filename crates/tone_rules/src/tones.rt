@@ -2,6 +2,7 @@ ghost use Rattle.std.specs.Prelude.{◌≡◌, ◌%◌, ◌<◌, ℕ, [], length
 ghost use Rattle.circuit_model.specs.FrameInput.{idle_octet};
 ghost use Rattle.circuit_model.specs.Hears.{tone_octet};
 
+use circuit_model::Kind;
 use std::alloc::Global;
 use std::marker::Model;
 
@@ -54,6 +55,22 @@ pub struct Tones {
 }
 
 impl Tones {
+    ghost use Rattle.std.specs.Prelude.{◌≡◌, ◌↔◌, IsTrue};
+    ghost use Rattle.tone_rules.specs.Tables.{IsGiven};
+    ghost use Rattle.tone_rules.specs.CallTones.{is_given};
+
+    /// Whether the trace gives a tone: a tone that isn't given has no octets.
+    pub fn is_given(&self, kind: Kind) -> bool
+        ensures given { IsTrue result ↔ IsGiven self.now kind }
+        ensures computed { result ≡ is_given self.now kind }
+    {
+        let tone = match kind {
+            Kind::Ringback => &self.ringback,
+            Kind::Busy => &self.busy,
+        };
+        !tone.as_slice().is_empty()
+    }
+
     /// No tone is given.
     pub fn none(alloc: Global) -> Tones
         ensures ringback { result.ringback ≡ [] }

@@ -1,5 +1,4 @@
-use Rattle.std.proofs.Common.{◌%◌, map, Some, None, arith, sym, ◌∙◌}
-use Rattle.std.specs.List.{list_all}
+use Rattle.std.proofs.Common.{◌%◌, arith, sym, ◌∙◌}
 use Rattle.std.specs.Char.{is_ascii_digit}
 use Rattle.std.proofs.lemmas.Bool.{cond-false}
 use Rattle.q931_codec.proofs.Digits.{not_all}

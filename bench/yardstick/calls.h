@@ -1,0 +1,309 @@
+// Calls: their legs, and what each message does to them.
+
+typedef enum {
+    NULL_STATE = 0, OUTGOING_PROCEEDING = 3, DELIVERED = 4, PRESENT = 6, RECEIVED = 7, INCOMING_PROCEEDING = 9,
+    ACTIVE = 10, DISCONNECT_INDICATION = 12, RELEASE_REQUEST = 19,
+} State;
+
+// A leg holds a slot of its line. The reference of a called leg was chosen here, that of a caller's by the
+// user; `other` is the slot of the other leg, where that is the peer.
+typedef struct {
+    uint8_t state, called;
+    enum { ALONE, LEG, ROOM } peer;
+    uint16_t reference;
+    Slot other;
+} Leg;
+
+static Leg legs[EXTERNAL][PLACES];
+
+// By its reference, one more than the place of a leg, 0 where there is none; and the references that
+// called legs have, from 1 on. These never have more than thirty, which are the lowest.
+static uint8_t caller_at[EXTERNAL][1 << 15], called_at[EXTERNAL][PLACES + 1];
+static uint32_t references[EXTERNAL];
+
+static Leg *leg(Slot x) { return &legs[x.line][x.place]; }
+
+static void add_leg(Slot x, Leg l) {
+    *leg(x) = l;
+    add(taken, x);
+    add(held, x);
+    if (l.called) {
+        called_at[x.line][l.reference] = x.place + 1;
+        references[x.line] |= 1u << (l.reference - 1);
+    } else {
+        caller_at[x.line][l.reference] = x.place + 1;
+    }
+}
+
+// The slot is cleared, and the leg is gone.
+static void remove_leg(Slot x) {
+    Leg *l = leg(x);
+    clear(x);
+    take_out(taken, x);
+    take_out(held, x);
+    if (l->called) {
+        called_at[x.line][l->reference] = 0;
+        references[x.line] &= ~(1u << (l->reference - 1));
+    } else {
+        caller_at[x.line][l->reference] = 0;
+    }
+    l->state = NULL_STATE;
+}
+
+static void put_to(Slot x, const Leg *l, Type type) { put_message(x.line, !l->called, l->reference, type); }
+
+static void put_status(Slot x, Cause cause) {
+    put_to(x, leg(x), STATUS);
+    put_cause(cause);
+    put_state(leg(x)->state);
+}
+
+// Clears the peer of a leg that was cleared, where it is a leg.
+static void clear_peer(Leg l, Cause cause) {
+    if (l.peer != LEG) return;
+    Leg *peer = leg(l.other);
+    clear(l.other);
+    peer->state = DISCONNECT_INDICATION;
+    peer->peer = ALONE;
+    int heard = cause == USER_BUSY && sound(l.other, BUSY);
+    put_to(l.other, peer, DISCONNECT);
+    put_cause(cause);
+    if (heard) put_progress();
+}
+
+static void alert(Slot x) {
+    Slot y = leg(x)->other;
+    leg(x)->state = RECEIVED;
+    leg(y)->state = DELIVERED;
+    int heard = sound(y, RINGBACK);
+    put_to(y, leg(y), ALERTING);
+    if (heard) put_progress();
+}
+
+static void answer(Slot x) {
+    Slot y = leg(x)->other;
+    leg(x)->state = leg(y)->state = ACTIVE;
+    clear(y);
+    put(" moved ");
+    pair(y, x);
+    put_to(x, leg(x), CONNECT_ACKNOWLEDGE);
+    put_to(y, leg(y), CONNECT);
+}
+
+static void disconnect_call(Slot x, Cause cause) {
+    Leg l = *leg(x);
+    clear(x);
+    leg(x)->state = RELEASE_REQUEST;
+    leg(x)->peer = ALONE;
+    put_to(x, &l, RELEASE);
+    clear_peer(l, cause);
+}
+
+static void released(Slot x, Cause cause) {
+    Leg l = *leg(x);
+    remove_leg(x);
+    put_to(x, &l, RELEASE_COMPLETE);
+    clear_peer(l, cause);
+}
+
+static void gone(Slot x, Cause cause) {
+    Leg l = *leg(x);
+    remove_leg(x);
+    clear_peer(l, cause);
+}
+
+// Answers whether the state of a leg allows the message, and then does what it asks for.
+static int is_done(Slot x, const Message *m) {
+    State state = leg(x)->state;
+    Element e;
+    switch (m->type) {
+    case PROGRESS: case NOTIFY: case FACILITY: case USER_INFORMATION: case SETUP: return 1;
+    case CONNECT_ACKNOWLEDGE: return state == ACTIVE;
+    case CALL_PROCEEDING:
+        if (state != PRESENT) return 0;
+        leg(x)->state = INCOMING_PROCEEDING;
+        return 1;
+    case ALERTING:
+        if (state != PRESENT && state != INCOMING_PROCEEDING) return 0;
+        alert(x);
+        return 1;
+    case CONNECT:
+        if (state != PRESENT && state != RECEIVED && state != INCOMING_PROCEEDING) return 0;
+        answer(x);
+        return 1;
+    case DISCONNECT:
+        if (state == RELEASE_REQUEST) return 0;
+        disconnect_call(x, cause_in(*m));
+        return 1;
+    case RELEASE:
+        if (state == RELEASE_REQUEST) gone(x, cause_in(*m));
+        else released(x, cause_in(*m));
+        return 1;
+    case RELEASE_COMPLETE: gone(x, cause_in(*m)); return 1;
+    case STATUS:
+        e = find(*m, CALL_STATE);
+        if (e.length && (e.at[0] & 0x3F) == NULL_STATE) gone(x, TEMPORARY_FAILURE);
+        return 1;
+    case STATUS_ENQUIRY: put_status(x, TO_ENQUIRY); return 1;
+    default: return 0;
+    }
+}
+
+// ---- SETUP
+
+// What a SETUP says: the first elements of the codes that count, by their order in the one that goes out.
+typedef enum { BEARER_SAID, CHANNEL_SAID, CALLING_SAID, CALLED_SAID, LOW_SAID, HIGH_SAID, SAID } Said;
+
+static const uint8_t one_more_than_said[128] = {
+    [BEARER] = BEARER_SAID + 1, [CHANNEL] = CHANNEL_SAID + 1, [CALLING_NUMBER] = CALLING_SAID + 1,
+    [CALLED_NUMBER] = CALLED_SAID + 1, [LOW_LAYER] = LOW_SAID + 1, [HIGH_LAYER] = HIGH_SAID + 1,
+};
+
+static void read_setup(Message m, Element said[SAID]) {
+    for (Element e; (e = next_element(&m)).at;) {
+        unsigned k = one_more_than_said[e.code];
+        if (k && !said[k - 1].at) said[k - 1] = e;
+    }
+}
+
+static Cause bearer_fault(Element e) {
+    if (!e.at) return ELEMENT_MISSING;
+    if (e.length < 2 || e.length > 10) return INVALID_CONTENTS;
+    if (e.at[1] != 0x90 || (e.at[0] != 0x80 && e.at[0] != 0x90 && e.at[0] != 0x88)) return BEARER_NOT_IMPLEMENTED;
+    return 0;
+}
+
+// Where the number leads; NULL where one of its octets is no digit.
+static const Node *look_up(Element e) {
+    uint8_t digits[MOST_DIGITS];
+    for (unsigned k = 1; k < e.length; k++) {
+        digits[k - 1] = (e.at[k] & 0x7F) - '0';
+        if (digits[k - 1] > 9) return NULL;
+    }
+    return look(digits, e.length - 1);
+}
+
+// The slots that a call takes, and where it goes.
+typedef struct { Slot caller, called; const Node *to; } Route;
+
+// Why the call can't be, or 0.
+static Cause find_route(unsigned line, const Element said[SAID], Route *r) {
+    Cause fault = bearer_fault(said[BEARER_SAID]);
+    if (fault) return fault;
+    Channel channel = channel_in(said[CHANNEL_SAID]);
+    if (channel.kind == INVALID) return INVALID_CONTENTS;
+    Element number = said[CALLED_SAID];
+    if (!number.length || number.length > 1 + MOST_DIGITS) return INVALID_NUMBER;
+    r->to = look_up(number);
+    if (!r->to) return INVALID_NUMBER;
+    if (r->to->found == NO_NUMBER) return UNALLOCATED;
+    if (r->to->found == MORE) return INVALID_NUMBER;
+
+    uint32_t idle = ALL_SLOTS & ~taken[line];
+    int named = channel.kind >= PREFERRED && idle >> channel.place & 1;
+    if (channel.kind == EXCLUSIVE && !named) return CHANNEL_NOT_AVAILABLE;
+    if (!idle) return NO_CHANNEL;
+    r->caller = (Slot){ line, named ? channel.place : __builtin_ctz(idle) };
+    if (r->to->found == TO_ROOM) return has_port() ? 0 : CONGESTION;
+    idle = ALL_SLOTS & ~taken[r->to->target];
+    if (r->to->target == line) idle &= ~(1u << r->caller.place);
+    if (!idle) return NO_CHANNEL;
+    r->called = (Slot){ r->to->target, __builtin_ctz(idle) };
+    return 0;
+}
+
+static void call_line(uint16_t reference, const Route *r, const Element said[SAID]) {
+    static const uint8_t most[SAID] = { [CALLING_SAID] = 22, [CALLED_SAID] = 21, [LOW_SAID] = 16, [HIGH_SAID] = 3 };
+    Slot x = r->caller, y = r->called;
+    add_leg(x, (Leg){ OUTGOING_PROCEEDING, 0, LEG, reference, y });
+    add_leg(y, (Leg){ PRESENT, 1, LEG, __builtin_ctz(~references[y.line]) + 1, x });
+    put_to(x, leg(x), CALL_PROCEEDING);
+    put_channel(x.place);
+    put_to(y, leg(y), SETUP);
+    put_octet(SENDING_COMPLETE);
+    put_element(BEARER, said[BEARER_SAID].at, said[BEARER_SAID].length);
+    put_channel(y.place);
+    for (Said k = CALLING_SAID; k < SAID; k++)
+        if (said[k].length && said[k].length <= most[k]) put_element(said[k].code, said[k].at, said[k].length);
+}
+
+static void call_room(uint16_t reference, const Route *r) {
+    Slot x = r->caller;
+    add_leg(x, (Leg){ ACTIVE, 0, ROOM, reference, x });
+    put(" moved ");
+    sit(x, r->to->target);
+    put_to(x, leg(x), CALL_PROCEEDING);
+    put_channel(x.place);
+    put_to(x, leg(x), CONNECT);
+}
+
+static void set_up(unsigned line, const Message *m) {
+    Element said[SAID] = { 0 };
+    Route r;
+    read_setup(*m, said);
+    Cause fault = find_route(line, said, &r);
+    if (fault) {
+        put_message(line, 1, m->reference, RELEASE_COMPLETE);
+        put_cause(fault);
+    } else if (r.to->found == TO_ROOM) {
+        call_room(m->reference, &r);
+    } else {
+        call_line(m->reference, &r, said);
+    }
+}
+
+// ---- Messages that name no leg
+
+static void restart(unsigned line, const Message *m) {
+    Element e = find(*m, RESTART_INDICATOR);
+    uint8_t indicator = e.length ? e.at[0] : 0;
+    Channel channel = { NONE_NAMED, 0 };
+    if (indicator != 0x80 && indicator != 0x86 && indicator != 0x87) return;
+    if (indicator == 0x80) {
+        channel = channel_in(find(*m, CHANNEL));
+        if (channel.kind != PREFERRED && channel.kind != EXCLUSIVE) return;
+    }
+    uint32_t slots = indicator == 0x80 ? 1u << channel.place : ALL_SLOTS;
+    for (uint32_t left = slots & held[line]; left; left &= left - 1) {
+        Slot x = { line, __builtin_ctz(left) };
+        Leg l = *leg(x);
+        remove_leg(x);
+        if (l.other.line != line || !(slots >> l.other.place & 1)) clear_peer(l, TEMPORARY_FAILURE);
+    }
+    put_message(line, 1, 0, RESTART_ACKNOWLEDGE);
+    if (indicator == 0x80) put_channel(channel.place);
+    put_element(RESTART_INDICATOR, &indicator, 1);
+}
+
+static void answer_unknown(unsigned line, const Message *m) {
+    switch (m->type) {
+    case RELEASE_COMPLETE: case STATUS: break;
+    case STATUS_ENQUIRY:
+        put_message(line, !m->flag, m->reference, STATUS);
+        put_cause(TO_ENQUIRY);
+        put_state(NULL_STATE);
+        break;
+    default:
+        put_message(line, !m->flag, m->reference, RELEASE_COMPLETE);
+        put_cause(INVALID_REFERENCE);
+    }
+}
+
+static void message(unsigned line, const uint8_t *octets, unsigned length) {
+    Message m;
+    put(" message");
+    if (!read_message(&m, octets, length)) return;
+    if (!m.reference) {
+        if (m.type == RESTART && !m.flag) restart(line, &m);
+        return;
+    }
+    unsigned at = !m.flag ? caller_at[line][m.reference] : m.reference <= PLACES ? called_at[line][m.reference] : 0;
+    Slot x = { line, at - 1 };
+    if (at) {
+        if (!is_done(x, &m)) put_status(x, is_known(m.type) ? WRONG_STATE : UNKNOWN_TYPE);
+    } else if (m.type != SETUP) {
+        answer_unknown(line, &m);
+    } else if (!m.flag) {
+        set_up(line, &m);
+    }
+}

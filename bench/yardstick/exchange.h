@@ -1,0 +1,41 @@
+// The sizes of the exchange, and what all parts share.
+enum {
+    PLACES = 30, // places of a line, and internal slots
+    CELLS = 32, // of a row: a power of two that has room for thirty and the idle one
+    EXTERNAL = 32, // at most so many external lines, and bridge lines
+    BRIDGES = 2,
+    LINES = EXTERNAL + BRIDGES,
+    ROOMS = 64,
+    TONE = 8000, // at most so many octets of a tone, and of a message
+    MESSAGE = 260,
+    IDLE = 0xD5,
+    MOST_EVENTS = 65535,
+    MOST_BYTES = 1 << 26,
+    PIECE = 1 << 16,
+    // Entries of tables that name nothing: a cell, a line and a room that are there, and count for nothing.
+    NO_CELL = PLACES,
+    NO_LINE = LINES,
+    NO_ROOM = ROOMS,
+};
+#define ALL_SLOTS ((1u << PLACES) - 1)
+#define NEVER UINT32_MAX
+
+typedef struct { uint8_t line, place; } Slot;
+typedef uint8_t Row[CELLS]; // thirty octets or entries, and two idle ones behind them
+typedef uint64_t Lines; // a bit for each of some lines
+
+static const Row idle_row = {
+    IDLE, IDLE, IDLE, IDLE, IDLE, IDLE, IDLE, IDLE, IDLE, IDLE, IDLE, IDLE, IDLE, IDLE, IDLE, IDLE,
+    IDLE, IDLE, IDLE, IDLE, IDLE, IDLE, IDLE, IDLE, IDLE, IDLE, IDLE, IDLE, IDLE, IDLE, IDLE, IDLE,
+};
+static unsigned external, bridges, lines;
+static uint32_t frame_number; // of the next frame
+
+static Lines below(unsigned n) { return ((Lines)1 << n) - 1; }
+
+// Takes the first of some lines from them.
+static unsigned next_line(Lines *some) {
+    unsigned line = __builtin_ctzll(*some);
+    *some &= *some - 1;
+    return line;
+}

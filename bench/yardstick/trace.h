@@ -1,0 +1,300 @@
+// The reader of traces. It ends the program at the first line that fails.
+
+typedef enum { NAIL, SEAT, FREE, FRAME, SIGNAL } Kind;
+
+// A frame has a row for each external line from `first` on; a message has `length` octets from there on.
+typedef struct {
+    uint8_t kind, room;
+    Slot x, y;
+    uint16_t length;
+    size_t first;
+} Event;
+
+enum { MOST_WORDS = EXTERNAL + 2 }; // one more than a frame's line can have, so that too many are seen
+typedef struct { const uint8_t *at, *end; } Word;
+
+typedef enum { RINGBACK, BUSY } ToneKind;
+typedef struct { uint8_t octets[TONE]; unsigned length; } Tone; // no octets: it isn't given
+
+static Tone tones[2];
+static Event events[MOST_EVENTS];
+static Row *rows;
+static uint8_t *messages;
+static size_t event_count, row_count, row_room, message_count, message_room;
+
+// A number without leading zeros, up to `stop` or else the end; -1 where there is none.
+static int number(Word *word, uint8_t stop) {
+    const uint8_t *p = word->at;
+    int n = 0;
+    if (p == word->end || *p < '0' || *p > '9') return -1;
+    while (p < word->end && *p >= '0' && *p <= '9' && p - word->at < 9) n = n * 10 + (*p++ - '0');
+    if (*word->at == '0' && p - word->at > 1) return -1;
+    if (stop ? p == word->end || *p != stop : p != word->end) return -1;
+    word->at = p + (stop != 0);
+    return n;
+}
+
+static Slot slot(Word word) {
+    int line = number(&word, '/');
+    if (line < 0 || line >= (int)external) refuse("slot");
+    int channel = number(&word, 0);
+    if (channel < 1 || channel > 31 || channel == 16) refuse("slot");
+    return (Slot){ line, channel < 16 ? channel - 1 : channel - 2 };
+}
+
+static unsigned line_of(Word word) {
+    int line = number(&word, 0);
+    if (line < 0 || line >= (int)external) refuse("slot");
+    return line;
+}
+
+static unsigned room_of(Word word) {
+    int room = number(&word, 0);
+    if (room < 0 || room >= ROOMS) refuse("number");
+    return room;
+}
+
+// The length of the text is known where this is used, so that the compiler writes the comparison.
+#define is(word, text) \
+    ((word).end - (word).at == sizeof text - 1 && !memcmp((word).at, text, sizeof text - 1))
+
+static void append(Event event) {
+    if (event_count == MOST_EVENTS) refuse("limit");
+    events[event_count++] = event;
+}
+
+static void read_header(Word *words, size_t count) {
+    if (count != 5 || !is(words[0], "exchange") || !is(words[1], "1")) refuse("header");
+    int e = number(&words[2], 0), b = number(&words[3], 0), p = number(&words[4], 0);
+    if (e < 1 || e > EXTERNAL || b < 0 || b > BRIDGES || p < 1 || p > 8) refuse("header");
+    external = e;
+    bridges = b;
+    lines = e + b;
+}
+
+static void read_command(Kind kind, Word *words, size_t count) {
+    Event e = { .kind = kind };
+    if (count != (kind == FREE ? 2 : 3)) refuse("word");
+    e.x = slot(words[1]);
+    if (kind == NAIL) {
+        e.y = slot(words[2]);
+        if (e.x.line == e.y.line && e.x.place == e.y.place) refuse("slot");
+    } else if (kind == SEAT) {
+        e.room = room_of(words[2]);
+    }
+    append(e);
+}
+
+// The thirty octets that sixty digits write, and two idle ones; answers whether all of these are digits.
+static int read_octets(uint8_t *octets, const uint8_t *digits) {
+    uint8_t value[2 * CELLS] = { [2 * PLACES] = 'D', '5', 'D', '5' }, bad = 0;
+    uint16_t pairs[CELLS];
+    memcpy(value, digits, 2 * PLACES);
+    for (int k = 0; k < 2 * CELLS; k++) {
+        uint8_t digit = value[k];
+        bad |= (uint8_t)(digit - '0') > 9 && (uint8_t)((digit | 0x20) - 'a') > 5;
+        value[k] = (digit & 15) + 9 * (digit >> 6);
+    }
+    memcpy(pairs, value, sizeof pairs);
+    for (int k = 0; k < CELLS; k++) octets[k] = pairs[k] << 4 | pairs[k] >> 8;
+    return !bad;
+}
+
+static const uint8_t one_more_than_value[256] = {
+    ['0'] = 1, 2, 3, 4, 5, 6, 7, 8, 9, 10, ['A'] = 11, 12, 13, 14, 15, 16, ['a'] = 11, 12, 13, 14, 15, 16,
+};
+
+// The value of a digit, above 15 where it is none.
+static unsigned digit_value(uint8_t c) { return one_more_than_value[c] - 1u; }
+
+// The octets that a word's digits write, at most so many; answers how many they are.
+static unsigned read_hex(Word word, uint8_t *octets, size_t most) {
+    size_t count = word.end - word.at;
+    unsigned bad = count % 2;
+    for (const uint8_t *d = word.at; d < word.end; d++) bad |= digit_value(*d) >> 4;
+    if (bad) refuse("hex");
+    if (count < 2 || count > 2 * most) refuse("length");
+    for (const uint8_t *d = word.at; d < word.end; d += 2) *octets++ = digit_value(d[0]) << 4 | digit_value(d[1]);
+    return count / 2;
+}
+
+// Room for the rows of one more frame.
+static Row *new_rows(void) {
+    if (row_count + external > row_room) {
+        row_room = row_room ? 2 * row_room : 1 << 13;
+        rows = realloc(rows, row_room * sizeof *rows);
+        if (!rows) exit(5);
+    }
+    return rows + row_count;
+}
+
+// A frame whose rows of the given lines were read.
+static void append_frame(Row *new, Lines given) {
+    for (Lines idle = below(external) & ~given; idle;) memcpy(new[next_line(&idle)], idle_row, sizeof(Row));
+    append((Event){ .kind = FRAME, .first = row_count });
+    row_count += external;
+}
+
+// Reads a line of a frame with a single space before each part and no fault, and answers where the next
+// line begins. Any other is read word by word.
+static const uint8_t *read_plain_frame(const uint8_t *p, const uint8_t *end) {
+    Row *new = new_rows();
+    Lines given = 0;
+    for (p++; p < end && *p == ' '; p += 2 * PLACES) {
+        if (end - p < 2 * PLACES + 4) return NULL;
+        unsigned line = p[1] - '0', second = p[2] - '0';
+        p += 2;
+        if (line && line < 10 && second < 10) {
+            line = line * 10 + second;
+            p++;
+        }
+        if (*p++ != ':' || line >= external || given >> line & 1 || !read_octets(new[line], p)) return NULL;
+        given |= (Lines)1 << line;
+    }
+    if (p < end && *p++ != '\n') return NULL;
+    append_frame(new, given);
+    return p;
+}
+
+static void read_part(Word word, Row *new, Lines *given) {
+    int line = number(&word, ':');
+    if (line < 0 || line >= (int)external || *given >> line & 1) refuse("slot");
+    memcpy(new[line], idle_row, sizeof(Row));
+    if (read_hex(word, new[line], PLACES) != PLACES) refuse("length");
+    *given |= (Lines)1 << line;
+}
+
+static void read_frame(Word *words, size_t count) {
+    Row *new = new_rows();
+    Lines given = 0;
+    for (size_t i = 1; i < count; i++) read_part(words[i], new, &given);
+    append_frame(new, given);
+}
+
+static void read_number(Word *words, size_t count) {
+    if (event_count || count != 4) refuse("word");
+    size_t length = words[1].end - words[1].at;
+    if (length > MOST_DIGITS) refuse("number");
+    for (const uint8_t *d = words[1].at; d < words[1].end; d++)
+        if (*d < '0' || *d > '9') refuse("number");
+    int line = is(words[2], "line");
+    if (!line && !is(words[2], "room")) refuse("word");
+    unsigned target = line ? line_of(words[3]) : room_of(words[3]);
+    add_number(words[1].at, length, line ? TO_LINE : TO_ROOM, target);
+}
+
+static void read_tone(Word *words, size_t count) {
+    if (event_count || count != 3) refuse("word");
+    int busy = is(words[1], "busy");
+    if (!busy && !is(words[1], "ringback")) refuse("word");
+    Tone *tone = &tones[busy ? BUSY : RINGBACK];
+    if (tone->length) refuse("word");
+    tone->length = read_hex(words[2], tone->octets, TONE);
+}
+
+// Room for the octets of one more message.
+static uint8_t *new_octets(void) {
+    if (message_count + MESSAGE > message_room) {
+        message_room = message_room ? 2 * message_room : 1 << 18;
+        messages = realloc(messages, message_room);
+        if (!messages) exit(5);
+    }
+    return messages + message_count;
+}
+
+static void append_message(unsigned line, unsigned length) {
+    append((Event){ .kind = SIGNAL, .x.line = line, .length = length, .first = message_count });
+    message_count += length;
+}
+
+// Reads the line of a message with a single space before each word and no fault, and answers where the
+// next line begins. Any other is read word by word.
+static const uint8_t *read_plain_message(const uint8_t *p, const uint8_t *end) {
+    uint8_t *octets = new_octets();
+    unsigned length = 0;
+    if (end - p < 4 || p[1] != ' ') return NULL;
+    unsigned line = p[2] - '0', second = p[3] - '0';
+    p += 3;
+    if (line && line < 10 && second < 10) {
+        line = line * 10 + second;
+        p++;
+    }
+    if (line >= external || p == end || *p++ != ' ') return NULL;
+    for (; end - p > 1 && length < MESSAGE; p += 2) {
+        unsigned high = digit_value(p[0]), low = digit_value(p[1]);
+        if ((high | low) >> 4) break;
+        octets[length++] = high << 4 | low;
+    }
+    if (!length || (p < end && *p++ != '\n')) return NULL;
+    append_message(line, length);
+    return p;
+}
+
+static void read_message_line(Word *words, size_t count) {
+    if (count != 2 && count != 3) refuse("word");
+    unsigned line = line_of(words[1]);
+    append_message(line, count == 3 ? read_hex(words[2], new_octets(), MESSAGE) : 0);
+}
+
+static void read_words(Word *words, size_t count) {
+    if (!external) {
+        read_header(words, count);
+    } else if (is(words[0], "sync")) {
+        if (count != 1) refuse("word");
+    } else if (is(words[0], "F")) {
+        read_frame(words, count);
+    } else if (is(words[0], "nail")) {
+        read_command(NAIL, words, count);
+    } else if (is(words[0], "seat")) {
+        read_command(SEAT, words, count);
+    } else if (is(words[0], "free")) {
+        read_command(FREE, words, count);
+    } else if (is(words[0], "M")) {
+        read_message_line(words, count);
+    } else if (is(words[0], "number")) {
+        read_number(words, count);
+    } else if (is(words[0], "tone")) {
+        read_tone(words, count);
+    } else {
+        refuse("word");
+    }
+}
+
+// Reads a line word by word, and answers where the next one begins.
+static const uint8_t *read_line(const uint8_t *p, const uint8_t *end) {
+    Word words[MOST_WORDS];
+    size_t count = 0;
+    if (*p == '#') {
+        p = memchr(p, '\n', end - p);
+        return p ? p + 1 : end;
+    }
+    while (count < MOST_WORDS) {
+        while (p < end && *p == ' ') p++;
+        if (p == end || *p == '\n') break;
+        words[count].at = p;
+        for (; p < end && *p != ' ' && *p != '\n'; p++)
+            if (*p < 0x20 || *p > 0x7E) refuse(external ? "word" : "header");
+        words[count++].end = p;
+    }
+    if (count) read_words(words, count);
+    return p + (p < end);
+}
+
+static void read_trace(void) {
+    size_t len = 0, room = 1 << 20;
+    uint8_t *bytes = malloc(room);
+    for (ssize_t n; bytes && (n = read(0, bytes + len, room - len)) > 0;)
+        if ((len += n) == room) bytes = realloc(bytes, room *= 2);
+    if (!bytes) exit(5);
+    if (len > MOST_BYTES) refuse("limit");
+    for (const uint8_t *p = bytes, *end = bytes + len; p < end;) {
+        line_number++;
+        const uint8_t *next = NULL;
+        if (external && *p == 'F') next = read_plain_frame(p, end);
+        else if (external && *p == 'M') next = read_plain_message(p, end);
+        p = next ? next : read_line(p, end);
+    }
+    line_number++;
+    if (!external) refuse("header");
+    free(bytes);
+}

@@ -1,0 +1,3 @@
+pub mod UnknownReference
+pub mod Restarting
+pub mod Worked

@@ -1,0 +1,33 @@
+-- What answers a message whose call reference names no call (ITU-T Q.931 (05/98), 5.8.3.2 and 5.8.10). Which message is answered by which is
+-- this exchange's own profile of these sections.
+use Rattle.std.specs.Prelude.{not, Option, Some, None}
+use Rattle.q931_codec.specs.declared.kind.MessageKind.{MessageKind}
+use Rattle.q931_codec.specs.declared.kind.MessageKind.TheVariants as kind
+use Rattle.q931_codec.specs.declared.message.Message.{Message}
+use Rattle.q931_codec.specs.CallStates.{null}
+use Rattle.q931_codec.specs.Causes.{response_to_status_enquiry, invalid_call_reference}
+use Rattle.q931_codec.specs.Outgoing.{OutgoingMessage, bare}
+
+-- a message back to the sender: the same call reference value, and the other flag (4.3)
+abbrev pub message_back : Message → MessageKind → OutgoingMessage
+message_back m type = bare (not m.flag) m.reference type
+
+-- STATUS: there is no call
+abbrev pub null_status : Message → OutgoingMessage
+null_status m = record (message_back m kind.Status) { cause = Some response_to_status_enquiry; state = Some null }
+
+-- RELEASE COMPLETE: the call reference is not one of a call
+abbrev pub no_such_reference : Message → OutgoingMessage
+no_such_reference m = record (message_back m kind.ReleaseComplete) { cause = Some invalid_call_reference }
+
+-- the answer, by the message's type. A SETUP from the side that chose the call reference asks for a call, which other rules answer; one
+-- from the other side is ignored
+abbrev pub answer_to_type : Message → MessageKind → Option OutgoingMessage
+answer_to_type m kind.Setup = None
+answer_to_type m kind.ReleaseComplete = None
+answer_to_type m kind.Status = None
+answer_to_type m kind.StatusEnquiry = Some (null_status m)
+answer_to_type m _ = Some (no_such_reference m)
+
+abbrev pub answer_without_call : Message → Option OutgoingMessage
+answer_without_call m = answer_to_type m m.kind

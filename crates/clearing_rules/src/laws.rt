@@ -1,0 +1,55 @@
+// Laws about the definitions alone: these functions do nothing, and their contracts are the laws.
+ghost use Rattle.std.specs.Prelude.{◌≡◌, ◌<◌, ◌^◌, Some, None, IfSome};
+ghost use Rattle.q931_codec.specs.declared.message.Message.{Message};
+ghost use Rattle.q931_codec.specs.Outgoing.{IsWritable};
+ghost use Rattle.q931_codec.specs.RestartClasses.{single_interface, all_interfaces};
+ghost use Rattle.clearing_rules.specs.declared.scope.Restart.{Restart};
+ghost use Rattle.clearing_rules.specs.declared.scope.Restart.TheVariants.{Channel, Interface};
+ghost use Rattle.clearing_rules.specs.Restarting.{acknowledgement, global_call_reference, IsOnLine};
+ghost use Rattle.clearing_rules.specs.UnknownReference.{answer_without_call};
+ghost use Rattle.clearing_rules.specs.Worked.{answer_to_octets, restart_in_octets, acknowledgement_of_octets};
+ghost use Rattle.clearing_rules.specs.Worked as worked;
+
+use crate::restart_message::GLOBAL_CALL_REFERENCE;
+
+/// The answers can be written: each to a message whose call reference value has fifteen bits, and each
+/// acknowledgement of a restart.
+pub fn law_of_answers()
+    ensures answer { (m : Message) → m.reference < 2 ^ 15 → IfSome (answer_without_call m) IsWritable }
+    ensures acknowledgement { (r : Restart) → IsOnLine r → IsWritable (acknowledgement r) }
+{}
+
+/// The global call reference of the code is that of the definitions.
+pub fn law_of_global_reference()
+    ensures { GLOBAL_CALL_REFERENCE ≡ global_call_reference }
+{}
+
+/// What answers messages on call references that name no call, from octets to octets.
+pub fn worked_answers()
+    ensures enquiry { answer_to_octets worked.enquiry ≡ Some worked.no_call }
+    ensures enquiry_from_called { answer_to_octets worked.enquiry_from_called ≡ Some worked.no_call_to_called }
+    ensures disconnect { answer_to_octets worked.disconnect ≡ Some worked.no_such_reference }
+    ensures release { answer_to_octets worked.release_from_called ≡ Some worked.no_such_reference_to_called }
+    ensures restart { answer_to_octets worked.restart_on_a_call ≡ Some worked.no_such_reference }
+    ensures unknown { answer_to_octets worked.unknown_type ≡ Some worked.no_such_reference }
+    ensures release_complete { answer_to_octets worked.release_complete ≡ None }
+    ensures status { answer_to_octets worked.status ≡ None }
+    ensures setup { answer_to_octets worked.setup_from_called ≡ None }
+{}
+
+/// What octets ask to be restarted, and the octets that acknowledge it.
+pub fn worked_restarts()
+    ensures interface { restart_in_octets worked.restart_interface ≡ Some (Interface single_interface) }
+    ensures all { restart_in_octets worked.restart_all ≡ Some (Interface all_interfaces) }
+    ensures first { restart_in_octets worked.restart_1 ≡ Some (Channel 0) }
+    ensures after_signalling { restart_in_octets worked.restart_17 ≡ Some (Channel 15) }
+    ensures preferred { restart_in_octets worked.restart_31 ≡ Some (Channel 29) }
+    ensures any { restart_in_octets worked.restart_any ≡ None }
+    ensures signalling { restart_in_octets worked.restart_16 ≡ None }
+    ensures no_indicator { restart_in_octets worked.restart_nothing ≡ None }
+    ensures flag { restart_in_octets worked.restart_from_called ≡ None }
+    ensures reference { restart_in_octets worked.restart_on_a_call ≡ None }
+    ensures acknowledge { restart_in_octets worked.restart_acknowledge ≡ None }
+    ensures interface_acknowledged { acknowledgement_of_octets worked.restart_interface ≡ Some worked.interface_acknowledged }
+    ensures channel_acknowledged { acknowledgement_of_octets worked.restart_1 ≡ Some worked.channel_1_acknowledged }
+{}

@@ -1,0 +1,78 @@
+ghost use Rattle.std.specs.Prelude.{◌≡◌, IfSome};
+ghost use Rattle.q931_codec.specs.Outgoing.{outgoing_of};
+ghost use Rattle.clearing_rules.specs.Restarting.{acknowledgement, restart_asked, IsOnLine};
+
+use crate::scope::Restart;
+use circuit_model::{channel_of, slot_of_channel};
+use q931_codec::restart_classes::{ALL_INTERFACES, INDICATED_CHANNELS, SINGLE_INTERFACE};
+use q931_codec::{ChannelIdentification, Message, MessageKind, Outgoing};
+
+/// The call reference value that stands for all calls of an interface (Q.931, 4.3).
+pub const GLOBAL_CALL_REFERENCE: u16 = 0;
+
+/// What a message asks to be restarted (Q.931, 5.5). `None` for every message that is not a RESTART on the
+/// global call reference with flag 0, and for a RESTART
+///
+/// - without a restart indicator, or with one that is none of 80, 86 and 87;
+/// - with indicator 80 (indicated channels), and no channel identification that names one channel,
+///   exclusively or as preferred. "Any channel" names none.
+///
+/// With 86 and 87 a channel identification isn't looked at. What is not asked for here has no effect and no
+/// answer on the global call reference.
+pub fn restart(message: &Message) -> Option<Restart>
+    ensures asked { result ≡ restart_asked message.now }
+    ensures place { IfSome result IsOnLine }
+{
+    if !begins_restart(message) {
+        return None;
+    }
+    match message.restart_indicator()? {
+        INDICATED_CHANNELS => Some(Restart::Channel(place_named(message)?)),
+        class @ (SINGLE_INTERFACE | ALL_INTERFACES) => Some(Restart::Interface(class)),
+        _ => None,
+    }
+}
+
+/// The RESTART ACKNOWLEDGE (Q.931, 3.4.2) for what was restarted: on the global call reference with flag 1,
+/// with the restart indicator that was received, and the channel where one channel was restarted.
+///
+/// The place of that channel is below 30, as it is in what [`restart`] gives.
+pub fn acknowledgement(restarted: Restart) -> Outgoing<'static>
+    requires { IsOnLine restarted }
+    ensures { outgoing_of result ≡ acknowledgement restarted }
+{
+    let (channel, class) = match restarted {
+        Restart::Channel(place) => (Some(channel_of(place)), INDICATED_CHANNELS),
+        Restart::Interface(class) => (None, class),
+    };
+    Outgoing {
+        channel,
+        restart: Some(class),
+        ..Outgoing::new(true, GLOBAL_CALL_REFERENCE, MessageKind::RestartAcknowledge)
+    }
+}
+
+ghost use Rattle.std.specs.Prelude.{◌<◌};
+ghost use Rattle.clearing_rules.specs.Restarting.{begins_restart, place_named};
+
+// Whether the message is a RESTART on the global call reference from the side that chose it.
+fn begins_restart(message: &Message) -> bool
+    ensures { result ≡ begins_restart message.now }
+{
+    message.kind == MessageKind::Restart
+        && !message.flag
+        && message.reference == GLOBAL_CALL_REFERENCE
+}
+
+// The place of the channel that the message names.
+fn place_named(message: &Message) -> Option<u8>
+    ensures named { result ≡ place_named message.now }
+    ensures place { IfSome result (λ place. place < 30) }
+{
+    match message.channel()? {
+        ChannelIdentification::Preferred(channel) | ChannelIdentification::Exclusive(channel) => {
+            slot_of_channel(channel)
+        }
+        ChannelIdentification::Any | ChannelIdentification::Invalid => None,
+    }
+}

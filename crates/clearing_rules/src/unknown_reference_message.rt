@@ -1,0 +1,43 @@
+ghost use Rattle.std.specs.Prelude.{◌≡◌, option_map};
+ghost use Rattle.q931_codec.specs.Outgoing.{outgoing_of};
+ghost use Rattle.clearing_rules.specs.UnknownReference.{answer_without_call};
+
+use q931_codec::causes::{INVALID_CALL_REFERENCE, RESPONSE_TO_STATUS_ENQUIRY};
+use q931_codec::states::NULL;
+use q931_codec::{Message, MessageKind, Outgoing};
+
+/// What answers a message on a call reference, other than the global one, that names no leg of its line
+/// (Q.931, 5.8.3.2):
+///
+/// - STATUS ENQUIRY: a STATUS with cause 30 and state 0, null;
+/// - SETUP, RELEASE COMPLETE, STATUS: nothing. A SETUP with flag 0 asks for a call instead, which is
+///   answered by the rules for that;
+/// - every other type, also an unknown one, and RESTART and RESTART ACKNOWLEDGE, which belong on the global
+///   call reference: a RELEASE COMPLETE with cause 81, invalid call reference value.
+///
+/// The answer has the message's call reference with the other flag.
+pub fn unknown_reference(message: &Message) -> Option<Outgoing<'static>>
+    ensures { option_map outgoing_of result ≡ answer_without_call message.now }
+{
+    match message.kind {
+        MessageKind::Setup | MessageKind::ReleaseComplete | MessageKind::Status => None,
+        MessageKind::StatusEnquiry => Some(Outgoing {
+            cause: Some(RESPONSE_TO_STATUS_ENQUIRY),
+            state: Some(NULL),
+            ..message_back(message, MessageKind::Status)
+        }),
+        _ => Some(Outgoing {
+            cause: Some(INVALID_CALL_REFERENCE),
+            ..message_back(message, MessageKind::ReleaseComplete)
+        }),
+    }
+}
+
+ghost use Rattle.clearing_rules.specs.UnknownReference.{message_back};
+
+// A message of this type without elements, on the call reference of the one that is answered.
+fn message_back(message: &Message, kind: MessageKind) -> Outgoing<'static>
+    ensures { outgoing_of result ≡ message_back message.now kind }
+{
+    Outgoing::new(!message.flag, message.reference, kind)
+}

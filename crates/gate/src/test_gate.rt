@@ -1,0 +1,89 @@
+use crate::Gate;
+use std::hint;
+use std::sync::atomic::{AtomicU64, Ordering};
+
+// How often a hold looks before it gives up.
+const LOOKS: u32 = 200_000_000;
+
+/// A gate that holds a turn and a crossing against each other. The turn at its event waits until the
+/// crossing of its frame has begun, and that crossing waits until the turn is over. Both go on only
+/// where the event's thread takes its turn while the frame's octets are being moved.
+///
+/// A hold ends after 200,000,000 looks in any case, and then the gate keeps in mind that it had to.
+#[derive(Drop)]
+pub struct TestGate {
+    event: u32,
+    frame: u32,
+    looks: u32,
+    // Flags: 0, or 1 once it has come about.
+    crossing: AtomicU64,
+    turned: AtomicU64,
+    gave_up: AtomicU64,
+}
+
+impl TestGate {
+    /// A gate for the turn at this event, counted from 1, and the crossing of this frame, counted
+    /// from 0.
+    pub fn new(event: u32, frame: u32) -> TestGate {
+        TestGate::patient(event, frame, LOOKS)
+    }
+
+    // A gate whose holds end after so many looks.
+    pub(crate) fn patient(event: u32, frame: u32, looks: u32) -> TestGate {
+        TestGate {
+            event,
+            frame,
+            looks,
+            crossing: AtomicU64::new(0),
+            turned: AtomicU64::new(0),
+            gave_up: AtomicU64::new(0),
+        }
+    }
+
+    /// Whether the crossing began and the turn ended, and no hold gave up. False of a new gate.
+    pub fn passed(&self) -> bool {
+        is_set(&self.crossing) && is_set(&self.turned) && !is_set(&self.gave_up)
+    }
+
+    // Waits for a flag, for so many looks at most.
+    fn hold_until(&self, flag: &AtomicU64) {
+        for _ in 0..self.looks {
+            if is_set(flag) {
+                return;
+            }
+            hint::spin_loop();
+        }
+        set(&self.gave_up);
+    }
+}
+
+impl Gate for TestGate {
+    fn before_turn(&self, _worker: u32, event: u32) {
+        if event == self.event {
+            self.hold_until(&self.crossing);
+        }
+    }
+
+    fn after_turn(&self, _worker: u32, event: u32) {
+        if event == self.event {
+            set(&self.turned);
+        }
+    }
+
+    fn before_crossing(&self, frame: u32) {
+        if frame == self.frame {
+            set(&self.crossing);
+            self.hold_until(&self.turned);
+        }
+    }
+
+    fn after_crossing(&self, _frame: u32) {}
+}
+
+fn is_set(flag: &AtomicU64) -> bool {
+    flag.load(Ordering::SeqCst) == 1
+}
+
+fn set(flag: &AtomicU64) {
+    flag.store(1, Ordering::SeqCst);
+}

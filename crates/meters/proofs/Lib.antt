@@ -1,0 +1,5 @@
+pub mod Zips
+pub mod Told
+mod Registering
+mod Rings
+mod Appending

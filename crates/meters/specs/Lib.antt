@@ -1,0 +1,4 @@
+pub mod Registers
+pub mod Details
+pub mod Telling
+pub mod Examples

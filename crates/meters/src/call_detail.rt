@@ -1,0 +1,117 @@
+ghost use Rattle.std.specs.Prelude.{◌≡◌, ◌-◌, ◌++◌, ◌<◌, ◌≤◌, [], ◌∷◌, List, length, take, OnOk, OnErr, IfOk, IsOk};
+ghost use Rattle.std.specs.VecDeque.{deque_len, deque_capacity};
+ghost use Rattle.exchange_core.specs.declared.record.CallRecord.{CallRecord};
+ghost use Rattle.meters.specs.Details.{IsRingOf, call_lines, detail_text, detail_text_with, last_of};
+
+use crate::meter::Meter;
+use crate::texts::put_call;
+use exchange_core::CallRecord;
+use std::alloc::{AllocError, Global};
+use std::collections::VecDeque;
+use std::marker::Model;
+
+/// Keeps the records of the last calls, so many as it is made for.
+///
+/// Its text has a line for each of them, the oldest first: `call CALLER CALLED FROM TO CAUSE`, where
+/// a slot is `L/C`, its line and its channel's number, and a room is `room R`.
+#[derive(Drop)]
+pub struct CallDetail {
+    keep: u32,
+    calls: VecDeque<CallRecord>,
+}
+
+impl Model for CallDetail {
+    ghost use Rattle.std.specs.Prelude.{◌<◌, ◌≤◌, length};
+    ghost use Rattle.std.specs.VecDeque.{deque_len, deque_capacity};
+    ghost use Rattle.meters.specs.Details.{Ring};
+
+    ghost Value = { Ring };
+
+    ghost view = { λ d. record { keep = d.keep; calls = d.calls.items } };
+
+    ghost invariant = { λ d. (0 < d.keep) × (deque_len d.calls ≤ d.keep) × (d.keep ≤ deque_capacity d.calls) };
+}
+
+impl CallDetail {
+    /// A ring that keeps the last `keep` records, 1 to 65,535, and was told of no call. It has room
+    /// for all of them from the start.
+    ///
+    /// # Errors
+    ///
+    /// [`AllocError`] for want of memory.
+    pub fn new(alloc: Global, keep: u32) -> Result<CallDetail, AllocError>
+        requires { (1 ≤ keep) × (keep ≤ 65535) }
+        ensures keep { IfOk result (λ ring. ring.keep ≡ keep) }
+        ensures stands { IfOk result (IsRingOf []) }
+        ensures text { IfOk result (λ ring. (calls : List CallRecord) → detail_text_with ring calls ≡ detail_text keep calls) }
+    {
+        let calls = VecDeque::with_capacity(alloc, keep as usize)?;
+        Ok(CallDetail { keep, calls })
+    }
+}
+
+impl Meter for CallDetail {
+    ghost stands = { λ ring calls. IsRingOf calls ring };
+
+    ghost text = { detail_text_with };
+
+    /// Tells the meter of one more call: where it is full, the oldest record goes. It takes no memory,
+    /// moves no record and never refuses.
+    fn note(&mut self, told: &CallRecord) -> Result<(), AllocError>
+        ensures done { IsOk result }
+        ensures keep { self.new.keep ≡ self.old.keep }
+        ensures stands { (calls : List CallRecord) → IsRingOf calls self.old → IsRingOf (calls ++ told.now ∷ []) self.new }
+        ensures text { (calls : List CallRecord) → detail_text_with self.new calls ≡ detail_text_with self.old (told.now ∷ calls) }
+    {
+        make_room(&mut self.calls, self.keep);
+        self.calls.push_back_reserved(*told);
+        Ok(())
+    }
+
+    /// Appends the text of the calls that the meter stands for.
+    fn summary(&self, out: &mut Vec<u8>) -> Result<(), AllocError>
+        ensures text { OnOk result (out.new.items ≡ out.old.items ++ detail_text_with self.now []) }
+        ensures calls { OnOk result ((told : _) → IsRingOf told self.now → out.new.items ≡ out.old.items ++ detail_text self.now.keep told) }
+        ensures kept { OnErr result (out.new.items ≡ out.old.items) }
+    {
+        let start = out.len();
+        let done = put_ring(out, &self.calls);
+        if done.is_err() {
+            out.truncate(start);
+        }
+        done
+    }
+}
+
+// Lets the oldest record go where the ring is full.
+fn make_room(calls: &mut VecDeque<CallRecord>, keep: u32)
+    requires { (0 < keep) × (deque_len calls.old ≤ keep) }
+    ensures last { calls.new.items ≡ last_of (keep - 1) calls.old.items }
+    ensures room { deque_len calls.new < keep }
+    ensures capacity { deque_capacity calls.new ≡ deque_capacity calls.old }
+{
+    if calls.len() == keep as usize {
+        let _oldest = calls.pop_front();
+    }
+}
+
+// The lines of a ring's records. A refusal leaves a front of them.
+fn put_ring(out: &mut Vec<u8>, calls: &VecDeque<CallRecord>) -> Result<(), AllocError>
+    ensures lines { OnOk result (out.new.items ≡ out.old.items ++ call_lines calls.now.items) }
+    ensures front { take (length out.old.items) out.new.items ≡ out.old.items }
+{
+    let (older, newer) = calls.as_slices();
+    put_calls(out, older)?;
+    put_calls(out, newer)
+}
+
+// The lines of some records in a row. A refusal leaves a front of them.
+fn put_calls(out: &mut Vec<u8>, calls: &[CallRecord]) -> Result<(), AllocError>
+    ensures lines { OnOk result (out.new.items ≡ out.old.items ++ call_lines calls.now) }
+    ensures front { take (length out.old.items) out.new.items ≡ out.old.items }
+{
+    for call in calls {
+        put_call(out, call)?;
+    }
+    Ok(())
+}

@@ -1,0 +1,71 @@
+ghost use Rattle.std.specs.Prelude.{◌≡◌, ◌++◌, [], ◌∷◌, List, OnOk, OnErr, IsOk};
+ghost use Rattle.exchange_core.specs.declared.record.CallRecord.{CallRecord};
+ghost use Rattle.meters.specs.Registers.{IsHeldBy, holding_text, holding_text_with};
+
+use crate::meter::Meter;
+use crate::texts::put_registers;
+use exchange_core::CallRecord;
+use std::alloc::AllocError;
+use std::marker::Model;
+
+/// Adds up how long calls held their circuits, and keeps the longest such time, in frames.
+///
+/// Its text is the line `holding TOTAL LONGEST`. Both times stand at 18,446,744,073,709,551,615.
+#[derive(Drop)]
+pub struct HoldingTime {
+    total: u64,
+    longest: u64,
+}
+
+impl Model for HoldingTime {
+    ghost use Rattle.meters.specs.Registers.{Held};
+
+    ghost Value = { Held };
+
+    ghost view = { λ h. record { total = h.total; longest = h.longest } };
+}
+
+impl HoldingTime {
+    /// A holding time that was told of no call. It takes no memory.
+    pub fn new() -> HoldingTime
+        ensures stands { IsHeldBy [] result }
+        ensures text { (calls : List CallRecord) → holding_text_with result calls ≡ holding_text calls }
+    {
+        HoldingTime {
+            total: 0,
+            longest: 0,
+        }
+    }
+}
+
+impl Meter for HoldingTime {
+    ghost stands = { λ held calls. IsHeldBy calls held };
+
+    ghost text = { holding_text_with };
+
+    /// Tells the meter of one more call. It takes no memory and never refuses.
+    fn note(&mut self, told: &CallRecord) -> Result<(), AllocError>
+        ensures done { IsOk result }
+        ensures stands { (calls : List CallRecord) → IsHeldBy calls self.old → IsHeldBy (calls ++ told.now ∷ []) self.new }
+        ensures text { (calls : List CallRecord) → holding_text_with self.new calls ≡ holding_text_with self.old (told.now ∷ calls) }
+    {
+        let frames = u64::from(told.to.saturating_sub(told.from));
+        self.total = self.total.saturating_add(frames);
+        self.longest = self.longest.max(frames);
+        Ok(())
+    }
+
+    /// Appends the text of the calls that the meter stands for.
+    fn summary(&self, out: &mut Vec<u8>) -> Result<(), AllocError>
+        ensures text { OnOk result (out.new.items ≡ out.old.items ++ holding_text_with self.now []) }
+        ensures calls { OnOk result ((calls : List CallRecord) → IsHeldBy calls self.now → out.new.items ≡ out.old.items ++ holding_text calls) }
+        ensures kept { OnErr result (out.new.items ≡ out.old.items) }
+    {
+        let start = out.len();
+        let done = put_registers(out, b"holding ", self.total, self.longest);
+        if done.is_err() {
+            out.truncate(start);
+        }
+        done
+    }
+}

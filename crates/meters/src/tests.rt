@@ -1,0 +1,74 @@
+// Each meter through the trait, beside one of a program's own.
+use crate::keeper::Keeper;
+use crate::{CallDetail, HoldingTime, Meter, PegCount, append_summaries};
+use circuit_model::Slot;
+use exchange_core::{CallRecord, Party};
+use std::alloc::AllocError;
+use std::test::Fail;
+
+// An answered call between slots, one to a room that lasted longer, and one that wasn't answered
+// and is told with its frames the wrong way round.
+const CALLS: [CallRecord; 3] = [
+    CallRecord {
+        caller: Slot { line: 0, place: 0 },
+        called: Party::Line(Slot {
+            line: 12,
+            place: 29,
+        }),
+        answered: true,
+        from: 2,
+        to: 10,
+        cause: 16,
+    },
+    CallRecord {
+        caller: Slot {
+            line: 31,
+            place: 14,
+        },
+        called: Party::Room(63),
+        answered: true,
+        from: 100,
+        to: 4100,
+        cause: 102,
+    },
+    CallRecord {
+        caller: Slot { line: 7, place: 15 },
+        called: Party::Line(Slot { line: 0, place: 1 }),
+        answered: false,
+        from: 9,
+        to: 8,
+        cause: 17,
+    },
+];
+
+// What a ring of two, the registers and the keeper say of no call and of these three.
+const OF_NONE: &str = "peg 0 0\nholding 0 0\n";
+
+const OF_THREE: &str =
+    "call 31/15 room 63 100 4100 102\ncall 7/17 0/2 9 8 17\npeg 3 2\nholding 4008 4000\nAAN";
+
+fn note_to_each(meters: &mut [Box<dyn Meter>], call: &CallRecord) -> Result<(), AllocError> {
+    for meter in meters.iter_mut() {
+        meter.note(call)?;
+    }
+    Ok(())
+}
+
+#[test]
+fn meters_say_what_they_were_told(rt: HostRuntime) -> Result<(), Fail> {
+    let alloc = rt.alloc();
+    let mut meters: Vec<Box<dyn Meter>> = Vec::new(alloc);
+    meters.push(Box::new(alloc, CallDetail::new(alloc, 2)?)?)?;
+    meters.push(Box::new(alloc, PegCount::new())?)?;
+    meters.push(Box::new(alloc, HoldingTime::new())?)?;
+    meters.push(Box::new(alloc, Keeper::new(alloc))?)?;
+    let mut out = vec![in alloc; b'>']?;
+    append_summaries(&meters, &mut out)?;
+    for call in &CALLS {
+        note_to_each(&mut meters, call)?;
+    }
+    append_summaries(&meters, &mut out)?;
+    let wanted = format!(in alloc; ">{OF_NONE}{OF_THREE}")?;
+    assert_eq!(rt; out.as_slice(), wanted.as_bytes());
+    Ok(())
+}
