@@ -30,23 +30,23 @@ pub fn mix_rooms(places: &[Option<Seated>], out: &mut [u8])
     requires few { length places.now ≤ most_members }
     ensures { EachIndex places.now (λ k. slice_index out.new k ≡ given_at k places.now) }
 {
-    let totals = total_rooms(places);
+    let mut totals = [0; ROOMS];
+    add_members(places, &mut totals);
     for (k, member) in places.iter().enumerate() {
         out[k] = code_without(&totals, *member);
     }
 }
 
-/// The sum of the values of each room, over all of its members.
-fn total_rooms(places: &[Option<Seated>]) -> [i32; ROOMS]
+/// Adds to each room the values of all of its members.
+fn add_members(places: &[Option<Seated>], totals: &mut [i32; ROOMS])
     requires few { length places.now ≤ most_members }
-    ensures totals { (room : ℕ) → room < 256 → slice_index_or result room (pos 0) ≡ room_total room places.now }
-    ensures within { (room : ℕ) → room < 256 → nat_abs (slice_index_or result room (pos 0)) ≤ 4032 * most_members }
+    requires empty { (room : ℕ) → room < 256 → slice_index_or totals.old room (pos 0) ≡ pos 0 }
+    ensures totals { (room : ℕ) → room < 256 → slice_index_or totals.new room (pos 0) ≡ room_total room places.now }
+    ensures within { (room : ℕ) → room < 256 → nat_abs (slice_index_or totals.new room (pos 0)) ≤ 4032 * most_members }
 {
-    let mut totals = [0; ROOMS];
     for k in 0..places.len() {
-        add_member(&mut totals, places[k]);
+        add_member(totals, places[k]);
     }
-    totals
 }
 
 /// Adds what the member in a place adds to its room.

@@ -1,4 +1,4 @@
-ghost use Rattle.std.specs.Prelude.{◌≡◌, ◌+◌, ◌<◌, ◌≤◌, ◌*◌, All, Some, None, IfOk, IfSome, length, if◌then◌else◌};
+ghost use Rattle.std.specs.Prelude.{◌≡◌, ℕ, ◌+◌, ◌<◌, ◌≤◌, ◌*◌, All, Some, None, IfOk, IfSome, length, slice_index_or, if◌then◌else◌};
 ghost use Rattle.circuit_model.specs.Circuits.{same_slot};
 ghost use Rattle.control_memory.specs.Tables.{HasSize, entry, Agree, IsRow, written};
 ghost use Rattle.control_memory.specs.Image.{lines_of, port_number, sent, received, read, heard_at, room_at, IsCleared, IsQuiet, SameSizes, SameTables, EachSlot};
@@ -172,6 +172,16 @@ impl Image {
         self.heard[at.number()]
     }
 
+    /// What each place of a line hears.
+    pub fn heard_row(&self, line: u8) -> &[Heard]
+        requires { line < lines_of self.now }
+        ensures size { length result.now ≡ 30 }
+        ensures heard { (place : ℕ) → place < 30 → slice_index_or result.now place Heard.Silent ≡ heard_at self.now (record { line = line; place = place }) }
+    {
+        let start = usize::from(line) * usize::from(PLACES);
+        &self.heard[start..start + usize::from(PLACES)]
+    }
+
     /// The room of the member that sits in a conference port, and the frame since which it sits
     /// there; none where the port is free, and none for an external slot.
     pub fn room(&self, port: Slot) -> Option<(u8, u32)>
@@ -183,6 +193,15 @@ impl Image {
             return None;
         }
         self.rooms[port_index(self.external, port)]
+    }
+
+    /// The room of the member that sits in each conference port, and the frame since which it sits
+    /// there; none where the port is free. It has the places of the bridge lines, line after line.
+    pub fn seats(&self) -> &[Option<(u8, u32)>]
+        ensures size { length result.now ≡ 30 * self.now.bridges }
+        ensures seats { result.now ≡ self.now.rooms }
+    {
+        &self.rooms
     }
 
     /// Begins the control memory of another frame: no path, every slot silent, every port free.

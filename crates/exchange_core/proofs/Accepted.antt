@@ -1,8 +1,7 @@
 -- What an accepted SETUP is given, and what it does.
-use Rattle.std.proofs.Common.{◌≡◌, ℕ, ◌<◌, ◌≤◌, ◌^◌, Bool, true, false, List, [], ◌∷◌, ◌++◌, length, Option, Some, None, refl, sym, ◌∙◌, ap, subst, arith}
+use Rattle.std.proofs.Common.{◌≡◌, ℕ, ◌<◌, Bool, true, false, List, [], ◌∷◌, Option, Some, None, sym, ◌∙◌, ap, subst, arith}
 use Rattle.std.specs.Prelude.{is_none, IsTrue, IfSome}
 use Rattle.std.specs.List.{AllByRecursion}
-use Rattle.std.proofs.lemmas.Bool.Decides.{nat_tests}
 use Rattle.circuit_model.specs.declared.channel.Slot.{Slot}
 use Rattle.circuit_model.specs.Circuits.{is_idle}
 use Rattle.circuit_model.specs.Extent.{IsExternal}
@@ -11,10 +10,9 @@ use Rattle.q931_codec.specs.declared.message.Message.{Message}
 use Rattle.q931_codec.specs.Contents.{channel_in}
 use Rattle.number_plan.specs.declared.plan.Number.{Number}
 use Rattle.number_plan.specs.Plan.{all_targets}
-use Rattle.number_plan.specs.declared.target.Found.{Found}
 use Rattle.number_plan.specs.declared.target.Found.TheVariants.{Line, Room, More, Nothing}
 use Rattle.exchange_core.specs.declared.signal.Signal.{Signal}
-use Rattle.exchange_core.specs.IdleSlots.{idle, lowest_idle_beside}
+use Rattle.exchange_core.specs.IdleSlots.{lowest_idle_beside}
 use Rattle.exchange_core.specs.LegStanding.{CallsStand}
 use Rattle.exchange_core.specs.Legs.{Legs, leg_at, new_reference}
 use Rattle.exchange_core.specs.Operations.{Operation, Making, begun, performed_all}

@@ -1,8 +1,9 @@
 -- Every world comes of one list of allowed commands.
-use Rattle.std.proofs.Common.{◌≡◌, ℕ, ◌+◌, ◌*◌, ◌<◌, ◌&&◌, not, Bool, true, false, List, [], ◌∷◌, ◌++◌, refl, sym, ◌∙◌, ap, subst, inl, inr, arith, length-append}
+use Rattle.std.proofs.Common.{◌≡◌, ℕ, ◌+◌, ◌*◌, ◌<◌, not, true, false, List, [], ◌∷◌, ◌++◌, refl, sym, ◌∙◌, ap, subst, inl, inr, arith, length-append}
 use Rattle.std.specs.Prelude.{All, count_by, is_none}
 use Rattle.std.proofs.lemmas.Grind.{common_steps}
 use Rattle.std.proofs.lemmas.List.Elements.{All-nil, All-cons, All-head, All-tail, All-append, All-filter}
+use Rattle.circuit_model.specs.declared.channel.Slot.{Slot}
 use Rattle.circuit_model.specs.declared.circuit.Circuit.{Circuit}
 use Rattle.circuit_model.specs.declared.circuit.Circuit.TheVariants.{Pair, Member}
 use Rattle.circuit_model.specs.FrameInput.{Input}

@@ -1,6 +1,6 @@
 pub mod FileOrder
 pub mod Steps
-pub mod Kept
+pub mod Obeying
 pub mod Taken
 pub mod EarlierFrames
 pub mod Refusals

@@ -1,5 +1,5 @@
 -- Whatever a message asks for, each operation that is done for it is permitted.
-use Rattle.std.proofs.Common.{◌≡◌, ℕ, ◌^◌, ◌<◌, ◌≤◌, List, refl, sym, subst}
+use Rattle.std.proofs.Common.{◌≡◌, ℕ, ◌<◌, List, refl, sym, subst}
 use Rattle.q931_codec.specs.Reading.{reading}
 use Rattle.q931_codec.proofs.Messages.{read_message}
 use Rattle.exchange_core.specs.declared.trace.Event.TheVariants.{Message}

@@ -1,5 +1,5 @@
 -- What a SETUP does is permitted.
-use Rattle.std.proofs.Common.{◌≡◌, ℕ, ◌<◌, ◌≤◌, ◌^◌, ◌||◌, inl, inr, Bool, true, false, List, [], ◌∷◌, length, Option, Some, None, refl, sym, ◌∙◌, ap, subst, arith}
+use Rattle.std.proofs.Common.{◌≡◌, ℕ, ◌<◌, ◌≤◌, ◌^◌, ◌||◌, inl, inr, true, false, List, [], length, Option, Some, None, refl, sym, subst, arith}
 use Rattle.std.specs.Prelude.{nat_lt, nat_le, ◌&&◌, unwrap_or, option_map, option_and_then}
 use Rattle.std.proofs.lemmas.Grind.{common_steps}
 use Rattle.std.proofs.lemmas.Bool.Decides.{nat_tests}
@@ -7,7 +7,7 @@ use Rattle.circuit_model.specs.declared.channel.Slot.{Slot}
 use Rattle.circuit_model.specs.Channels.{channel_at}
 use Rattle.circuit_model.specs.Extent.{IsExternal}
 use Rattle.circuit_model.proofs.Slots.{true_or_false}
-use Rattle.q931_codec.specs.Contents.{is_bearer_channel, bearer_in, bearer_of, called_in, called_of, channel_in, contents_in, passed_on}
+use Rattle.q931_codec.specs.Contents.{is_bearer_channel, bearer_in, bearer_of, called_of, channel_in, contents_in, passed_on}
 use Rattle.q931_codec.specs.Identifiers as identifier
 use Rattle.q931_codec.specs.Outgoing.{IsWritable, bare}
 use Rattle.q931_codec.specs.declared.kind.MessageKind.TheVariants as kind
@@ -18,10 +18,10 @@ use Rattle.call_states.specs.Status.{IsTold}
 use Rattle.number_plan.specs.declared.target.Found.{Found}
 use Rattle.number_plan.specs.declared.target.Found.TheVariants.{Line, Room, More, Nothing}
 use Rattle.exchange_core.specs.LegStanding.{CallsStand}
-use Rattle.exchange_core.specs.Legs.{leg_named, new_reference, with_leg}
+use Rattle.exchange_core.specs.Legs.{leg_named, new_reference}
 use Rattle.exchange_core.specs.Operations.{begun}
 use Rattle.exchange_core.specs.Permitted.{CanSeat, ArePermitted}
-use Rattle.exchange_core.specs.Setup.{Setting, checks, refusal, refuse, setup, accept, call, call_line, call_room, proceeding, offer, caller_slot, called_slot, target_of, is_unreadable, course_of_setup}
+use Rattle.exchange_core.specs.Setup.{Setting, checks, refusal, setup, accept, call, call_line, call_room, proceeding, offer, caller_slot, called_slot, target_of, is_unreadable, course_of_setup}
 use Rattle.exchange_core.specs.Sound.{IsPlanned}
 use Rattle.exchange_core.specs.World.{World}
 use Rattle.exchange_core.proofs.Accepted.{can_seat, refusal_small}

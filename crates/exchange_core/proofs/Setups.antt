@@ -193,11 +193,11 @@ named_new : (n : Message) (o : Option Held) (m : Message) → with_leg_named n o
 named_new n None m e = let is = asked_for n n.kind m e in (refl, is.0, is.1)
 named_new n (Some h) m e = absurd cc
 
-pub flag_of : (flag zero_reference : Bool) → (flag || zero_reference) ≡ false → (flag ≡ false) × (zero_reference ≡ false)
+flag_of : (flag zero_reference : Bool) → (flag || zero_reference) ≡ false → (flag ≡ false) × (zero_reference ≡ false)
 flag_of true b e = absurd cc
 flag_of false b e = (refl, e)
 
-pub positive : (n : ℕ) → (n == 0) ≡ false → 1 ≤ n
+positive : (n : ℕ) → (n == 0) ≡ false → 1 ≤ n
 positive n e = grind (arith, nat_tests, e)
 
 pub new_from : (legs : Legs) (line : ℕ) (r : Result Message Discard) (m : Message) → received_from legs line r ≡ New_call m

@@ -1,13 +1,12 @@
 -- A core's map and legs are those of the world of its journal, step by step.
-use Rattle.std.proofs.Common.{◌≡◌, ℕ, zero, suc, ◌+◌, ◌-◌, ◌*◌, ◌<◌, ◌≤◌, inl, inr, Bool, true, false, List, [], ◌∷◌, ◌++◌, get_or, length, Option, Some, None, refl, sym, ◌∙◌, ap, subst, arith, if◌then◌else◌}
-use Rattle.std.specs.Prelude.{All, map, filter_map, slice_get, replicate}
+use Rattle.std.proofs.Common.{◌≡◌, ℕ, suc, ◌+◌, ◌-◌, ◌<◌, ◌≤◌, Bool, true, false, List, [], ◌∷◌, ◌++◌, get_or, length, Option, Some, None, refl, sym, ◌∙◌, ap, subst, arith, if◌then◌else◌}
+use Rattle.std.specs.Prelude.{All, map, slice_get}
 use Rattle.std.specs.List.{cons_option}
 use Rattle.std.proofs.lemmas.List.{map-append}
 use Rattle.std.proofs.lemmas.Option.{slice_get_within, slice_get-get_or, get_or_from_slice_get}
-use Rattle.std.proofs.lemmas.List.Elements.{filter_map-append, All-nil, All-cons, All-append, All-head, All-tail}
+use Rattle.std.proofs.lemmas.List.Elements.{filter_map-append, All-nil, All-cons, All-append}
 use Rattle.circuit_model.specs.Holding.{empty}
 use Rattle.circuit_model.specs.Ports.{free_ports}
-use Rattle.circuit_model.proofs.Slots.{true_or_false}
 use Rattle.circuit_map.specs.Connections.{Connections, Represents}
 use Rattle.exchange_core.specs.declared.trace.Event.{Event}
 use Rattle.exchange_core.specs.declared.trace.Event.TheVariants.{Nail, Seat, Free, Message, Frame}
@@ -21,7 +20,7 @@ use Rattle.exchange_core.specs.Operations.{Operation, Making, begun, performed, 
 use Rattle.exchange_core.specs.Orders.{IsEvent}
 use Rattle.exchange_core.specs.Setup.{Setting}
 use Rattle.exchange_core.specs.Sound.{Fits, IsSound, setting_of}
-use Rattle.exchange_core.specs.Standing.{Holds, dimensions_of}
+use Rattle.exchange_core.specs.Standing.{Holds}
 use Rattle.exchange_core.specs.Step.{next, world, events_of, may_nail, may_seat}
 use Rattle.exchange_core.specs.Working.{Entry, Working, IsWorking, IsNumbered, order_of, setting, world_of}
 use Rattle.exchange_core.specs.World.{Dimensions, World, start}

@@ -1,12 +1,15 @@
--- Whom a new call can be for. Source: this exchange's own.
+-- What is chosen for a new call, and what it does then. Source: this exchange's own.
 use Rattle.std.specs.Prelude.{ℕ, ◌<◌, ◌&&◌, not, Bool, List, [], ◌∷◌, Some}
 use Rattle.circuit_model.specs.declared.channel.Slot.{Slot}
 use Rattle.circuit_model.specs.Circuits.{same_slot}
 use Rattle.number_plan.specs.declared.target.Found.{Found}
 use Rattle.number_plan.specs.declared.target.Found.TheVariants.{Line, Room, More, Nothing}
+use Rattle.q931_codec.specs.declared.message.Message.{Message}
+use Rattle.q931_codec.specs.Contents.{channel_in}
 use Rattle.q931_codec.specs.Causes.{no_channel_available, switching_equipment_congestion}
 use Rattle.exchange_core.specs.IdleSlots.{idle}
-use Rattle.exchange_core.specs.Setup.{Check, is_line_full, is_room_full}
+use Rattle.exchange_core.specs.Operations.{Operation}
+use Rattle.exchange_core.specs.Setup.{Setting, Check, is_line_full, is_room_full, caller_slot, accept}
 use Rattle.exchange_core.specs.World.{Dimensions, World}
 
 -- a line that is called is one of so many
@@ -26,3 +29,7 @@ called_checks d w caller target =
     (is_line_full w (Some caller) target, no_channel_available)
     ∷ (is_room_full d w target, switching_equipment_congestion)
     ∷ []
+
+-- what a SETUP does that passes each check
+abbrev pub accepted : Setting → World → ℕ → Message → List Operation
+accepted s w line m = accept s w m (caller_slot w line (channel_in m.elements))

@@ -1,4 +1,5 @@
 pub mod Limits
+pub mod Kept
 pub mod Legs
 pub mod Sound
 pub mod Orders

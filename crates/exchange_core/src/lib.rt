@@ -2,6 +2,7 @@
 #![tactic(auto)]
 
 mod acts;
+mod answer;
 mod asked;
 mod call_control;
 mod call_laws;
@@ -22,6 +23,7 @@ mod switchboard;
 mod tool;
 mod trace;
 
+pub use answer::{Answer, Kept, RecordList, Rows, SignalList};
 pub use call_laws::{
     law_of_answered_calls, law_of_legs, law_of_paths, law_of_refused_calls, worked_calls,
 };

@@ -1,5 +1,5 @@
 //! What a SETUP makes: the legs of a new call, and what is sent to their users.
-ghost use Rattle.std.specs.Prelude.{◌≡◌, ◌*◌, ◌^◌, ◌<◌, ◌≤◌, ℕ, true, Some, length, IfSome};
+ghost use Rattle.std.specs.Prelude.{◌≡◌, ◌*◌, ◌^◌, ◌<◌, ◌≤◌, true, Some, length, IfSome};
 ghost use Rattle.circuit_model.specs.Extent.{IsExternal};
 ghost use Rattle.circuit_map.specs.Connections.{Connections, SameSizes};
 ghost use Rattle.q931_codec.specs.Contents.{bearer_in};

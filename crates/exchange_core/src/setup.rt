@@ -1,11 +1,11 @@
-ghost use Rattle.std.specs.Prelude.{◌≡◌, ◌<◌, ◌≤◌, ◌^◌, ◌*◌, ℕ, [], None, Some, IfSome, length, false};
-ghost use Rattle.circuit_map.specs.Connections.{SameSizes, hears_at};
-ghost use Rattle.q931_codec.specs.Contents.{channel_in};
+ghost use Rattle.std.specs.Prelude.{◌≡◌, ◌<◌, ◌≤◌, ◌^◌, [], None, Some, IfSome, false};
+ghost use Rattle.circuit_map.specs.Connections.{SameSizes};
 ghost use Rattle.exchange_core.specs.AtWork.{IsAtWork};
 ghost use Rattle.exchange_core.specs.Calls.{made_by};
+ghost use Rattle.exchange_core.specs.Choices.{accepted};
 ghost use Rattle.exchange_core.specs.Legs.{leg_named};
 ghost use Rattle.exchange_core.specs.Operations.{begun, performed_all};
-ghost use Rattle.exchange_core.specs.Setup.{Setting, course_of_setup, caller_slot, accept, refusal};
+ghost use Rattle.exchange_core.specs.Setup.{Setting, course_of_setup, refusal};
 ghost use Rattle.exchange_core.specs.Standing.{Makes};
 ghost use Rattle.exchange_core.specs.World.{World};
 
@@ -42,7 +42,7 @@ impl<P: PathMap> CallControl<P> {
         requires reference { (1 ≤ message.now.reference) × (message.now.reference < 2 ^ 15) }
         requires fresh { (out.old.sends ≡ []) × (out.old.moved ≡ None) }
         ensures makes { (s : Setting) (w : World) → s.plan ≡ plan.now → IsAtWork s self.old.map self.old.legs w
-            → Makes s.dimensions self.new.map self.new.legs out.new.sends out.new.moved (performed_all s.dimensions (begun w) (accept s w message.now (caller_slot w line (channel_in message.now.elements)))) }
+            → Makes s.dimensions self.new.map self.new.legs out.new.sends out.new.moved (performed_all s.dimensions (begun w) (accepted s w line message.now)) }
         ensures few { IfSome out.new.moved (λ moves. (moves.0 ≤ self.old.map.bound) × (moves.1 ≤ self.old.map.bound)) }
         ensures sizes { SameSizes self.old.map self.new.map }
     {

@@ -1,5 +1,4 @@
 ghost use Rattle.std.specs.Prelude.{◌≡◌, ◌+◌, ◌<◌, ◌++◌, [], ◌∷◌, length, IfOk};
-
 ghost use Rattle.exchange_core.specs.declared.trace.Event.{Event as An_event};
 ghost use Rattle.exchange_core.specs.Orders.{IsEvent};
 ghost use Rattle.exchange_core.specs.Sound.{IsSound, setting_of};

@@ -15,8 +15,7 @@ impl Tool {
     ghost use Rattle.exchange_core.specs.declared.tool.Tool.TheVariants.{Nothing};
 
     /// The control memory. `None` exactly for [`Tool::Nothing`].
-    pub fn image(&mut self) -> Option<&mut Image>
-    {
+    pub fn image(&mut self) -> Option<&mut Image> {
         match self {
             Tool::Nothing => None,
             Tool::Image(image) => Some(image),

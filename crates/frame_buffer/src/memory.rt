@@ -1,4 +1,4 @@
-ghost use Rattle.std.specs.Prelude.{◌≡◌, ℕ, ◌+◌, ◌*◌, ◌<◌, ◌≤◌, length, slice_index, IfOk};
+ghost use Rattle.std.specs.Prelude.{◌≡◌, ℕ, ◌+◌, ◌-◌, ◌*◌, ◌<◌, ◌≤◌, length, slice_index, IfOk};
 ghost use Rattle.std.specs.Borrow.{Lends, Array, sem, u8 as octet_row};
 ghost use Rattle.frame_buffer.specs.Speech.{Speech, octet_of, IsIdle, PutsLine, refilled};
 ghost use Rattle.frame_buffer.specs.contracts.memory.FrameBuffer.{the_row};
@@ -76,6 +76,16 @@ impl FrameBuffer {
     {
         let start = usize::from(line) * usize::from(PLACES);
         &self.readable[start..start + usize::from(PLACES)]
+    }
+
+    /// The octets of all lines from one on, line after line and thirty to a line, in the half that
+    /// is read.
+    pub fn rows_from(&self, line: u8) -> &[u8]
+        requires { line ≤ self.now.lines }
+        ensures size { length result.now ≡ (self.now.lines - line) * 30 }
+        ensures octets { (k : ℕ) → slice_index result.now k ≡ slice_index self.now.readable (line * 30 + k) }
+    {
+        &self.readable[usize::from(line) * usize::from(PLACES)..]
     }
 
     /// The octet of a slot in the half that is read.

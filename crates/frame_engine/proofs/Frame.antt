@@ -37,7 +37,7 @@ use Rattle.conference_mix.specs.Bridge.{mixed_for as mixed_for_port}
 use Rattle.frame_engine.specs.Playing.{played_as}
 use Rattle.frame_engine.proofs.PortRows.{added, added_at, row_of, mixed_to, row_of-ports, given_to-seat}
 use Rattle.frame_engine.proofs.EarlierFrames.{counted-more, length-push, arrives-earlier, arrives-last, circuits-earlier, circuits-last, ports-earlier, ports-last, mix-earlier, brought_before-earlier}
-use Rattle.frame_engine.proofs.MemberPorts.{heard_is, member_at-number, numbered-member_at, port_of-owner}
+use Rattle.frame_engine.proofs.MemberPorts.{not-below, heard_is, member_at-number, numbered-member_at, port_of-owner}
 use Rattle.frame_engine.proofs.RoomSums.{entry, mixed_is}
 use Rattle.frame_engine.proofs.ReadOut.{read_joined, crosses_alike}
 
@@ -60,9 +60,6 @@ pub record Did (e : Stages) (m : Control) (input : Input) (out taken : List ℕ)
   pub slots : crossed.slots ≡ e.slots
   pub takes : (at : Slot) → at.line < e.external → at.place < 30 → octet_of taken at ≡ octet_in input at
   pub mixes : (k : ℕ) → k < 30 * e.bridges → octet_of taken (port_numbered m.external k) ≡ given_to m (octet_of out) k
-
-not-below : (a b : ℕ) → b ≤ a → nat_lt a b ≡ false
-not-below a b above = elim (leb_tells (suc a) b) [ inl below ↦ absurd (omega (arith, above, below.1)) | inr beyond ↦ beyond.0 ]
 
 module _ (e : Stages) (m : Control) (out : List ℕ) (is : IsAt e m out) (inputs : List Input) (held : List (List Circuit)) (ports : List Ports) (input : Input) (circuits : List Circuit) (seats : Ports) (carries : CarriesFrames e inputs held ports) (layout : Layout) (shows : ShowsBy layout m circuits seats e.next) (come : Come e.external e.bridges (held ++ circuits ∷ []) (ports ++ seats ∷ [])) where
   abbrev lines : ℕ

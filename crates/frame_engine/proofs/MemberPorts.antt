@@ -1,9 +1,10 @@
 -- The circuits by which slots hear, and the ports of members by their numbers.
 use Rattle.std.proofs.Common.{◌≡◌, ℕ, zero, suc, ◌+◌, ◌-◌, ◌*◌, ◌/◌, ◌%◌, ◌<◌, ◌≤◌, Bool, true, false, List, [], ◌∷◌, length, Option, Some, None, get_or, sym, ap, ◌∙◌, inl, inr, ⊎_elim, arith}
 use Rattle.std.specs.List.{Contains, find, position, position_or_len}
-use Rattle.std.specs.Prelude.{option_map}
+use Rattle.std.specs.Prelude.{nat_lt, option_map}
 use Rattle.std.proofs.lemmas.List.Sums.{position_or_len_is}
-use Rattle.std.proofs.lemmas.Bool.{cond-true, lt-ltb}
+use Rattle.std.proofs.lemmas.Bool.{cond-true, cond-false, lt-ltb}
+use Rattle.std.proofs.lemmas.Bool.Decides.{leb_tells}
 use Rattle.circuit_model.specs.declared.channel.Slot.{Slot}
 use Rattle.circuit_model.specs.declared.circuit.Circuit.{Circuit}
 use Rattle.circuit_model.specs.Circuits.{same_slot, listener, heard_by}
@@ -11,6 +12,8 @@ use Rattle.circuit_model.specs.Ports.{Ports, has, owner_of, port_numbered, port_
 use Rattle.circuit_model.proofs.Slots.{true_or_false, same_slot-true, same_slot-refl}
 use Rattle.circuit_model.proofs.Age.{at_head, in_tail}
 use Rattle.control_memory.specs.Shown.{member_at}
+use Rattle.control_memory.specs.Image.{Control, room_at}
+use Rattle.frame_buffer.specs.Speech.{octet_of}
 
 -- ---- the circuit that is found for a slot
 found_in : {X : Type 0} (p : X → Bool) (xs : List X) (y : X) → find p xs ≡ Some y → Contains xs y × (p y ≡ true)
@@ -25,6 +28,9 @@ pub heard_is : (circuits : List Circuit) (x : Slot) (c : Circuit) → heard_by c
 heard_is circuits x c e = let f = found_in (λ d. same_slot x (listener d)) circuits c e in (f.0, same_slot-true x (listener c) f.1)
 
 -- ---- ports by number
+pub not-below : (a b : ℕ) → b ≤ a → nat_lt a b ≡ false
+not-below a b above = elim (leb_tells (suc a) b) [ inl below ↦ absurd (omega (arith, above, below.1)) | inr beyond ↦ beyond.0 ]
+
 pub member_at-number : (external : ℕ) (ports : Ports) (k : ℕ) → member_at external ports (port_numbered external k) ≡ owner_of ports k
 member_at-number external ports k =
     let number : 30 * ((external + k / 30) - external) + k % 30 ≡ k = omega arith in
@@ -54,3 +60,17 @@ port_of-owner external ports k x owned alone =
     (λ within. ap (has x) owned ∙ same_slot-refl x) in
     let found : position (has x) ports ≡ Some k = rw there (cond-true _ (Some k) None (lt-ltb k (length ports) inside)) in
     ap (option_map (port_numbered external)) found
+
+-- ---- ports in the order of their numbers
+-- the seat of a port is the one with its number
+pub seat-numbered : (m : Control) (k : ℕ) → room_at m (port_numbered m.external k) ≡ get_or m.rooms k None
+seat-numbered m k =
+    let number : 30 * ((m.external + k / 30) - m.external) + k % 30 ≡ k = omega arith in
+    cond-false (nat_lt (m.external + k / 30) m.external) None _ (not-below (m.external + k / 30) m.external (omega arith))
+    ∙ ap (λ i. get_or m.rooms i None) number
+
+-- and its octet stands so far behind those of the external lines
+pub octet-numbered : (octets : List ℕ) (external k : ℕ) → octet_of octets (port_numbered external k) ≡ get_or octets (external * 30 + k) 0
+octet-numbered octets external k =
+    let place : (external + k / 30) * 30 + k % 30 ≡ external * 30 + k = omega arith in
+    ap (λ i. get_or octets i 0) place

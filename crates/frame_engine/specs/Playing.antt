@@ -14,6 +14,12 @@ played_as tones f octet Silent = idle_octet
 played_as tones f octet (Path since) = if is_through since f then octet else idle_octet
 played_as tones f octet (Tone kind since) = tone_octet (tones kind) (f - since)
 
+-- the same by a path alone
+abbrev pub by_path : ℕ → ℕ → Heard → ℕ
+by_path f octet Silent = idle_octet
+by_path f octet (Path since) = if is_through since f then octet else idle_octet
+by_path f octet (Tone kind since) = idle_octet
+
 -- on each slot, given the tones, the control memory of the frame and the octets that were read out
 abbrev pub played_at : (Kind → List ℕ) → Control → (Slot → ℕ) → Slot → ℕ
 played_at tones m octet at = played_as tones m.frame (octet at) (heard_at m at)

@@ -1,4 +1,4 @@
-ghost use Rattle.std.specs.Prelude.{◌≡◌, ℕ, ◌<◌, ◌≤◌, length, slice_index, slice_index_or};
+ghost use Rattle.std.specs.Prelude.{◌≡◌, ◌<◌, ◌≤◌, length, slice_index_or};
 ghost use Rattle.circuit_model.specs.declared.channel.Slot.{Slot};
 ghost use Rattle.circuit_model.specs.FrameInput.{octet_in, octet_at, idle_octet};
 ghost use Rattle.frame_buffer.specs.Speech.{octet_of};
@@ -19,23 +19,31 @@ pub(crate) fn take_in(input: &[Option<[u8; 30]>], external: u8, speech: &mut Fra
     ensures readable { speech.new.readable ≡ speech.old.readable }
 {
     for line in 0..external {
-        speech.put_line(line, &line_octets(&input[usize::from(line)]));
+        put_sent(speech, line, &input[usize::from(line)]);
     }
 }
 
-// What a line sends in a frame.
-fn line_octets(octets: &Option<[u8; 30]>) -> [u8; 30]
-    ensures { (place : ℕ) → place < 30 → slice_index result place ≡ octet_at place octets.now }
+// Writes what a line sends in a frame over its row.
+fn put_sent(speech: &mut FrameBuffer, line: u8, octets: &Option<[u8; 30]>)
+    requires { line < speech.old.lines }
+    ensures lines { speech.new.lines ≡ speech.old.lines }
+    ensures taken { (at : Slot) → at.line ≡ line → at.place < 30 → octet_of speech.new.filled at ≡ octet_at at.place octets.now }
+    ensures others { (at : Slot) → ¬ (at.line ≡ line) → at.place < 30 → octet_of speech.new.filled at ≡ octet_of speech.old.filled at }
+    ensures readable { speech.new.readable ≡ speech.old.readable }
 {
     match octets {
-        Some(octets) => row_of(octets),
-        None => IDLE_LINE,
+        Some(octets) => put_row(speech, line, octets),
+        None => speech.put_line(line, &IDLE_LINE),
     }
 }
 
-// The octets of a line that sends. No place is missing among them, so none is read as idle.
-fn row_of(octets: &[u8; 30]) -> [u8; 30]
-    ensures { (place : ℕ) → place < 30 → slice_index result place ≡ slice_index_or octets.now place idle_octet }
+// Writes the octets of a line that sends. No place is missing among them, so none is read as idle.
+fn put_row(speech: &mut FrameBuffer, line: u8, octets: &[u8; 30])
+    requires { line < speech.old.lines }
+    ensures lines { speech.new.lines ≡ speech.old.lines }
+    ensures taken { (at : Slot) → at.line ≡ line → at.place < 30 → octet_of speech.new.filled at ≡ slice_index_or octets.now at.place idle_octet }
+    ensures others { (at : Slot) → ¬ (at.line ≡ line) → at.place < 30 → octet_of speech.new.filled at ≡ octet_of speech.old.filled at }
+    ensures readable { speech.new.readable ≡ speech.old.readable }
 {
-    *octets
+    speech.put_line(line, octets);
 }

@@ -1,15 +1,15 @@
-ghost use Rattle.std.specs.Prelude.{◌≡◌, ℕ, ◌<◌, ◌≤◌, [], length, slice_index, slice_index_or};
+ghost use Rattle.std.specs.Prelude.{◌≡◌, ℕ, true, ◌<◌, ◌≤◌, [], length, slice_index, slice_index_or};
 ghost use Rattle.circuit_model.specs.declared.channel.Slot.{Slot};
 ghost use Rattle.circuit_model.specs.declared.circuit.Kind.{Kind};
 ghost use Rattle.frame_buffer.specs.Speech.{octet_of};
-ghost use Rattle.control_memory.specs.declared.heard.Heard.TheVariants.{Tone};
+ghost use Rattle.control_memory.specs.declared.heard.Heard.TheVariants.{Silent, Tone};
 ghost use Rattle.control_memory.specs.Image.{lines_of, heard_at};
 ghost use Rattle.tone_rules.specs.Tables.{table_of, IsGiven};
 ghost use Rattle.frame_engine.specs.Frames.{PlaysOut, TonesGiven};
-ghost use Rattle.frame_engine.specs.Playing.{HasLine, played_as, played_at};
+ghost use Rattle.frame_engine.specs.Playing.{by_path, played_as, played_at};
 
 use crate::age::is_through;
-use circuit_model::{IDLE, PLACES, Slot};
+use circuit_model::IDLE;
 use control_memory::{Heard, Image};
 use frame_buffer::FrameBuffer;
 use tone_rules::{Tones, octet_of};
@@ -23,28 +23,70 @@ pub(crate) fn play(read: &FrameBuffer, image: &Image, tones: &Tones, out: &mut [
     ensures { PlaysOut image.now.external (played_at (table_of tones.now) image.now (octet_of read.now.readable)) out.new }
 {
     for line in 0..image.external() {
-        out[usize::from(line)] = play_line(read, image, tones, line);
+        let octets = &mut out[usize::from(line)];
+        play_line(
+            read.row(line),
+            image.heard_row(line),
+            tones,
+            image.frame(),
+            octets,
+        );
     }
 }
 
-// What one external line sends.
-fn play_line(read: &FrameBuffer, image: &Image, tones: &Tones, line: u8) -> [u8; 30]
-    requires read { read.now.lines ≡ lines_of image.now }
-    requires line { line < image.now.external }
-    requires tones { TonesGiven tones.now image.now }
-    ensures { HasLine line (played_at (table_of tones.now) image.now (octet_of read.now.readable)) result }
+// Writes what one line sends, given the octets that were read out for its places and what each of
+// them hears. Where no tone is given, none is heard.
+fn play_line(read: &[u8], heard: &[Heard], tones: &Tones, frame: u32, octets: &mut [u8; 30])
+    requires read { length read.now ≡ 30 }
+    requires heard { length heard.now ≡ 30 }
+    requires tones { (place : ℕ) (kind : Kind) (since : ℕ) → place < 30 → slice_index_or heard.now place Silent ≡ Tone kind since → IsGiven tones.now kind }
+    ensures { (place : ℕ) → place < 30 → slice_index octets.new place ≡ played_as (table_of tones.now) frame (slice_index read.now place) (slice_index_or heard.now place Silent) }
 {
-    let mut octets = [IDLE; 30];
-    for place in 0..PLACES {
-        let at = Slot { line, place };
-        octets[usize::from(place)] = play_octet(
-            image.heard(at),
-            read.get(at),
-            tones,
-            image.frame(),
-        );
+    if gives_none(tones) {
+        play_paths(read, heard, frame, octets);
+    } else {
+        play_all(read, heard, tones, frame, octets);
     }
-    octets
+}
+
+// Whether no tone is given.
+fn gives_none(tones: &Tones) -> bool
+    ensures { result ≡ true → (kind : Kind) → IsGiven tones.now kind → ⊥ }
+{
+    tones.ringback.as_slice().is_empty() && tones.busy.as_slice().is_empty()
+}
+
+// Writes what a line sends by its paths alone.
+fn play_paths(read: &[u8], heard: &[Heard], frame: u32, octets: &mut [u8; 30])
+    requires read { length read.now ≡ 30 }
+    requires heard { length heard.now ≡ 30 }
+    ensures { (place : ℕ) → place < 30 → slice_index octets.new place ≡ by_path frame (slice_index read.now place) (slice_index_or heard.now place Silent) }
+{
+    for (place, octet) in octets.iter_mut().enumerate() {
+        *octet = path_octet(heard[place], read[place], frame);
+    }
+}
+
+// What is heard of an octet that was read out.
+fn path_octet(heard: Heard, octet: u8, frame: u32) -> u8
+    ensures { result ≡ by_path frame octet heard }
+{
+    match heard {
+        Heard::Path { since } if is_through(since, frame) => octet,
+        _ => IDLE,
+    }
+}
+
+// Writes what a line sends by its paths and tones.
+fn play_all(read: &[u8], heard: &[Heard], tones: &Tones, frame: u32, octets: &mut [u8; 30])
+    requires read { length read.now ≡ 30 }
+    requires heard { length heard.now ≡ 30 }
+    requires tones { (place : ℕ) (kind : Kind) (since : ℕ) → place < 30 → slice_index_or heard.now place Silent ≡ Tone kind since → IsGiven tones.now kind }
+    ensures { (place : ℕ) → place < 30 → slice_index octets.new place ≡ played_as (table_of tones.now) frame (slice_index read.now place) (slice_index_or heard.now place Silent) }
+{
+    for (place, octet) in octets.iter_mut().enumerate() {
+        *octet = play_octet(heard[place], read[place], tones, frame);
+    }
 }
 
 // What is heard of an octet that was read out, or the octet of a tone.

@@ -2,10 +2,10 @@ ghost use Rattle.std.specs.Prelude.{◌≡◌, ℕ, ◌+◌, ◌*◌, ◌≤◌,
 ghost use Rattle.circuit_model.specs.Ports.{port_numbered};
 ghost use Rattle.frame_buffer.specs.Speech.{octet_of};
 ghost use Rattle.control_memory.specs.Image.{lines_of};
-ghost use Rattle.frame_engine.specs.Ports.{counted, member_in, given_to};
+ghost use Rattle.frame_engine.specs.Ports.{counted, seated_by, member_in, given_to};
 
 use crate::age::is_through;
-use circuit_model::{IDLE, PLACES, Slot};
+use circuit_model::{IDLE, PLACES};
 use conference_mix::{MAX_MEMBERS, Seated, mix_rooms};
 use control_memory::Image;
 use frame_buffer::FrameBuffer;
@@ -20,53 +20,47 @@ pub(crate) fn mix_ports(read: &FrameBuffer, image: &Image, speech: &mut FrameBuf
     ensures ports { (k : ℕ) → k < 30 * image.now.bridges → octet_of speech.new.filled (port_numbered image.now.external k) ≡ given_to image.now (octet_of read.now.readable) k }
     ensures readable { speech.new.readable ≡ speech.old.readable }
 {
-    let octets = mixed(read, image);
+    let mut octets = [IDLE; MAX_MEMBERS];
+    mix_all(read, image, &mut octets);
     for bridge in 0..image.bridges() {
         speech.put_line(image.external() + bridge, &line_of(&octets, bridge));
     }
 }
 
-// What each port is given, port by port.
-fn mixed(read: &FrameBuffer, image: &Image) -> [u8; MAX_MEMBERS]
+// Writes what each port is given, port by port.
+fn mix_all(read: &FrameBuffer, image: &Image, octets: &mut [u8; MAX_MEMBERS])
     requires few { image.now.bridges ≤ 2 }
     requires lines { lines_of image.now ≤ 255 }
     requires read { read.now.lines ≡ lines_of image.now }
-    ensures { (k : ℕ) → k < 30 * image.now.bridges → slice_index result k ≡ given_to image.now (octet_of read.now.readable) k }
-{
-    let places = members(read, image);
-    let ports = usize::from(image.bridges() * PLACES);
-    let mut octets = [IDLE; MAX_MEMBERS];
-    mix_rooms(&places[..ports], &mut octets[..ports]);
-    octets
-}
-
-// The member in each port, and what counts of it.
-fn members(read: &FrameBuffer, image: &Image) -> [Option<Seated>; MAX_MEMBERS]
-    requires few { image.now.bridges ≤ 2 }
-    requires lines { lines_of image.now ≤ 255 }
-    requires read { read.now.lines ≡ lines_of image.now }
-    ensures { (k : ℕ) → k < 30 * image.now.bridges → slice_index_or result k None ≡ member_in image.now (octet_of read.now.readable) k }
+    ensures { (k : ℕ) → k < 30 * image.now.bridges → slice_index octets.new k ≡ given_to image.now (octet_of read.now.readable) k }
 {
     let mut places = [None; MAX_MEMBERS];
-    for port in 0..image.bridges() * PLACES {
-        places[usize::from(port)] = member(read, image, port);
-    }
-    places
+    find_members(read, image, &mut places);
+    let ports = usize::from(image.bridges() * PLACES);
+    mix_rooms(&places[..ports], &mut octets[..ports]);
 }
 
-// The member in a port, and what counts of it: the octet that was read out for it, and nothing
-// before it has sat there for two frames.
-fn member(read: &FrameBuffer, image: &Image, port: u8) -> Option<Seated>
-    requires lines { lines_of image.now ≤ 255 }
+// Writes the member in each port, and what counts of it.
+fn find_members(read: &FrameBuffer, image: &Image, places: &mut [Option<Seated>; MAX_MEMBERS])
+    requires few { image.now.bridges ≤ 2 }
     requires read { read.now.lines ≡ lines_of image.now }
-    requires port { port < 30 * image.now.bridges }
-    ensures { result ≡ member_in image.now (octet_of read.now.readable) port }
+    ensures { (k : ℕ) → k < 30 * image.now.bridges → slice_index_or places.new k None ≡ member_in image.now (octet_of read.now.readable) k }
 {
-    let at = slot_of_port(image, port);
-    match image.room(at) {
+    let octets = read.rows_from(image.external());
+    for (port, seat) in image.seats().iter().enumerate() {
+        places[port] = member(*seat, octets[port], image.frame());
+    }
+}
+
+// The member of a seat, and what counts of it: the octet that was read out for it, and nothing
+// before it has sat there for two frames.
+fn member(seat: Option<(u8, u32)>, octet: u8, frame: u32) -> Option<Seated>
+    ensures { result ≡ seated_by frame octet seat }
+{
+    match seat {
         Some((room, since)) => Some(Seated {
             room,
-            octet: counted(read.get(at), since, image.frame()),
+            octet: counted(octet, since, frame),
         }),
         None => None,
     }
@@ -80,20 +74,6 @@ fn counted(octet: u8, since: u32, frame: u32) -> Option<u8>
         Some(octet)
     } else {
         None
-    }
-}
-
-// The slot of a conference port: ports are numbered by bridge line and place.
-fn slot_of_port(image: &Image, port: u8) -> Slot
-    requires lines { lines_of image.now ≤ 255 }
-    requires port { port < 30 * image.now.bridges }
-    ensures slot { result ≡ port_numbered image.now.external port }
-    ensures line { result.line < lines_of image.now }
-    ensures place { result.place < 30 }
-{
-    Slot {
-        line: image.external() + port / PLACES,
-        place: port % PLACES,
     }
 }
 

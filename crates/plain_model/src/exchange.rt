@@ -51,6 +51,13 @@ impl Exchange {
         self.next
     }
 
+    /// The circuits that stand, in the order in which they were made.
+    pub fn circuits(&self) -> &[Circuit]
+        ensures { result.now ≡ self.now.holding.circuits }
+    {
+        self.circuits.as_slice()
+    }
+
     /// Connects two slots, both ways. Where memory runs out nothing changes.
     pub fn connect(&mut self, x: Slot, y: Slot) -> Result<(), AllocError>
         ensures ok { OnOk result (self.new ≡ commanded self.old (Connect x y)) }

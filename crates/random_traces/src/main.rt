@@ -2,14 +2,16 @@
 //! yardsticks say.
 //!
 //! `random_traces TRACES` draws so many traces of nails, whose octets are compared with those of a
-//! delay line, and so many with seats too, whose octets are compared with those of the definitions'
-//! own program. A trace whose report differs is named, and then the status is 1.
+//! delay line, so many with seats too, whose octets are compared with those of the definitions' own
+//! program, and so many of calls, whose reports are compared with those of a plain program of calls. A
+//! trace whose report differs is named, and then the status is 1.
 #![tactic(auto)]
 
 mod draw;
 mod yardstick;
 
-use draw::{Random, append_event};
+use call_traffic::{Counts as Courses, Random, draw_traffic};
+use draw::{append_event, draw_event};
 use ex_io::{MemSink, MemSource};
 use exchange_top::{Outcome, exchange};
 use frame_engine::Engine;
@@ -20,7 +22,10 @@ use yardstick::{Kind, Yardstick};
 
 const SEED: u64 = 1976;
 
-/// More than a report of 250 events takes.
+/// How many events a trace of calls has.
+const EVENTS: u32 = 250;
+
+/// More than a report of so many events takes.
 const ROOM: usize = 200_000;
 
 /// What the traces came to whose reports were the wanted ones.
@@ -63,7 +68,7 @@ fn drawn(alloc: Global, random: &mut Random, kind: Kind) -> Result<Trial, AllocE
     let mut wanted = String::new(alloc);
     let mut yardstick = Yardstick::new(alloc, kind, external, bridges)?;
     for number in 1..=events {
-        let event = random.event(alloc, kind, &yardstick)?;
+        let event = draw_event(alloc, random, kind, &yardstick)?;
         append_event(&mut trace, &event)?;
         write!(wanted, "{number} ")?;
         yardstick.step(alloc, &event, &mut wanted)?;
@@ -108,14 +113,23 @@ fn sum_of(numbers: &str) -> Option<u32> {
 
 /// Runs a trace. How many paths were moved, where the exchange's report is the wanted one.
 fn moved_in_run(alloc: Global, trace: String, wanted: &str) -> Result<Option<u32>, AllocError> {
+    let report = report_of(alloc, trace)?;
+    match str::from_utf8(report.as_slice()) {
+        Ok(report) => Ok(moved_in(report, wanted)),
+        Err(_) => Ok(None),
+    }
+}
+
+/// The exchange's report of a trace; nothing where it was not run.
+fn report_of(alloc: Global, trace: String) -> Result<Vec<u8>, AllocError> {
     let words = vec![in alloc; String::from_str(alloc, "run")?]?;
     let mut source = MemSource::new(trace.into_bytes(), 4096, Vec::new(alloc));
     let mut sink = MemSink::new(alloc, ROOM, 4096, Vec::new(alloc))?;
     let outcome: Outcome<Engine> = exchange(alloc, &words, &mut source, &mut sink);
-    match str::from_utf8(sink.bytes()) {
-        Ok(report) if outcome.status == 0 => Ok(moved_in(report, wanted)),
-        _ => Ok(None),
+    if outcome.status != 0 {
+        return Ok(Vec::new(alloc));
     }
+    Vec::from_slice(alloc, sink.bytes())
 }
 
 /// Runs so many traces of a kind and prints what they came to. Whether all reports were the wanted
@@ -145,6 +159,33 @@ fn run(rt: &impl Print, alloc: Global, kind: Kind, traces: u32) -> io::Result<bo
     Ok(true)
 }
 
+/// Runs so many traces of calls and prints what they came to. Whether all reports were those of the
+/// plain program, and each act and each cause of a refusal came.
+fn run_calls(rt: &impl Print, alloc: Global, traces: u32) -> io::Result<bool> {
+    let mut random = Random::new(SEED);
+    let mut counts = Courses::new();
+    let (mut agreed, mut events, mut moved) = (0u32, 0u32, 0u32);
+    for number in 1..=traces {
+        let drawn = draw_traffic(alloc, &mut random, EVENTS)?;
+        if report_of(alloc, drawn.trace)?.as_slice() != drawn.report.as_bytes() {
+            println!(rt; "calls: trace {number} differs")?;
+            continue;
+        }
+        agreed = agreed.saturating_add(1);
+        events = events.saturating_add(drawn.events);
+        moved = moved.saturating_add(drawn.moved);
+        counts.add(&drawn.counts);
+    }
+    if agreed < traces {
+        return Ok(false);
+    }
+    println!(rt;
+        "calls: {traces} traces, {events} events, {moved} paths moved: exchange and plain program agree"
+    )?;
+    println!(rt; "calls: {counts}")?;
+    Ok(counts.is_whole())
+}
+
 /// The name of a kind, and of what the engine is compared with.
 fn names_of(kind: Kind) -> (&'static str, &'static str) {
     match kind {
@@ -160,7 +201,8 @@ fn main(rt: HostRuntime) -> io::Result<ExitCode> {
     }
     let nails = run(&rt, rt.alloc(), Kind::Nails, traces)?;
     let rooms = run(&rt, rt.alloc(), Kind::Rooms, traces)?;
-    Ok(if nails && rooms {
+    let calls = run_calls(&rt, rt.alloc(), traces)?;
+    Ok(if nails && rooms && calls {
         ExitCode::SUCCESS
     } else {
         ExitCode::FAILURE

@@ -125,6 +125,8 @@ impl Yardstick {
             Event::Nail(x, y) => report.push_str(self.nail(*x, *y)?),
             Event::Seat(x, room) => report.push_str(self.seat(*x, *room)?),
             Event::Free(x) => report.push_str(self.free(*x)),
+            // none is drawn with this yardstick, and one that is no call's gets no answer
+            Event::Message(..) => report.push_str("message"),
             Event::Frame(input) => self.frame(alloc, input.as_slice(), report),
         }
     }

@@ -1,11 +1,13 @@
 -- The text of a report, line by line. Source: this exchange's own.
-use Rattle.std.specs.Prelude.{ℕ, ◌+◌, ◌==◌, List, [], ◌∷◌, ◌++◌, map, codes, decimal, slice_index, slice_index_or, if◌then◌else◌}
+use Rattle.std.specs.Prelude.{ℕ, ◌+◌, ◌==◌, List, [], ◌∷◌, ◌++◌, length, map, codes, decimal, slice_index, slice_index_or, if◌then◌else◌, Option, Some, None}
 use Rattle.std.specs.List.{list_all, range_with_len}
 use Rattle.hex.specs.Hex.{encode_upper}
 use Rattle.circuit_model.specs.declared.channel.Slot.{Slot}
 use Rattle.circuit_model.specs.FrameInput.{idle_octet}
-use Rattle.exchange_core.specs.declared.reply.Reply.{Reply}
-use Rattle.exchange_core.specs.declared.reply.Reply.TheVariants.{Granted, Busy, Seated, NoPort, Freed, NotNailed, Frame}
+use Rattle.exchange_core.specs.declared.answer.Answer.{Answer}
+use Rattle.exchange_core.specs.declared.answer.Kept.{Kept}
+use Rattle.exchange_core.specs.declared.answer.Kept.TheVariants.{Granted, Busy, Seated, NoPort, Freed, NotNailed, Sent, Frame}
+use Rattle.exchange_core.specs.declared.signal.Signal.{Signal}
 
 -- the thirty octets of a line, in order of place
 unfoldable pub line_octets : (Slot → ℕ) → ℕ → List ℕ
@@ -19,23 +21,48 @@ lines_sent octet lines = map (line_octets octet) (range_with_len 0 lines)
 abbrev pub octet_of : List (List ℕ) → Slot → ℕ
 octet_of rows at = slice_index (slice_index_or rows at.line []) at.place
 
+-- octets of a line, behind its number
+abbrev pub on_line : ℕ → List ℕ → List ℕ
+on_line line octets = codes " " ++ decimal line ++ codes ":" ++ encode_upper octets
+
 -- a line's part of a frame: its number and its octets; nothing where all of them are idle
 abbrev pub part : ℕ → List ℕ → List ℕ
-part line octets =
-    if list_all (λ octet. octet == idle_octet) octets then []
-    else codes " " ++ decimal line ++ codes ":" ++ encode_upper octets
+part line octets = if list_all (λ octet. octet == idle_octet) octets then [] else on_line line octets
 
 -- the parts of a frame, from a line on
 abbrev pub parts : ℕ → List (List ℕ) → List ℕ
 parts line [] = []
 parts line (octets ∷ rest) = part line octets ++ parts (line + 1) rest
 
--- the line of a report for event number n, given what each line sends where it is the event of a frame
-abbrev pub report_line : List (List ℕ) → ℕ → Reply → List ℕ
-report_line sends n (Granted a b) = decimal n ++ codes " granted " ++ decimal a ++ codes " " ++ decimal b ++ codes "\n"
-report_line sends n Busy = decimal n ++ codes " busy\n"
-report_line sends n (Seated a b) = decimal n ++ codes " seated " ++ decimal a ++ codes " " ++ decimal b ++ codes "\n"
-report_line sends n NoPort = decimal n ++ codes " noport\n"
-report_line sends n Freed = decimal n ++ codes " freed\n"
-report_line sends n NotNailed = decimal n ++ codes " notnailed\n"
-report_line sends n (Frame k) = decimal n ++ codes " frame " ++ decimal k ++ parts 0 sends ++ codes "\n"
+-- the messages that were sent, each behind the number of its line
+abbrev pub messages : List Signal → List ℕ
+messages [] = []
+messages (sent ∷ rest) = on_line sent.line sent.octets ++ messages rest
+
+-- how many live paths a connection or a seat moved, where there was one
+abbrev pub moves : Option (ℕ × ℕ) → List ℕ
+moves None = []
+moves (Some (a, b)) = codes " moved " ++ decimal a ++ codes " " ++ decimal b
+
+-- the line of a message, with what was sent for it
+abbrev pub message_line : ℕ → Option (ℕ × ℕ) → List Signal → List ℕ
+message_line n moved sends = decimal n ++ codes " message" ++ moves moved ++ messages sends ++ codes "\n"
+
+-- the line of frame k, with what each line sends in it; it tells no messages, since none is sent at a boundary
+abbrev pub frame_line : List (List ℕ) → ℕ → ℕ → List ℕ
+frame_line octets n k = decimal n ++ codes " frame " ++ decimal k ++ parts 0 octets ++ codes "\n"
+
+-- the line of a report for event number n, given what each line sends where it is the event of a frame; the records of calls are told nowhere
+abbrev pub report_line : List (List ℕ) → ℕ → Kept → List ℕ
+report_line octets n (Granted a b) = decimal n ++ codes " granted " ++ decimal a ++ codes " " ++ decimal b ++ codes "\n"
+report_line octets n Busy = decimal n ++ codes " busy\n"
+report_line octets n (Seated a b) = decimal n ++ codes " seated " ++ decimal a ++ codes " " ++ decimal b ++ codes "\n"
+report_line octets n NoPort = decimal n ++ codes " noport\n"
+report_line octets n Freed = decimal n ++ codes " freed\n"
+report_line octets n NotNailed = decimal n ++ codes " notnailed\n"
+report_line octets n (Sent sends moved records) = message_line n moved sends
+report_line octets n (Frame k sends records) = frame_line octets n k
+
+-- the line of an answer
+abbrev pub answer_line : Answer → List ℕ
+answer_line answer = report_line (lines_sent (octet_of answer.octets) (length answer.octets)) answer.event answer.reply

@@ -2,35 +2,31 @@ ghost use Rattle.std.specs.Prelude.{◌≡◌, ◌==◌, ℕ, ◌++◌, ◌<◌,
 ghost use Rattle.std.specs.List.{list_all};
 ghost use Rattle.hex.specs.Hex.{encode_upper, upper_digits};
 ghost use Rattle.circuit_model.specs.FrameInput.{idle_octet};
-ghost use Rattle.exchange_core.specs.declared.reply.Reply.TheVariants.{Granted, Busy, Seated, NoPort, Freed, NotNailed, Frame};
-ghost use Rattle.report_text.specs.Report.{line_octets, lines_sent, octet_of, part, parts, report_line};
+ghost use Rattle.exchange_core.specs.declared.answer.Kept.TheVariants.{Granted, Busy, Seated, NoPort, Freed, NotNailed};
+ghost use Rattle.report_text.specs.Report.{answer_line, frame_line, line_octets, lines_sent, octet_of, part, parts, report_line};
 
+use crate::message::put_message;
 use circuit_model::IDLE;
-use exchange_core::Reply;
+use exchange_core::{Answer, Kept};
 use itoa::Buffer;
 use std::alloc::AllocError;
 
 // A row of idle octets.
 const IDLE_ROW: [u8; 32] = [IDLE; 32];
 
-/// Appends a report's line for one event: its number, what it was answered, and for a frame the
-/// thirty octets of each line that sends an octet other than idle. `octets` holds what each external
-/// line sends; it is read for a frame alone.
+/// Appends a report's line for one event: its number and what it was answered, for a message what
+/// was sent for it, and for a frame the thirty octets of each line that sends an octet other than
+/// idle. The octets of an answer are read for a frame alone.
 ///
 /// # Errors
 ///
 /// [`AllocError`] for want of memory, and then `out` is as it was.
-pub fn append_answer(
-    out: &mut Vec<u8>,
-    event: u32,
-    reply: Reply,
-    octets: &[[u8; 30]],
-) -> Result<(), AllocError>
-    ensures line { OnOk result (out.new.items ≡ out.old.items ++ report_line (lines_sent (octet_of octets.now) (length octets.now)) event reply) }
+pub fn append_answer(out: &mut Vec<u8>, answer: &Answer) -> Result<(), AllocError>
+    ensures line { OnOk result (out.new.items ≡ out.old.items ++ answer_line answer.now) }
     ensures kept { OnErr result (out.new.items ≡ out.old.items) }
 {
     let start = out.len();
-    let done = put_answer(out, event, reply, octets);
+    let done = put_answer(out, answer);
     if done.is_err() {
         out.truncate(start);
     }
@@ -38,23 +34,20 @@ pub fn append_answer(
 }
 
 // The same, and a refusal leaves a front of the line.
-fn put_answer(
-    out: &mut Vec<u8>,
-    event: u32,
-    reply: Reply,
-    octets: &[[u8; 30]],
-) -> Result<(), AllocError>
-    ensures line { OnOk result (out.new.items ≡ out.old.items ++ report_line (lines_sent (octet_of octets.now) (length octets.now)) event reply) }
+fn put_answer(out: &mut Vec<u8>, answer: &Answer) -> Result<(), AllocError>
+    ensures line { OnOk result (out.new.items ≡ out.old.items ++ answer_line answer.now) }
     ensures front { take (length out.old.items) out.new.items ≡ out.old.items }
 {
-    match reply {
-        Reply::Granted(a, b) => put_granted(out, event, a, b),
-        Reply::Busy => put_busy(out, event),
-        Reply::Seated(a, b) => put_seated(out, event, a, b),
-        Reply::NoPort => put_no_port(out, event),
-        Reply::Freed => put_freed(out, event),
-        Reply::NotNailed => put_not_nailed(out, event),
-        Reply::Frame(number) => put_frame(out, event, number, octets),
+    let event = answer.event;
+    match &answer.reply {
+        Kept::Granted(a, b) => put_granted(out, event, *a, *b),
+        Kept::Busy => put_busy(out, event),
+        Kept::Seated(a, b) => put_seated(out, event, *a, *b),
+        Kept::NoPort => put_no_port(out, event),
+        Kept::Freed => put_freed(out, event),
+        Kept::NotNailed => put_not_nailed(out, event),
+        Kept::Sent { sends, moved, .. } => put_message(out, event, *moved, sends.as_slice()),
+        Kept::Frame { number, .. } => put_frame(out, event, *number, answer.octets.as_slice()),
     }
 }
 
@@ -123,7 +116,7 @@ fn put_frame(
     number: u32,
     octets: &[[u8; 30]],
 ) -> Result<(), AllocError>
-    ensures line { OnOk result (out.new.items ≡ out.old.items ++ report_line (lines_sent (octet_of octets.now) (length octets.now)) event (Frame number)) }
+    ensures line { OnOk result (out.new.items ≡ out.old.items ++ frame_line (lines_sent (octet_of octets.now) (length octets.now)) event number) }
     ensures front { take (length out.old.items) out.new.items ≡ out.old.items }
 {
     put_number(out, event)?;
@@ -165,7 +158,7 @@ fn put_part(out: &mut Vec<u8>, line: usize, octets: &[u8; 30]) -> Result<(), All
 }
 
 // The number of a line, before its octets.
-fn put_line(out: &mut Vec<u8>, line: usize) -> Result<(), AllocError>
+pub(crate) fn put_line(out: &mut Vec<u8>, line: usize) -> Result<(), AllocError>
     ensures line { OnOk result (out.new.items ≡ out.old.items ++ codes " " ++ decimal line ++ codes ":") }
     ensures front { take (length out.old.items) out.new.items ≡ out.old.items }
 {
@@ -219,14 +212,14 @@ fn hex_digits(row: &[u8; 32]) -> [u8; 64]
 }
 
 // The hexadecimal digit of a value, in upper case. It is reckoned: a table would be read digit by digit.
-fn digit(value: u8) -> u8
+pub(crate) fn digit(value: u8) -> u8
     requires { value < 16 }
     ensures { result ≡ slice_index upper_digits value }
 {
     value + if value > 9 { b'A' - 10 } else { b'0' }
 }
 
-fn put_number(out: &mut Vec<u8>, number: u32) -> Result<(), AllocError>
+pub(crate) fn put_number(out: &mut Vec<u8>, number: u32) -> Result<(), AllocError>
     ensures number { OnOk result (out.new.items ≡ out.old.items ++ decimal number) }
     ensures front { take (length out.old.items) out.new.items ≡ out.old.items }
 {

@@ -1,9 +1,20 @@
-// One line for each answer.
+// One line for each answer, kept as the exchange keeps it.
 use crate::append_answer;
-use circuit_model::IDLE;
-use exchange_core::Reply;
+use arrayvec::ArrayVec;
+use circuit_model::{IDLE, Slot};
+use exchange_core::{Answer, CallRecord, Encoded, Party, Records, Reply, Signal, Signals};
 use std::alloc::{AllocError, Global};
 use std::test::Fail;
+
+// The record of a call, of which no line tells.
+const TOLD: CallRecord = CallRecord {
+    caller: Slot { line: 0, place: 7 },
+    called: Party::Line(Slot { line: 1, place: 8 }),
+    answered: true,
+    from: 3,
+    to: 5,
+    cause: 16,
+};
 
 // A text in which `+` stands for twenty-eight idle octets.
 fn spelled(alloc: Global, text: &str) -> Result<Vec<u8>, AllocError> {
@@ -18,6 +29,47 @@ fn spelled(alloc: Global, text: &str) -> Result<Vec<u8>, AllocError> {
         }
     }
     Ok(bytes)
+}
+
+// What is sent for a message: these octets to these lines. A call is told of as well.
+fn sent(moved: Option<(u32, u32)>, sends: &[(u8, &[u8])]) -> Result<Reply, Fail> {
+    let mut signals = ArrayVec::new();
+    for (line, octets) in sends {
+        signals.try_push(Signal {
+            line: *line,
+            octets: Encoded::of(ArrayVec::try_from(*octets)?),
+        })?;
+    }
+    let mut records = Records::new();
+    records.push(TOLD);
+    Ok(Reply::Sent {
+        sends: Signals::of(signals),
+        moved,
+        records,
+    })
+}
+
+fn frame(number: u32) -> Reply {
+    Reply::Frame {
+        number,
+        sends: Signals::new(),
+        records: Records::new(),
+    }
+}
+
+// Whether the line of an answer is this one, behind what was there before.
+fn has_line(
+    alloc: Global,
+    event: u32,
+    reply: &Reply,
+    octets: &[[u8; 30]],
+    line: &str,
+) -> Result<bool, AllocError> {
+    let answer = Answer::keep(alloc, event, reply, octets)?;
+    let mut out = vec![in alloc; b'>']?;
+    append_answer(&mut out, &answer)?;
+    let wanted = spelled(alloc, line)?;
+    Ok(out.as_slice().split_first() == Some((&b'>', wanted.as_slice())))
 }
 
 #[test]
@@ -38,18 +90,41 @@ fn each_answer_has_its_line(rt: HostRuntime) -> Result<(), Fail> {
         (65535, Reply::NotNailed, "65535 notnailed\n"),
         (
             7,
-            Reply::Frame(4294967295),
+            frame(4294967295),
             "7 frame 4294967295 0:2AD5+ 9:D5+0F 31:FE+BC\n",
         ),
     ] {
-        let mut out = vec![in alloc; b'>']?;
-        append_answer(&mut out, event, reply, &octets)?;
-        let wanted = spelled(alloc, line)?;
-        assert_eq!(rt;
-            out.as_slice().split_first(),
-            Some((&b'>', wanted.as_slice())),
-            "{line}"
-        );
+        assert!(rt; has_line(alloc, event, &reply, &octets, line)?, "{line}");
+    }
+    Ok(())
+}
+
+#[test]
+fn messages_are_told_with_their_lines(rt: HostRuntime) -> Result<(), Fail> {
+    let alloc = rt.alloc();
+    // CONNECT ACKNOWLEDGE to a called user and CONNECT to a caller; one octet; no messages.
+    for (event, moved, sends, line) in [
+        (
+            3,
+            Some((0, 0)),
+            [
+                (1, b"\x08\x02\x00\x01\x0F".as_slice()),
+                (0, b"\x08\x02\x80\x01\x07".as_slice()),
+            ]
+            .as_slice(),
+            "3 message moved 0 0 1:080200010F 0:0802800107\n",
+        ),
+        (
+            12,
+            None,
+            [(31, b"\xAB".as_slice())].as_slice(),
+            "12 message 31:AB\n",
+        ),
+        (5, Some((62, 1)), [].as_slice(), "5 message moved 62 1\n"),
+        (65535, None, [].as_slice(), "65535 message\n"),
+    ] {
+        let reply = sent(moved, sends)?;
+        assert!(rt; has_line(alloc, event, &reply, &[], line)?, "{line}");
     }
     Ok(())
 }

@@ -5,4 +5,5 @@ pub mod TraceHolds
 pub mod TraceProgress
 pub mod TraceReadings
 pub mod TraceAnswers
+pub mod SegmentLemmas
 pub mod SoundLemmas

@@ -1,11 +1,12 @@
 -- The events of a trace are those of an exchange of its size.
-use Rattle.std.proofs.Common.{◌≡◌, ◌≢◌, ℕ, ◌<◌, ◌≤◌, Bool, true, false, nat_lt, List, [], ◌∷◌, ◌++◌, length, Option, Some, None, option_and_then, ok_or, Result, Ok, Err, All, replicate, slice_set, refl, arith, sym, ◌∙◌, inl, inr, is_some, slice_index_or, if◌then◌else◌, ◌&&◌, ◌||◌, codes, length-append}
+use Rattle.std.proofs.Common.{◌≡◌, ◌≢◌, ℕ, ◌<◌, ◌≤◌, Bool, true, false, nat_lt, nat_le, nat_eq, List, [], ◌∷◌, ◌++◌, length, Option, Some, None, option_and_then, ok_or, Result, Ok, Err, All, replicate, slice_set, refl, arith, sym, ◌∙◌, inl, inr, is_some, slice_index_or, if◌then◌else◌, ◌&&◌, ◌||◌, codes, length-append, ap, subst}
+use Rattle.std.specs.Prelude.{IfSome}
 use Rattle.std.specs.List.{list_all}
 use Rattle.std.specs.Str.{bytes_eq}
 use Rattle.std.proofs.lemmas.Grind.{common_steps}
-use Rattle.std.proofs.lemmas.Bool.{ltb-true}
+use Rattle.std.proofs.lemmas.Bool.{ltb-true, lt-ltb}
 use Rattle.std.proofs.lemmas.List.{append_assoc, append-nil, length-set, length-replicate}
-use Rattle.std.proofs.lemmas.List.Elements.{All-nil, All-cons}
+use Rattle.std.proofs.lemmas.List.Elements.{All-nil, All-push}
 use Rattle.circuit_model.specs.declared.channel.Slot.{Slot}
 use Rattle.circuit_model.specs.FrameInput.{Input}
 use Rattle.circuit_model.specs.Channels.{between, place_of}
@@ -16,19 +17,25 @@ use Rattle.trace_text.specs.declared.fault.Reason.{Reason}
 use Rattle.trace_text.specs.declared.fault.Reason.TheVariants as reason
 use Rattle.trace_text.specs.declared.said.Sizes.{Sizes}
 use Rattle.trace_text.specs.declared.said.Said.{Said}
-use Rattle.trace_text.specs.declared.said.Said.TheVariants.{Nothing, Header, Happens, Sync}
+use Rattle.trace_text.specs.declared.said.Said.TheVariants.{Nothing, Header, Numbered, Happens, Sync}
 use Rattle.trace_text.specs.declared.said.Kind.{Kind}
 use Rattle.trace_text.specs.declared.said.Kind.TheVariants as kind
 use Rattle.exchange_core.specs.declared.trace.Event.{Event}
-use Rattle.exchange_core.specs.declared.trace.Event.TheVariants.{Nail, Seat, Free, Frame}
+use Rattle.exchange_core.specs.declared.trace.Event.TheVariants.{Nail, Seat, Free, Message, Frame}
+use Rattle.number_plan.specs.declared.plan.Number.{Number}
+use Rattle.number_plan.specs.declared.target.Target.{Target}
+use Rattle.number_plan.specs.declared.target.Target.TheVariants as goal
+use Rattle.number_plan.specs.Plan.{is_number, is_taken, all_targets}
+use Rattle.number_plan.proofs.Ordered.{all_with}
 use Rattle.exchange_core.specs.declared.trace.Trace.{Trace}
-use Rattle.trace_text.specs.TraceFields.{slash, numeral_in, external_line, slot, room, octets_written, thirty, header}
-use Rattle.trace_text.specs.TraceWords.{cut_at, numeral, lines, words, two, is_comment, is_blank, is_printable}
-use Rattle.trace_text.specs.TraceLines.{◌>>=◌, colon, with_part, with_parts, frame, nail, seat, free, happens, by_kind, kind_of, by_words, by_place, says}
-use Rattle.trace_text.specs.TraceGrammar.{sizes_in, events_in, EachSays, IsTrace}
-use Rattle.exchange_core.specs.Sound.{Fits, IsSound}
-use Rattle.trace_text.proofs.TraceOctets.{in_range}
-use Rattle.trace_text.proofs.TraceHolds.{sizes_first, events-append}
+use Rattle.trace_text.specs.TraceFields.{slash, numeral_in, external_line, slot, room, octets_written, thirty, at_most_260, header}
+use Rattle.trace_text.specs.TraceWords.{cut_at, numeral, lines, words, two, one_or_two, three, is_comment, is_blank, is_printable}
+use Rattle.trace_text.specs.TraceLines.{◌>>=◌, colon, with_part, with_parts, frame, message, nail, seat, free, target, number, numbered, happens, SoFar, before_events, by_kind, kind_of, by_words, by_place, reads, joins, says}
+use Rattle.trace_text.specs.TraceGrammar.{sizes_in, numbers_in, plan_of, events_in, so_far, EachSays, IsTrace}
+use Rattle.exchange_core.specs.Sound.{Fits, is_reached, IsSound}
+use Rattle.trace_text.proofs.TraceOctets.{in_range, are_octets}
+use Rattle.trace_text.proofs.TraceHolds.{sizes_first, events-append, plan_stays, plan_more}
+use Rattle.trace_text.proofs.SegmentLemmas.{segments_sound}
 
 -- a step that found something had something to begin with
 pub found_first : {A B : Type 0} (o : Option A) (step : A → Option B) (v : B) → option_and_then step o ≡ Some v → (x : A) × (o ≡ Some x) × (step x ≡ Some v)
@@ -172,92 +179,93 @@ frame_fits external words e h =
     let is : Frame parts.0 ≡ e = grind (arith, parts.2) in
     rw (← is) (parts_keep_length external (replicate external None) parts.0 words parts.1 ∙ length-replicate external None)
 
--- an event that a line says is one of the exchange, and not one too many
-pub record Allowed (sizes : Option Sizes) (count : ℕ) (e : Event) : Type 0 where
-  pub found : Sizes
-  pub known : sizes ≡ Some found
-  pub room : count < 65535
-  pub fits : Fits found.external e
+-- the steps by which the words of a message give it
+abbrev message_on : ℕ → List ℕ → Result Event Reason
+message_on line octets = Ok (Message line octets)
 
-happens_step : (external count : ℕ) (r : Result Event Reason) (e : Event) → ((event : Event) → r ≡ Ok event → Fits external event)
-    → (r >>= happens count) ≡ Ok (Happens e) → (count < 65535) × Fits external e
-happens_step external count (Err why) e fits h = absurd (grind (arith, h))
-happens_step external count (Ok event) e fits h =
-    elim (true_or_false (nat_lt count 65535)) [
-      | inl room ↦
-          let ok = rw room at h in
-          let is : event ≡ e = grind (arith, ok) in
-          (ltb-true count 65535 room, rw (← is) (fits event refl))
-      | inr full ↦ let failed = rw full at h in absurd (grind (arith, failed))
+abbrev message_digits : List ℕ → ℕ → Result Event Reason
+message_digits digits line = at_most_260 (octets_written digits) >>= message_on line
+
+abbrev message_words : ℕ → List ℕ × List ℕ → Result Event Reason
+message_words external both = ok_or (external_line external both.0) reason.Slot >>= message_digits both.1
+
+-- a check of what was found
+pub was_found : {A : Type 0} (o : Option A) (why : Reason) (v : A) → ok_or o why ≡ Ok v → o ≡ Some v
+was_found None why v h = absurd (grind (arith, h))
+was_found (Some x) why v h = let same : x ≡ v = grind (arith, h) in rw same refl
+
+octets_are : (o : Option (List ℕ)) (octets : List ℕ) → IfSome o (λ os. All (λ v. v < 256) os) → at_most_260 o ≡ Ok octets → All (λ v. v < 256) octets
+octets_are None octets small h = absurd (grind (arith, h))
+octets_are (Some os) octets small h =
+    elim (true_or_false (nat_le (length os) 260)) [
+      | inl few ↦ let ok = rw few at h in let same : os ≡ octets = grind (arith, ok) in subst (λ v. All (λ w. w < 256) v) same small
+      | inr many ↦ let failed = rw many at h in absurd (grind (arith, failed))
     ]
 
-by_kind_step : (external count : ℕ) (k : Kind) (others : List (List ℕ)) (e : Event) → by_kind external count k others ≡ Ok (Happens e) → (count < 65535) × Fits external e
-by_kind_step external count kind.Nail others e h = happens_step external count (nail external others) e (nail_fits external others) h
-by_kind_step external count kind.Seat others e h = happens_step external count (seat external others) e (seat_fits external others) h
-by_kind_step external count kind.Free others e h = happens_step external count (free external others) e (free_fits external others) h
-by_kind_step external count kind.Frame others e h = happens_step external count (frame external others) e (frame_fits external others) h
-by_kind_step external count kind.Sync [] e h = absurd (grind (arith, h))
-by_kind_step external count kind.Sync (word ∷ others) e h = absurd (grind (arith, h))
-by_kind_step external count kind.Later others e h = absurd (grind (arith, h))
-by_kind_step external count kind.Unknown others e h = absurd (grind (arith, h))
+pub message_fits : (external : ℕ) (words : List (List ℕ)) (e : Event) → message external words ≡ Ok e → Fits external e
+message_fits external words e h =
+    let both = passed_first (ok_or (one_or_two words) reason.Word) (message_words external) e h in
+    let line = passed_first (ok_or (external_line external both.0.0) reason.Slot) (message_digits both.0.1) e both.2 in
+    let octets = passed_first (at_most_260 (octets_written both.0.1)) (message_on line.0) e line.2 in
+    let inside = line_inside external both.0.0 line.0 (was_found (external_line external both.0.0) reason.Slot line.0 line.1) in
+    let small = octets_are (octets_written both.0.1) octets.0 (are_octets both.0.1) octets.1 in
+    let is : Message line.0 octets.0 ≡ e = grind (arith, octets.2) in
+    rw (← is) (inside, small)
 
-by_words_step : (external count : ℕ) (words : List (List ℕ)) (e : Event) → by_words external count words ≡ Ok (Happens e) → (count < 65535) × Fits external e
-by_words_step external count [] e h = absurd (grind (arith, h))
-by_words_step external count (first ∷ others) e h = by_kind_step external count (kind_of first) others e h
+-- the steps by which two words name what a number stands for
+abbrev line_target : ℕ → Result Target Reason
+line_target line = Ok (goal.Line line)
 
-header_step : (o : Option Sizes) (e : Event) → (ok_or o reason.Header >>= λ sizes. Ok (Header sizes)) ≡ Ok (Happens e) → ⊥
-header_step None e h = grind (arith, h)
-header_step (Some sizes) e h = grind (arith, h)
+abbrev room_target : ℕ → Result Target Reason
+room_target number = Ok (goal.Room number)
 
-by_place_step : (sizes : Option Sizes) (count : ℕ) (line : List ℕ) (e : Event) → by_place sizes count line ≡ Ok (Happens e) → Allowed sizes count e
-by_place_step None count line e h = absurd (header_step (header (words line)) e h)
-by_place_step (Some sizes) count line e h =
-    elim (true_or_false (list_all is_printable line)) [
-      | inl printable ↦
-          let told = by_words_step sizes.external count (words line) e (rw printable at h) in
-          record { found = sizes; known = refl; room = told.0; fits = told.1 }
-      | inr not_printable ↦ let failed = rw not_printable at h in absurd (grind (arith, failed))
+room_reached : (external : ℕ) (word : List ℕ) (t : Target) → (ok_or (room word) reason.Number >>= room_target) ≡ Ok t → is_reached external t ≡ true
+room_reached external word t h =
+    let found = passed_first (ok_or (room word) reason.Number) room_target t h in
+    let is : goal.Room found.0 ≡ t = grind (arith, found.2) in
+    rw (← is) refl
+
+line_reached : (external : ℕ) (word : List ℕ) (t : Target) → (ok_or (external_line external word) reason.Slot >>= line_target) ≡ Ok t → is_reached external t ≡ true
+line_reached external word t h =
+    let found = passed_first (ok_or (external_line external word) reason.Slot) line_target t h in
+    let inside = line_inside external word found.0 (was_found (external_line external word) reason.Slot found.0 found.1) in
+    let is : goal.Line found.0 ≡ t = grind (arith, found.2) in
+    rw (← is) (lt-ltb found.0 external inside)
+
+pub target_reached : (external : ℕ) (name word : List ℕ) (t : Target) → target external name word ≡ Ok t → is_reached external t ≡ true
+target_reached external name word t h =
+    elim (true_or_false (bytes_eq name (codes "line"))) [
+      | inl to_line ↦ line_reached external word t (rw to_line at h)
+      | inr no_line ↦ elim (true_or_false (bytes_eq name (codes "room"))) [
+        | inl to_room ↦ room_reached external word t (rw (no_line, to_room) at h)
+        | inr no_room ↦ let failed = rw (no_line, no_room) at h in absurd (grind (arith, failed))
+      ]
     ]
 
-pub says_allowed : (sizes : Option Sizes) (count : ℕ) (line : List ℕ) (e : Event) → says sizes count line ≡ Ok (Happens e) → Allowed sizes count e
-says_allowed sizes count line e h =
-    elim (true_or_false (is_comment line || is_blank line)) [
-      | inl passed_over ↦ let nothing = rw passed_over at h in absurd (grind (arith, nothing))
-      | inr read ↦ by_place_step sizes count line e (rw read at h)
-    ]
+-- the steps by which the words of a number give it
+abbrev number_to : List ℕ → Target → Result Number Reason
+number_to digits stands = Ok (record { digits = digits; target = stands })
 
--- all that a row of lines says, behind those before it, is sound
-pub record IsSoundBehind (external : ℕ) (before told : List Said) : Type 0 where
-  pub events : All (Fits external) (events_in told)
-  pub count : length (events_in (before ++ told)) ≤ 65535
+abbrev number_digits : ℕ → List ℕ × List ℕ × List ℕ → List ℕ → Result Number Reason
+number_digits external parts digits = target external parts.1 parts.2 >>= number_to digits
 
-pub sound_behind : (sizes : Sizes) (before told : List Said) (rows : List (List ℕ)) → EachSays before rows told → sizes_in (before ++ told) ≡ Some sizes
-    → length (events_in before) ≤ 65535 → IsSoundBehind sizes.external before told
-sound_behind sizes before [] [] meets known room = record { events = All-nil (Fits sizes.external); count = rw (append-nil before) room }
-sound_behind sizes before [] (row ∷ rows) meets known room = absurd meets
-sound_behind sizes before (said ∷ told) [] meets known room = absurd meets
-sound_behind sizes before (Nothing ∷ told) (row ∷ rows) meets known room =
-    let rest = sound_behind sizes (before ++ Nothing ∷ []) told rows meets.1 (rw (append_assoc before (Nothing ∷ []) told) known) (rw (events-append before (Nothing ∷ []), append-nil (events_in before)) room) in
-    record { events = rest.events; count = rw (append_assoc before (Nothing ∷ []) told) at rest.count }
-sound_behind sizes before (Sync ∷ told) (row ∷ rows) meets known room =
-    let rest = sound_behind sizes (before ++ Sync ∷ []) told rows meets.1 (rw (append_assoc before (Sync ∷ []) told) known) (rw (events-append before (Sync ∷ []), append-nil (events_in before)) room) in
-    record { events = rest.events; count = rw (append_assoc before (Sync ∷ []) told) at rest.count }
-sound_behind sizes before (Header first ∷ told) (row ∷ rows) meets known room =
-    let rest = sound_behind sizes (before ++ Header first ∷ []) told rows meets.1 (rw (append_assoc before (Header first ∷ []) told) known) (rw (events-append before (Header first ∷ []), append-nil (events_in before)) room) in
-    record { events = rest.events; count = rw (append_assoc before (Header first ∷ []) told) at rest.count }
-sound_behind sizes before (Happens e ∷ told) (row ∷ rows) meets known room =
-    let may = says_allowed (sizes_in before) (length (events_in before)) row e meets.0 in
-    let more : length (events_in (before ++ Happens e ∷ [])) ≤ 65535 = rw (events-append before (Happens e ∷ []), length-append (events_in before) (e ∷ [])) (let r = may.room in omega (arith, r)) in
-    let rest = sound_behind sizes (before ++ Happens e ∷ []) told rows meets.1 (rw (append_assoc before (Happens e ∷ []) told) known) more in
-    let first : Some may.found ≡ Some sizes = sym (sizes_first before (Happens e ∷ told) may.found may.known) ∙ known in
-    let same : may.found ≡ sizes = cc in
-    record { events = All-cons (Fits sizes.external) e (events_in told) (rw same at may.fits) rest.events; count = rw (append_assoc before (Happens e ∷ []) told) at rest.count }
+abbrev number_words : ℕ → List ℕ × List ℕ × List ℕ → Result Number Reason
+number_words external parts = (if is_number parts.0 then Ok parts.0 else Err reason.Number) >>= number_digits external parts
+
+pub number_reached : (external : ℕ) (words : List (List ℕ)) (n : Number) → number external words ≡ Ok n → is_reached external n.target ≡ true
+number_reached external words n h =
+    let parts = passed_first (ok_or (three words) reason.Word) (number_words external) n h in
+    let digits = passed_first (if is_number parts.0.0 then Ok parts.0.0 else Err reason.Number) (number_digits external parts.0) n parts.2 in
+    let stands = passed_first (target external parts.0.1 parts.0.2) (number_to digits.0) n digits.2 in
+    let is : record { digits = digits.0; target = stands.0 } ≡ n = grind (arith, stands.2) in
+    rw (← is) (target_reached external parts.0.1 parts.0.2 stands.0 stands.1)
 
 -- the sizes of an exchange
 pub record AreSizes (sizes : Sizes) : Type 0 where
   pub some : 1 ≤ sizes.external
   pub few : sizes.external ≤ 32
   pub bridges : sizes.bridges ≤ 2
+  pub processors : (1 ≤ sizes.processors) × (sizes.processors ≤ 8)
 
 pub numeral_inside : (low high : ℕ) (word : List ℕ) (n : ℕ) → numeral_in low high word ≡ Some n → (low ≤ n) × (n ≤ high)
 numeral_inside low high word n h =
@@ -281,7 +289,7 @@ numbers_sizes external bridges processors sizes h =
     let b = found_first (numeral_in 0 2 bridges) (of_two processors e.0) sizes e.2 in
     let p = found_first (numeral_in 1 8 processors) (of_three e.0 b.0) sizes b.2 in
     let are : AreSizes (record { external = e.0; bridges = b.0; processors = p.0 }) =
-    record { some = (numeral_inside 1 32 external e.0 e.1).0; few = (numeral_inside 1 32 external e.0 e.1).1; bridges = (numeral_inside 0 2 bridges b.0 b.1).1 } in
+    record { some = (numeral_inside 1 32 external e.0 e.1).0; few = (numeral_inside 1 32 external e.0 e.1).1; bridges = (numeral_inside 0 2 bridges b.0 b.1).1; processors = numeral_inside 1 8 processors p.0 p.1 } in
     let same : record { external = e.0; bridges = b.0; processors = p.0 } ≡ sizes = grind (arith, p.2) in
     rw (← same) are
 
@@ -298,64 +306,183 @@ header_sizes (name ∷ version ∷ external ∷ bridges ∷ processors ∷ []) s
     ]
 header_sizes (a ∷ b ∷ c ∷ d ∷ e ∷ f ∷ others) sizes h = absurd (grind (arith, h))
 
--- a line that is taken for the header has its words
-is_header : (found : Option Sizes) (sizes : Sizes) → (ok_or found reason.Header >>= λ first. Ok (Header first)) ≡ Ok (Header sizes) → found ≡ Some sizes
-is_header None sizes h = absurd (grind (arith, h))
-is_header (Some first) sizes h = let same : first ≡ sizes = grind (arith, h) in rw same refl
+-- what a line says is sound behind the lines so far: the sizes are those of an exchange, and a number or an event is one of that exchange
+abbrev pub IsOfExchange : Option Sizes → (Sizes → Type 0) → Type 0
+IsOfExchange known fits = (sizes : Sizes) × (known ≡ Some sizes) × fits sizes
 
--- no event is a header
-event_is_none : (external count : ℕ) (r : Result Event Reason) (sizes : Sizes) → (r >>= happens count) ≡ Ok (Header sizes) → ⊥
-event_is_none external count (Err why) sizes h = grind (arith, h)
-event_is_none external count (Ok event) sizes h =
-    elim (true_or_false (nat_lt count 65535)) [
-      | inl room ↦ let ok = rw room at h in grind (arith, ok)
-      | inr full ↦ let failed = rw full at h in grind (arith, failed)
-    ]
+abbrev pub IsFine : SoFar → Said → Type 0
+IsFine s Nothing = Unit {0}
+IsFine s (Header sizes) = AreSizes sizes
+IsFine s (Numbered n) = IsOfExchange s.sizes (λ sizes. is_reached sizes.external n.target ≡ true)
+IsFine s (Happens e) = IsOfExchange s.sizes (λ sizes. Fits sizes.external e)
+IsFine s Sync = Unit {0}
 
-kind_is_none : (external count : ℕ) (k : Kind) (others : List (List ℕ)) (sizes : Sizes) → by_kind external count k others ≡ Ok (Header sizes) → ⊥
-kind_is_none external count kind.Nail others sizes h = event_is_none external count (nail external others) sizes h
-kind_is_none external count kind.Seat others sizes h = event_is_none external count (seat external others) sizes h
-kind_is_none external count kind.Free others sizes h = event_is_none external count (free external others) sizes h
-kind_is_none external count kind.Frame others sizes h = event_is_none external count (frame external others) sizes h
-kind_is_none external count kind.Sync [] sizes h = grind (arith, h)
-kind_is_none external count kind.Sync (word ∷ others) sizes h = grind (arith, h)
-kind_is_none external count kind.Later others sizes h = grind (arith, h)
-kind_is_none external count kind.Unknown others sizes h = grind (arith, h)
+event_fine : (s : SoFar) (sizes : Sizes) (r : Result Event Reason) (said : Said) → s.sizes ≡ Some sizes → ((e : Event) → r ≡ Ok e → Fits sizes.external e)
+    → happens r ≡ Ok said → IsFine s said
+event_fine s sizes (Err why) said known fits h = absurd (grind (arith, h))
+event_fine s sizes (Ok e) said known fits h = let is : Happens e ≡ said = grind (arith, h) in subst (λ v. IsFine s v) is (sizes, known, fits e refl)
 
-words_are_none : (external count : ℕ) (words : List (List ℕ)) (sizes : Sizes) → by_words external count words ≡ Ok (Header sizes) → ⊥
-words_are_none external count [] sizes h = grind (arith, h)
-words_are_none external count (first ∷ others) sizes h = kind_is_none external count (kind_of first) others sizes h
+number_fine : (s : SoFar) (sizes : Sizes) (r : Result Number Reason) (said : Said) → s.sizes ≡ Some sizes → ((n : Number) → r ≡ Ok n → is_reached sizes.external n.target ≡ true)
+    → before_events s (numbered r) ≡ Ok said → IsFine s said
+number_fine s sizes r said known reached h =
+    elim (true_or_false (nat_eq s.events 0)) [
+      | inr late ↦ let failed = rw late at h in absurd (grind (arith, failed))
+      | inl early ↦ number_given s sizes r said known reached (rw early at h)
+    ] where
+      number_given : (s : SoFar) (sizes : Sizes) (r : Result Number Reason) (said : Said) → s.sizes ≡ Some sizes → ((n : Number) → r ≡ Ok n → is_reached sizes.external n.target ≡ true)
+          → numbered r ≡ Ok said → IsFine s said
+      number_given s sizes (Err why) said known reached h = absurd (grind (arith, h))
+      number_given s sizes (Ok n) said known reached h = let is : Numbered n ≡ said = grind (arith, h) in subst (λ v. IsFine s v) is (sizes, known, reached n refl)
 
-place_sizes : (before : Option Sizes) (count : ℕ) (line : List ℕ) (sizes : Sizes) → by_place before count line ≡ Ok (Header sizes) → AreSizes sizes
-place_sizes None count line sizes h = header_sizes (words line) sizes (is_header (header (words line)) sizes h)
-place_sizes (Some first) count line sizes h =
+kind_fine : (s : SoFar) (sizes : Sizes) (k : Kind) (others : List (List ℕ)) (said : Said) → s.sizes ≡ Some sizes → by_kind s sizes.external k others ≡ Ok said → IsFine s said
+kind_fine s sizes kind.Frame others said known h = event_fine s sizes (frame sizes.external others) said known (frame_fits sizes.external others) h
+kind_fine s sizes kind.Message others said known h = event_fine s sizes (message sizes.external others) said known (message_fits sizes.external others) h
+kind_fine s sizes kind.Nail others said known h = event_fine s sizes (nail sizes.external others) said known (nail_fits sizes.external others) h
+kind_fine s sizes kind.Seat others said known h = event_fine s sizes (seat sizes.external others) said known (seat_fits sizes.external others) h
+kind_fine s sizes kind.Free others said known h = event_fine s sizes (free sizes.external others) said known (free_fits sizes.external others) h
+kind_fine s sizes kind.Number others said known h = number_fine s sizes (number sizes.external others) said known (number_reached sizes.external others) h
+kind_fine s sizes kind.Sync [] said known h = let is : Sync ≡ said = grind (arith, h) in subst (λ v. IsFine s v) is tt
+kind_fine s sizes kind.Sync (word ∷ others) said known h = absurd (grind (arith, h))
+kind_fine s sizes kind.Later others said known h = absurd (grind (arith, h))
+kind_fine s sizes kind.Unknown others said known h = absurd (grind (arith, h))
+
+nothing_fine : (s : SoFar) (said : Said) → by_words s 0 [] ≡ Ok said → IsFine s said
+nothing_fine s said h = let is : Nothing ≡ said = grind (arith, h) in subst (λ v. IsFine s v) is tt
+
+words_fine : (s : SoFar) (sizes : Sizes) (words : List (List ℕ)) (said : Said) → s.sizes ≡ Some sizes → by_words s sizes.external words ≡ Ok said → IsFine s said
+words_fine s sizes [] said known h = nothing_fine s said h
+words_fine s sizes (first ∷ others) said known h = kind_fine s sizes (kind_of first) others said known h
+
+header_fine : (s : SoFar) (o : Option Sizes) (said : Said) → ((sizes : Sizes) → o ≡ Some sizes → AreSizes sizes) → (ok_or o reason.Header >>= λ sizes. Ok (Header sizes)) ≡ Ok said → IsFine s said
+header_fine s None said are h = absurd (grind (arith, h))
+header_fine s (Some sizes) said are h = let is : Header sizes ≡ said = grind (arith, h) in subst (λ v. IsFine s v) is (are sizes refl)
+
+place_fine : (s : SoFar) (known : Option Sizes) (line : List ℕ) (said : Said) → s.sizes ≡ known → by_place s known line ≡ Ok said → IsFine s said
+place_fine s None line said is h = header_fine s (header (words line)) said (header_sizes (words line)) h
+place_fine s (Some sizes) line said is h =
     elim (true_or_false (list_all is_printable line)) [
-      | inl printable ↦ absurd (words_are_none first.external count (words line) sizes (rw printable at h))
+      | inl printable ↦ words_fine s sizes (words line) said is (rw printable at h)
       | inr not_printable ↦ let failed = rw not_printable at h in absurd (grind (arith, failed))
     ]
 
-says_sizes : (before : Option Sizes) (count : ℕ) (line : List ℕ) (sizes : Sizes) → says before count line ≡ Ok (Header sizes) → AreSizes sizes
-says_sizes before count line sizes h =
+reads_fine : (s : SoFar) (line : List ℕ) (said : Said) → reads s line ≡ Ok said → IsFine s said
+reads_fine s line said h =
     elim (true_or_false (is_comment line || is_blank line)) [
-      | inl passed_over ↦ let nothing = rw passed_over at h in absurd (grind (arith, nothing))
-      | inr read ↦ place_sizes before count line sizes (rw read at h)
+      | inl passed_over ↦ nothing_fine s said (rw passed_over at h)
+      | inr read ↦ place_fine s s.sizes line said refl (rw read at h)
     ]
+
+-- what passes the last checks is what was read, and an event is not one too many
+abbrev pub IsCounted : SoFar → Said → Type 0
+IsCounted s Nothing = Unit {0}
+IsCounted s (Header sizes) = Unit {0}
+IsCounted s (Numbered n) = Unit {0}
+IsCounted s (Happens e) = s.events < 65535
+IsCounted s Sync = Unit {0}
+
+joins_same : (s : SoFar) (said other : Said) → joins s said ≡ Ok other → (said ≡ other) × IsCounted s said
+joins_same s Nothing other h = (grind (arith, h), tt)
+joins_same s (Header sizes) other h = (grind (arith, h), tt)
+joins_same s Sync other h = (grind (arith, h), tt)
+joins_same s (Happens e) other h =
+    elim (true_or_false (nat_lt s.events 65535)) [
+      | inl few ↦ let ok = rw few at h in (grind (arith, ok), ltb-true s.events 65535 few)
+      | inr many ↦ let failed = rw many at h in absurd (grind (arith, failed))
+    ]
+joins_same s (Numbered n) other h =
+    elim (true_or_false (is_taken s.plan n.digits)) [
+      | inl taken ↦ let failed = rw taken at h in absurd (grind (arith, failed))
+      | inr apart ↦ elim (true_or_false (nat_eq (length s.plan) 256)) [
+        | inl full ↦ let failed = rw (apart, full) at h in absurd (grind (arith, failed))
+        | inr more ↦ let ok = rw (apart, more) at h in (grind (arith, ok), tt)
+      ]
+    ]
+
+pub says_fine : (s : SoFar) (line : List ℕ) (said : Said) → says s line ≡ Ok said → IsFine s said × IsCounted s said
+says_fine s line said h =
+    let first = passed_first (reads s line) (joins s) said h in
+    let same = joins_same s first.0 said first.2 in
+    (subst (λ v. IsFine s v) same.0 (reads_fine s line first.0 first.1), subst (λ v. IsCounted s v) same.0 same.1)
+
+-- what some lines say is sound, in an exchange with so many external lines
+pub record IsSoundFront (external : ℕ) (told : List Said) : Type 0 where
+  pub count : length (events_in told) ≤ 65535
+  pub events : All (Fits external) (events_in told)
+  pub planned : all_targets (is_reached external) (plan_of (numbers_in told)) ≡ true
+
+-- one more line that says neither an event nor a number
+stays : (external : ℕ) (told : List Said) (said : Said) → events_in (said ∷ []) ≡ [] → numbers_in (said ∷ []) ≡ [] → IsSoundFront external told → IsSoundFront external (told ++ said ∷ [])
+stays external told said no_event no_number front =
+    let same : events_in (told ++ said ∷ []) ≡ events_in told =
+    events-append told (said ∷ []) ∙ ap (λ (es : List Event). events_in told ++ es) no_event ∙ append-nil (events_in told) in
+    record {
+      count = rw same front.count;
+      events = subst (All (Fits external)) (sym same) front.events;
+      planned = ap (all_targets (is_reached external)) (sym (plan_stays told said no_number)) ∙ front.planned;
+    }
+
+-- one more line
+one_more : (sizes : Sizes) (told : List Said) (said : Said) → ((first : Sizes) → sizes_in told ≡ Some first → first ≡ sizes) → IsFine (so_far told) said → IsCounted (so_far told) said
+    → IsSoundFront sizes.external told → IsSoundFront sizes.external (told ++ said ∷ [])
+one_more sizes told Nothing same fine counted front = stays sizes.external told Nothing refl refl front
+one_more sizes told (Header first) same fine counted front = stays sizes.external told (Header first) refl refl front
+one_more sizes told Sync same fine counted front = stays sizes.external told Sync refl refl front
+one_more sizes told (Numbered n) same fine counted front =
+    let kept : events_in (told ++ Numbered n ∷ []) ≡ events_in told = events-append told (Numbered n ∷ []) ∙ append-nil (events_in told) in
+    let reached : is_reached sizes.external n.target ≡ true = subst (λ (v : Sizes). is_reached v.external n.target ≡ true) (same fine.0 fine.1) fine.2 in
+    record {
+      count = rw kept front.count;
+      events = subst (All (Fits sizes.external)) (sym kept) front.events;
+      planned = ap (all_targets (is_reached sizes.external)) (sym (plan_more told n))
+          ∙ all_with (λ m. is_reached sizes.external m.target) (plan_of (numbers_in told)) n front.planned reached;
+    }
+one_more sizes told (Happens e) same fine counted front =
+    let added : events_in (told ++ Happens e ∷ []) ≡ events_in told ++ e ∷ [] = events-append told (Happens e ∷ []) in
+    let fits : Fits sizes.external e = subst (λ (v : Sizes). Fits v.external e) (same fine.0 fine.1) fine.2 in
+    record {
+      count = rw (added, length-append (events_in told) (e ∷ [])) (omega (arith, counted));
+      events = subst (All (Fits sizes.external)) (sym added) (All-push (Fits sizes.external) (events_in told) e front.events fits);
+      planned = ap (all_targets (is_reached sizes.external)) (sym (plan_stays told (Happens e) refl)) ∙ front.planned;
+    }
+
+pub sound_front : (sizes : Sizes) (before told : List Said) (rows : List (List ℕ)) → EachSays before rows told → sizes_in (before ++ told) ≡ Some sizes
+    → IsSoundFront sizes.external before → IsSoundFront sizes.external (before ++ told)
+sound_front sizes before [] [] meets known front = rw (append-nil before) front
+sound_front sizes before [] (row ∷ rows) meets known front = absurd meets
+sound_front sizes before (said ∷ told) [] meets known front = absurd meets
+sound_front sizes before (said ∷ told) (row ∷ rows) meets known front =
+    let fine = says_fine (so_far before) row said meets.0 in
+    let same : (first : Sizes) → sizes_in before ≡ Some first → first ≡ sizes =
+    λ first is. let both : Some first ≡ Some sizes = sym (sizes_first before (said ∷ told) first is) ∙ known in cc in
+    let more = one_more sizes before said same fine.0 fine.1 front in
+    let all = sound_front sizes (before ++ said ∷ []) told rows meets.1 (rw (append_assoc before (said ∷ []) told) known) more in
+    rw (append_assoc before (said ∷ []) told) at all
 
 pub sizes_behind_all : (before told : List Said) (rows : List (List ℕ)) (sizes : Sizes) → EachSays before rows told → sizes_in told ≡ Some sizes → AreSizes sizes
 sizes_behind_all before [] [] sizes meets known = absurd (grind (arith, known))
 sizes_behind_all before [] (row ∷ rows) sizes meets known = absurd meets
 sizes_behind_all before (said ∷ told) [] sizes meets known = absurd meets
 sizes_behind_all before (Nothing ∷ told) (row ∷ rows) sizes meets known = sizes_behind_all (before ++ Nothing ∷ []) told rows sizes meets.1 known
+sizes_behind_all before (Numbered n ∷ told) (row ∷ rows) sizes meets known = sizes_behind_all (before ++ Numbered n ∷ []) told rows sizes meets.1 known
 sizes_behind_all before (Sync ∷ told) (row ∷ rows) sizes meets known = sizes_behind_all (before ++ Sync ∷ []) told rows sizes meets.1 known
 sizes_behind_all before (Happens e ∷ told) (row ∷ rows) sizes meets known = sizes_behind_all (before ++ Happens e ∷ []) told rows sizes meets.1 known
 sizes_behind_all before (Header first ∷ told) (row ∷ rows) sizes meets known =
-    let are = says_sizes (sizes_in before) (length (events_in before)) row first meets.0 in
+    let are = (says_fine (so_far before) row (Header first) meets.0).0 in
     let same : first ≡ sizes = grind (arith, known) in
-    rw (← same) are
+    subst AreSizes same are
 
 pub sound_trace : (bytes : List ℕ) (t : Trace) → IsTrace bytes t → IsSound t
 sound_trace bytes t is =
     let sizes : Sizes = record { external = t.external; bridges = t.bridges; processors = t.processors } in
-    let s = sound_behind sizes [] is.told (lines bytes) is.meets is.all.sizes (omega arith) in
+    let s = sound_front sizes [] is.told (lines bytes) is.meets is.all.sizes (record { count = omega arith; events = All-nil (Fits t.external); planned = refl }) in
     let are = sizes_behind_all [] is.told (lines bytes) sizes is.meets is.all.sizes in
-    record { some = are.some; few = are.few; bridges = are.bridges; count = rw is.all.events s.count; events = rw is.all.events s.events }
+    record {
+      some = are.some;
+      few = are.few;
+      bridges = are.bridges;
+      processors = are.processors;
+      planned = ap (all_targets (is_reached t.external)) is.all.plan ∙ s.planned;
+      count = rw is.all.events s.count;
+      events = rw is.all.events s.events;
+      segments = rw (is.all.events, is.all.segments) (segments_sound is.told);
+    }

@@ -1,14 +1,15 @@
 -- Hexadecimal digits in pairs.
-use Rattle.std.proofs.Common.{◌≡◌, ◌≢◌, ℕ, zero, suc, ◌+◌, ◌*◌, ◌-◌, ◌/◌, ◌%◌, ◌<◌, ◌≤◌, Bool, true, false, cond, ◌&&◌, eqb, List, [], ◌∷◌, ◌++◌, length, get_or, set, take, drop, map, replicate, Option, Some, None, is_some, option_map, Ok, Err, refl, sym, ap, subst, ◌∙◌, arith, ◌⊎◌, inl, inr, append_assoc}
+use Rattle.std.proofs.Common.{◌≡◌, ◌≢◌, ℕ, zero, suc, ◌+◌, ◌*◌, ◌-◌, ◌/◌, ◌%◌, ◌<◌, ◌≤◌, Bool, true, false, cond, ◌&&◌, eqb, List, [], ◌∷◌, ◌++◌, length, get_or, set, take, drop, map, replicate, Option, Some, None, is_some, option_map, ok_or, All, leb, Ok, Err, refl, sym, ap, subst, ◌∙◌, arith, ◌⊎◌, inl, inr, append_assoc}
 use Rattle.std.specs.Prelude.{option_and_then, IfSome}
 use Rattle.std.specs.List.{list_all}
-use Rattle.std.proofs.lemmas.Bool.{eq-eqb, ne_eqb}
+use Rattle.std.proofs.lemmas.Bool.{eq-eqb, ne_eqb, le-leb}
 use Rattle.std.proofs.lemmas.List.{append-nil, take_more, take_more_set, drop_more, drop_all, take_all, length-map, map-append}
+use Rattle.std.proofs.lemmas.List.Elements.{All-nil, All-cons}
 use Rattle.std.proofs.lemmas.List.Folds.{list_all-append, list_all_at}
 use Rattle.std.proofs.lemmas.Bool.Decides.{nat_tests}
 use Rattle.circuit_model.specs.Channels.{between}
 use Rattle.trace_text.specs.declared.fault.Reason.TheVariants.{Hex, Length}
-use Rattle.trace_text.specs.TraceFields.{digit_value, is_digit, octets_written, thirty}
+use Rattle.trace_text.specs.TraceFields.{digit_value, is_digit, octets_written, thirty, at_most_260}
 
 -- ---- one digit
 
@@ -179,6 +180,104 @@ pair_read digits octets i h l lt room e f so_far =
 pub behind_nothing : (o : Option (List ℕ)) → behind [] o ≡ o
 behind_nothing None = refl
 behind_nothing (Some octets) = refl
+
+-- ---- pair by pair
+
+-- what a pair writes, before those that follow
+pair_first : (high low : ℕ) (rest : List ℕ) (o : Option ℕ) → option_map (λ octet. octet ∷ []) o ≡ octets_written (high ∷ low ∷ [])
+    → octets_written (high ∷ low ∷ rest) ≡ option_and_then (λ octet. behind (octet ∷ []) (octets_written rest)) o
+pair_first high low rest None e =
+    elim (either high) [
+      | inr lost ↦ none_first high low rest lost.1
+      | inl found ↦ elim (either low) [
+        | inr lost ↦ none_second high low rest lost.1
+        | inl both ↦ let some = pair_then high low [] found.1.0 both.1.0 found.1.1 both.1.1 in absurd cc
+      ]
+    ]
+pair_first high low rest (Some octet) e =
+    elim (either high) [
+      | inr lost ↦ let none = none_first high low [] lost.1 in absurd cc
+      | inl found ↦ elim (either low) [
+        | inr lost ↦ let none = none_second high low [] lost.1 in absurd cc
+        | inl both ↦
+            let some = pair_then high low [] found.1.0 both.1.0 found.1.1 both.1.1 in
+            let same : found.1.0 * 16 + both.1.0 ≡ octet = cc in
+            rw (← same) (pair_then high low rest found.1.0 both.1.0 found.1.1 both.1.1)
+      ]
+    ]
+
+-- one more octet is read
+pub pair_next : (high low octet : ℕ) (octets rest : List ℕ) (written : Option (List ℕ)) → Some (octet ∷ []) ≡ octets_written (high ∷ low ∷ [])
+    → behind octets (octets_written (high ∷ low ∷ rest)) ≡ written → behind (octets ++ octet ∷ []) (octets_written rest) ≡ written
+pair_next high low octet octets rest written e so_far =
+    sym (behind-behind octets octet (octets_written rest)) ∙ ap (behind octets) (sym (pair_first high low rest (Some octet) e)) ∙ so_far
+
+pub pair_step : (digits octets : List ℕ) (octet : ℕ) (written : Option (List ℕ)) → 2 ≤ length digits → Some (octet ∷ []) ≡ octets_written (get_or digits 0 0 ∷ get_or digits 1 0 ∷ [])
+    → behind octets (octets_written digits) ≡ written → behind (octets ++ octet ∷ []) (octets_written (take (length digits - 2) (drop 2 digits))) ≡ written
+pair_step [] octets octet written two e so_far = absurd (omega arith)
+pair_step (x ∷ []) octets octet written two e so_far = absurd (omega arith)
+pair_step (x ∷ y ∷ rest) octets octet written two e so_far =
+    rw (take_all (length (x ∷ y ∷ rest) - 2) rest (omega arith)) (pair_next x y octet octets rest written e so_far)
+
+-- a pair that writes no octet
+pub pair_lost : (high low : ℕ) (octets rest : List ℕ) (written : Option (List ℕ)) → None ≡ octets_written (high ∷ low ∷ [])
+    → behind octets (octets_written (high ∷ low ∷ rest)) ≡ written → ok_or written Hex ≡ Err Hex
+pair_lost high low octets rest written e so_far = let none = pair_first high low rest None e in rw (← so_far, none) refl
+
+-- the end of pairs, and a digit left over
+pub pairs_end : (octets rest : List ℕ) (written : Option (List ℕ)) → length rest ≡ 0 → behind octets (octets_written rest) ≡ written → ok_or written Hex ≡ Ok octets
+pairs_end octets [] written empty so_far = rw (← so_far) (ap (λ (l : List ℕ). Ok l) (append-nil octets))
+pairs_end octets (x ∷ rest) written empty so_far = absurd (omega arith)
+
+pub digit_left : (octets rest : List ℕ) (written : Option (List ℕ)) → length rest ≡ 1 → behind octets (octets_written rest) ≡ written → ok_or written Hex ≡ Err Hex
+digit_left octets [] written one so_far = absurd (omega arith)
+digit_left octets (x ∷ []) written one so_far = rw (← so_far) refl
+digit_left octets (x ∷ y ∷ rest) written one so_far = absurd (omega arith)
+
+-- ---- the octets of a message
+
+some_few : (digits : List ℕ) (o : Option (List ℕ)) → length digits ≤ 520 → IfSome o (λ octets. length digits ≡ 2 * length octets) → ok_or o Hex ≡ at_most_260 o
+some_few digits None few half = refl
+some_few digits (Some octets) few half = let fits : leb (length octets) 260 ≡ true = le-leb (length octets) 260 (omega arith) in rw fits refl
+
+-- few digits write few octets
+pub few_written : (digits : List ℕ) → length digits ≤ 520 → ok_or (octets_written digits) Hex ≡ at_most_260 (octets_written digits)
+few_written digits few = some_few digits (octets_written digits) few (written_length digits)
+
+some_many : (digits : List ℕ) (o : Option (List ℕ)) → is_some o ≡ true → 520 < length digits → IfSome o (λ octets. length digits ≡ 2 * length octets) → at_most_260 o ≡ Err Length
+some_many digits None some many half = absurd cc
+some_many digits (Some octets) some many half = let over : leb (length octets) 260 ≡ false = grind (arith, nat_tests) in rw over refl
+
+pub many_written : (digits : List ℕ) → is_some (octets_written digits) ≡ true → 520 < length digits → at_most_260 (octets_written digits) ≡ Err Length
+many_written digits some many = some_many digits (octets_written digits) some many (written_length digits)
+
+none_at_most : (o : Option (List ℕ)) → is_some o ≡ false → at_most_260 o ≡ Err Hex
+none_at_most None h = refl
+none_at_most (Some octets) h = absurd cc
+
+pub none_written : (digits : List ℕ) → is_some (octets_written digits) ≡ false → at_most_260 (octets_written digits) ≡ Err Hex
+none_written digits h = none_at_most (octets_written digits) h
+
+-- what digits write are octets
+behind_octets : (h : ℕ) (o : Option (List ℕ)) → h < 256 → IfSome o (λ octets. All (λ v. v < 256) octets) → IfSome (behind (h ∷ []) o) (λ octets. All (λ v. v < 256) octets)
+behind_octets h None small e = tt
+behind_octets h (Some octets) small e = All-cons (λ v. v < 256) h octets small e
+
+pub are_octets : (digits : List ℕ) → IfSome (octets_written digits) (λ octets. All (λ v. v < 256) octets)
+are_octets [] = All-nil (λ v. v < 256)
+are_octets (x ∷ []) = tt
+are_octets (x ∷ y ∷ rest) =
+    let P : Option (List ℕ) → Type 0 = λ o. IfSome o (λ octets. All (λ v. v < 256) octets) in
+    elim (either x) [
+      | inr lost ↦ subst P (sym (none_first x y rest lost.1)) tt
+      | inl found ↦ elim (either y) [
+        | inr lost ↦ subst P (sym (none_second x y rest lost.1)) tt
+        | inl both ↦
+            let high = digit_small x found.1.0 found.1.1 in
+            let low = digit_small y both.1.0 both.1.1 in
+            subst P (sym (pair_then x y rest found.1.0 both.1.0 found.1.1 both.1.1)) (behind_octets (found.1.0 * 16 + both.1.0) (octets_written rest) (omega (arith, high, low)) (are_octets rest))
+      ]
+    ]
 
 -- ---- sixty digits, and four behind them
 

@@ -1,11 +1,15 @@
 -- A line of words, and the parts of a frame, one after the other.
-use Rattle.std.proofs.Common.{◌≡◌, ℕ, true, false, List, ◌∷◌, get_or, set, Some, None, is_some, Ok, refl}
+use Rattle.std.proofs.Common.{◌≡◌, ℕ, true, false, List, ◌∷◌, get_or, set, Some, None, is_some, Ok, codes, refl}
 use Rattle.circuit_model.specs.FrameInput.{Input}
 use Rattle.std.specs.List.{list_all}
 use Rattle.trace_text.specs.declared.said.Sizes.{Sizes}
+use Rattle.trace_text.specs.declared.said.Said.{Said}
+use Rattle.trace_text.specs.declared.said.Said.TheVariants.{Sync}
+use Rattle.trace_text.specs.declared.fault.LineFault.{LineFault}
+use Rattle.trace_text.specs.declared.fault.LineFault.TheVariants.{Memory, Refused}
 use Rattle.trace_text.specs.TraceWords.{words, cut_at, is_comment, is_printable}
 use Rattle.trace_text.specs.TraceFields.{external_line, octets_written, thirty}
-use Rattle.trace_text.specs.TraceLines.{colon, with_part, kind_of, by_kind, says}
+use Rattle.trace_text.specs.TraceLines.{colon, with_part, kind_of, SoFar, by_kind, reads, joins, says, Fails}
 
 -- a part whose checks all pass
 pub part_given : (external : ℕ) (given : Input) (word : List ℕ) (halves : List ℕ × List ℕ) (line : ℕ) (octets : List ℕ)
@@ -14,6 +18,21 @@ pub part_given : (external : ℕ) (given : Input) (word : List ℕ) (halves : Li
 part_given external given word halves line octets a b c d = rw (a, b, c, d) refl
 
 -- a line behind the header that is no comment, has words and is printable
-pub says_by_kind : (sizes : Sizes) (count : ℕ) (line first : List ℕ) (others : List (List ℕ)) → is_comment line ≡ false → words line ≡ first ∷ others → list_all is_printable line ≡ true
-    → says (Some sizes) count line ≡ by_kind sizes.external count (kind_of first) others
-says_by_kind sizes count line first others a b c = rw (a, b, c) refl
+pub reads_by_kind : (s : SoFar) (sizes : Sizes) (line first : List ℕ) (others : List (List ℕ)) → s.sizes ≡ Some sizes → is_comment line ≡ false → words line ≡ first ∷ others
+    → list_all is_printable line ≡ true → reads s line ≡ by_kind s sizes.external (kind_of first) others
+reads_by_kind s sizes line first others known a b c = rw (a, known, b, c) refl
+
+-- a line that is `sync`
+pub reads_sync : (s : SoFar) (sizes : Sizes) (line : List ℕ) → s.sizes ≡ Some sizes → line ≡ codes "sync" → reads s line ≡ Ok Sync
+reads_sync s sizes line known is = rw (is, known) refl
+
+-- both steps of a line
+pub says_both : (s : SoFar) (line : List ℕ) (said : Said) → reads s line ≡ Ok said → joins s said ≡ Ok said → says s line ≡ Ok said
+says_both s line said a b = rw (a, b) refl
+
+pub says_fault : (s : SoFar) (line : List ℕ) (e : LineFault) → Fails e (reads s line) → Fails e (says s line)
+says_fault s line Memory fails = tt
+says_fault s line (Refused why) fails = rw fails refl
+
+pub joins_fault : (s : SoFar) (line : List ℕ) (said : Said) (e : LineFault) → reads s line ≡ Ok said → Fails e (joins s said) → Fails e (says s line)
+joins_fault s line said e a fails = rw a fails

@@ -1,15 +1,20 @@
 -- Reading line by line, up to the first line that fails.
-use Rattle.std.proofs.Common.{◌≡◌, ℕ, ◌+◌, ◌<◌, ◌≤◌, List, [], ◌∷◌, ◌++◌, length, None, Ok, Err, refl, sym, ap, ◌∙◌, subst, append_assoc, arith}
+use Rattle.std.proofs.Common.{◌≡◌, ℕ, ◌+◌, ◌<◌, ◌≤◌, List, [], ◌∷◌, ◌++◌, length, Option, None, Ok, Err, refl, sym, ap, ◌∙◌, subst, append_assoc, arith}
 use Rattle.std.proofs.lemmas.List.{append-nil, length_push, nil_from_length}
 use Rattle.trace_text.specs.declared.draft.Draft.{Draft}
+use Rattle.trace_text.specs.declared.fault.LineFault.{LineFault}
+use Rattle.trace_text.specs.declared.fault.LineFault.TheVariants.{Memory, Refused}
+use Rattle.trace_text.specs.declared.fault.TraceFault.{TraceFault}
 use Rattle.trace_text.specs.declared.fault.Reason.{Reason}
 use Rattle.trace_text.specs.declared.fault.Reason.TheVariants as reason
+use Rattle.trace_text.specs.declared.said.Sizes.{Sizes}
 use Rattle.trace_text.specs.declared.said.Said.{Said}
+use Rattle.number_plan.specs.declared.plan.Number.{Number}
 use Rattle.exchange_core.specs.declared.trace.Trace.{Trace}
 use Rattle.trace_text.specs.TraceWords.{lines}
-use Rattle.trace_text.specs.TraceLines.{says}
-use Rattle.trace_text.specs.TraceGrammar.{most_bytes, sizes_in, events_in, EachSays, IsTold, IsTrace, IsRefused, At_line, At_end}
-use Rattle.trace_text.specs.TraceDraft.{Holds}
+use Rattle.trace_text.specs.TraceLines.{SoFar, says, Fails}
+use Rattle.trace_text.specs.TraceGrammar.{most_bytes, so_far, EachSays, IsTold, IsTrace, IsRefused, At_line, At_end}
+use Rattle.trace_text.specs.TraceDraft.{kept, Holds, at_line, IsFault}
 
 -- the lines before the rest were read, each met its checks, and the draft holds what they said
 pub record Progress (bytes rest : List ℕ) (number : ℕ) (d : Draft) : Type 0 where
@@ -23,7 +28,7 @@ pub record Progress (bytes rest : List ℕ) (number : ℕ) (d : Draft) : Type 0 
 
 -- one more line meets its checks
 each_push : (before told : List Said) (front : List (List ℕ)) (line : List ℕ) (said : Said)
-    → EachSays before front told → says (sizes_in (before ++ told)) (length (events_in (before ++ told))) line ≡ Ok said → EachSays before (front ++ line ∷ []) (told ++ said ∷ [])
+    → EachSays before front told → says (so_far (before ++ told)) line ≡ Ok said → EachSays before (front ++ line ∷ []) (told ++ said ∷ [])
 each_push before [] [] line said meets e = (rw (append-nil before) at e, tt)
 each_push before (other ∷ told) [] line said meets e = absurd meets
 each_push before [] (first ∷ front) line said meets e = absurd meets
@@ -33,13 +38,25 @@ each_push before (other ∷ told) (first ∷ front) line said meets e =
 pub begun : (bytes : List ℕ) (d : Draft) → Holds d [] → Progress bytes bytes 0 d
 begun bytes d held = record { front = []; told = []; parts = refl; meets = tt; held = held; place = refl; room = omega arith }
 
+-- what the draft keeps is what the lines before said
+known_so_far : Option Sizes → ℕ → List Number → SoFar
+known_so_far sizes events plan = record { sizes = sizes; events = events; plan = plan }
+
+same_so_far : (s u : SoFar) → s.sizes ≡ u.sizes → s.events ≡ u.events → s.plan ≡ u.plan → s ≡ u
+unfolding known_so_far
+same_so_far s u a b c =
+    ap (λ x. known_so_far x s.events s.plan) a ∙ ap (λ x. known_so_far u.sizes x s.plan) b ∙ ap (λ x. known_so_far u.sizes u.events x) c
+
+kept_so_far : (d : Draft) (told : List Said) → Holds d told → kept d ≡ so_far told
+kept_so_far d told held = same_so_far (kept d) (so_far told) held.sizes (ap length held.events) held.plan
+
 -- what a line says, by the draft, is what it says behind the lines before it
-says_held : (d : Draft) (told : List Said) (line : List ℕ) → Holds d told → says d.sizes (length d.events.items) line ≡ says (sizes_in told) (length (events_in told)) line
-says_held d told line held = ap (λ s. says s (length d.events.items) line) held.sizes ∙ ap (λ es. says (sizes_in told) (length es) line) held.events
+says_held : (d : Draft) (told : List Said) (line : List ℕ) → Holds d told → says (kept d) line ≡ says (so_far told) line
+says_held d told line held = ap (λ s. says s line) (kept_so_far d told held)
 
 pub goes_on : (bytes rest line others : List ℕ) (number : ℕ) (d n : Draft) (p : Progress bytes rest number d)
     → lines rest ≡ line ∷ lines others → length others < length rest
-    → (said : Said) × (says d.sizes (length d.events.items) line ≡ Ok said) × Holds n (p.told ++ said ∷ []) → Progress bytes others (number + 1) n
+    → (said : Said) × (says (kept d) line ≡ Ok said) × Holds n (p.told ++ said ∷ []) → Progress bytes others (number + 1) n
 goes_on bytes rest line others number d n p cut shorter step = record {
   front = p.front ++ line ∷ [];
   told = p.told ++ step.0 ∷ [];
@@ -52,7 +69,7 @@ goes_on bytes rest line others number d n p cut shorter step = record {
 
 -- the next line is the first that fails
 pub fails_at : (bytes rest line others : List ℕ) (number : ℕ) (d : Draft) (why : Reason) → Progress bytes rest number d
-    → length bytes ≤ most_bytes → lines rest ≡ line ∷ lines others → says d.sizes (length d.events.items) line ≡ Err why → IsRefused bytes (number + 1) why
+    → length bytes ≤ most_bytes → lines rest ≡ line ∷ lines others → says (kept d) line ≡ Err why → IsRefused bytes (number + 1) why
 fails_at bytes rest line others number d why p few cut e =
     At_line few (record {
       before = p.front;
@@ -64,6 +81,11 @@ fails_at bytes rest line others number d why p few cut e =
       fails = sym (says_held d p.told line p.held) ∙ e;
       place = let e = p.place in omega (arith, e);
     })
+
+pub fault_at : (bytes rest line others : List ℕ) (number : ℕ) (d : Draft) (e : LineFault) (fault : TraceFault) → Progress bytes rest number d
+    → length bytes ≤ most_bytes → lines rest ≡ line ∷ lines others → Fails e (says (kept d) line) → fault ≡ at_line e (number + 1) → IsFault bytes fault
+fault_at bytes rest line others number d Memory fault p few cut fails is = rw is tt
+fault_at bytes rest line others number d (Refused why) fault p few cut fails is = rw is (fails_at bytes rest line others number d why p few cut fails)
 
 -- every line was read
 whole : (bytes rest : List ℕ) (number : ℕ) (d : Draft) (p : Progress bytes rest number d) → length rest ≡ 0 → lines bytes ≡ p.front

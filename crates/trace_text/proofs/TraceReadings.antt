@@ -6,11 +6,12 @@ use Rattle.trace_text.specs.declared.fault.Reason.{Reason}
 use Rattle.trace_text.specs.declared.fault.Reason.TheVariants as reason
 use Rattle.trace_text.specs.declared.said.Sizes.{Sizes}
 use Rattle.trace_text.specs.declared.said.Said.{Said}
+use Rattle.number_plan.specs.declared.plan.Number.{Number}
 use Rattle.exchange_core.specs.declared.trace.Event.{Event}
 use Rattle.exchange_core.specs.declared.trace.Trace.{Trace}
 use Rattle.trace_text.specs.TraceWords.{lines}
 use Rattle.trace_text.specs.TraceLines.{says}
-use Rattle.trace_text.specs.TraceGrammar.{most_bytes, sizes_in, events_in, segment_ends, EachSays, IsTold, IsTrace, IsFirstFault, IsRefused, Too_long, At_line, At_end}
+use Rattle.trace_text.specs.TraceGrammar.{most_bytes, sizes_in, numbers_in, plan_of, events_in, so_far, segment_ends, EachSays, IsTold, IsTrace, IsFirstFault, IsRefused, Too_long, At_line, At_end}
 
 -- what became of a row of lines: what each says, or the place of the first that fails and why
 pub data Outcome : Type 0 where
@@ -27,17 +28,17 @@ after_line (Ok said) others = others said
 after_line (Err why) others = Stops 0 why
 
 says_after : List Said → List ℕ → Result Said Reason
-says_after before line = says (sizes_in before) (length (events_in before)) line
+says_after before line = says (so_far before) line
 
 abbrev outcome : List Said → List (List ℕ) → Outcome
 outcome before [] = All_say []
 outcome before (line ∷ others) = after_line (says_after before line) (λ said. onto said (outcome (before ++ said ∷ []) others))
 
-is_said : (before : List Said) (line : List ℕ) (r : Result Said Reason) → says (sizes_in before) (length (events_in before)) line ≡ r → says_after before line ≡ r
+is_said : (before : List Said) (line : List ℕ) (r : Result Said Reason) → says (so_far before) line ≡ r → says_after before line ≡ r
 unfolding says_after
 is_said before line r e = e
 
-was_said : (before : List Said) (line : List ℕ) (r : Result Said Reason) → says_after before line ≡ r → says (sizes_in before) (length (events_in before)) line ≡ r
+was_said : (before : List Said) (line : List ℕ) (r : Result Said Reason) → says_after before line ≡ r → says (so_far before) line ≡ r
 unfolding says_after
 was_said before line r e = e
 
@@ -52,7 +53,7 @@ outcome_all before (line ∷ rows) (said ∷ told) meets =
 
 -- the first line that fails
 outcome_stops : (before : List Said) (rows : List (List ℕ)) (told : List Said) (line : List ℕ) (after : List (List ℕ)) (why : Reason)
-    → EachSays before rows told → says (sizes_in (before ++ told)) (length (events_in (before ++ told))) line ≡ Err why → outcome before (rows ++ line ∷ after) ≡ Stops (length rows) why
+    → EachSays before rows told → says (so_far (before ++ told)) line ≡ Err why → outcome before (rows ++ line ∷ after) ≡ Stops (length rows) why
 unfolding onto
 outcome_stops before [] [] line after why meets e = rw (is_said before line (Err why) (rw (append-nil before) at e)) refl
 outcome_stops before [] (said ∷ told) line after why meets e = absurd meets
@@ -68,17 +69,19 @@ same_told before rows told others m n = let e : All_say told ≡ All_say others 
 fault_outcome : (bytes : List ℕ) (number : ℕ) (why : Reason) (f : IsFirstFault bytes number why) → outcome [] (lines bytes) ≡ Stops (length f.before) why
 fault_outcome bytes number why f = ap (outcome []) f.parts ∙ outcome_stops [] f.before f.told f.line f.after why f.meets f.fails
 
-traced : ℕ → ℕ → ℕ → List Event → List ℕ → Trace
-traced external bridges processors events segments = record { external = external; bridges = bridges; processors = processors; events = events; segments = segments }
+traced : ℕ → ℕ → ℕ → List Number → List Event → List ℕ → Trace
+traced external bridges processors plan events segments =
+    record { external = external; bridges = bridges; processors = processors; plan = plan; events = events; segments = segments }
 
-same_trace : (t u : Trace) → t.external ≡ u.external → t.bridges ≡ u.bridges → t.processors ≡ u.processors → t.events ≡ u.events → t.segments ≡ u.segments → t ≡ u
+same_trace : (t u : Trace) → t.external ≡ u.external → t.bridges ≡ u.bridges → t.processors ≡ u.processors → t.plan ≡ u.plan → t.events ≡ u.events → t.segments ≡ u.segments → t ≡ u
 unfolding traced
-same_trace t u a b c d e =
-    ap (λ x. traced x t.bridges t.processors t.events t.segments) a
-    ∙ ap (λ x. traced u.external x t.processors t.events t.segments) b
-    ∙ ap (λ x. traced u.external u.bridges x t.events t.segments) c
-    ∙ ap (λ x. traced u.external u.bridges u.processors x t.segments) d
-    ∙ ap (λ x. traced u.external u.bridges u.processors u.events x) e
+same_trace t u a b c p d e =
+    ap (λ x. traced x t.bridges t.processors t.plan t.events t.segments) a
+    ∙ ap (λ x. traced u.external x t.processors t.plan t.events t.segments) b
+    ∙ ap (λ x. traced u.external u.bridges x t.plan t.events t.segments) c
+    ∙ ap (λ x. traced u.external u.bridges u.processors x t.events t.segments) p
+    ∙ ap (λ x. traced u.external u.bridges u.processors u.plan x t.segments) d
+    ∙ ap (λ x. traced u.external u.bridges u.processors u.plan u.events x) e
 
 sizes_of : Trace → Sizes
 sizes_of t = record { external = t.external; bridges = t.bridges; processors = t.processors }
@@ -88,7 +91,7 @@ unfolding sizes_of
 told_once t u told x y =
     let both : Some (sizes_of t) ≡ Some (sizes_of u) = sym x.sizes ∙ y.sizes in
     let same : sizes_of t ≡ sizes_of u = cc in
-    same_trace t u (ap (λ s. s.external) same) (ap (λ s. s.bridges) same) (ap (λ s. s.processors) same) (x.events ∙ sym y.events) (x.segments ∙ sym y.segments)
+    same_trace t u (ap (λ s. s.external) same) (ap (λ s. s.bridges) same) (ap (λ s. s.processors) same) (x.plan ∙ sym y.plan) (x.events ∙ sym y.events) (x.segments ∙ sym y.segments)
 
 pub one_trace : (bytes : List ℕ) (t u : Trace) → IsTrace bytes t → IsTrace bytes u → t ≡ u
 one_trace bytes t u x y = told_once t u x.told x.all (subst (λ told. IsTold u told) (sym (same_told [] (lines bytes) x.told y.told x.meets y.meets)) y.all)
@@ -129,12 +132,12 @@ record Stopped (before : List Said) (rows : List (List ℕ)) : Type 0 where
   why : Reason
   parts : rows ≡ front ++ line ∷ after
   meets : EachSays before front told
-  fails : says (sizes_in (before ++ told)) (length (events_in (before ++ told))) line ≡ Err why
+  fails : says (so_far (before ++ told)) line ≡ Err why
 
 abbrev Walked : List Said → List (List ℕ) → Type 0
 Walked before rows = ((told : List Said) × EachSays before rows told) ⊎ Stopped before rows
 
-further : (before : List Said) (line : List ℕ) (rows : List (List ℕ)) (said : Said) → says (sizes_in before) (length (events_in before)) line ≡ Ok said → Walked (before ++ said ∷ []) rows → Walked before (line ∷ rows)
+further : (before : List Said) (line : List ℕ) (rows : List (List ℕ)) (said : Said) → says (so_far before) line ≡ Ok said → Walked (before ++ said ∷ []) rows → Walked before (line ∷ rows)
 further before line rows said e (inl w) = inl (said ∷ w.0, (e, w.1))
 further before line rows said e (inr s) = inr (record {
   front = line ∷ s.front;
@@ -147,7 +150,7 @@ further before line rows said e (inr s) = inr (record {
   fails = rw (append_assoc before (said ∷ []) s.told) at s.fails;
 })
 
-one_more : (before : List Said) (line : List ℕ) (rows : List (List ℕ)) (r : Result Said Reason) → says (sizes_in before) (length (events_in before)) line ≡ r → ((said : Said) → Walked (before ++ said ∷ []) rows) → Walked before (line ∷ rows)
+one_more : (before : List Said) (line : List ℕ) (rows : List (List ℕ)) (r : Result Said Reason) → says (so_far before) line ≡ r → ((said : Said) → Walked (before ++ said ∷ []) rows) → Walked before (line ∷ rows)
 one_more before line rows (Ok said) e next = further before line rows said e (next said)
 one_more before line rows (Err why) e next = inr (record {
   front = [];
@@ -162,7 +165,7 @@ one_more before line rows (Err why) e next = inr (record {
 
 walk : (before : List Said) (rows : List (List ℕ)) → Walked before rows
 walk before [] = inl ([], tt)
-walk before (line ∷ rows) = one_more before line rows (says (sizes_in before) (length (events_in before)) line) refl (λ said. walk (before ++ said ∷ []) rows)
+walk before (line ∷ rows) = one_more before line rows (says (so_far before) line) refl (λ said. walk (before ++ said ∷ []) rows)
 
 abbrev Reading : List ℕ → Type 0
 Reading bytes = ((t : Trace) × IsTrace bytes t) ⊎ ((number : ℕ) × (why : Reason) × IsRefused bytes number why)
@@ -170,8 +173,8 @@ Reading bytes = ((t : Trace) × IsTrace bytes t) ⊎ ((number : ℕ) × (why : R
 with_sizes : (bytes : List ℕ) → length bytes ≤ most_bytes → (told : List Said) → EachSays [] (lines bytes) told → (sizes : Option Sizes) → sizes_in told ≡ sizes → Reading bytes
 with_sizes bytes few told meets None e = inr (length (lines bytes) + 1, reason.Header, At_end few (record { told = told; meets = meets; none = e; place = refl; named = refl }))
 with_sizes bytes few told meets (Some sizes) e = inl (
-  record { external = sizes.external; bridges = sizes.bridges; processors = sizes.processors; events = events_in told; segments = segment_ends told },
-  record { few = few; told = told; meets = meets; all = record { sizes = e; events = refl; segments = refl } },
+  record { external = sizes.external; bridges = sizes.bridges; processors = sizes.processors; plan = plan_of (numbers_in told); events = events_in told; segments = segment_ends told },
+  record { few = few; told = told; meets = meets; all = record { sizes = e; plan = refl; events = refl; segments = refl } },
 )
 
 pub some_reading : (bytes : List ℕ) → Reading bytes

@@ -1,5 +1,8 @@
 -- What a reader holds of the lines that it has read. Source: this exchange's own.
-use Rattle.std.specs.Prelude.{◌≡◌, ℕ, ◌+◌, ◌<◌, List, ◌++◌, length, Option, None}
+use Rattle.std.specs.Prelude.{◌≡◌, ℕ, ◌+◌, IsTrue, List, ◌++◌, length, Option, None}
+use Rattle.number_plan.specs.declared.plan.PlanFault.{PlanFault}
+use Rattle.number_plan.specs.declared.plan.PlanFault.TheVariants as plan_fault
+use Rattle.number_plan.specs.Plan.{is_number}
 use Rattle.trace_text.specs.declared.draft.Draft.{Draft}
 use Rattle.trace_text.specs.declared.fault.LineFault.{LineFault}
 use Rattle.trace_text.specs.declared.fault.LineFault.TheVariants as line_fault
@@ -8,24 +11,37 @@ use Rattle.trace_text.specs.declared.fault.TraceFault.TheVariants as trace_fault
 use Rattle.trace_text.specs.declared.fault.Reason.TheVariants as reason
 use Rattle.trace_text.specs.declared.said.Sizes.{Sizes}
 use Rattle.trace_text.specs.declared.said.Said.{Said}
-use Rattle.trace_text.specs.declared.said.Said.TheVariants.{Nothing, Header, Happens, Sync}
-use Rattle.trace_text.specs.TraceGrammar.{sizes_in, events_in, segment_ends, ends_after, IsRefused}
+use Rattle.trace_text.specs.declared.said.Said.TheVariants.{Nothing, Header, Numbered, Happens, Sync}
+use Rattle.trace_text.specs.TraceLines.{SoFar}
+use Rattle.trace_text.specs.TraceGrammar.{sizes_in, numbers_in, plan_of, events_in, segment_ends, ends_after, IsRefused}
 
--- a line that says this may stand behind a header with these sizes, where there was one, and so many events
-abbrev pub Suits : Option Sizes → ℕ → Said → Type 0
-Suits sizes count Nothing = Unit {0}
-Suits sizes count (Header first) = sizes ≡ None
-Suits sizes count (Happens event) = count < 65535
-Suits sizes count Sync = Unit {0}
+-- what a draft keeps of the lines so far, as far as the next line depends on it
+abbrev pub kept : Draft → SoFar
+kept d = record { sizes = d.sizes; events = length d.events.items; plan = d.plan }
+
+-- what a line said fits a draft: a header is the first, and a number is one
+abbrev pub Suits : Draft → Said → Type 0
+Suits d Nothing = Unit {0}
+Suits d (Header sizes) = d.sizes ≡ None
+Suits d (Numbered number) = IsTrue (is_number number.digits)
+Suits d (Happens event) = Unit {0}
+Suits d Sync = Unit {0}
 
 -- a fault of a line, at its place in the trace
 abbrev pub at_line : LineFault → ℕ → TraceFault
 at_line line_fault.Memory number = trace_fault.Memory
 at_line (line_fault.Refused why) number = trace_fault.Line number why
 
--- the draft holds what the lines so far said: the sizes, the events, and the ends of the segments that ended
+-- why a number can't join a plan, as the fault of its line
+abbrev pub of_plan : PlanFault → LineFault
+of_plan plan_fault.Prefix = line_fault.Refused reason.Prefix
+of_plan plan_fault.TooMany = line_fault.Refused reason.Limit
+of_plan plan_fault.Memory = line_fault.Memory
+
+-- the draft holds what the lines so far said: the sizes, the plan, the events, and the ends of the segments that ended
 pub record Holds (d : Draft) (told : List Said) : Type 0 where
   pub sizes : d.sizes ≡ sizes_in told
+  pub plan : d.plan ≡ plan_of (numbers_in told)
   pub events : d.events.items ≡ events_in told
   pub ends : (more : List Said) → segment_ends (told ++ more) ≡ d.ends.items ++ ends_after d.begun (length d.events.items) more
 

@@ -1,6 +1,6 @@
 -- The fields of a trace's lines: lines, slots and rooms of the exchange, octets as hexadecimal digits, sizes. Source: this exchange's own;
 -- the channels are those of ITU-T Q.931 (05/98), section 4.5.13.
-use Rattle.std.specs.Prelude.{ℕ, ◌+◌, ◌-◌, ◌*◌, Bool, ◌&&◌, nat_lt, ◌==◌, List, [], ◌∷◌, length, codes, Option, Some, None, option_and_then, is_some, Result, Ok, Err, if◌then◌else◌}
+use Rattle.std.specs.Prelude.{ℕ, ◌+◌, ◌-◌, ◌*◌, Bool, ◌&&◌, nat_lt, nat_le, ◌==◌, List, [], ◌∷◌, length, codes, Option, Some, None, option_and_then, is_some, Result, Ok, Err, if◌then◌else◌}
 use Rattle.std.specs.Str.{bytes_eq}
 use Rattle.circuit_model.specs.Channels.{between, place_of}
 use Rattle.circuit_model.specs.declared.channel.Slot.{Slot}
@@ -69,6 +69,11 @@ octets_written (high ∷ low ∷ digits) = do
 abbrev pub thirty : Option (List ℕ) → Result (List ℕ) Reason
 thirty None = Err Hex
 thirty (Some octets) = if length octets == 30 then Ok octets else Err Length
+
+-- the octets of a message: at most 260
+abbrev pub at_most_260 : Option (List ℕ) → Result (List ℕ) Reason
+at_most_260 None = Err Hex
+at_most_260 (Some octets) = if nat_le (length octets) 260 then Ok octets else Err Length
 
 -- the sizes that the words of a header give: `exchange`, `1`, and the numbers of external lines, bridge lines and processors
 abbrev pub header : List (List ℕ) → Option Sizes

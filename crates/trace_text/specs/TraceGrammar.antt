@@ -1,14 +1,16 @@
 -- Which bytes are a trace, which trace they are, and why other bytes are none. Source: this exchange's own.
-use Rattle.std.specs.Prelude.{◌≡◌, ℕ, ◌+◌, ◌≤◌, ◌<◌, ◌==◌, List, [], ◌∷◌, ◌++◌, length, Option, Some, None, Ok, Err, if◌then◌else◌}
+use Rattle.std.specs.Prelude.{◌≡◌, ℕ, ◌+◌, ◌≤◌, ◌<◌, ◌==◌, List, [], ◌∷◌, ◌++◌, length, fold, Option, Some, None, Ok, Err, if◌then◌else◌}
+use Rattle.number_plan.specs.declared.plan.Number.{Number}
+use Rattle.number_plan.specs.Plan.{with_number}
 use Rattle.exchange_core.specs.declared.trace.Trace.{Trace}
 use Rattle.exchange_core.specs.declared.trace.Event.{Event}
 use Rattle.trace_text.specs.declared.fault.Reason.{Reason}
 use Rattle.trace_text.specs.declared.fault.Reason.TheVariants as reason
 use Rattle.trace_text.specs.declared.said.Sizes.{Sizes}
 use Rattle.trace_text.specs.declared.said.Said.{Said}
-use Rattle.trace_text.specs.declared.said.Said.TheVariants.{Nothing, Header, Happens, Sync}
+use Rattle.trace_text.specs.declared.said.Said.TheVariants.{Nothing, Header, Numbered, Happens, Sync}
 use Rattle.trace_text.specs.TraceWords.{lines}
-use Rattle.trace_text.specs.TraceLines.{says}
+use Rattle.trace_text.specs.TraceLines.{SoFar, says}
 
 -- how many bytes a trace has at most
 abbrev pub most_bytes : ℕ
@@ -19,6 +21,7 @@ abbrev pub sizes_in : List Said → Option Sizes
 sizes_in [] = None
 sizes_in (Nothing ∷ others) = sizes_in others
 sizes_in (Header sizes ∷ others) = Some sizes
+sizes_in (Numbered number ∷ others) = sizes_in others
 sizes_in (Happens event ∷ others) = sizes_in others
 sizes_in (Sync ∷ others) = sizes_in others
 
@@ -27,8 +30,26 @@ abbrev pub events_in : List Said → List Event
 events_in [] = []
 events_in (Nothing ∷ others) = events_in others
 events_in (Header sizes ∷ others) = events_in others
+events_in (Numbered number ∷ others) = events_in others
 events_in (Happens event ∷ others) = event ∷ events_in others
 events_in (Sync ∷ others) = events_in others
+
+-- the numbers, in file order
+abbrev pub numbers_in : List Said → List Number
+numbers_in [] = []
+numbers_in (Nothing ∷ others) = numbers_in others
+numbers_in (Header sizes ∷ others) = numbers_in others
+numbers_in (Numbered number ∷ others) = number ∷ numbers_in others
+numbers_in (Happens event ∷ others) = numbers_in others
+numbers_in (Sync ∷ others) = numbers_in others
+
+-- the plan of these numbers: each in its place
+abbrev pub plan_of : List Number → List Number
+plan_of numbers = fold with_number [] numbers
+
+-- what lines said, as far as the next line depends on it
+abbrev pub so_far : List Said → SoFar
+so_far told = record { sizes = sizes_in told; events = length (events_in told); plan = plan_of (numbers_in told) }
 
 -- a segment ends with the last event so far, where it has any
 abbrev pub ended : ℕ → ℕ → List ℕ
@@ -39,6 +60,7 @@ abbrev pub ends_after : ℕ → ℕ → List Said → List ℕ
 ends_after begun count [] = ended begun count
 ends_after begun count (Nothing ∷ others) = ends_after begun count others
 ends_after begun count (Header sizes ∷ others) = ends_after begun count others
+ends_after begun count (Numbered number ∷ others) = ends_after begun count others
 ends_after begun count (Happens event ∷ others) = ends_after begun (count + 1) others
 ends_after begun count (Sync ∷ others) = ended begun count ++ ends_after count count others
 
@@ -50,11 +72,12 @@ abbrev pub EachSays : List Said → List (List ℕ) → List Said → Type 0
 EachSays before [] [] = Unit {0}
 EachSays before [] (said ∷ told) = ⊥
 EachSays before (line ∷ others) [] = ⊥
-EachSays before (line ∷ others) (said ∷ told) = (says (sizes_in before) (length (events_in before)) line ≡ Ok said) × EachSays (before ++ said ∷ []) others told
+EachSays before (line ∷ others) (said ∷ told) = (says (so_far before) line ≡ Ok said) × EachSays (before ++ said ∷ []) others told
 
--- the trace is what the lines say: the sizes of the header, the events, and the ends of the segments
+-- the trace is what the lines say: the sizes of the header, the plan of the numbers, the events, and the ends of the segments
 pub record IsTold (t : Trace) (told : List Said) : Type 0 where
   pub sizes : sizes_in told ≡ Some (record { external = t.external; bridges = t.bridges; processors = t.processors })
+  pub plan : t.plan ≡ plan_of (numbers_in told)
   pub events : t.events ≡ events_in told
   pub segments : t.segments ≡ segment_ends told
 
@@ -73,7 +96,7 @@ pub record IsFirstFault (bytes : List ℕ) (number : ℕ) (why : Reason) : Type 
   pub told : List Said
   pub parts : lines bytes ≡ before ++ line ∷ after
   pub meets : EachSays [] before told
-  pub fails : says (sizes_in told) (length (events_in told)) line ≡ Err why
+  pub fails : says (so_far told) line ≡ Err why
   pub place : number ≡ length before + 1
 
 -- no line fails, and none is the header

@@ -1,11 +1,16 @@
 -- What a line of a trace says, or the first of its checks that fails. Source: this exchange's own.
-use Rattle.std.specs.Prelude.{◌≡◌, ℕ, Bool, nat_lt, ◌||◌, List, [], ◌∷◌, codes, replicate, slice_index_or, slice_set, Option, Some, None, is_some, ok_or, Result, Ok, Err, if◌then◌else◌}
+use Rattle.std.specs.Prelude.{◌≡◌, ℕ, nat_lt, ◌==◌, ◌||◌, List, [], ◌∷◌, length, codes, replicate, slice_index_or, slice_set, Option, Some, None, is_some, ok_or, Result, Ok, Err, if◌then◌else◌}
 use Rattle.std.specs.List.{list_all}
 use Rattle.std.specs.Str.{bytes_eq}
 use Rattle.circuit_model.specs.FrameInput.{Input}
 use Rattle.circuit_model.specs.Circuits.{same_slot}
+use Rattle.number_plan.specs.declared.plan.Number.{Number}
+use Rattle.number_plan.specs.declared.target.Target.{Target}
+use Rattle.number_plan.specs.declared.target.Target.TheVariants as goal
+use Rattle.number_plan.specs.Plan.{is_number, is_taken}
 use Rattle.exchange_core.specs.declared.trace.Event.{Event}
-use Rattle.exchange_core.specs.declared.trace.Event.TheVariants.{Nail, Seat, Free, Frame}
+use Rattle.exchange_core.specs.declared.trace.Event.TheVariants.{Nail, Seat, Free, Message, Frame}
+use Rattle.exchange_core.specs.Limits.{most_events}
 use Rattle.trace_text.specs.declared.fault.Reason.{Reason}
 use Rattle.trace_text.specs.declared.fault.Reason.TheVariants as reason
 use Rattle.trace_text.specs.declared.fault.LineFault.{LineFault}
@@ -15,8 +20,8 @@ use Rattle.trace_text.specs.declared.said.Kind.{Kind}
 use Rattle.trace_text.specs.declared.said.Kind.TheVariants as kind
 use Rattle.trace_text.specs.declared.said.Said.{Said}
 use Rattle.trace_text.specs.declared.said.Said.TheVariants as said
-use Rattle.trace_text.specs.TraceWords.{words, two, cut_at, is_comment, is_blank, is_printable}
-use Rattle.trace_text.specs.TraceFields.{external_line, slot, room, octets_written, thirty, header}
+use Rattle.trace_text.specs.TraceWords.{words, two, one_or_two, three, cut_at, is_comment, is_blank, is_printable}
+use Rattle.trace_text.specs.TraceFields.{external_line, slot, room, octets_written, thirty, at_most_260, header}
 
 -- the second step where the first passed its checks
 infixl 10 ◌>>=◌
@@ -70,56 +75,110 @@ free external (word ∷ []) = do
   Ok (Free x)
 free external others = Err reason.Word
 
+-- a message: the external line on which it arrives, and its octets, none where no digits follow
+abbrev pub message : ℕ → List (List ℕ) → Result Event Reason
+message external others = do
+  both ← ok_or (one_or_two others) reason.Word
+  line ← ok_or (external_line external both.0) reason.Slot
+  octets ← at_most_260 (octets_written both.1)
+  Ok (Message line octets)
+
+-- an event happens
+abbrev pub happens : Result Event Reason → Result Said Reason
+happens reading = reading >>= λ event. Ok (said.Happens event)
+
+-- what a number stands for: `line` and an external line, or `room` and a conference room
+abbrev pub target : ℕ → List ℕ → List ℕ → Result Target Reason
+target external name word =
+    if bytes_eq name (codes "line") then (do
+      line ← ok_or (external_line external word) reason.Slot
+      Ok (goal.Line line))
+    else if bytes_eq name (codes "room") then (do
+      number ← ok_or (room word) reason.Number
+      Ok (goal.Room number))
+    else Err reason.Word
+
+-- a number: 1 to 20 digits and what they stand for
+abbrev pub number : ℕ → List (List ℕ) → Result Number Reason
+number external others = do
+  parts ← ok_or (three others) reason.Word
+  digits ← if is_number parts.0 then Ok parts.0 else Err reason.Number
+  stands ← target external parts.1 parts.2
+  Ok (record { digits = digits; target = stands })
+
+-- a number is given
+abbrev pub numbered : Result Number Reason → Result Said Reason
+numbered reading = reading >>= λ n. Ok (said.Numbered n)
+
 -- the end of a segment: one word
 abbrev pub sync : List (List ℕ) → Result Said Reason
 sync [] = Ok said.Sync
 sync (word ∷ others) = Err reason.Word
 
--- an event, where fewer than 65,535 came before it
-abbrev pub happens : ℕ → Event → Result Said Reason
-happens count event = if nat_lt count 65535 then Ok (said.Happens event) else Err reason.Limit
-
--- the kinds of line that are read later
-abbrev pub is_later : List ℕ → Bool
-is_later word = bytes_eq word (codes "number") || bytes_eq word (codes "tone") || bytes_eq word (codes "M")
-
 -- the kind of line that a first word names
 abbrev pub kind_of : List ℕ → Kind
 kind_of word =
-    if bytes_eq word (codes "nail") then kind.Nail
+    if bytes_eq word (codes "F") then kind.Frame
+    else if bytes_eq word (codes "M") then kind.Message
+    else if bytes_eq word (codes "sync") then kind.Sync
+    else if bytes_eq word (codes "nail") then kind.Nail
     else if bytes_eq word (codes "seat") then kind.Seat
     else if bytes_eq word (codes "free") then kind.Free
-    else if bytes_eq word (codes "F") then kind.Frame
-    else if bytes_eq word (codes "sync") then kind.Sync
-    else if is_later word then kind.Later
+    else if bytes_eq word (codes "number") then kind.Number
+    else if bytes_eq word (codes "tone") then kind.Later
     else kind.Unknown
 
--- a line of a kind, whose further words are given, after so many events
-abbrev pub by_kind : ℕ → ℕ → Kind → List (List ℕ) → Result Said Reason
-by_kind external count kind.Nail others = nail external others >>= happens count
-by_kind external count kind.Seat others = seat external others >>= happens count
-by_kind external count kind.Free others = free external others >>= happens count
-by_kind external count kind.Frame others = frame external others >>= happens count
-by_kind external count kind.Sync others = sync others
-by_kind external count kind.Later others = Err reason.Later
-by_kind external count kind.Unknown others = Err reason.Word
+-- what the lines so far said, as far as the next line depends on it: the sizes of the header, where there was one, how many events, and the numbers
+pub record SoFar : Type 0 where
+  pub sizes : Option Sizes
+  pub events : ℕ
+  pub plan : List Number
 
-abbrev pub by_words : ℕ → ℕ → List (List ℕ) → Result Said Reason
-by_words external count [] = Ok said.Nothing
-by_words external count (first ∷ others) = by_kind external count (kind_of first) others
+-- a line that stands before the first event, or nowhere
+abbrev pub before_events : SoFar → Result Said Reason → Result Said Reason
+before_events so_far reading = if so_far.events == 0 then reading else Err reason.Word
+
+-- a line of a kind, whose further words are given, in an exchange with so many external lines
+abbrev pub by_kind : SoFar → ℕ → Kind → List (List ℕ) → Result Said Reason
+by_kind so_far external kind.Frame others = happens (frame external others)
+by_kind so_far external kind.Message others = happens (message external others)
+by_kind so_far external kind.Nail others = happens (nail external others)
+by_kind so_far external kind.Seat others = happens (seat external others)
+by_kind so_far external kind.Free others = happens (free external others)
+by_kind so_far external kind.Number others = before_events so_far (numbered (number external others))
+by_kind so_far external kind.Sync others = sync others
+by_kind so_far external kind.Later others = Err reason.Later
+by_kind so_far external kind.Unknown others = Err reason.Word
+
+abbrev pub by_words : SoFar → ℕ → List (List ℕ) → Result Said Reason
+by_words so_far external [] = Ok said.Nothing
+by_words so_far external (first ∷ others) = by_kind so_far external (kind_of first) others
 
 -- a line after the header: all its octets are printable, and its words are those of its kind
-abbrev pub after_header : ℕ → ℕ → List ℕ → Result Said Reason
-after_header external count line = if list_all is_printable line then by_words external count (words line) else Err reason.Word
+abbrev pub after_header : SoFar → ℕ → List ℕ → Result Said Reason
+after_header so_far external line = if list_all is_printable line then by_words so_far external (words line) else Err reason.Word
 
 -- the first line that isn't passed over is the header
-abbrev pub by_place : Option Sizes → ℕ → List ℕ → Result Said Reason
-by_place None count line = ok_or (header (words line)) reason.Header >>= λ sizes. Ok (said.Header sizes)
-by_place (Some sizes) count line = after_header sizes.external count line
+abbrev pub by_place : SoFar → Option Sizes → List ℕ → Result Said Reason
+by_place so_far None line = ok_or (header (words line)) reason.Header >>= λ sizes. Ok (said.Header sizes)
+by_place so_far (Some sizes) line = after_header so_far sizes.external line
 
--- what a line says after a header with these sizes, if there was one, and so many events. Blank lines and comments are passed over
-abbrev pub says : Option Sizes → ℕ → List ℕ → Result Said Reason
-says sizes count line = if is_comment line || is_blank line then Ok said.Nothing else by_place sizes count line
+-- what a line says by its octets and words. Blank lines and comments are passed over
+abbrev pub reads : SoFar → List ℕ → Result Said Reason
+reads so_far line = if is_comment line || is_blank line then Ok said.Nothing else by_place so_far so_far.sizes line
+
+-- the last checks of a line: no number equals, begins or continues an earlier one, and there are at most 256 numbers and 65,535 events
+abbrev pub joins : SoFar → Said → Result Said Reason
+joins so_far (said.Numbered number) =
+    if is_taken so_far.plan number.digits then Err reason.Prefix
+    else if length so_far.plan == 256 then Err reason.Limit
+    else Ok (said.Numbered number)
+joins so_far (said.Happens event) = if nat_lt so_far.events most_events then Ok (said.Happens event) else Err reason.Limit
+joins so_far other = Ok other
+
+-- what a line says behind the lines so far
+abbrev pub says : SoFar → List ℕ → Result Said Reason
+says so_far line = reads so_far line >>= joins so_far
 
 -- a function answered what reading gives, unless memory ran out
 abbrev pub Fails : {T : Type 0} → LineFault → Result T Reason → Type 0

@@ -26,6 +26,17 @@ abbrev pub two : List (List ℕ) → Option (List ℕ × List ℕ)
 two (one ∷ other ∷ []) = Some (one, other)
 two others = None
 
+-- one word or two, where there are no others; the second is empty where there is one
+abbrev pub one_or_two : List (List ℕ) → Option (List ℕ × List ℕ)
+one_or_two (one ∷ []) = Some (one, [])
+one_or_two (one ∷ other ∷ []) = Some (one, other)
+one_or_two others = None
+
+-- three words, where there are no others
+abbrev pub three : List (List ℕ) → Option (List ℕ × List ℕ × List ℕ)
+three (one ∷ other ∷ last ∷ []) = Some (one, other, last)
+three others = None
+
 -- what stands before and after the first octet of a word that is the mark, where it has one
 abbrev pub cut_at : ℕ → List ℕ → Option (List ℕ × List ℕ)
 cut_at mark word = option_map (λ at. (take at word, drop (at + 1) word)) (position (is_octet mark) word)

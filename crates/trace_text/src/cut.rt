@@ -1,7 +1,7 @@
 // Lines, words and numerals, cut from borrowed octets.
 ghost use Rattle.std.specs.Prelude.{◌≡◌, ◌≢◌, ◌<◌, ◌≤◌, ◌∷◌, [], length, slice_index, MatchOption, option_map};
 ghost use Rattle.std.specs.List.{list_all};
-ghost use Rattle.trace_text.specs.TraceWords.{lines, words, two, cut_at, numeral, is_printable};
+ghost use Rattle.trace_text.specs.TraceWords.{lines, words, two, one_or_two, three, cut_at, numeral, is_printable};
 
 use memchr::memchr;
 
@@ -59,6 +59,34 @@ pub(crate) fn two_words(line: &[u8]) -> Option<(&[u8], &[u8])>
         return None;
     }
     Some((one, other))
+}
+
+/// The words of what is left of a line, where they are one or two. The second is empty where there is
+/// one.
+pub(crate) fn one_or_two_words(line: &[u8]) -> Option<(&[u8], &[u8])>
+    ensures { option_map (λ both. (both.0.now, both.1.now)) result ≡ one_or_two (words line.now) }
+{
+    let (one, rest) = first_word(line)?;
+    let Some((other, rest)) = first_word(rest) else {
+        return Some((one, &[]));
+    };
+    if first_word(rest).is_some() {
+        return None;
+    }
+    Some((one, other))
+}
+
+/// The words of what is left of a line, where they are three.
+pub(crate) fn three_words(line: &[u8]) -> Option<(&[u8], &[u8], &[u8])>
+    ensures { option_map (λ all. (all.0.now, all.1.now, all.2.now)) result ≡ three (words line.now) }
+{
+    let (one, rest) = first_word(line)?;
+    let (other, rest) = first_word(rest)?;
+    let (last, rest) = first_word(rest)?;
+    if first_word(rest).is_some() {
+        return None;
+    }
+    Some((one, other, last))
 }
 
 /// What stands before and after the first octet of a word that is the mark, where one is.

@@ -1,16 +1,23 @@
 // A trace in the making.
 ghost use Rattle.std.specs.Prelude.{◌≤◌, vec_len};
 
+use crate::cut::{first_word, is_text};
 use crate::fault::{LineFault, Reason, TraceFault};
-use crate::line::line_says;
-use crate::said::{Said, Sizes};
+use crate::fields::header_of;
+use crate::line::{frame_of, free_of, kind_of, message_of, nail_of, number_of, seat_of, sync_of};
+use crate::said::{Kind, Said, Sizes};
 use exchange_core::{Event, Events, Segments, Trace};
+use number_plan::Plan;
 use std::alloc::{AllocError, Global};
+
+/// How many events a trace has at most.
+const MOST_EVENTS: usize = 65_535;
 
 /// What the lines so far said.
 #[derive(Drop)]
 pub struct Draft {
     sizes: Option<Sizes>,
+    plan: Plan,
     events: Vec<Event>,
     ends: Vec<u32>,
     // How many events came before the segment that is open.
@@ -20,9 +27,10 @@ pub struct Draft {
 
 impl Draft {
     ghost use Rattle.std.specs.Prelude.{◌≡◌, ◌<◌, ◌++◌, ◌∷◌, [], List, length, Ok, OnOk, IfOk, IfErr, vec_len};
-    ghost use Rattle.trace_text.specs.TraceLines.{says, Fails};
+    ghost use Rattle.trace_text.specs.TraceWords.{words};
+    ghost use Rattle.trace_text.specs.TraceLines.{number, numbered, before_events, by_kind, reads, joins, says, Fails, Gives};
     ghost use Rattle.trace_text.specs.TraceGrammar.{ended, IsTold};
-    ghost use Rattle.trace_text.specs.TraceDraft.{Holds, Suits, FailsAtEnd};
+    ghost use Rattle.trace_text.specs.TraceDraft.{kept, Holds, Suits, FailsAtEnd};
 
     /// The draft of no lines.
     pub fn new(alloc: Global) -> Draft
@@ -30,6 +38,7 @@ impl Draft {
     {
         Draft {
             sizes: None,
+            plan: Plan::new(alloc),
             events: Vec::new(alloc),
             ends: Vec::new(alloc),
             begun: 0,
@@ -42,6 +51,7 @@ impl Draft {
             Holds self.old told → Holds self.new (told ++ Said.Sync ∷ [])) }
         ensures ended { OnOk result (self.new.ends.items
             ≡ self.old.ends.items ++ ended self.old.begun (vec_len self.old.events)) }
+        ensures plan { OnOk result (self.new.plan ≡ self.old.plan) }
         ensures events { OnOk result (self.new.events.items ≡ self.old.events.items) }
     {
         let count = self.events.len() as u32;
@@ -52,31 +62,96 @@ impl Draft {
         Ok(())
     }
 
-    // Takes in what a line said.
-    fn take(&mut self, said: Said) -> Result<(), AllocError>
-        requires { Suits self.old.sizes (vec_len self.old.events) said }
-        ensures { OnOk result ((told : List Said) →
+    // Takes in what a line said, where it passes the last checks.
+    fn take(&mut self, said: Said) -> Result<(), LineFault>
+        requires { Suits self.old said }
+        ensures taken { OnOk result ((told : List Said) →
             Holds self.old told → Holds self.new (told ++ said ∷ [])) }
+        ensures joins { OnOk result (joins (kept self.old) said ≡ Ok said) }
+        ensures refused { IfErr result (λ e. Fails e (joins (kept self.old) said)) }
     {
         match said {
             Said::Nothing => {}
             Said::Header(sizes) => self.sizes = Some(sizes),
+            Said::Numbered(number) => self.plan.add(number.digits.as_slice(), number.target)?,
+            Said::Happens(_) if self.events.len() == MOST_EVENTS => {
+                return Err(LineFault::Refused(Reason::Limit));
+            }
             Said::Happens(event) => self.events.push(event)?,
             Said::Sync => self.end_segment()?,
         }
         Ok(())
     }
 
+    // A number's line, whose further words are given.
+    fn number_line(&self, external: u8, line: &[u8]) -> Result<Said, Reason>
+        ensures reads { result ≡ before_events (kept self.now) (numbered (number external (words line.now))) }
+        ensures suits { IfOk result (λ said. Suits self.now said) }
+    {
+        if !self.events.is_empty() {
+            return Err(Reason::Word);
+        }
+        Ok(Said::Numbered(number_of(external, line)?))
+    }
+
+    // A line of a kind, whose further words are given.
+    fn line_of_kind(
+        &self,
+        alloc: Global,
+        external: u8,
+        kind: Kind,
+        line: &[u8],
+    ) -> Result<Said, LineFault>
+        ensures reads { Gives result (by_kind (kept self.now) external kind (words line.now)) }
+        ensures suits { IfOk result (λ said. Suits self.now said) }
+    {
+        match kind {
+            Kind::Frame => Ok(Said::Happens(frame_of(alloc, external, line)?)),
+            Kind::Message => Ok(Said::Happens(message_of(alloc, external, line)?)),
+            Kind::Nail => Ok(Said::Happens(nail_of(external, line)?)),
+            Kind::Seat => Ok(Said::Happens(seat_of(external, line)?)),
+            Kind::Free => Ok(Said::Happens(free_of(external, line)?)),
+            Kind::Number => Ok(self.number_line(external, line)?),
+            Kind::Sync => Ok(sync_of(line)?),
+            Kind::Later => Err(LineFault::Refused(Reason::Later)),
+            Kind::Unknown => Err(LineFault::Refused(Reason::Word)),
+        }
+    }
+
+    // What a line says by its octets and words.
+    fn reads(&self, alloc: Global, line: &[u8]) -> Result<Said, LineFault>
+        ensures reads { Gives result (reads (kept self.now) line.now) }
+        ensures suits { IfOk result (λ said. Suits self.now said) }
+    {
+        if line.first() == Some(&b'#') {
+            return Ok(Said::Nothing);
+        }
+        // Most lines of a trace of messages are this one.
+        if self.sizes.is_some() && line == b"sync".as_slice() {
+            return Ok(Said::Sync);
+        }
+        let Some((kind, rest)) = first_word(line) else {
+            return Ok(Said::Nothing);
+        };
+        let Some(sizes) = self.sizes else {
+            let sizes = header_of(line).ok_or(Reason::Header)?;
+            return Ok(Said::Header(sizes));
+        };
+        if !is_text(line) {
+            return Err(LineFault::Refused(Reason::Word));
+        }
+        self.line_of_kind(alloc, sizes.external, kind_of(kind), rest)
+    }
+
     /// Reads one more line.
     pub fn read_line(&mut self, alloc: Global, line: &[u8]) -> Result<(), LineFault>
         ensures read { OnOk result ((told : List Said) →
             Holds self.old told → (said : Said)
-            × (says self.old.sizes (length self.old.events.items) line.now ≡ Ok said)
+            × (says (kept self.old) line.now ≡ Ok said)
             × Holds self.new (told ++ said ∷ [])) }
-        ensures refused { IfErr result (λ e.
-            Fails e (says self.old.sizes (length self.old.events.items) line.now)) }
+        ensures refused { IfErr result (λ e. Fails e (says (kept self.old) line.now)) }
     {
-        let said = line_says(alloc, self.sizes, self.events.len(), line)?;
+        let said = self.reads(alloc, line)?;
         self.take(said)?;
         Ok(())
     }
@@ -100,6 +175,7 @@ impl Draft {
             external: sizes.external,
             bridges: sizes.bridges,
             processors: sizes.processors,
+            plan: self.plan,
             events: Events::of(self.events),
             segments: Segments::of(self.ends),
         })

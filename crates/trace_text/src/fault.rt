@@ -1,6 +1,7 @@
 ghost use Rattle.std.specs.Prelude.{◌≡◌};
 ghost use Rattle.trace_text.specs.declared.fault.LineFault.TheVariants.{Memory, Refused};
 
+use number_plan::PlanFault;
 use std::alloc::{AllocError, AllocFailed};
 
 /// Why a line of a trace is refused: the first of its checks that fails.
@@ -10,7 +11,8 @@ use std::alloc::{AllocError, AllocFailed};
 pub enum Reason {
     /// The first line that is neither blank nor a comment is no header, or there is none.
     Header,
-    /// An octet that isn't printable, an unknown first word, or a wrong count of words.
+    /// An octet that isn't printable, an unknown first word, a number behind an event, a wrong count of
+    /// words, or a number that stands for neither a line nor a room.
     Word,
     /// A word that writes no line or no slot of the exchange, a line given twice in one frame, or a
     /// slot nailed to itself.
@@ -83,5 +85,19 @@ impl From<Reason> for LineFault {
 
     fn from(reason: Reason) -> LineFault {
         LineFault::Refused(reason)
+    }
+}
+
+impl From<PlanFault> for LineFault {
+    ghost use Rattle.trace_text.specs.TraceDraft.{of_plan};
+
+    ghost from_gives = { λ fault e. e ≡ of_plan fault };
+
+    fn from(fault: PlanFault) -> LineFault {
+        match fault {
+            PlanFault::Prefix => LineFault::Refused(Reason::Prefix),
+            PlanFault::TooMany => LineFault::Refused(Reason::Limit),
+            PlanFault::Memory => LineFault::Memory,
+        }
     }
 }

@@ -1,20 +1,17 @@
-// What a line says, or the first of its checks that fails.
-ghost use Rattle.std.specs.Prelude.{◌≡◌, ◌<◌, length, Option, MatchResult, IfOk, Ok, Err};
+// What the words of a line say, kind by kind, or the first of their checks that fails.
+ghost use Rattle.std.specs.Prelude.{◌≡◌, ◌<◌, IsTrue, length, MatchResult, IfOk, Ok, Err};
+ghost use Rattle.number_plan.specs.Plan.{is_number};
 ghost use Rattle.trace_text.specs.TraceWords.{words};
-ghost use Rattle.trace_text.specs.TraceLines.{with_part, frame, nail, seat, free, sync, is_later, kind_of, happens, by_kind, says, Gives};
-ghost use Rattle.trace_text.specs.TraceDraft.{Suits};
-ghost use Rattle.trace_text.specs.declared.said.Sizes.{Sizes};
+ghost use Rattle.trace_text.specs.TraceLines.{with_part, frame, message, nail, seat, free, target, number, sync, kind_of, Gives};
 
-use crate::cut::{first_word, halves_at, is_text, two_words};
+use crate::cut::{first_word, halves_at, one_or_two_words, three_words, two_words};
 use crate::fault::{LineFault, Reason};
-use crate::fields::{header_of, line_of_word, room_of_word, slot_of_word};
-use crate::octets::thirty_octets;
-use crate::said::{Kind, Said, Sizes};
+use crate::fields::{line_of_word, room_of_word, slot_of_word};
+use crate::octets::{message_octets, thirty_octets};
+use crate::said::{Kind, Said};
 use exchange_core::{Event, Input};
+use number_plan::{Digits, Number, Target, is_number};
 use std::alloc::Global;
-
-/// How many events a trace has at most.
-const MOST_EVENTS: usize = 65_535;
 
 // Puts the octets of one line into a frame.
 fn put_part(given: &mut [Option<[u8; 30]>], word: &[u8]) -> Result<(), Reason>
@@ -32,8 +29,8 @@ fn put_part(given: &mut [Option<[u8; 30]>], word: &[u8]) -> Result<(), Reason>
     Ok(())
 }
 
-// The frame that the words of a line give.
-fn frame_of(alloc: Global, external: u8, line: &[u8]) -> Result<Event, LineFault>
+/// The frame that the words of a line give.
+pub(crate) fn frame_of(alloc: Global, external: u8, line: &[u8]) -> Result<Event, LineFault>
     ensures { Gives result (frame external (words line.now)) }
 {
     let mut input = vec![in alloc; None; usize::from(external)]?;
@@ -45,8 +42,8 @@ fn frame_of(alloc: Global, external: u8, line: &[u8]) -> Result<Event, LineFault
     Ok(Event::Frame(Input::of(input)))
 }
 
-// The nail that the words of a line give.
-fn nail_of(external: u8, line: &[u8]) -> Result<Event, Reason>
+/// The nail that the words of a line give.
+pub(crate) fn nail_of(external: u8, line: &[u8]) -> Result<Event, Reason>
     ensures { result ≡ nail external (words line.now) }
 {
     let (one, other) = two_words(line).ok_or(Reason::Word)?;
@@ -58,8 +55,8 @@ fn nail_of(external: u8, line: &[u8]) -> Result<Event, Reason>
     Ok(Event::Nail(one, other))
 }
 
-// The seat that the words of a line give.
-fn seat_of(external: u8, line: &[u8]) -> Result<Event, Reason>
+/// The seat that the words of a line give.
+pub(crate) fn seat_of(external: u8, line: &[u8]) -> Result<Event, Reason>
     ensures { result ≡ seat external (words line.now) }
 {
     let (one, other) = two_words(line).ok_or(Reason::Word)?;
@@ -68,8 +65,8 @@ fn seat_of(external: u8, line: &[u8]) -> Result<Event, Reason>
     Ok(Event::Seat(slot, room))
 }
 
-// The free that the one word of a line gives.
-fn free_of(external: u8, line: &[u8]) -> Result<Event, Reason>
+/// The free that the one word of a line gives.
+pub(crate) fn free_of(external: u8, line: &[u8]) -> Result<Event, Reason>
     ensures { result ≡ free external (words line.now) }
 {
     let (word, rest) = first_word(line).ok_or(Reason::Word)?;
@@ -80,8 +77,47 @@ fn free_of(external: u8, line: &[u8]) -> Result<Event, Reason>
     Ok(Event::Free(slot))
 }
 
-// The end of a segment, where a line has no further word.
-fn sync_of(line: &[u8]) -> Result<Said, Reason>
+/// The message that the words of a line give.
+pub(crate) fn message_of(alloc: Global, external: u8, line: &[u8]) -> Result<Event, LineFault>
+    ensures { Gives result (message external (words line.now)) }
+{
+    let (line, digits) = one_or_two_words(line).ok_or(Reason::Word)?;
+    let line = line_of_word(external, line).ok_or(Reason::Slot)?;
+    let octets = message_octets(alloc, digits)?;
+    Ok(Event::Message(line, octets))
+}
+
+// What the last two words of a number's line say that the number stands for.
+fn target_of(external: u8, name: &[u8], word: &[u8]) -> Result<Target, Reason>
+    ensures { result ≡ target external name.now word.now }
+{
+    if name == b"line".as_slice() {
+        let line = line_of_word(external, word).ok_or(Reason::Slot)?;
+        Ok(Target::Line(line))
+    } else if name == b"room".as_slice() {
+        let room = room_of_word(word).ok_or(Reason::Number)?;
+        Ok(Target::Room(room))
+    } else {
+        Err(Reason::Word)
+    }
+}
+
+/// The number that the words of a line give.
+pub(crate) fn number_of(external: u8, line: &[u8]) -> Result<Number, Reason>
+    ensures gives { result ≡ number external (words line.now) }
+    ensures digits { IfOk result (λ n. IsTrue (is_number n.digits)) }
+{
+    let (digits, name, word) = three_words(line).ok_or(Reason::Word)?;
+    if !is_number(digits) {
+        return Err(Reason::Number);
+    }
+    let target = target_of(external, name, word)?;
+    let digits = Digits::of(digits);
+    Ok(Number { digits, target })
+}
+
+/// The end of a segment, where a line has no further word.
+pub(crate) fn sync_of(line: &[u8]) -> Result<Said, Reason>
     ensures says { result ≡ sync (words line.now) }
     ensures suits { IfOk result (λ said. said ≡ Said.Sync) }
 {
@@ -91,90 +127,27 @@ fn sync_of(line: &[u8]) -> Result<Said, Reason>
     Ok(Said::Sync)
 }
 
-// Whether a first word names a kind of line that is read later.
-fn is_later(word: &[u8]) -> bool
-    ensures { result ≡ is_later word.now }
-{
-    word == b"number".as_slice() || word == b"tone".as_slice() || word == b"M".as_slice()
-}
-
-// The kind of line that a first word names.
-fn kind_of(word: &[u8]) -> Kind
+/// The kind of line that a first word names.
+pub(crate) fn kind_of(word: &[u8]) -> Kind
     ensures { result ≡ kind_of word.now }
 {
-    if word == b"nail".as_slice() {
+    if word == b"F".as_slice() {
+        Kind::Frame
+    } else if word == b"M".as_slice() {
+        Kind::Message
+    } else if word == b"sync".as_slice() {
+        Kind::Sync
+    } else if word == b"nail".as_slice() {
         Kind::Nail
     } else if word == b"seat".as_slice() {
         Kind::Seat
     } else if word == b"free".as_slice() {
         Kind::Free
-    } else if word == b"F".as_slice() {
-        Kind::Frame
-    } else if word == b"sync".as_slice() {
-        Kind::Sync
-    } else if is_later(word) {
+    } else if word == b"number".as_slice() {
+        Kind::Number
+    } else if word == b"tone".as_slice() {
         Kind::Later
     } else {
         Kind::Unknown
     }
-}
-
-// An event, where there is room for one more.
-fn counted(count: usize, event: Event) -> Result<Said, LineFault>
-    ensures says { Gives result (happens count event) }
-    ensures suits { IfOk result (λ said. (some : Option Sizes) → Suits some count said) }
-{
-    if count < MOST_EVENTS {
-        Ok(Said::Happens(event))
-    } else {
-        Err(LineFault::Refused(Reason::Limit))
-    }
-}
-
-// A line of a kind, whose further words are given.
-fn line_of_kind(
-    alloc: Global,
-    external: u8,
-    count: usize,
-    kind: Kind,
-    line: &[u8],
-) -> Result<Said, LineFault>
-    ensures says { Gives result (by_kind external count kind (words line.now)) }
-    ensures suits { IfOk result (λ said. (some : Option Sizes) → Suits some count said) }
-{
-    match kind {
-        Kind::Nail => counted(count, nail_of(external, line)?),
-        Kind::Seat => counted(count, seat_of(external, line)?),
-        Kind::Free => counted(count, free_of(external, line)?),
-        Kind::Frame => counted(count, frame_of(alloc, external, line)?),
-        Kind::Sync => Ok(sync_of(line)?),
-        Kind::Later => Err(LineFault::Refused(Reason::Later)),
-        Kind::Unknown => Err(LineFault::Refused(Reason::Word)),
-    }
-}
-
-/// What a line says after the header with these sizes, where there was one, and after so many events.
-pub(crate) fn line_says(
-    alloc: Global,
-    sizes: Option<Sizes>,
-    count: usize,
-    line: &[u8],
-) -> Result<Said, LineFault>
-    ensures says { Gives result (says sizes count line.now) }
-    ensures suits { IfOk result (λ said. Suits sizes count said) }
-{
-    if line.first() == Some(&b'#') {
-        return Ok(Said::Nothing);
-    }
-    let Some((kind, rest)) = first_word(line) else {
-        return Ok(Said::Nothing);
-    };
-    let Some(sizes) = sizes else {
-        let sizes = header_of(line).ok_or(Reason::Header)?;
-        return Ok(Said::Header(sizes));
-    };
-    if !is_text(line) {
-        return Err(LineFault::Refused(Reason::Word));
-    }
-    line_of_kind(alloc, sizes.external, count, kind_of(kind), rest)
 }

@@ -2,11 +2,17 @@
 //
 // Sixty digits are read by loops of fixed length, without a table and with one test at their end, so
 // that many are read at once. Four more digits behind them fill whole vectors.
-ghost use Rattle.std.specs.Prelude.{◌≡◌, ◌++◌, ℕ, List, length, take, true, Some, is_some, map, replicate};
+ghost use Rattle.std.specs.Prelude.{◌≡◌, ◌++◌, ◌∷◌, [], ℕ, List, length, take, true, Some, is_some, option_map, map, replicate, ok_or};
 ghost use Rattle.std.specs.List.{list_all};
-ghost use Rattle.trace_text.specs.TraceFields.{digit_value, is_digit, octets_written, thirty};
+ghost use Rattle.trace_text.specs.TraceFields.{digit_value, is_digit, octets_written, thirty, at_most_260};
+ghost use Rattle.trace_text.specs.TraceLines.{Gives};
 
-use crate::fault::Reason;
+use crate::fault::{LineFault, Reason};
+use exchange_core::Octets;
+use std::alloc::Global;
+
+/// How many digits the octets of a message have at most.
+const MOST_DIGITS: usize = 520;
 
 // Whether an octet is a hexadecimal digit of either case.
 fn is_digit(octet: u8) -> bool
@@ -101,4 +107,44 @@ pub(crate) fn thirty_octets(digits: &[u8]) -> Result<[u8; 30], Reason>
         return Err(Reason::Hex);
     }
     Ok(front(&octets_of(&values_of(&text))))
+}
+
+// The octet that two digits write.
+fn octet_of(high: u8, low: u8) -> Option<u8>
+    ensures { option_map (λ octet. octet ∷ []) result ≡ octets_written (high ∷ low ∷ []) }
+{
+    if is_digit(high) && is_digit(low) {
+        Some(value(high).wrapping_mul(16).wrapping_add(value(low)))
+    } else {
+        None
+    }
+}
+
+// The octets that digits write.
+fn octets_read(alloc: Global, digits: &[u8]) -> Result<Octets, LineFault>
+    ensures { Gives result (ok_or (octets_written digits.now) Reason.Hex) }
+{
+    let mut octets = Vec::with_capacity(alloc, digits.len() / 2)?;
+    let mut rest = digits;
+    while let [high, low, others @ ..] = rest {
+        octets.push(octet_of(*high, *low).ok_or(Reason::Hex)?)?;
+        rest = others;
+    }
+    if !rest.is_empty() {
+        return Err(LineFault::Refused(Reason::Hex));
+    }
+    Ok(Octets::of(octets))
+}
+
+/// The octets of a message, at most 260, which hexadecimal digits write.
+pub(crate) fn message_octets(alloc: Global, digits: &[u8]) -> Result<Octets, LineFault>
+    ensures { Gives result (at_most_260 (octets_written digits.now)) }
+{
+    if digits.len() <= MOST_DIGITS {
+        octets_read(alloc, digits)
+    } else if are_pairs(digits) {
+        Err(LineFault::Refused(Reason::Length))
+    } else {
+        Err(LineFault::Refused(Reason::Hex))
+    }
 }

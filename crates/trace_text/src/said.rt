@@ -1,4 +1,5 @@
 use exchange_core::Event;
+use number_plan::Number;
 
 /// The sizes that the header of a trace gives.
 #[derive(Clone, Copy, Debug, PartialEq, Eq)]
@@ -14,16 +15,20 @@ pub struct Sizes {
 /// The kinds of line after the header.
 #[derive(Clone, Copy, Debug, PartialEq, Eq)]
 pub enum Kind {
+    /// A frame arrives.
+    Frame,
+    /// A message arrives.
+    Message,
+    /// The segment ends.
+    Sync,
     /// Two slots are connected.
     Nail,
     /// A slot takes a seat in a conference room.
     Seat,
     /// The nail or the seat of a slot is undone.
     Free,
-    /// A frame arrives.
-    Frame,
-    /// The segment ends.
-    Sync,
+    /// A number leads to a line or a conference room.
+    Number,
     /// The line is one that this exchange doesn't read yet.
     Later,
     /// The line is none of a trace.
@@ -37,6 +42,8 @@ pub enum Said {
     Nothing,
     /// The line is the header.
     Header(Sizes),
+    /// A number leads somewhere.
+    Numbered(Number),
     /// An event happens.
     Happens(Event),
     /// The segment ends.

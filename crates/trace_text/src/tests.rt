@@ -2,6 +2,7 @@ use crate::reader::MOST_BYTES;
 use crate::{Reason, TraceFault, read_trace};
 use circuit_model::Slot;
 use exchange_core::Event;
+use number_plan::Found;
 use std::test::Fail;
 
 // What stands before a case, so that the case is line 2 of an exchange of one line.
@@ -59,8 +60,6 @@ fn refused_lines(rt: HostRuntime) -> Result<(), Fail> {
         ("timer T303 1", Reason::Word),
         ("change", Reason::Word),
         ("M \t", Reason::Word),
-        ("M 0", Reason::Later),
-        ("number 1 line 0", Reason::Later),
         ("tone busy 00", Reason::Later),
         ("sync x", Reason::Word),
         ("nail x", Reason::Word),
@@ -111,6 +110,139 @@ fn refused_lines(rt: HostRuntime) -> Result<(), Fail> {
             "{text:?}"
         );
     }
+    Ok(())
+}
+
+#[test]
+fn refused_messages(rt: HostRuntime) -> Result<(), Fail> {
+    let refused = [
+        ("M", Reason::Word),
+        ("m 0", Reason::Word),
+        ("M 1 0 0", Reason::Word),
+        ("M 1 0", Reason::Slot),
+        ("M 00", Reason::Slot),
+        ("M 0:00", Reason::Slot),
+        ("M 0 0", Reason::Hex),
+        ("M 0 0g", Reason::Hex),
+        ("M 0 G0", Reason::Hex),
+        ("M 0 000", Reason::Hex),
+    ];
+    for (text, reason) in refused {
+        let number = 2;
+        assert_eq!(rt;
+            fault(&rt, text)?,
+            Some(TraceFault::Line { number, reason }),
+            "{text:?}"
+        );
+    }
+    Ok(())
+}
+
+#[test]
+fn refused_numbers(rt: HostRuntime) -> Result<(), Fail> {
+    let refused = [
+        ("number", 2, Reason::Word),
+        ("number x line", 2, Reason::Word),
+        ("number x line 1 0", 2, Reason::Word),
+        ("number x trunk 1", 2, Reason::Number),
+        ("number 12345678901234567890* line 1", 2, Reason::Number),
+        ("number 123456789012345678901 line 1", 2, Reason::Number),
+        ("number 1 trunk 1", 2, Reason::Word),
+        ("number 1 Room 1", 2, Reason::Word),
+        ("number 1 line 1", 2, Reason::Slot),
+        ("number 1 line 0/1", 2, Reason::Slot),
+        ("number 1 room 64", 2, Reason::Number),
+        ("number 1 room 01", 2, Reason::Number),
+        ("number 12 line 0\nnumber 123 line 0", 3, Reason::Prefix),
+        ("number 12 line 0\nnumber 1 room 0", 3, Reason::Prefix),
+        (
+            "number 12 line 0\nnumber 3 line 0\nnumber 12 room 1",
+            4,
+            Reason::Prefix,
+        ),
+        ("number 12 line 0\nnumber 123 line 1", 3, Reason::Slot),
+        ("sync\nnumber 1 line 0\nM 0\nnumber x", 5, Reason::Word),
+    ];
+    for (text, number, reason) in refused {
+        assert_eq!(rt;
+            fault(&rt, text)?,
+            Some(TraceFault::Line { number, reason }),
+            "{text:?}"
+        );
+    }
+    Ok(())
+}
+
+// A message of so many digits, the last of which is given.
+fn digits(rt: &HostRuntime, count: usize, last: u8) -> Result<Option<TraceFault>, Fail> {
+    let mut bytes = Vec::from_slice(rt.alloc(), HEADER.as_bytes())?;
+    bytes.extend_from_slice(b"M 0 ")?;
+    for _ in 1..count {
+        bytes.push(b'0')?;
+    }
+    bytes.push(last)?;
+    Ok(read_trace(rt.alloc(), &bytes).err())
+}
+
+#[test]
+fn longest_message(rt: HostRuntime) -> Result<(), Fail> {
+    let number = 2;
+    let cases = [
+        (520, b'0', None),
+        (520, b'x', Some(Reason::Hex)),
+        (521, b'0', Some(Reason::Hex)),
+        (522, b'0', Some(Reason::Length)),
+        (522, b'x', Some(Reason::Hex)),
+    ];
+    for (count, last, reason) in cases {
+        let wanted = reason.map(|reason| TraceFault::Line { number, reason });
+        assert_eq!(rt; digits(&rt, count, last)?, wanted, "{count}");
+    }
+    Ok(())
+}
+
+#[test]
+fn most_numbers(rt: HostRuntime) -> Result<(), Fail> {
+    let mut text = format!(in rt.alloc(); "{HEADER}")?;
+    for number in 100..356 {
+        text.push_str(format!(in rt.alloc(); "number {number} line 0\n")?.as_str())?;
+    }
+    assert_eq!(rt; read_trace(rt.alloc(), text.as_bytes()).err(), None);
+    let refused = [
+        ("number 356 line 0", Reason::Limit),
+        ("number 100 line 0", Reason::Prefix),
+        ("number 356 line 1", Reason::Slot),
+    ];
+    for (last, reason) in refused {
+        let number = 258;
+        let more = format!(in rt.alloc(); "{text}{last}")?;
+        assert_eq!(rt;
+            read_trace(rt.alloc(), more.as_bytes()).err(),
+            Some(TraceFault::Line { number, reason }),
+            "{last:?}"
+        );
+    }
+    Ok(())
+}
+
+#[test]
+fn numbers_and_messages(rt: HostRuntime) -> Result<(), Fail> {
+    let text = format!(in rt.alloc();
+        "{HEADER} number 12  line 0\nsync\nnumber 00 room 63\nM 0 08fF05\n M  0 \nsync"
+    )?;
+    let trace = read_trace(rt.alloc(), text.as_bytes())
+        .ok()
+        .ok_or("it is a trace")?;
+    assert_eq!(rt; trace.plan.look(b"123"), Found::Line(0));
+    assert_eq!(rt; trace.plan.look(b"00"), Found::Room(63));
+    assert_eq!(rt; trace.plan.look(b"2"), Found::Nothing);
+    assert_eq!(rt; trace.segments.as_slice(), [2].as_slice());
+    let [Event::Message(one, octets), Event::Message(other, none)] = trace.events.as_slice() else {
+        return Err("two events".into());
+    };
+    assert_eq!(rt; (*one, *other), (0, 0));
+    assert_eq!(rt; octets.as_slice(), [8, 0xFF, 5].as_slice());
+    assert_eq!(rt; none.as_slice(), [].as_slice());
     Ok(())
 }
 
@@ -218,6 +350,8 @@ fn most_events(rt: HostRuntime) -> Result<(), Fail> {
         ("free 0/1", Reason::Limit),
         ("seat 0/1 64", Reason::Number),
         ("free 0/1 0/2", Reason::Word),
+        ("M 0 00", Reason::Limit),
+        ("number 1 line 0", Reason::Word),
     ];
     for (text, reason) in refused {
         let number = 65_537;

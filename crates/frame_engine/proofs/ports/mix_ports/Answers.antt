@@ -19,8 +19,8 @@ loop-bridge-preserved c =
           (λ (here : 30 * b ≤ k).
           put.filled.written (port_numbered m.external k) (omega (arith, near, here, external)) (omega arith)
           ∙ c.line_of.ensures (k % 30) (omega arith)
-          ∙ ap (λ n. get_or c.mixed-octets.result n 0) (omega (arith, near, here))
-          ∙ c.mixed-octets.ensures k (omega (arith, near, low)))
+          ∙ ap (λ n. get_or c.mix_all.new.octets n 0) (omega (arith, near, here))
+          ∙ c.mix_all.ensures k (omega (arith, near, low)))
           (below_or_not k (30 * b));
       readable = search rules;
     }

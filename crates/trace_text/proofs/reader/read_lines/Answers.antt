@@ -1,4 +1,5 @@
-use Rattle.trace_text.proofs.TraceProgress.{begun, goes_on}
+use Rattle.std.proofs.Common.{arith}
+use Rattle.trace_text.proofs.TraceProgress.{begun, goes_on, fault_at}
 use Rattle.trace_text.proofs.reader.read_lines.Goals as goal
 
 pub loop-rest-init : goal.loop-rest-init
@@ -9,3 +10,8 @@ loop-rest-preserved c =
     let p = c.loop-rest.invariant in
     goes_on c.args.bytes.now c.loop-rest.rest.now c.first_line.result.0.now c.first_line.result.1.now c.loop-rest.number c.loop-rest.draft c.read_line.new.self p
     c.first_line.ensures.first c.first_line.ensures.shorter (c.in_default.ensures.read p.told p.held)
+
+pub returns-in-Err-clause-refused : goal.returns-in-Err-clause-refused
+returns-in-Err-clause-refused c =
+    fault_at c.args.bytes.now c.loop-rest.rest.now c.first_line.result.0.now c.first_line.result.1.now c.loop-rest.number c.loop-rest.draft c.in-Err.fault c.at_line.result c.loop-rest.invariant
+    (omega (arith, c.if-bytes-gt-MOST_BYTES.false)) c.first_line.ensures.first c.in-Err.ensures.refused c.at_line.ensures

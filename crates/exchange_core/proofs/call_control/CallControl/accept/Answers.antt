@@ -1,6 +1,5 @@
-use Rattle.std.proofs.Common.{◌≡◌, [], Some, sym, ◌∙◌, ap, subst}
+use Rattle.std.proofs.Common.{[], sym, ◌∙◌, ap}
 use Rattle.std.specs.Prelude.{unwrap_or}
-use Rattle.circuit_model.specs.Extent.{IsExternal}
 use Rattle.q931_codec.specs.Contents.{channel_in}
 use Rattle.number_plan.specs.declared.target.Found.TheVariants.{Line}
 use Rattle.exchange_core.specs.Legs.{Legs, new_reference}

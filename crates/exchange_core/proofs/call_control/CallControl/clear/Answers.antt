@@ -1,4 +1,4 @@
-use Rattle.exchange_core.proofs.Kept.{clear_holds}
+use Rattle.exchange_core.proofs.Obeying.{clear_holds}
 use Rattle.exchange_core.proofs.call_control.CallControl.clear.Goals as goal
 
 pub returns-clause-holds : goal.returns-clause-holds

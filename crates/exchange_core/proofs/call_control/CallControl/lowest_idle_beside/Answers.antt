@@ -1,6 +1,6 @@
 use Rattle.std.proofs.Common.{◌≡◌, ◌<◌, sym, ◌∙◌, arith}
 use Rattle.exchange_core.specs.Choices.{idle_beside}
-use Rattle.exchange_core.proofs.Choosing.{first_from, first_all, first_end, first_here, first_other}
+use Rattle.exchange_core.proofs.Choosing.{first_all, first_end, first_here, first_other}
 use Rattle.exchange_core.proofs.call_control.CallControl.lowest_idle_beside.Goals as goal
 
 pub loop-place-init : goal.loop-place-init

@@ -1,6 +1,5 @@
-use Rattle.std.proofs.Common.{◌≡◌, true, false, arith, ap}
+use Rattle.std.proofs.Common.{◌≡◌, true, false, arith}
 use Rattle.std.proofs.lemmas.Grind.{common_steps}
-use Rattle.exchange_core.specs.declared.reply.Reply.TheVariants.{Granted}
 use Rattle.exchange_core.specs.Step.{may_nail}
 use Rattle.exchange_core.proofs.call_control.CallControl.nail.Goals as goal
 

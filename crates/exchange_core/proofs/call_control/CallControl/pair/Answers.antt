@@ -1,4 +1,4 @@
-use Rattle.exchange_core.proofs.Kept.{pair_holds, pair_moves}
+use Rattle.exchange_core.proofs.Obeying.{pair_holds, pair_moves}
 use Rattle.exchange_core.proofs.call_control.CallControl.pair.Goals as goal
 
 pub returns-clause-holds : goal.returns-clause-holds

@@ -1,4 +1,4 @@
-use Rattle.exchange_core.proofs.Kept.{idle_silent, seat_free, seat_holds, seat_moves}
+use Rattle.exchange_core.proofs.Obeying.{idle_silent, seat_holds, seat_moves}
 use Rattle.exchange_core.proofs.call_control.CallControl.seat.Goals as goal
 
 pub seat-requires-clause-idle : goal.seat-requires-clause-idle

@@ -1,5 +1,5 @@
 use Rattle.std.proofs.Common.{◌≡◌, sym, ◌∙◌}
-use Rattle.exchange_core.specs.Calls.{Received, made_by, course_for, sent_by, records}
+use Rattle.exchange_core.specs.Calls.{Received, made_by, course_for, sent_by}
 use Rattle.exchange_core.specs.Standing.{Makes}
 use Rattle.exchange_core.proofs.Refusals.{no_records}
 use Rattle.exchange_core.proofs.Taken.{taken}

@@ -1,11 +1,9 @@
-use Rattle.std.proofs.Common.{◌≡◌, ◌*◌, true, false, sym, arith}
-use Rattle.std.specs.Prelude.{count_by}
+use Rattle.std.proofs.Common.{◌≡◌, true, false, sym, arith}
 use Rattle.std.proofs.lemmas.Bool.{ne_eqb}
 use Rattle.std.proofs.lemmas.Grind.{common_steps}
-use Rattle.circuit_model.specs.Circuits.{is_member}
 use Rattle.exchange_core.specs.IdleSlots.{idle}
 use Rattle.exchange_core.specs.World.{is_full}
-use Rattle.exchange_core.proofs.Kept.{seat_holds, seat_answer, full_is}
+use Rattle.exchange_core.proofs.Obeying.{seat_holds, seat_answer, full_is}
 use Rattle.exchange_core.proofs.call_control.CallControl.take_seat.Goals as goal
 
 false_is_no : false ≡ true → ⊥

@@ -31,7 +31,7 @@ invariant_of-self g c =
     let done = c.happen-reply.ensures in
     subst (λ room. IsWorking grown c.happen-reply.new.self.map c.happen-reply.new.self.legs room) (sym c.push_reserved.ensures.capacity)
     (stepped own _ _ _ c.args.by c.args.event e c.happen-reply.new.self.map c.happen-reply.new.self.legs c.push_reserved.new.self.items
-        c.self.invariant f.known f.number c.push_reserved.ensures.items (done.world (setting own) (world_of own) refl f.at) done.sizes.bound done.sizes.slots refl)
+    c.self.invariant f.known f.number c.push_reserved.ensures.items (done.world (setting own) (world_of own) refl f.at) done.sizes.bound done.sizes.slots refl)
 
 pub returns-clause-reply : goal.returns-clause-reply
 returns-clause-reply g c =

@@ -9,8 +9,10 @@ returns-clause-read c = λ told h.
     let n = c.end_segment.new.self in
     let closed : n.ends.items ≡ d.ends.items ++ ended d.begun (length d.events.items) = grind arith in
     let kept : n.events.items ≡ d.events.items = grind arith in
+    let planned : n.plan ≡ d.plan = grind arith in
     record {
       sizes = sym h.sizes ∙ c.in-Some.is;
+      plan = planned ∙ h.plan;
       events = c.of.ensures ∙ kept ∙ h.events;
       segments = c.of-2.ensures ∙ closed ∙ sym (segments_all d told h);
     }

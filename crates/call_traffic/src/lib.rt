@@ -1,0 +1,19 @@
+//! Pseudo-random traces of calls: what the users of several lines send, beside nails, seats, frees and
+//! frames.
+//!
+//! [`draw_traffic`] looks at the legs of a plain exchange that takes the same events, so that most
+//! messages are ones that are expected, and calls come far. The rest are unexpected, damaged or no
+//! messages at all. [`Counts`] tells how often each course of a message came.
+#![tactic(auto)]
+
+mod counts;
+mod random;
+mod traffic;
+mod users;
+
+pub use counts::Counts;
+pub use random::Random;
+pub use traffic::{Drawn, draw_traffic};
+
+#[cfg(test)]
+mod tests;

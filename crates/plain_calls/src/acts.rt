@@ -1,0 +1,139 @@
+use crate::elements::Received;
+use crate::exchange::PlainExchange;
+use crate::legs::{Leg, Peer, State, leg_at, replace_leg};
+use crate::sent::{Course, Sent};
+use crate::table::{Act, act_of, clearing_cause};
+use crate::types::{
+    ALERTING, CONNECT, CONNECT_ACKNOWLEDGE, DISCONNECT, NAMED_TYPES, NOT_COMPATIBLE_WITH_STATE,
+    RELEASE, RELEASE_COMPLETE, RESPONSE_TO_STATUS_ENQUIRY, TYPE_NOT_IMPLEMENTED,
+};
+use crate::writing::{add_cause, bare_message};
+use std::alloc::{AllocError, Global};
+
+// What the table asks for a message to a leg.
+impl PlainExchange {
+    /// Does what a message asks of its leg, and tells the cause with which it clears a call.
+    pub(crate) fn act(
+        &mut self,
+        alloc: Global,
+        leg: Leg,
+        message: &Received,
+        sent: &mut Sent,
+    ) -> Result<u8, AllocError> {
+        let act = act_of(leg.state, message);
+        let cause = clearing_cause(message);
+        sent.course = Course::For(act);
+        match act {
+            Act::Nothing => {}
+            Act::Unexpected => sent.tell_status(alloc, leg, unexpected_cause(message.kind))?,
+            Act::Enquiry => sent.tell_status(alloc, leg, RESPONSE_TO_STATUS_ENQUIRY)?,
+            Act::Proceeding => self.set_state(leg, State::Incoming),
+            Act::Alerting => self.alert(alloc, leg, sent)?,
+            Act::Answer => self.answer(alloc, leg, sent)?,
+            Act::Disconnect => self.release(alloc, leg, cause, sent)?,
+            Act::Released => {
+                self.remove(leg);
+                sent.tell(alloc, leg, RELEASE_COMPLETE)?;
+                self.clear_peer(alloc, leg, cause, sent)?;
+            }
+            Act::Gone => {
+                self.remove(leg);
+                self.clear_peer(alloc, leg, cause, sent)?;
+            }
+        }
+        Ok(cause)
+    }
+
+    fn set_state(&mut self, leg: Leg, state: State) {
+        replace_leg(&mut self.legs, Leg { state, ..leg });
+    }
+
+    // The leg that a leg is in a call with.
+    fn peer_of(&self, leg: Leg) -> Option<Leg> {
+        match leg.peer {
+            Peer::Leg(at) => leg_at(self.legs(), at),
+            Peer::Room(_) | Peer::Alone => None,
+        }
+    }
+
+    // The called user is alerted, and the caller is told so.
+    fn alert(&mut self, alloc: Global, leg: Leg, sent: &mut Sent) -> Result<(), AllocError> {
+        self.set_state(leg, State::Alerted);
+        if let Some(caller) = self.peer_of(leg) {
+            self.set_state(caller, State::Delivered);
+            sent.tell(alloc, caller, ALERTING)?;
+        }
+        Ok(())
+    }
+
+    // The called user answers: both are connected, and both are told so.
+    fn answer(&mut self, alloc: Global, leg: Leg, sent: &mut Sent) -> Result<(), AllocError> {
+        self.set_state(leg, State::Active);
+        sent.tell(alloc, leg, CONNECT_ACKNOWLEDGE)?;
+        if let Some(caller) = self.peer_of(leg) {
+            self.set_state(caller, State::Active);
+            self.clear(caller.at);
+            sent.moved = Some(self.pair(alloc, caller.at, leg.at)?);
+            sent.tell(alloc, caller, CONNECT)?;
+        }
+        Ok(())
+    }
+
+    // The user is asked to release, and the other one is cleared.
+    fn release(
+        &mut self,
+        alloc: Global,
+        leg: Leg,
+        cause: u8,
+        sent: &mut Sent,
+    ) -> Result<(), AllocError> {
+        self.stand_alone(leg, State::Releasing);
+        sent.tell(alloc, leg, RELEASE)?;
+        self.clear_peer(alloc, leg, cause, sent)
+    }
+
+    // The leg is cleared, and waits for its user in this state.
+    fn stand_alone(&mut self, leg: Leg, state: State) {
+        self.clear(leg.at);
+        replace_leg(
+            &mut self.legs,
+            Leg {
+                state,
+                peer: Peer::Alone,
+                ..leg
+            },
+        );
+    }
+
+    // The leg is gone.
+    fn remove(&mut self, leg: Leg) {
+        self.clear(leg.at);
+        self.legs.retain(|held| held.at != leg.at);
+    }
+
+    // The leg that this one was in a call with is cleared.
+    fn clear_peer(
+        &mut self,
+        alloc: Global,
+        leg: Leg,
+        cause: u8,
+        sent: &mut Sent,
+    ) -> Result<(), AllocError> {
+        let Some(peer) = self.peer_of(leg) else {
+            return Ok(());
+        };
+        self.stand_alone(peer, State::Disconnected);
+        let mut octets = bare_message(alloc, peer.side, peer.reference, DISCONNECT)?;
+        add_cause(&mut octets, cause)?;
+        sent.send(peer.at.line, octets)
+    }
+}
+
+// The cause for a message that isn't expected.
+fn unexpected_cause(kind: u8) -> u8 {
+    if NAMED_TYPES.contains(&kind) {
+        NOT_COMPATIBLE_WITH_STATE
+    } else {
+        TYPE_NOT_IMPLEMENTED
+    }
+}

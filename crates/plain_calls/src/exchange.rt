@@ -1,0 +1,233 @@
+ghost use Rattle.std.specs.Prelude.{◌<◌, IfSome, IfOk};
+
+use crate::elements::receive;
+use crate::legs::{Leg, Peer, State, leg_at, leg_named};
+use crate::numbers::Number;
+use crate::paths::Paths;
+use crate::ports::Ports;
+use crate::sent::{CallRecord, Course, Party, Sent};
+use crate::types::SETUP;
+use circuit_model::{Circuit, PLACES, Slot};
+use plain_model::{Exchange, find_heard};
+use std::alloc::{AllocError, Global};
+
+/// An exchange that keeps lists of legs, paths and ports, beside the circuits of `plain_model`.
+///
+/// Where memory runs out the exchange is half changed, and no use any more.
+#[derive(Drop)]
+pub struct PlainExchange {
+    pub(crate) external: u8,
+    pub(crate) circuits: Exchange,
+    pub(crate) ports: Ports,
+    pub(crate) paths: Paths,
+    pub(crate) legs: Vec<Leg>,
+    pub(crate) numbers: Vec<Number>,
+}
+
+impl PlainExchange {
+    /// An exchange with so many external and bridge lines and this number plan, before its first event.
+    pub fn new(alloc: Global, external: u8, bridges: u8, numbers: Vec<Number>) -> PlainExchange {
+        PlainExchange {
+            external,
+            circuits: Exchange::new(alloc),
+            ports: Ports::new(alloc, external, bridges),
+            paths: Paths::new(alloc),
+            legs: Vec::new(alloc),
+            numbers,
+        }
+    }
+
+    /// How many external lines there are.
+    pub fn external(&self) -> u8 {
+        self.external
+    }
+
+    /// The legs of the calls.
+    pub fn legs(&self) -> &[Leg] {
+        self.legs.as_slice()
+    }
+
+    /// The number plan.
+    pub fn numbers(&self) -> &[Number] {
+        self.numbers.as_slice()
+    }
+
+    /// The number of the next frame.
+    pub fn next_frame(&self) -> u32 {
+        self.circuits.next_frame()
+    }
+
+    /// Connects two slots, and counts the paths that were moved each way. None where one isn't idle.
+    pub fn nail(
+        &mut self,
+        alloc: Global,
+        x: Slot,
+        y: Slot,
+    ) -> Result<Option<(u32, u32)>, AllocError> {
+        if self.is_idle(x) && self.is_idle(y) {
+            Ok(Some(self.pair(alloc, x, y)?))
+        } else {
+            Ok(None)
+        }
+    }
+
+    /// Seats an idle slot in a room, and counts the paths that were moved each way. None where every port
+    /// is taken.
+    pub fn seat(
+        &mut self,
+        alloc: Global,
+        x: Slot,
+        room: u8,
+    ) -> Result<Option<(u32, u32)>, AllocError> {
+        let Some(port) = self.ports.take(x)? else {
+            return Ok(None);
+        };
+        self.circuits.seat(x, room)?;
+        let there = self.paths.connect(alloc, x, port)?;
+        let back = self.paths.connect(alloc, port, x)?;
+        Ok(Some((there, back)))
+    }
+
+    /// Undoes a nail or a seat. False where the slot has none.
+    pub fn free(&mut self, x: Slot) -> bool {
+        let is_nailed = self.circuit_of(x).is_some() && leg_at(self.legs(), x).is_none();
+        if is_nailed {
+            self.clear(x);
+        }
+        is_nailed
+    }
+
+    /// Passes the boundary of a frame, and tells its number. None past the greatest number.
+    pub fn boundary(
+        &mut self,
+        alloc: Global,
+        input: &[Option<[u8; 30]>],
+    ) -> Result<Option<u32>, AllocError> {
+        let frame = self.circuits.next_frame();
+        if frame == u32::MAX {
+            return Ok(None);
+        }
+        self.circuits.frame(alloc, input)?;
+        Ok(Some(frame))
+    }
+
+    /// The octet that is heard on a slot in a frame, without tones.
+    pub fn heard(&self, frame: u32, at: Slot) -> u8 {
+        self.circuits.heard(&[], &[], frame, at)
+    }
+
+    /// Takes a message from the user of a line.
+    pub fn message(&mut self, alloc: Global, line: u8, octets: &[u8]) -> Result<Sent, AllocError> {
+        let mut sent = Sent::new(alloc);
+        let Some(message) = receive(octets) else {
+            return Ok(sent);
+        };
+        sent.course = Course::Unanswered;
+        if let Some(leg) = leg_named(self.legs(), line, message.flag, message.reference) {
+            let calls = self.calls(alloc)?;
+            let cause = self.act(alloc, leg, &message, &mut sent)?;
+            for call in &calls {
+                self.tell_if_ended(*call, cause, &mut sent)?;
+            }
+        } else if message.kind == SETUP && !message.flag && message.reference > 0 {
+            self.set_up(alloc, line, &message, &mut sent)?;
+        }
+        Ok(sent)
+    }
+
+    /// Whether no circuit names a slot and no leg holds it.
+    pub fn is_idle(&self, x: Slot) -> bool {
+        self.circuit_of(x).is_none() && leg_at(self.legs(), x).is_none()
+    }
+
+    /// The lowest idle slot of a line, other than this one.
+    pub(crate) fn lowest_idle(&self, line: u8, beside: Option<Slot>) -> Option<Slot>
+        ensures { IfSome result (λ x. x.place < 30) }
+    {
+        for place in 0..PLACES {
+            let x = Slot { line, place };
+            if self.is_idle(x) && beside != Some(x) {
+                return Some(x);
+            }
+        }
+        None
+    }
+
+    /// Connects two slots.
+    pub(crate) fn pair(
+        &mut self,
+        alloc: Global,
+        x: Slot,
+        y: Slot,
+    ) -> Result<(u32, u32), AllocError> {
+        self.circuits.connect(x, y)?;
+        let there = self.paths.connect(alloc, x, y)?;
+        let back = self.paths.connect(alloc, y, x)?;
+        Ok((there, back))
+    }
+
+    /// Takes away the circuits that name a slot, with their paths and their port.
+    pub(crate) fn clear(&mut self, x: Slot) {
+        self.circuits.clear(x);
+        self.paths.clear(x);
+        self.ports.give(x);
+    }
+
+    // The circuit that names a slot. A circuit between two slots stands both ways, so each that is named
+    // hears something.
+    fn circuit_of(&self, x: Slot) -> Option<Circuit> {
+        find_heard(self.circuits.circuits(), x)
+    }
+
+    // The records of the calls whose clearing hasn't begun, as if it began now.
+    fn calls(&self, alloc: Global) -> Result<Vec<CallRecord>, AllocError> {
+        let mut calls = Vec::new(alloc);
+        for leg in self.legs() {
+            if let (true, Some(called)) = (leg.is_calling(), party_of(leg.peer)) {
+                let answered = leg.state == State::Active;
+                let to = self.circuits.next_frame();
+                let since = self.circuit_of(leg.at).map_or(to, since_of);
+                calls.push(CallRecord {
+                    caller: leg.at,
+                    called,
+                    answered,
+                    from: if answered { since } else { to },
+                    to,
+                    cause: 0,
+                })?;
+            }
+        }
+        Ok(calls)
+    }
+
+    // Tells of a call where its caller isn't in the call any more.
+    fn tell_if_ended(
+        &self,
+        call: CallRecord,
+        cause: u8,
+        sent: &mut Sent,
+    ) -> Result<(), AllocError> {
+        match leg_at(self.legs(), call.caller) {
+            Some(leg) if leg.is_calling() => {}
+            _ => sent.records.push(CallRecord { cause, ..call })?,
+        }
+        Ok(())
+    }
+}
+
+fn party_of(peer: Peer) -> Option<Party> {
+    match peer {
+        Peer::Alone => None,
+        Peer::Leg(at) => Some(Party::Line(at)),
+        Peer::Room(room) => Some(Party::Room(room)),
+    }
+}
+
+// The first frame of a circuit.
+fn since_of(circuit: Circuit) -> u32 {
+    match circuit {
+        Circuit::Pair { since, .. } => since,
+        Circuit::Member { since, .. } => since,
+        Circuit::Tone { since, .. } => since,
+    }
+}

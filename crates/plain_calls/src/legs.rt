@@ -1,0 +1,98 @@
+use circuit_model::Slot;
+
+/// The call state of a leg (ITU-T Q.931 (05/98), 2.1.2); the numbers are those of 4.5.7.
+#[derive(Clone, Copy, Debug, PartialEq, Eq)]
+pub enum State {
+    /// Outgoing call proceeding.
+    CallProceeding = 3,
+    /// Call delivered.
+    Delivered = 4,
+    /// Call present.
+    Present = 6,
+    /// Call received.
+    Alerted = 7,
+    /// Incoming call proceeding.
+    Incoming = 9,
+    /// Active.
+    Active = 10,
+    /// Disconnect indication.
+    Disconnected = 12,
+    /// Release request.
+    Releasing = 19,
+}
+
+/// The side of a call that a leg is.
+#[derive(Clone, Copy, Debug, PartialEq, Eq)]
+pub enum Side {
+    /// The user asked for the call, and chose the call reference.
+    Caller,
+    /// The user is called, and the exchange chose the call reference.
+    Called,
+}
+
+/// What a leg is in a call with.
+#[derive(Clone, Copy, Debug, PartialEq, Eq)]
+pub enum Peer {
+    /// Nothing: the call is being cleared.
+    Alone,
+    /// The leg that holds this slot.
+    Leg(Slot),
+    /// A conference room.
+    Room(u8),
+}
+
+/// What one user has of a call.
+#[derive(Clone, Copy, Debug, PartialEq, Eq)]
+pub struct Leg {
+    /// The slot that the leg holds.
+    pub at: Slot,
+    /// Its call state.
+    pub state: State,
+    /// Its call reference value.
+    pub reference: u16,
+    /// Which side of the call it is.
+    pub side: Side,
+    /// What it is in a call with.
+    pub peer: Peer,
+}
+
+impl Leg {
+    /// The leg of a caller whose clearing hasn't begun.
+    pub(crate) fn is_calling(&self) -> bool {
+        let is_up = matches!(
+            self.state,
+            State::CallProceeding | State::Delivered | State::Active
+        );
+        self.side == Side::Caller && is_up
+    }
+}
+
+/// The leg that holds a slot.
+pub(crate) fn leg_at(legs: &[Leg], x: Slot) -> Option<Leg> {
+    legs.iter().copied().find(|leg| leg.at == x)
+}
+
+/// The leg that a message on a line is for. The flag is set in messages to the side that chose the
+/// reference, so that of a message from a caller is clear.
+pub(crate) fn leg_named(legs: &[Leg], line: u8, flag: bool, reference: u16) -> Option<Leg> {
+    let side = if flag { Side::Called } else { Side::Caller };
+    legs.iter().copied().find(|leg| leg.at.line == line
+        && leg.side == side
+        && leg.reference == reference)
+}
+
+/// The lowest reference that no called leg of a line has. A line has no more legs than places.
+pub(crate) fn new_reference(legs: &[Leg], line: u8) -> u16 {
+    (1..0x7FFF)
+        .find(|reference| leg_named(legs, line, true, *reference).is_none())
+        .unwrap_or(0x7FFF)
+}
+
+/// Puts a leg in place of the one that holds its slot.
+pub(crate) fn replace_leg(legs: &mut Vec<Leg>, leg: Leg) {
+    for held in legs.iter_mut() {
+        if held.at == leg.at {
+            *held = leg;
+        }
+    }
+}

@@ -1,0 +1,54 @@
+/// Where calls to a number go.
+#[derive(Clone, Copy, Debug, PartialEq, Eq)]
+pub enum Target {
+    /// To this line.
+    Line(u8),
+    /// To this conference room.
+    Room(u8),
+}
+
+/// A number of the plan.
+#[derive(Drop)]
+pub struct Number {
+    /// Its digits, as characters.
+    pub digits: Vec<u8>,
+    /// Where calls to it go.
+    pub target: Target,
+}
+
+// What a plan says of digits.
+pub(crate) enum Found {
+    Target(Target),
+    More,
+    Nothing,
+}
+
+/// What the plan says of dialled octets, of which the low seven bits count. No number begins another.
+pub(crate) fn look(numbers: &[Number], dialled: &[u8]) -> Found {
+    for number in numbers {
+        let digits = number.digits.as_slice();
+        if is_same_so_far(digits, dialled) {
+            return if digits.len() <= dialled.len() {
+                Found::Target(number.target)
+            } else {
+                Found::More
+            };
+        }
+    }
+    Found::Nothing
+}
+
+// Whether one begins the other.
+fn is_same_so_far(digits: &[u8], dialled: &[u8]) -> bool {
+    digits
+        .iter()
+        .zip(dialled)
+        .all(|(digit, octet)| *digit == *octet % 0x80)
+}
+
+/// Whether dialled octets are digits 0 to 9.
+pub(crate) fn are_digits(dialled: &[u8]) -> bool {
+    dialled
+        .iter()
+        .all(|octet| matches!(*octet % 0x80, b'0'..=b'9'))
+}

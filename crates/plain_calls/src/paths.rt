@@ -1,0 +1,128 @@
+use circuit_model::Slot;
+use std::alloc::{AllocError, Global};
+
+/// How many internal slots each line has.
+const INTERNAL_SLOTS: u8 = 30;
+
+// A path through the fabric, in one internal slot of its incoming line and of its outgoing line.
+#[derive(Clone, Copy)]
+struct Path {
+    from: Slot,
+    to: Slot,
+    internal: u8,
+}
+
+/// The layout of the paths, as a list.
+///
+/// A path joins by Paull's rule: it gets the lowest internal slot that is free on both lines. Where
+/// there is none, let `a` be the lowest slot that is free on the incoming line and `b` the lowest that
+/// is free on the outgoing line. The paths of a chain exchange `a` and `b`, and the new path gets `a`.
+/// The chain starts with the path to the outgoing line in `a`; it goes on from a path in `a` with the path
+/// from the same incoming line in `b`, and from a path in `b` with the path to the same outgoing line in
+/// `a`.
+#[derive(Drop)]
+pub(crate) struct Paths {
+    paths: Vec<Path>,
+}
+
+impl Paths {
+    /// No path.
+    pub(crate) fn new(alloc: Global) -> Paths {
+        Paths {
+            paths: Vec::new(alloc),
+        }
+    }
+
+    /// Adds a path, and counts the paths whose internal slot was changed for it.
+    pub(crate) fn connect(
+        &mut self,
+        alloc: Global,
+        from: Slot,
+        to: Slot,
+    ) -> Result<u32, AllocError> {
+        let before = Vec::from_slice(alloc, self.paths.as_slice())?;
+        if let Some(internal) = self.make_room(alloc, from.line, to.line)? {
+            let moved = self.moved_since(before.as_slice());
+            self.paths.push(Path { from, to, internal })?;
+            return Ok(moved);
+        }
+        Ok(0)
+    }
+
+    /// Takes away the paths from and to a slot.
+    pub(crate) fn clear(&mut self, x: Slot) {
+        self.paths.retain(|path| path.from != x && path.to != x);
+    }
+
+    // The internal slot for a path from one line to another, free on both once the paths of the chain
+    // have moved. None where a line has no free slot at all.
+    fn make_room(&mut self, alloc: Global, from: u8, to: u8) -> Result<Option<u8>, AllocError> {
+        for internal in 0..INTERNAL_SLOTS {
+            if self.from_line(from, internal).is_none() && self.to_line(to, internal).is_none() {
+                return Ok(Some(internal));
+            }
+        }
+        let a = (0..INTERNAL_SLOTS).find(|internal| self.from_line(from, *internal).is_none());
+        let b = (0..INTERNAL_SLOTS).find(|internal| self.to_line(to, *internal).is_none());
+        if let (Some(a), Some(b)) = (a, b) {
+            let chain = self.chain(alloc, to, a, b)?;
+            self.exchange(chain.as_slice(), a, b);
+        }
+        Ok(a)
+    }
+
+    // The places in the list of the chain's paths.
+    fn chain(&self, alloc: Global, to: u8, a: u8, b: u8) -> Result<Vec<usize>, AllocError> {
+        let mut chain = Vec::new(alloc);
+        let mut next = self.to_line(to, a);
+        for _ in self.paths.iter() {
+            let Some(place) = next else { break };
+            chain.push(place)?;
+            next = self.after(place, a, b);
+        }
+        Ok(chain)
+    }
+
+    // The chain's next path.
+    fn after(&self, place: usize, a: u8, b: u8) -> Option<usize> {
+        let path = self.paths.get(place)?;
+        if path.internal == a {
+            self.from_line(path.from.line, b)
+        } else {
+            self.to_line(path.to.line, a)
+        }
+    }
+
+    fn exchange(&mut self, chain: &[usize], a: u8, b: u8) {
+        for place in chain {
+            if let Some(path) = self.paths.get_mut(*place) {
+                path.internal = if path.internal == a { b } else { a };
+            }
+        }
+    }
+
+    // The path that comes from a line in an internal slot.
+    fn from_line(&self, line: u8, internal: u8) -> Option<usize> {
+        self.paths
+            .iter()
+            .position(|path| path.from.line == line && path.internal == internal)
+    }
+
+    // The path that goes to a line in an internal slot.
+    fn to_line(&self, line: u8, internal: u8) -> Option<usize> {
+        self.paths
+            .iter()
+            .position(|path| path.to.line == line && path.internal == internal)
+    }
+
+    // How many paths have another internal slot than they had.
+    fn moved_since(&self, before: &[Path]) -> u32 {
+        let mut moved = 0u32;
+        for (now, then) in self.paths.iter().zip(before) {
+            if now.internal != then.internal {
+                moved = moved.saturating_add(1);
+            }
+        }
+        moved
+    }
+}

@@ -1,0 +1,202 @@
+use crate::exchange::PlainExchange;
+use crate::numbers::Number;
+use crate::sent::{CallRecord, Course, Sent};
+use circuit_model::{IDLE, PLACES, Slot};
+use std::alloc::{AllocError, Global};
+
+/// An event of a trace.
+#[derive(Drop)]
+pub enum PlainEvent {
+    /// Connect two slots.
+    Nail(Slot, Slot),
+    /// Seat a slot in a room.
+    Seat(Slot, u8),
+    /// Undo a nail or a seat.
+    Free(Slot),
+    /// A message from the user of a line.
+    Message(u8, Vec<u8>),
+    /// A frame, with the octets of each line that isn't idle.
+    Frame(Vec<Option<[u8; 30]>>),
+}
+
+/// A run of the plain exchange, with its report.
+#[derive(Drop)]
+pub struct PlainRun {
+    exchange: PlainExchange,
+    events: u32,
+    report: String,
+    records: Vec<CallRecord>,
+    moved: u32,
+}
+
+impl PlainRun {
+    /// Before the first event of this exchange.
+    pub fn new(alloc: Global, exchange: PlainExchange) -> PlainRun {
+        PlainRun {
+            exchange,
+            events: 0,
+            report: String::new(alloc),
+            records: Vec::new(alloc),
+            moved: 0,
+        }
+    }
+
+    /// The exchange.
+    pub fn exchange(&self) -> &PlainExchange {
+        &self.exchange
+    }
+
+    /// The report so far.
+    pub fn report(&self) -> &str {
+        self.report.as_str()
+    }
+
+    /// The records of the calls whose clearing has begun.
+    pub fn records(&self) -> &[CallRecord] {
+        self.records.as_slice()
+    }
+
+    /// How many paths were moved so far.
+    pub fn moved(&self) -> u32 {
+        self.moved
+    }
+
+    /// The report of the whole run.
+    pub fn into_report(self) -> String {
+        let PlainRun {
+            exchange: _,
+            events: _,
+            report,
+            records: _,
+            moved: _,
+        } = self;
+        report
+    }
+
+    /// Takes an event and adds its line to the report. What became of a message.
+    pub fn step(
+        &mut self,
+        alloc: Global,
+        event: &PlainEvent,
+    ) -> Result<Option<Course>, AllocError> {
+        self.events = self.events.saturating_add(1);
+        write!(self.report, "{} ", self.events)?;
+        let mut course = None;
+        match event {
+            PlainEvent::Nail(x, y) => self.nail(alloc, *x, *y)?,
+            PlainEvent::Seat(x, room) => self.seat(alloc, *x, *room)?,
+            PlainEvent::Free(x) => self.free(*x)?,
+            PlainEvent::Message(line, octets) => {
+                course = Some(self.message(alloc, *line, octets.as_slice())?);
+            }
+            PlainEvent::Frame(input) => self.frame(alloc, input.as_slice())?,
+        }
+        self.report.push_str("\n")?;
+        Ok(course)
+    }
+
+    fn nail(&mut self, alloc: Global, x: Slot, y: Slot) -> Result<(), AllocError> {
+        match self.exchange.nail(alloc, x, y)? {
+            Some((there, back)) => {
+                self.count_moved(there, back);
+                write!(self.report, "granted {there} {back}")
+            }
+            None => self.report.push_str("busy"),
+        }
+    }
+
+    fn seat(&mut self, alloc: Global, x: Slot, room: u8) -> Result<(), AllocError> {
+        if !self.exchange.is_idle(x) {
+            return self.report.push_str("busy");
+        }
+        match self.exchange.seat(alloc, x, room)? {
+            Some((there, back)) => {
+                self.count_moved(there, back);
+                write!(self.report, "seated {there} {back}")
+            }
+            None => self.report.push_str("noport"),
+        }
+    }
+
+    fn free(&mut self, x: Slot) -> Result<(), AllocError> {
+        let freed = self.exchange.free(x);
+        self.report
+            .push_str(if freed { "freed" } else { "notnailed" })
+    }
+
+    fn message(&mut self, alloc: Global, line: u8, octets: &[u8]) -> Result<Course, AllocError> {
+        let sent = self.exchange.message(alloc, line, octets)?;
+        self.records.extend_from_slice(sent.records.as_slice())?;
+        if let Some((there, back)) = sent.moved {
+            self.count_moved(there, back);
+        }
+        append_sent(&mut self.report, &sent)?;
+        Ok(sent.course)
+    }
+
+    fn frame(&mut self, alloc: Global, input: &[Option<[u8; 30]>]) -> Result<(), AllocError> {
+        let Some(frame) = self.exchange.boundary(alloc, input)? else {
+            return Ok(());
+        };
+        write!(self.report, "frame {frame}")?;
+        for line in 0..self.exchange.external() {
+            self.line(frame, line)?;
+        }
+        Ok(())
+    }
+
+    fn count_moved(&mut self, there: u32, back: u32) {
+        self.moved = self.moved.saturating_add(there).saturating_add(back);
+    }
+
+    // What a line hears in a frame, where that isn't all idle.
+    fn line(&mut self, frame: u32, line: u8) -> Result<(), AllocError> {
+        let mut octets = [IDLE; 30];
+        for place in 0..PLACES {
+            octets[usize::from(place)] = self.exchange.heard(frame, Slot { line, place });
+        }
+        if octets.iter().all(|octet| *octet == IDLE) {
+            return Ok(());
+        }
+        write!(self.report, " {line}:")?;
+        append_octets(&mut self.report, &octets)
+    }
+}
+
+fn append_sent(report: &mut String, sent: &Sent) -> Result<(), AllocError> {
+    report.push_str("message")?;
+    if let Some((there, back)) = sent.moved {
+        write!(report, " moved {there} {back}")?;
+    }
+    for signal in &sent.sends {
+        let line = signal.line;
+        write!(report, " {line}:")?;
+        append_octets(report, signal.octets.as_slice())?;
+    }
+    Ok(())
+}
+
+/// Adds the upper-case hexadecimal digits of octets to a text.
+pub fn append_octets(text: &mut String, octets: &[u8]) -> Result<(), AllocError> {
+    for octet in octets {
+        write!(text, "{octet:02X}")?;
+    }
+    Ok(())
+}
+
+/// The report of a run of these events, in their order, through an exchange with so many external and
+/// bridge lines and this number plan.
+pub fn plain_report(
+    alloc: Global,
+    external: u8,
+    bridges: u8,
+    numbers: Vec<Number>,
+    events: &[PlainEvent],
+) -> Result<Vec<u8>, AllocError> {
+    let exchange = PlainExchange::new(alloc, external, bridges, numbers);
+    let mut run = PlainRun::new(alloc, exchange);
+    for event in events {
+        run.step(alloc, event)?;
+    }
+    Ok(run.into_report().into_bytes())
+}

@@ -1,0 +1,109 @@
+use crate::channels::place_of_channel;
+use crate::elements::Received;
+use crate::numbers::are_digits;
+use crate::types::{BEARER_CAPABILITY, CALLED_PARTY_NUMBER, CHANNEL_IDENTIFICATION};
+
+/// Why a SETUP is refused; the first of these that holds.
+#[derive(Clone, Copy, Debug, PartialEq, Eq)]
+pub enum Refusal {
+    /// There is no bearer capability.
+    NoBearer,
+    /// The bearer capability has fewer than 2 octets or more than 10.
+    BearerLength,
+    /// It is none of speech, 3.1 kHz audio and unrestricted digital information, in circuit mode.
+    BearerNotCarried,
+    /// The channel identification can't be read.
+    ChannelInvalid,
+    /// There is no called party number, or one without octets or with more than 21.
+    NoNumber,
+    /// The number has something else than digits.
+    NoDigits,
+    /// The plan doesn't know the number.
+    UnknownNumber,
+    /// The number isn't whole.
+    UnfinishedNumber,
+    /// The only channel that the caller accepts isn't idle.
+    ChannelTaken,
+    /// The caller's line has no idle slot.
+    LineFull,
+    /// The called line has no idle slot beside the caller's.
+    CalledLineFull,
+    /// Every conference port is taken.
+    NoPort,
+}
+
+impl Refusal {
+    /// The cause value (ITU-T Q.931 (05/98), 4.5.12; ITU-T Q.850).
+    pub fn cause(self) -> u8 {
+        match self {
+            Refusal::NoBearer => 96,
+            Refusal::BearerLength | Refusal::ChannelInvalid => 100,
+            Refusal::BearerNotCarried => 65,
+            Refusal::NoNumber | Refusal::NoDigits | Refusal::UnfinishedNumber => 28,
+            Refusal::UnknownNumber => 1,
+            Refusal::ChannelTaken => 44,
+            Refusal::LineFull | Refusal::CalledLineFull => 34,
+            Refusal::NoPort => 42,
+        }
+    }
+}
+
+/// The channel that a caller asks for, by its number.
+#[derive(Clone, Copy)]
+pub(crate) enum Channel {
+    Any,
+    Preferred(u8),
+    Exclusive(u8),
+}
+
+/// What a SETUP asks for.
+#[derive(Clone, Copy)]
+pub(crate) struct Asked<'a> {
+    pub bearer: &'a [u8],
+    pub channel: Channel,
+    pub called: &'a [u8],
+    pub dialled: &'a [u8],
+}
+
+/// Reads what a SETUP asks for.
+pub(crate) fn read_setup<'a>(setup: &Received<'a>) -> Result<Asked<'a>, Refusal> {
+    let bearer = bearer_asked(setup)?;
+    let channel = channel_asked(setup)?;
+    let called = setup.find(CALLED_PARTY_NUMBER).unwrap_or(&[]);
+    match called {
+        [_, dialled @ ..] if dialled.len() <= 20 && are_digits(dialled) => Ok(Asked {
+            bearer,
+            channel,
+            called,
+            dialled,
+        }),
+        [_, dialled @ ..] if dialled.len() <= 20 => Err(Refusal::NoDigits),
+        _ => Err(Refusal::NoNumber),
+    }
+}
+
+fn bearer_asked<'a>(setup: &Received<'a>) -> Result<&'a [u8], Refusal> {
+    match setup.find(BEARER_CAPABILITY) {
+        None => Err(Refusal::NoBearer),
+        Some(bearer) if bearer.len() < 2 || bearer.len() > 10 => Err(Refusal::BearerLength),
+        Some(bearer) if matches!(bearer, [0x80 | 0x88 | 0x90, 0x90, ..]) => Ok(bearer),
+        Some(_) => Err(Refusal::BearerNotCarried),
+    }
+}
+
+fn channel_asked(setup: &Received) -> Result<Channel, Refusal> {
+    match setup.find(CHANNEL_IDENTIFICATION) {
+        None | Some([0xA3, ..]) => Ok(Channel::Any),
+        Some([0xA1, 0x83, octet]) => Ok(Channel::Preferred(number_asked(*octet)?)),
+        Some([0xA9, 0x83, octet]) => Ok(Channel::Exclusive(number_asked(*octet)?)),
+        Some(_) => Err(Refusal::ChannelInvalid),
+    }
+}
+
+fn number_asked(octet: u8) -> Result<u8, Refusal> {
+    let number = octet % 0x80;
+    match place_of_channel(number) {
+        Some(_) => Ok(number),
+        None => Err(Refusal::ChannelInvalid),
+    }
+}

@@ -1,0 +1,65 @@
+-- The segments of a trace: their ends rise, and the last is that of the last event.
+use Rattle.std.proofs.Common.{◌≡◌, ℕ, ◌+◌, ◌<◌, ◌≤◌, List, [], ◌∷◌, ◌++◌, length, All, refl, sym, subst, ◌∙◌, inl, inr, arith, append-nil}
+use Rattle.std.specs.Prelude.{AllPairs}
+use Rattle.std.proofs.lemmas.Bool.{cases_eq, eq-eqb, ne_eqb}
+use Rattle.std.proofs.lemmas.List.Elements.{All-nil, All-cons, All-weaker}
+use Rattle.std.proofs.lemmas.List.Kept.{AllPairs-cons}
+use Rattle.trace_text.specs.declared.said.Said.{Said}
+use Rattle.trace_text.specs.declared.said.Said.TheVariants.{Nothing, Header, Numbered, Happens, Sync}
+use Rattle.trace_text.specs.TraceGrammar.{events_in, ended, ends_after, segment_ends}
+use Rattle.exchange_core.specs.Sound.{last_of, AreSegments}
+
+-- the ends of some segments, behind so many events, of which so many came before the first of these segments
+pub record AreEnds (begun last : ℕ) (ends : List ℕ) : Type 0 where
+  pub above : All (λ n. begun < n) ends
+  pub rising : AllPairs (λ m n. m < n) ends
+  pub whole : last_of (begun ∷ ends) ≡ last
+
+no_pairs : AllPairs (λ m n. m < n) []
+no_pairs i j d lt within = absurd (omega arith)
+
+no_ends : (begun : ℕ) → AreEnds begun begun []
+no_ends begun = record { above = All-nil (λ n. begun < n); rising = no_pairs; whole = refl }
+
+-- one more end before others
+one_end : (begun count last : ℕ) (later : List ℕ) → begun < count → AreEnds count last later → AreEnds begun last (count ∷ later)
+one_end begun count last later lt e = record {
+  above = All-cons (λ n. begun < n) count later lt (All-weaker (λ n. count < n) (λ n. begun < n) (λ n above. omega (arith, lt, above)) later e.above);
+  rising = AllPairs-cons (λ m n. m < n) count later e.above e.rising;
+  whole = e.whole;
+}
+
+-- the end of a segment, where it has events, before others
+with_end : (begun count last : ℕ) (later : List ℕ) → begun ≤ count → AreEnds count last later → AreEnds begun last (ended begun count ++ later)
+with_end begun count last later le e =
+    elim (cases_eq begun count) [
+      | inl same ↦ rw (eq-eqb begun count same, same) e
+      | inr other ↦ rw (ne_eqb begun count other) (one_end begun count last later (omega (arith, le, other)) e)
+    ]
+
+are_ends : (begun count : ℕ) (told : List Said) → begun ≤ count → AreEnds begun (count + length (events_in told)) (ends_after begun count told)
+are_ends begun count [] le =
+    let e = with_end begun count count [] le (no_ends count) in
+    let none : count ≡ count + 0 = omega arith in
+    subst (λ n. AreEnds begun n (ended begun count)) none (rw (append-nil (ended begun count)) at e)
+are_ends begun count (Nothing ∷ told) le = are_ends begun count told le
+are_ends begun count (Header sizes ∷ told) le = are_ends begun count told le
+are_ends begun count (Numbered number ∷ told) le = are_ends begun count told le
+are_ends begun count (Happens event ∷ told) le =
+    let more : count + 1 + length (events_in told) ≡ count + length (event ∷ events_in told) = omega arith in
+    let e = are_ends begun (count + 1) told (omega (arith, le)) in
+    rw more at e
+are_ends begun count (Sync ∷ told) le = with_end begun count (count + length (events_in told)) (ends_after count count told) le (are_ends count count told (omega arith))
+
+last_behind : (ends : List ℕ) → last_of (0 ∷ ends) ≡ last_of ends
+last_behind [] = refl
+last_behind (n ∷ ends) = refl
+
+pub segments_sound : (told : List Said) → AreSegments (length (events_in told)) (segment_ends told)
+segments_sound told =
+    let e = are_ends 0 0 told (omega arith) in
+    record {
+      some = All-weaker (λ n. 0 < n) (λ n. 1 ≤ n) (λ n above. omega (arith, above)) (segment_ends told) e.above;
+      rising = e.rising;
+      whole = let none : 0 + length (events_in told) ≡ length (events_in told) = omega arith in sym (last_behind (segment_ends told)) ∙ e.whole ∙ none;
+    }
