@@ -1,5 +1,5 @@
 -- A worker's next event.
-use Rattle.std.proofs.Common.{◌≡◌, ℕ, zero, suc, ◌+◌, ◌-◌, ◌<◌, ◌≤◌, true, false, IsTrue, List, [], ◌∷◌, ◌++◌, map, length, take, get_or, slice_get, Option, Some, None, refl, sym, ap, ◌∙◌, subst, arith, inl, inr, append_assoc, append-nil, length-append}
+use Rattle.std.proofs.Common.{◌≡◌, ℕ, zero, suc, ◌+◌, ◌-◌, ◌<◌, ◌≤◌, true, false, IsTrue, List, [], ◌∷◌, ◌++◌, map, length, take, get_or, slice_get, Option, Some, None, refl, sym, ap, ◌∙◌, subst, arith, inl, inr, append_assoc, append-nil, length-append, length-take-le}
 use Rattle.std.specs.List.{All, AllPairs}
 use Rattle.std.proofs.lemmas.Bool.{cases_lt}
 use Rattle.std.proofs.lemmas.List.{map-append, get_or_append_left, get_or_push, length_push}
@@ -8,11 +8,12 @@ use Rattle.std.proofs.lemmas.Option.{slice_get_within}
 use lib.Seq.{take-append-le}
 use Rattle.exchange_core.specs.declared.reply.Reply.{Reply}
 use Rattle.exchange_core.specs.Kept.{kept}
-use Rattle.exchange_core.specs.Seats.{Board, Known, StartsWith, AnswersAt, before, handling}
+use Rattle.exchange_core.specs.Seats.{Board, Known, StartsWith, AnswersAt, before, handling, world_at}
 use Rattle.exchange_core.specs.Step.{MovesAtMost}
 use Rattle.exchange_core.specs.Working.{Entry}
 use Rattle.call_processor.specs.declared.worked.Placed.{Placed}
-use Rattle.call_processor.specs.Work.{Did, IsAnswer, Works, answered, entries_for}
+use Rattle.call_processor.specs.Frames.{Plays, HasFrame, IsPlayed}
+use Rattle.call_processor.specs.Work.{Did, Handled, IsAnswer, Works, answered, entries_for}
 
 pub starts_same : (v : Known) → StartsWith v.seen v.seen
 starts_same v = ([], sym (append-nil v.seen))
@@ -173,6 +174,47 @@ going_with board history done v w x answers p r n place is at g e given few keep
     (going_more board history done v w x answers p r g
     (subst (λ (m : ℕ). Next history p.answer.event m w x) (sym at) (subst (λ (m : ℕ). Next history m place w x) (sym is) e))
     (subst (λ (m : ℕ). AnswersAt board history m r) (sym is) given) few keeps)
+
+-- the same, where the call's own contract says all of it
+pub next_of : (v w : Known) (n : ℕ) (h : Handled v n w) → Next (before h.place w.seen) n h.place v w
+next_of v w n h = record {
+  seat = h.seat;
+  begins = h.begins;
+  place_is = length-take-le h.place w.seen (let last = h.last in omega (arith, last));
+  turn = h.turn;
+}
+
+pub going_said : (board : Board) (done : List ℕ) (v w x : Known) (answers : List Placed) (p : Placed) (n : ℕ) → Going board done v answers w → Handled w n x
+    → length x.seen ≡ p.place + 1 → p.answer.event ≡ n → IsAnswer board x p → Going board (done ++ n ∷ []) v (answers ++ p ∷ []) x
+going_said board done v w x answers p n g h last event a =
+    let e = next_of w x n h in
+    let begins = begins_next (before h.place x.seen) n h.place w x e in
+    let own : x.number ≡ w.number = ap (λ (k : Known). k.number) e.seat in
+    let long = long_start (before h.place x.seen) w.seen e.begins in
+    let longer = long_start w.seen v.seen g.did.begins in
+    let hlast = h.last in
+    let size = e.place_is in
+    record {
+      did = did_more (before h.place x.seen) v w x done n h.place g.did e;
+      told = map-append (λ (q : Placed). q.answer.event) answers (p ∷ []) ∙ ((λ i. g.told i ++ event i ∷ []));
+      each = All-push (IsAnswer board x) answers p
+          (All-weaker (IsAnswer board w) (IsAnswer board x) (λ q b. answer_stays board w x q begins own b) answers g.each) a;
+      rising = pairs_push (λ (b c : Placed). b.place < c.place) answers p g.rising
+          (All-weaker (IsAnswer board w) (λ (q : Placed). q.place < p.place)
+          (λ q b. let here = slice_get_within w.seen q.place (w.number, q.answer.event) b.entry in omega (arith, here, long, size, last, hlast)) answers g.each);
+      beyond = All-push (λ (q : Placed). length v.seen ≤ q.place) answers p g.beyond (omega (arith, long, longer, size, last, hlast));
+    }
+
+-- the octets of an answer stay those of its frame
+pub frame_stays : (plays : Plays) (tones : _) (board : Board) (w x : Known) (p : Placed) → StartsWith x.seen w.seen → IsAnswer board w p → HasFrame plays tones board w p → HasFrame plays tones board x p
+frame_stays plays tones board w x p s a h = λ input number.
+    let here = slice_get_within w.seen p.place (w.number, p.answer.event) a.entry in
+    let same : before p.place x.seen ≡ before p.place w.seen = ap (take p.place) s.1 ∙ take-append-le p.place w.seen s.0 (omega (arith, here)) in
+    subst (λ (l : List Entry). IsPlayed plays tones board.trace.external (world_at board l) input p.answer.octets) (sym same) (h input number)
+
+pub frames_stay : (plays : Plays) (tones : _) (board : Board) (w x : Known) (answers : List Placed) → StartsWith x.seen w.seen → All (IsAnswer board w) answers
+    → All (HasFrame plays tones board w) answers → All (HasFrame plays tones board x) answers
+frames_stay plays tones board w x answers s each frames = λ k d within. frame_stays plays tones board w x (get_or answers k d) s (each k d within) (frames k d within)
 
 -- ---- a worker's end
 

@@ -2,7 +2,7 @@
 use Rattle.std.specs.Prelude.{◌≡◌, ℕ, ◌+◌, ◌<◌, ◌≤◌, Bool, IsTrue, List, ◌++◌, length, map, slice_get, Some, All, AllPairs}
 use Rattle.exchange_core.specs.declared.reply.Reply.{Reply}
 use Rattle.exchange_core.specs.Kept.{kept}
-use Rattle.exchange_core.specs.Seats.{Board, Known, StartsWith, AnswersAt, before}
+use Rattle.exchange_core.specs.Seats.{Board, Known, StartsWith, AnswersAt, before, handling}
 use Rattle.exchange_core.specs.Step.{MovesAtMost}
 use Rattle.exchange_core.specs.Working.{Entry}
 use Rattle.call_processor.specs.declared.worked.Placed.{Placed}
@@ -21,6 +21,14 @@ pub record Did (v : Known) (events : List ℕ) (w : Known) : Type 0 where
   pub baton : w.baton ≡ v.baton
   pub made : w.made ≡ v.made
   pub others : w.kept ≡ v.kept
+
+-- From v to w the seat did one event, behind a history that begins with what it had seen.
+pub record Handled (v : Known) (event : ℕ) (w : Known) : Type 0 where
+  pub place : ℕ
+  pub seat : w ≡ handling (before place w.seen) event v
+  pub begins : StartsWith (before place w.seen) v.seen
+  pub last : length w.seen ≡ place + 1
+  pub turn : 0 < v.left
 
 -- the answer stands at the place of the seat's entry for its event, and keeps the exchange's reply at the history before that entry
 pub record IsAnswer (board : Board) (seat : Known) (p : Placed) : Type 0 where

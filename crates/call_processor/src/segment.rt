@@ -1,10 +1,12 @@
-ghost use Rattle.std.specs.Prelude.{◌≡◌, ℕ, ◌+◌, ◌-◌, ◌<◌, ◌≤◌, length, filter};
+ghost use Rattle.std.specs.Prelude.{◌≡◌, ℕ, ◌+◌, ◌-◌, ◌<◌, ◌≤◌, length, filter, is_some, IfSome};
 ghost use Rattle.std.specs.List.{range_with_len};
-ghost use Rattle.exchange_core.specs.Orders.{Worker, Processor, IsEvent, worker_of};
+ghost use Rattle.exchange_core.specs.Orders.{Worker, Processor, Frame_worker, IsEvent, worker_of};
 ghost use Rattle.exchange_core.specs.Sound.{IsSound};
+ghost use Rattle.exchange_core.specs.Working.{IsNumbered};
+ghost use Rattle.exchange_core.specs.declared.trace.Event.TheVariants.{Frame};
 ghost use Rattle.call_processor.specs.Parts.{is_its, part_of, worker_at};
 
-use exchange_core::{Event, Trace};
+use exchange_core::{Event, Input, Trace};
 
 /// The numbers of a segment's events: from the first of the two on, up to before the second.
 /// Segments are counted from 0, events from 1.
@@ -47,4 +49,19 @@ pub fn is_of_processor(trace: &Trace, processor: u32, event: u32) -> bool
 {
     let done = &trace.events.as_slice()[event as usize - 1];
     processor_of(trace.processors, done) == Some(processor)
+}
+
+/// What arrives in the frame that has this number. `None` for an event that is no frame.
+pub fn input_of(trace: &Trace, event: u32) -> Option<&Input>
+    requires event { IsEvent trace.now event }
+    ensures its { is_some result ≡ is_its trace.now Frame_worker event }
+    ensures input { IfSome result (λ input. IsNumbered trace.now event (Frame input.now)) }
+{
+    match &trace.events.as_slice()[event as usize - 1] {
+        Event::Frame(input) => Some(input),
+        Event::Nail(_, _) => None,
+        Event::Seat(_, _) => None,
+        Event::Free(_) => None,
+        Event::Message(_, _) => None,
+    }
 }

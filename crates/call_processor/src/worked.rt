@@ -1,4 +1,4 @@
-use exchange_core::Answer;
+use exchange_core::{Answer, Tool};
 
 /// An answer, and the place of its entry in the history, counted from 0.
 #[derive(Drop)]
@@ -18,4 +18,15 @@ pub struct Worked<T> {
     pub answers: Vec<Placed>,
     /// Whether all of the part was done and answered. False only for want of memory.
     pub whole: bool,
+}
+
+/// What came of the frame worker's part of a segment. The engine and the tool come back with it.
+#[derive(Drop)]
+pub struct Framed<T, C> {
+    /// What came of its part.
+    pub worked: Worked<T>,
+    /// The engine. Where the part was done whole, it carries the frames of the history.
+    pub engine: C,
+    /// The control memory for the next frame.
+    pub tool: Tool,
 }
