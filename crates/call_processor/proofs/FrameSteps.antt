@@ -1,5 +1,5 @@
 -- A frame at its place in the history, and what the engine makes of it.
-use Rattle.std.proofs.Common.{◌≡◌, ℕ, suc, ◌+◌, ◌-◌, ◌<◌, ◌≤◌, List, ◌++◌, Bool, true, false, Option, Some, None, [], ◌∷◌, length, take, drop, drop_of_length-le, append-nil, take_all, slice_get, refl, sym, subst, arith, if◌then◌else◌, ◌∙◌, ap}
+use Rattle.std.proofs.Common.{◌≡◌, ℕ, ◌+◌, ◌-◌, ◌<◌, ◌≤◌, List, ◌++◌, Bool, true, false, Option, Some, None, [], ◌∷◌, length, take, drop, drop_of_length-le, append-nil, take_all, slice_get, refl, sym, subst, arith, if◌then◌else◌, ◌∙◌, ap}
 use Rattle.std.specs.Prelude.{All}
 use Rattle.std.specs.List.{cons_option}
 use Rattle.std.proofs.lemmas.List.{map-append}
@@ -114,10 +114,10 @@ same_frames board seen history begins none =
     let events = board.trace.events in
     let still : NoFrames board.trace rest = subst (NoFrames board.trace) (ap (drop (length seen)) begins.1 ∙ dropped seen rest) none in
     let longer : world_at board history ≡ world s (world_at board seen) (events_of events (order_of rest)) =
-        ap (world_at board) begins.1
-        ∙ (ap (λ (order : List ℕ). world s (start s.dimensions) (events_of events order)) (map-append (λ (e : Entry). e.1) seen rest)
-        ∙ (ap (world s (start s.dimensions)) (filter_map-append (λ (n : ℕ). slice_get events (n - 1)) (order_of seen) (order_of rest))
-        ∙ world_append s (start s.dimensions) (events_of events (order_of seen)) (events_of events (order_of rest)))) in
+    ap (world_at board) begins.1
+    ∙ (ap (λ (order : List ℕ). world s (start s.dimensions) (events_of events order)) (map-append (λ (e : Entry). e.1) seen rest)
+    ∙ (ap (world s (start s.dimensions)) (filter_map-append (λ (n : ℕ). slice_get events (n - 1)) (order_of seen) (order_of rest))
+    ∙ world_append s (start s.dimensions) (events_of events (order_of seen)) (events_of events (order_of rest)))) in
     subst (SameFrames (world_at board seen)) (sym longer) (quiet_all s board.trace rest still (world_at board seen))
 
 -- ---- how many frames there have been
@@ -218,7 +218,7 @@ module _ {E : Type 0} (carries : Carrying E) (frames : E → ℕ) (sizes : E →
   ready_after history seen by n input after image later number is size same carried count sized =
       let d = (setting_at board).dimensions in
       let longer : world_at board seen ≡ pass (world_at board history) input =
-          ap (world_at board) is ∙ world_more (record { trace = board.trace; slots = board.slots; bound = board.bound; journal = history }) by n (Frame input) number in
+      ap (world_at board) is ∙ world_more (record { trace = board.trace; slots = board.slots; bound = board.bound; journal = history }) by n (Frame input) number in
       record {
         carried = subst (CarriesFrames carries after) (sym longer) carried;
         number = subst (λ (v : World). frames after ≡ v.holding.next) (sym longer) count;

@@ -6,7 +6,7 @@ use Rattle.std.proofs.lemmas.Bool.Decides.{nat_tests}
 use Rattle.std.proofs.lemmas.List.Elements.{filter-append}
 use Rattle.std.proofs.lemmas.List.Sums.{sum_by-cons}
 use Rattle.exchange_core.specs.declared.trace.Trace.{Trace}
-use Rattle.exchange_core.specs.Orders.{Worker, segment_of, file_order}
+use Rattle.exchange_core.specs.Orders.{Worker, segment_of}
 use Rattle.exchange_core.specs.Sound.{AreSegments, last_of}
 use Rattle.call_processor.specs.Parts.{is_its, part_of}
 
@@ -129,15 +129,15 @@ part_is trace k worker sound within =
     let most : last ≤ count = let h = below_last ends r k within in omega (arith, h, sound.whole) in
     let len : count ≡ first + ((last - first) + (count - last)) = omega (arith, order, most) in
     let one : range_with_len 1 count ≡ range_with_len 1 first ++ range_with_len (1 + first) ((last - first) + (count - last)) =
-        ap (range_with_len 1) len ∙ range_parts 1 first ((last - first) + (count - last)) in
+    ap (range_with_len 1) len ∙ range_parts 1 first ((last - first) + (count - last)) in
     let two : range_with_len (1 + first) ((last - first) + (count - last)) ≡ range_with_len (1 + first) (last - first) ++ range_with_len ((1 + first) + (last - first)) (count - last) =
-        range_parts (1 + first) (last - first) (count - last) in
+    range_parts (1 + first) (last - first) (count - last) in
     let front : filter p (range_with_len 1 first) ≡ [] =
-        none_pass p 1 first (λ n low high. other n (let h = before_one ends r k n within low (omega (arith, high)) in λ e. absurd (omega (arith, h, e)))) in
+    none_pass p 1 first (λ n low high. other n (let h = before_one ends r k n within low (omega (arith, high)) in λ e. absurd (omega (arith, h, e)))) in
     let back : filter p (range_with_len ((1 + first) + (last - first)) (count - last)) ≡ [] =
-        none_pass p ((1 + first) + (last - first)) (count - last) (λ n low high. other n (let h = after_one ends r k n within (omega (arith, low, order)) in λ e. absurd (omega (arith, h, e)))) in
+    none_pass p ((1 + first) + (last - first)) (count - last) (λ n low high. other n (let h = after_one ends r k n within (omega (arith, low, order)) in λ e. absurd (omega (arith, h, e)))) in
     let middle : filter p (range_with_len (1 + first) (last - first)) ≡ filter (is_its trace worker) (range_with_len (1 + first) (last - first)) =
-        alike p (is_its trace worker) (1 + first) (last - first) (λ n low high. same n (inside_one ends r k n within (omega (arith, low)) (omega (arith, high, order)))) in
+    alike p (is_its trace worker) (1 + first) (last - first) (λ n low high. same n (inside_one ends r k n within (omega (arith, low)) (omega (arith, high, order)))) in
     let swap : 1 + first ≡ first + 1 = omega arith in
     ap (filter p) one
     ∙ (filter-append p (range_with_len 1 first) (range_with_len (1 + first) ((last - first) + (count - last)))

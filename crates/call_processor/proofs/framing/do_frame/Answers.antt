@@ -1,16 +1,15 @@
-use Rattle.std.proofs.Common.{rules, ◌≡◌, ◌+◌, ◌<◌, ℕ, List, [], ◌∷◌, ◌++◌, length, sym, ap, ◌∙◌, subst, refl, arith, length-take-le}
+use Rattle.std.proofs.Common.{rules, ◌≡◌, ◌+◌, ℕ, [], ◌∷◌, ◌++◌, length, sym, ap, ◌∙◌, subst, arith, length-take-le}
 use Rattle.circuit_model.specs.FrameInput.{Input}
 use Rattle.exchange_core.specs.Seats.{AnswersAt, before, world_at, setting_at}
-use Rattle.exchange_core.specs.Working.{Entry, IsNumbered}
+use Rattle.exchange_core.specs.Working.{IsNumbered}
 use Rattle.exchange_core.specs.World.{Dimensions}
 use Rattle.exchange_core.specs.declared.trace.Event.TheVariants.{Frame}
 use Rattle.frame_engine.specs.Frames.{PlaysOut}
 use Rattle.tone_rules.specs.Tables.{table_of}
 use Rattle.call_processor.proofs.Done.{Next, answer_next}
-use Rattle.call_processor.proofs.FrameSteps.{Asked, SameFrames, asked, boundary, frames_few, input_whole, made_at, next_frame, one_input, played_here, ready_after, same_frames, still_carried, written_whole}
+use Rattle.call_processor.proofs.FrameSteps.{asked, boundary, frames_few, input_whole, made_at, next_frame, one_input, played_here, ready_after, same_frames, still_carried, written_whole}
 use Rattle.call_processor.proofs.Silence.{sounds_none}
 use Rattle.call_processor.specs.Frames.{engine_dimensions}
-use Rattle.call_processor.specs.Work.{IsAnswer}
 use Rattle.call_processor.specs.declared.worked.Placed.{Placed}
 use Rattle.call_processor.proofs.framing.do_frame.Goals as goal
 
@@ -116,11 +115,11 @@ returns-clause-octets g c = λ other number.
     let carried = still_carried g.C.Carrier.carries g.C.Carrier.next (engine_dimensions g.C.Carrier.external_lines g.C.Carrier.bridge_lines g.C.Carrier.depth) board (world_at board (K c.args.seat.now).seen) w c.args.engine.now same c.requires.ready.carried in
     let played = c.frame.ensures.plays (boundary w) (next_frame (g.C.Carrier.carries c.args.engine.now) c.in-Image.image (setting_at board).dimensions w a carried) in
     let arrived : c.as_slice.result.now ≡ other =
-        c.as_slice.ensures ∙ one_input board.trace n input other c.requires.frame (subst (λ (m : ℕ). IsNumbered board.trace m (Frame other)) c.in_ok-answer.ensures.event number) in
+    c.as_slice.ensures ∙ one_input board.trace n input other c.requires.frame (subst (λ (m : ℕ). IsNumbered board.trace m (Frame other)) c.in_ok-answer.ensures.event number) in
     let size : length c.frame.new.out ≡ length c.args.octets.now.items = search rules in
     let room : c.args.octets.now.len ≡ length c.args.octets.now.items = search rules in
     let kept : c.in_ok-answer.answer.octets ≡ c.frame.new.out =
-        c.in_ok-answer.ensures.octets ∙ (c.as_slice-2.ensures.value ∙ written_whole c.args.octets.now.len c.frame.new.out c.args.octets.now.items (room ∙ sym size) (sym size)) in
+    c.in_ok-answer.ensures.octets ∙ (c.as_slice-2.ensures.value ∙ written_whole c.args.octets.now.len c.frame.new.out c.args.octets.now.items (room ∙ sym size) (sym size)) in
     played_here g.C.Carrier.plays (table_of c.args.tones.now) board.trace.external w other c.frame.new.out c.in_ok-answer.answer.octets c.in-Image.image.external c.in-Image.image.frame
     a.size.external a.shows.1.frame kept (size ∙ c.requires.lines)
     (subst (λ (l : Input). PlaysOut c.in-Image.image.external (g.C.Carrier.plays (table_of c.args.tones.now) (w.inputs ++ l ∷ []) (w.held ++ w.holding.circuits ∷ []) c.in-Image.image.frame) c.frame.new.out) arrived played)

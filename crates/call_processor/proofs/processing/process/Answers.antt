@@ -1,4 +1,4 @@
-use Rattle.std.proofs.Common.{rules, ◌≡◌, ◌+◌, ◌-◌, ℕ, true, false, [], ◌∷◌, ◌++◌, List, length, take, sym, ap, ◌∙◌, subst, arith, refl, length-take-le}
+use Rattle.std.proofs.Common.{rules, ◌≡◌, ◌+◌, ℕ, true, false, [], ◌∷◌, ◌++◌, List, sym, ap, ◌∙◌, subst, arith, refl, length-take-le}
 use Rattle.std.specs.List.{All}
 use Rattle.std.proofs.lemmas.List.Elements.{All-push}
 use Rattle.exchange_core.specs.declared.trace.Trace.{Trace}
@@ -105,7 +105,7 @@ loop-event-preserved g c =
     } in
     let items = c.push_reserved.ensures.items ∙ ap (λ (l : List Placed). l ++ p ∷ []) c.reserve.ensures.items in
     let going = going_with board history done (K c.args.seat) (K c.loop-event.seat) (K c.handle-place.new.seat) c.loop-event.answers.items p c.handle-place.result.1 event place
-        c.in-Ok.ensures.event refl c.loop-event.invariant.going next c.handle-place.ensures.reply c.handle-place.ensures.few c.in-Ok.ensures.reply in
+    c.in-Ok.ensures.event refl c.loop-event.invariant.going next c.handle-place.ensures.reply c.handle-place.ensures.few c.in-Ok.ensures.reply in
     record {
       seated = c.handle-place.ensures.seated;
       going = subst (λ (l : List Placed). Going board (up_to c.args.trace.now W first (event + 1)) (K c.args.seat) l (K c.handle-place.new.seat)) (sym items)

@@ -1,4 +1,4 @@
-use Rattle.std.proofs.Common.{rules, ◌≡◌, ℕ, ◌+◌, ◌-◌, ◌<◌, ◌≤◌, List, get_or, length, sym, ap, ◌∙◌, subst, arith}
+use Rattle.std.proofs.Common.{rules, ℕ, ◌+◌, ◌-◌, List, get_or, length, sym, ap, ◌∙◌, arith}
 use Rattle.call_processor.proofs.Segments.{part_at, first_of_all, first_later, order_of_ends}
 use Rattle.call_processor.proofs.segment.numbers_of.Goals as goal
 
