@@ -8,7 +8,7 @@ use Rattle.std.proofs.lemmas.Option.{slice_get_within}
 use lib.Seq.{take-append-le}
 use Rattle.exchange_core.specs.declared.reply.Reply.{Reply}
 use Rattle.exchange_core.specs.Kept.{kept}
-use Rattle.exchange_core.specs.Seats.{Board, Known, StartsWith, AnswersAt, before, handling, world_at}
+use Rattle.exchange_core.specs.Seats.{Board, Known, StartsWith, AnswersAt, before, entries_of, handling, world_at}
 use Rattle.exchange_core.specs.Step.{MovesAtMost}
 use Rattle.exchange_core.specs.Working.{Entry}
 use Rattle.call_processor.specs.declared.worked.Placed.{Placed}
@@ -24,6 +24,7 @@ starts_on a b c p q = (q.0 ++ p.0, p.1 ∙ (ap (λ (l : List Entry). l ++ p.0) q
 pub nothing_done : (v : Known) → Did v [] v
 nothing_done v = record {
   own = sym (append-nil v.own);
+  exact = λ is. is;
   turns = omega arith;
   begins = starts_same v;
   number = refl;
@@ -38,6 +39,7 @@ pub record Next (history : List Entry) (n place : ℕ) (w x : Known) : Type 0 wh
   pub begins : StartsWith history w.seen
   pub place_is : length history ≡ place
   pub turn : 0 < w.left
+  pub exact : x.own ≡ entries_of x.number x.seen
 
 seen_next : (history : List Entry) (n place : ℕ) (w x : Known) → Next history n place w x → x.seen ≡ history ++ (w.number, n) ∷ []
 seen_next history n place w x e = ap (λ (k : Known). k.seen) e.seat
@@ -54,6 +56,7 @@ did_more history v w x events n place d e =
           ∙ (ap (λ (m : ℕ). (v.own ++ entries_for v.number events) ++ (m, n) ∷ []) d.number
           ∙ (append_assoc v.own (entries_for v.number events) ((v.number, n) ∷ [])
           ∙ ap (λ (l : List Entry). v.own ++ l) (sym (map-append (λ (m : ℕ). (v.number, m)) events (n ∷ []))))));
+      exact = λ was. e.exact;
       turns = omega (arith, left, turn, d.turns, length_push events n);
       begins = starts_on x.seen w.seen v.seen (begins_next history n place w x e) d.begins;
       number = ap (λ (k : Known). k.number) e.seat ∙ d.number;
@@ -182,6 +185,7 @@ next_of v w n h = record {
   begins = h.begins;
   place_is = length-take-le h.place w.seen (let last = h.last in omega (arith, last));
   turn = h.turn;
+  exact = h.exact;
 }
 
 pub going_said : (board : Board) (done : List ℕ) (v w x : Known) (answers : List Placed) (p : Placed) (n : ℕ) → Going board done v answers w → Handled w n x

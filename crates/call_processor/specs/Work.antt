@@ -2,7 +2,7 @@
 use Rattle.std.specs.Prelude.{◌≡◌, ℕ, ◌+◌, ◌<◌, ◌≤◌, Bool, IsTrue, List, ◌++◌, length, map, slice_get, Some, All, AllPairs}
 use Rattle.exchange_core.specs.declared.reply.Reply.{Reply}
 use Rattle.exchange_core.specs.Kept.{kept}
-use Rattle.exchange_core.specs.Seats.{Board, Known, StartsWith, AnswersAt, before, handling}
+use Rattle.exchange_core.specs.Seats.{Board, Known, StartsWith, AnswersAt, before, entries_of, handling}
 use Rattle.exchange_core.specs.Step.{MovesAtMost}
 use Rattle.exchange_core.specs.Working.{Entry}
 use Rattle.call_processor.specs.declared.worked.Placed.{Placed}
@@ -12,9 +12,10 @@ abbrev pub entries_for : ℕ → List ℕ → List Entry
 entries_for number events = map (λ (n : ℕ). (number, n)) events
 
 -- From v to w the seat did these events, in this order: they are its new entries, each for one turn, and it has seen more of the history.
--- Its number, its baton and what seat 0 counts and keeps are as they were.
+-- Its number, its baton and what seat 0 counts and keeps are as they were. Its own entries are all that have its number, if they were before.
 pub record Did (v : Known) (events : List ℕ) (w : Known) : Type 0 where
   pub own : w.own ≡ v.own ++ entries_for v.number events
+  pub exact : v.own ≡ entries_of v.number v.seen → w.own ≡ entries_of w.number w.seen
   pub turns : w.left + length events ≡ v.left
   pub begins : StartsWith w.seen v.seen
   pub number : w.number ≡ v.number
@@ -29,6 +30,7 @@ pub record Handled (v : Known) (event : ℕ) (w : Known) : Type 0 where
   pub begins : StartsWith (before place w.seen) v.seen
   pub last : length w.seen ≡ place + 1
   pub turn : 0 < v.left
+  pub exact : w.own ≡ entries_of w.number w.seen
 
 -- the answer stands at the place of the seat's entry for its event, and keeps the exchange's reply at the history before that entry
 pub record IsAnswer (board : Board) (seat : Known) (p : Placed) : Type 0 where

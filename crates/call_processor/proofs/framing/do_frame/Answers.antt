@@ -97,6 +97,7 @@ returns-clause-answer g c =
       begins = c.handle-place.ensures.begins;
       place_is = length-take-le place (K c.handle-place.new.seat).seen (omega (arith, last));
       turn = c.requires.turn;
+      exact = c.handle-place.ensures.own;
     } in
     answer_next board history (K c.args.seat.now) (K c.handle-place.new.seat) p c.handle-place.result.1
     (subst (λ (n : ℕ). Next history n place (K c.args.seat.now) (K c.handle-place.new.seat)) (sym event) next)

@@ -75,6 +75,7 @@ returns-in-Err-clause-works g c =
       begins = c.handle-place.ensures.begins;
       place_is = length-take-le place (K c.handle-place.new.seat).seen (omega (arith, long));
       turn = turn_left part done rest event (K c.loop-event.seat).left (K c.args.seat).left front c.requires.turns c.loop-event.invariant.going.did.turns;
+      exact = c.handle-place.ensures.own;
     } in
     subst (λ (l : List Placed). Works (g.B.Switchboard.board c.args.board.now) part (K c.args.seat) l false (K c.handle-place.new.seat)) (sym c.reserve.ensures.items)
     (works_lacking (g.B.Switchboard.board c.args.board.now) history part done rest event place (K c.args.seat) (K c.loop-event.seat) (K c.handle-place.new.seat) c.loop-event.answers.items
@@ -102,6 +103,7 @@ loop-event-preserved g c =
       begins = c.handle-place.ensures.begins;
       place_is = length-take-le place (K c.handle-place.new.seat).seen (omega (arith, long));
       turn = turn_left part done rest event (K c.loop-event.seat).left (K c.args.seat).left front c.requires.turns c.loop-event.invariant.going.did.turns;
+      exact = c.handle-place.ensures.own;
     } in
     let items = c.push_reserved.ensures.items ∙ ap (λ (l : List Placed). l ++ p ∷ []) c.reserve.ensures.items in
     let going = going_with board history done (K c.args.seat) (K c.loop-event.seat) (K c.handle-place.new.seat) c.loop-event.answers.items p c.handle-place.result.1 event place
