@@ -1,0 +1,4 @@
+pub mod Segments
+pub mod Done
+pub mod Silence
+pub mod FrameSteps

@@ -1,0 +1,52 @@
+-- What a frame worker's engine carries, and what it plays. Source: this exchange's own.
+use Rattle.std.specs.Prelude.{◌≡◌, ℕ, List, [], length}
+use Rattle.circuit_model.specs.declared.channel.Slot.{Slot}
+use Rattle.circuit_model.specs.declared.circuit.Circuit.{Circuit}
+use Rattle.circuit_model.specs.declared.circuit.Kind.{Kind}
+use Rattle.circuit_model.specs.FrameInput.{Input}
+use Rattle.circuit_model.specs.Ports.{Ports}
+use Rattle.frame_engine.specs.Frames.{PlaysOut}
+use Rattle.exchange_core.specs.declared.tool.Tool.{Tool}
+use Rattle.exchange_core.specs.declared.trace.Event.TheVariants.{Frame}
+use Rattle.exchange_core.specs.Seats.{Board, Known, before, setting_at, world_at}
+use Rattle.exchange_core.specs.Working.{Entry, IsNumbered, IsToolFor}
+use Rattle.exchange_core.specs.World.{Dimensions, World, pass}
+use Rattle.call_processor.specs.declared.worked.Placed.{Placed}
+
+-- what an engine plays on a slot in a frame, given the tones and each frame's input and circuits
+abbrev pub Plays : Type 0
+Plays = (Kind → List ℕ) → List Input → List (List Circuit) → ℕ → Slot → ℕ
+
+-- which frames an engine of some type carries: their inputs, circuits and conference ports
+abbrev pub Carrying : Type 0 → Type 1
+Carrying E = E → List Input → List (List Circuit) → List Ports → Type 0
+
+-- it carries the frames of this world
+abbrev pub CarriesFrames : {E : Type 0} → Carrying E → E → World → Type 0
+CarriesFrames carries engine w = carries engine w.inputs w.held w.seated
+
+-- how many lines and internal slots an engine has, by what its type tells of each
+abbrev pub engine_dimensions : {E : Type 0} → (E → ℕ) → (E → ℕ) → (E → ℕ) → E → Dimensions
+engine_dimensions external bridges slots engine = record { external = external engine; bridges = bridges engine; slots = slots engine }
+
+-- the tool of every frame, whatever arrives in it: a control memory of this size
+abbrev pub IsFrameTool : Dimensions → Tool → Type 0
+IsFrameTool d tool = IsToolFor d (Frame []) tool
+
+-- the engine and the tool are ready for the frame that comes after this history: the engine carries the history's frames, the next frame is its
+-- next, and both are of the exchange's size
+pub record IsReady {E : Type 0} (carries : Carrying E) (next : E → ℕ) (sizes : E → Dimensions) (board : Board) (history : List Entry) (engine : E) (tool : Tool) : Type 0 where
+  pub carried : CarriesFrames carries engine (world_at board history)
+  pub number : next engine ≡ (world_at board history).holding.next
+  pub sized : sizes engine ≡ (setting_at board).dimensions
+  pub image : IsFrameTool (setting_at board).dimensions tool
+
+-- in the frame that begins in this world with this input, the octets are those that the engine plays, for each external line
+pub record IsPlayed (plays : Plays) (tones : Kind → List ℕ) (external : ℕ) (w : World) (input : Input) (octets : List (List ℕ)) : Type 0 where
+  pub lines : length octets ≡ external
+  pub played : PlaysOut external (plays tones (pass w input).inputs (pass w input).held w.holding.next) octets
+
+-- an answer to a frame has the octets that the engine plays in it
+abbrev pub HasFrame : Plays → (Kind → List ℕ) → Board → Known → Placed → Type 0
+HasFrame plays tones board seat p = (input : Input) → IsNumbered board.trace p.answer.event (Frame input)
+    → IsPlayed plays tones board.trace.external (world_at board (before p.place seat.seen)) input p.answer.octets

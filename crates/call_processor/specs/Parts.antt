@@ -1,0 +1,30 @@
+-- Which events of a segment a worker does. Source: this exchange's own.
+use Rattle.std.specs.Prelude.{ℕ, ◌-◌, ◌&&◌, nat_eq, Bool, true, false, List, length, filter, slice_get, Option, Some, None}
+use Rattle.exchange_core.specs.declared.trace.Event.{Event}
+use Rattle.exchange_core.specs.declared.trace.Trace.{Trace}
+use Rattle.exchange_core.specs.Orders.{Worker, Processor, Frame_worker, worker_of, segment_of, file_order}
+
+-- the two are one worker
+abbrev pub is_worker : Worker → Worker → Bool
+is_worker (Processor a) (Processor b) = nat_eq a b
+is_worker (Processor a) Frame_worker = false
+is_worker Frame_worker (Processor b) = false
+is_worker Frame_worker Frame_worker = true
+
+-- among so many processors, the worker does the event, if there is one
+abbrev pub does : ℕ → Worker → Option Event → Bool
+does processors worker None = false
+does processors worker (Some e) = is_worker (worker_of processors e) worker
+
+-- the trace has an event with this number, and the worker does it
+abbrev pub is_its : Trace → Worker → ℕ → Bool
+is_its trace worker n = does trace.processors worker (slice_get trace.events (n - 1))
+
+-- a worker's part of a segment, segments being counted from 0: the numbers of its events, in the order of the file
+abbrev pub part_of : Trace → ℕ → Worker → List ℕ
+part_of trace segment worker = filter (λ n. nat_eq (segment_of trace.segments n) segment && is_its trace worker n) (file_order (length trace.events))
+
+-- a call processor where there is a number, else the frame worker
+abbrev pub worker_at : Option ℕ → Worker
+worker_at None = Frame_worker
+worker_at (Some n) = Processor n

@@ -1,0 +1,57 @@
+-- What a worker has done of its part of a segment. Source: this exchange's own.
+use Rattle.std.specs.Prelude.{◌≡◌, ℕ, ◌+◌, ◌<◌, ◌≤◌, Bool, IsTrue, List, ◌++◌, length, map, slice_get, Some, All, AllPairs}
+use Rattle.exchange_core.specs.declared.reply.Reply.{Reply}
+use Rattle.exchange_core.specs.Kept.{kept}
+use Rattle.exchange_core.specs.Seats.{Board, Known, StartsWith, AnswersAt, before, entries_of, handling}
+use Rattle.exchange_core.specs.Step.{MovesAtMost}
+use Rattle.exchange_core.specs.Working.{Entry}
+use Rattle.call_processor.specs.declared.worked.Placed.{Placed}
+
+-- the entries of the seat with this number for these events
+abbrev pub entries_for : ℕ → List ℕ → List Entry
+entries_for number events = map (λ (n : ℕ). (number, n)) events
+
+-- From v to w the seat did these events, in this order: they are its new entries, each for one turn, and it has seen more of the history.
+-- Its number, its baton and what seat 0 counts and keeps are as they were. Its own entries are all that have its number, if they were before.
+pub record Did (v : Known) (events : List ℕ) (w : Known) : Type 0 where
+  pub own : w.own ≡ v.own ++ entries_for v.number events
+  pub exact : v.own ≡ entries_of v.number v.seen → w.own ≡ entries_of w.number w.seen
+  pub turns : w.left + length events ≡ v.left
+  pub begins : StartsWith w.seen v.seen
+  pub number : w.number ≡ v.number
+  pub baton : w.baton ≡ v.baton
+  pub made : w.made ≡ v.made
+  pub others : w.kept ≡ v.kept
+
+-- From v to w the seat did one event, behind a history that begins with what it had seen.
+pub record Handled (v : Known) (event : ℕ) (w : Known) : Type 0 where
+  pub place : ℕ
+  pub seat : w ≡ handling (before place w.seen) event v
+  pub begins : StartsWith (before place w.seen) v.seen
+  pub last : length w.seen ≡ place + 1
+  pub turn : 0 < v.left
+  pub exact : w.own ≡ entries_of w.number w.seen
+
+-- the answer stands at the place of the seat's entry for its event, and keeps the exchange's reply at the history before that entry
+pub record IsAnswer (board : Board) (seat : Known) (p : Placed) : Type 0 where
+  pub reply : Reply
+  pub entry : slice_get seat.seen p.place ≡ Some (seat.number, p.answer.event)
+  pub given : AnswersAt board (before p.place seat.seen) p.answer.event reply
+  pub few : MovesAtMost board.bound reply
+  pub keeps : p.answer.reply ≡ kept reply
+
+-- the numbers of the events that were answered
+abbrev pub answered : List Placed → List ℕ
+answered answers = map (λ (p : Placed). p.answer.event) answers
+
+-- from v to w the first events of the part were done, and all of them where the work is whole; but for the last one, if it isn't, all were
+-- answered, each behind the one before it in the history
+pub record Works (board : Board) (part : List ℕ) (v : Known) (answers : List Placed) (whole : Bool) (w : Known) : Type 0 where
+  pub done : List ℕ
+  pub first : (rest : List ℕ) × (part ≡ done ++ rest)
+  pub did : Did v done w
+  pub told : (lacking : List ℕ) × (done ≡ answered answers ++ lacking) × (length lacking ≤ 1)
+  pub each : All (IsAnswer board w) answers
+  pub rising : AllPairs (λ (p q : Placed). p.place < q.place) answers
+  pub beyond : All (λ (p : Placed). length v.seen ≤ p.place) answers
+  pub all : IsTrue whole → answered answers ≡ part

@@ -1,0 +1,182 @@
+ghost use Rattle.std.specs.Prelude.{◌≡◌, ◌<◌, ◌≤◌, ◌+◌, [], IfOk, IsTrue, All, is_ok, length};
+ghost use Rattle.exchange_core.specs.declared.trace.Event.TheVariants.{Frame};
+ghost use Rattle.exchange_core.specs.Orders.{Frame_worker, IsEvent};
+ghost use Rattle.exchange_core.specs.Sound.{IsSound};
+ghost use Rattle.exchange_core.specs.Working.{IsNumbered};
+ghost use Rattle.tone_rules.specs.Tables.{table_of};
+ghost use Rattle.call_processor.specs.Frames.{IsReady, HasFrame, engine_dimensions};
+ghost use Rattle.call_processor.specs.Parts.{part_of};
+ghost use Rattle.call_processor.specs.Work.{Handled, IsAnswer, Works};
+
+use crate::segment::{input_of, numbers_of};
+use crate::worked::{Framed, Placed, Worked};
+use circuit_model::IDLE;
+use exchange_core::{Answer, Input, Switchboard, Tool, Trace};
+use frame_engine::Carrier;
+use gate::Gate;
+use std::alloc::{AllocError, Global};
+use std::sync::Wait;
+use tone_rules::Tones;
+
+// Does one frame: its boundary in the seat's turn, and its octets when the turn was given on, beside
+// the call processors. `octets` is room for what each external line sends.
+fn do_frame<B: Switchboard, G: Gate, C: Carrier, R: Wait>(
+    rt: &R,
+    alloc: Global,
+    board: &B,
+    seat: &mut B::Seat,
+    worker: u32,
+    event: u32,
+    input: &Input,
+    engine: &mut C,
+    tool: &mut Tool,
+    octets: &mut Vec<[u8; 30]>,
+    tones: &Tones,
+    gate: &G,
+) -> Result<Placed, AllocError>
+    requires seated { B.seated board.now seat.old }
+    requires sound { IsSound (B.board board.now).trace }
+    requires known { IsEvent (B.board board.now).trace event }
+    requires frame { IsNumbered (B.board board.now).trace event (Frame input.now) }
+    requires turn { 0 < (B.known seat.old).left }
+    requires baton { IsTrue (B.known seat.old).baton }
+    requires ready { IsReady C.carries C.next (engine_dimensions C.external_lines C.bridge_lines C.depth) (B.board board.now) (B.known seat.old).seen engine.old tool.old }
+    requires lines { length octets.old.items ≡ (B.board board.now).trace.external }
+    ensures seated { B.seated board.now seat.new }
+    ensures handled { Handled (B.known seat.old) event (B.known seat.new) }
+    ensures ready { IsReady C.carries C.next (engine_dimensions C.external_lines C.bridge_lines C.depth) (B.board board.now) (B.known seat.new).seen engine.new tool.new }
+    ensures lines { length octets.new.items ≡ (B.board board.now).trace.external }
+    ensures place { IfOk result (λ p. length (B.known seat.new).seen ≡ p.place + 1) }
+    ensures event { IfOk result (λ p. p.answer.event ≡ event) }
+    ensures answer { IfOk result (λ p. IsAnswer (B.board board.now) (B.known seat.new) p) }
+    ensures octets { IfOk result (λ p. HasFrame C.plays (table_of tones.now) (B.board board.now) (B.known seat.new) p) }
+{
+    gate.before_turn(worker, event);
+    let (place, reply) = board.handle(rt, seat, event, tool);
+    gate.after_turn(worker, event);
+    let Tool::Image(image) = tool else {
+        unreachable!()
+    };
+    let frame = image.frame();
+    gate.before_crossing(frame);
+    engine.frame(image, tones, input.as_slice(), octets.as_mut_slice());
+    gate.after_crossing(frame);
+    let answer = Answer::keep(alloc, event, &reply, octets.as_slice())?;
+    Ok(Placed { place, answer })
+}
+
+// Does the frames of a segment in order, until memory runs out.
+fn do_frames<B: Switchboard, G: Gate, C: Carrier, R: Wait>(
+    rt: &R,
+    alloc: Global,
+    board: &B,
+    seat: &mut B::Seat,
+    trace: &Trace,
+    segment: u32,
+    engine: &mut C,
+    tool: &mut Tool,
+    tones: &Tones,
+    gate: &G,
+    answers: &mut Vec<Placed>,
+) -> Result<(), AllocError>
+    requires seated { B.seated board.now seat.old }
+    requires trace { trace.now ≡ (B.board board.now).trace }
+    requires sound { IsSound trace.now }
+    requires segment { segment < length trace.now.segments }
+    requires turns { length (part_of trace.now segment Frame_worker) ≤ (B.known seat.old).left }
+    requires baton { IsTrue (B.known seat.old).baton }
+    requires ready { IsReady C.carries C.next (engine_dimensions C.external_lines C.bridge_lines C.depth) (B.board board.now) (B.known seat.old).seen engine.old tool.old }
+    requires empty { answers.old.items ≡ [] }
+    ensures seated { B.seated board.now seat.new }
+    ensures works { Works (B.board board.now) (part_of trace.now segment Frame_worker) (B.known seat.old) answers.new.items (is_ok result) (B.known seat.new) }
+    ensures ready { IsReady C.carries C.next (engine_dimensions C.external_lines C.bridge_lines C.depth) (B.board board.now) (B.known seat.new).seen engine.new tool.new }
+    ensures octets { All (HasFrame C.plays (table_of tones.now) (B.board board.now) (B.known seat.new)) answers.new.items }
+{
+    let worker = u32::from(trace.processors);
+    let mut octets = vec![in alloc; [IDLE; 30]; usize::from(trace.external)]?;
+    let (first, end) = numbers_of(trace, segment);
+    for event in first..end {
+        let Some(input) = input_of(trace, event) else {
+            continue;
+        };
+        answers.reserve(1)?;
+        let placed = do_frame(
+            rt,
+            alloc,
+            board,
+            seat,
+            worker,
+            event,
+            input,
+            engine,
+            tool,
+            &mut octets,
+            tones,
+            gate,
+        )?;
+        answers.push_reserved(placed);
+    }
+    Ok(())
+}
+
+/// Does the frames of one segment of a board's trace, in the order of the file; segments are counted
+/// from 0. The boundary of each is done in the seat's turn, and waits for it; its octets move when the
+/// turn was given on, beside the call processors. At the gate the frame worker has the number of the
+/// call processors.
+///
+/// The octets of an answer are those that the engine plays in its frame, for each external line.
+///
+/// The memory for an answer is taken before its frame is done, but for what the answer itself holds.
+/// Where memory runs out, the work ends there, and only the last frame done may lack its answer.
+pub fn run_frames<B: Switchboard, G: Gate, C: Carrier, R: Wait>(
+    rt: &R,
+    alloc: Global,
+    board: &B,
+    seat: B::Seat,
+    trace: &Trace,
+    segment: u32,
+    engine: C,
+    tool: Tool,
+    tones: &Tones,
+    gate: &G,
+) -> Framed<B::Seat, C>
+    requires seated { B.seated board.now seat }
+    requires trace { trace.now ≡ (B.board board.now).trace }
+    requires sound { IsSound trace.now }
+    requires segment { segment < length trace.now.segments }
+    requires turns { length (part_of trace.now segment Frame_worker) ≤ (B.known seat).left }
+    requires baton { IsTrue (B.known seat).baton }
+    // The engine carries the frames of the history that the seat has seen, and the tool is of its size.
+    requires ready { IsReady C.carries C.next (engine_dimensions C.external_lines C.bridge_lines C.depth) (B.board board.now) (B.known seat).seen engine tool }
+    ensures seated { B.seated board.now result.worked.seat }
+    ensures works { Works (B.board board.now) (part_of trace.now segment Frame_worker) (B.known seat) result.worked.answers.items result.worked.whole (B.known result.worked.seat) }
+    ensures ready { IsReady C.carries C.next (engine_dimensions C.external_lines C.bridge_lines C.depth) (B.board board.now) (B.known result.worked.seat).seen result.engine result.tool }
+    ensures octets { All (HasFrame C.plays (table_of tones.now) (B.board board.now) (B.known result.worked.seat)) result.worked.answers.items }
+{
+    let mut seat = seat;
+    let mut engine = engine;
+    let mut tool = tool;
+    let mut answers = Vec::new(alloc);
+    let done = do_frames(
+        rt,
+        alloc,
+        board,
+        &mut seat,
+        trace,
+        segment,
+        &mut engine,
+        &mut tool,
+        tones,
+        gate,
+        &mut answers,
+    );
+    Framed {
+        worked: Worked {
+            seat,
+            answers,
+            whole: done.is_ok(),
+        },
+        engine,
+        tool,
+    }
+}

@@ -1,0 +1,67 @@
+ghost use Rattle.std.specs.Prelude.{◌≡◌, ℕ, ◌+◌, ◌-◌, ◌<◌, ◌≤◌, length, filter, is_some, IfSome};
+ghost use Rattle.std.specs.List.{range_with_len};
+ghost use Rattle.exchange_core.specs.Orders.{Worker, Processor, Frame_worker, IsEvent, worker_of};
+ghost use Rattle.exchange_core.specs.Sound.{IsSound};
+ghost use Rattle.exchange_core.specs.Working.{IsNumbered};
+ghost use Rattle.exchange_core.specs.declared.trace.Event.TheVariants.{Frame};
+ghost use Rattle.call_processor.specs.Parts.{is_its, part_of, worker_at};
+
+use exchange_core::{Event, Input, Trace};
+
+/// The numbers of a segment's events: from the first of the two on, up to before the second.
+/// Segments are counted from 0, events from 1.
+pub fn numbers_of(trace: &Trace, segment: u32) -> (u32, u32)
+    requires sound { IsSound trace.now }
+    requires segment { segment < length trace.now.segments }
+    ensures parts { (worker : Worker) → part_of trace.now segment worker ≡ filter (is_its trace.now worker) (range_with_len result.0 (result.1 - result.0)) }
+    ensures events { (n : ℕ) → result.0 ≤ n → n < result.1 → IsEvent trace.now n }
+    ensures order { result.0 ≤ result.1 }
+{
+    let ends = trace.segments.as_slice();
+    let last = ends[segment as usize];
+    if segment == 0 {
+        return (1, last + 1);
+    }
+    (ends[segment as usize - 1] + 1, last + 1)
+}
+
+/// The call processor that does an event, among so many. `None` for a frame, which the frame worker
+/// does.
+pub fn processor_of(processors: u8, event: &Event) -> Option<u32>
+    requires some { 0 < processors }
+    ensures { worker_of processors event.now ≡ worker_at result }
+{
+    let line = match event {
+        Event::Nail(slot, _) => slot.line,
+        Event::Seat(slot, _) => slot.line,
+        Event::Free(slot) => slot.line,
+        Event::Message(line, _) => *line,
+        Event::Frame(_) => return None,
+    };
+    Some(u32::from(line % processors))
+}
+
+/// Whether the call processor does the event with this number.
+pub fn is_of_processor(trace: &Trace, processor: u32, event: u32) -> bool
+    requires some { 0 < trace.now.processors }
+    requires event { IsEvent trace.now event }
+    ensures { result ≡ is_its trace.now (Processor processor) event }
+{
+    let done = &trace.events.as_slice()[event as usize - 1];
+    processor_of(trace.processors, done) == Some(processor)
+}
+
+/// What arrives in the frame that has this number. `None` for an event that is no frame.
+pub fn input_of(trace: &Trace, event: u32) -> Option<&Input>
+    requires event { IsEvent trace.now event }
+    ensures its { is_some result ≡ is_its trace.now Frame_worker event }
+    ensures input { IfSome result (λ input. IsNumbered trace.now event (Frame input.now)) }
+{
+    match &trace.events.as_slice()[event as usize - 1] {
+        Event::Frame(input) => Some(input),
+        Event::Nail(_, _) => None,
+        Event::Seat(_, _) => None,
+        Event::Free(_) => None,
+        Event::Message(_, _) => None,
+    }
+}
