@@ -16,6 +16,7 @@ mod new_call;
 mod record;
 mod records;
 mod reply;
+mod restarting;
 mod setup;
 mod signal;
 mod step;
