@@ -120,7 +120,7 @@ Puts d h leg = IsExternal d.external h.slot × IsTold leg
 in_state_told : (leg : Leg) (state : ℕ) → IsTold leg → state < 64 → IsTold (in_state state leg)
 in_state_told leg state told small = record { state = small; reference = told.reference }
 
-clear_permitted : (d : Dimensions) (m : Making) (cause : ℕ) (c : Held) → IsThere d.external c → cause < 128
+pub clear_permitted : (d : Dimensions) (m : Making) (cause : ℕ) (c : Held) → IsThere d.external c → cause < 128
     → ArePermitted d m (clear_with cause c)
 clear_permitted d m cause c there small =
     let sends : Sends d c (disconnect c.leg cause) = (there.within.0, disconnect_writable c.leg cause there.told small) in

@@ -28,8 +28,9 @@ use Rattle.exchange_core.specs.LegStanding.{LegsStand, HasPeer, MayHear, IsInCal
 use Rattle.exchange_core.specs.declared.leg_table.Held.{Held}
 use Rattle.exchange_core.specs.Acts.{course_of, answer}
 use Rattle.exchange_core.specs.Answered.{AreConnected}
-use Rattle.exchange_core.specs.Calls.{Received, For_leg, received, course_for, made_by, after_message}
+use Rattle.exchange_core.specs.Calls.{Received, For_leg, received, done_for, after_message}
 use Rattle.exchange_core.specs.Legs.{Legs, leg_at, held_at}
+use Rattle.exchange_core.specs.Operations.{Operation, begun, performed_all}
 use Rattle.exchange_core.specs.Setup.{Setting}
 use Rattle.exchange_core.specs.World.{World}
 use Rattle.exchange_core.proofs.Named.{received_stands}
@@ -140,7 +141,7 @@ apart legs x y leg other at_x at_y one same =
 
 answered_by : (s : Setting) (w : World) (line : ℕ) (r : Received) (h : Held) (m : Message) → Valid s.dimensions.bridges w.holding → LegsStand s.dimensions.external w
     → r ≡ For_leg h m → leg_at w.legs h.slot ≡ Some h.leg → IsExternal s.dimensions.external h.slot → act_on h.leg.state m ≡ act.Answer
-    → (y : Slot) × (h.leg.peer ≡ peer.Leg y) × AreConnected s.dimensions.bridges w (made_by s w (course_for s w line r)).world y h.slot
+    → (y : Slot) × (h.leg.peer ≡ peer.Leg y) × AreConnected s.dimensions.bridges w (done_for s w line r).making.world y h.slot
 answered_by s w line r h m valid stand e at within answers =
     let external = s.dimensions.external in
     let bridges = s.dimensions.bridges in
@@ -150,15 +151,15 @@ answered_by s w line r h m valid stand e at within answers =
     let y = c.0 in
     let other = c.3.0 in
     let silent = silent_by external w h.slot h.leg ringing_state (heard_by w.holding.circuits h.slot) stands.hears in
-    let operations : (course_for s w line r).operations ≡ answer h (record { slot = y; leg = other }) =
-    rw (e, answers) (answer_operations w.legs h m.kind y other c.1 c.3.1) in
+    let done : (done_for s w line r).making.world ≡ (performed_all s.dimensions (begun w) (answer h (record { slot = y; leg = other }))).world =
+    rw (e, answers) (ap (λ (os : List Operation). (performed_all s.dimensions (begun w) os).world) (answer_operations w.legs h m.kind y other c.1 c.3.1)) in
     let two = pair_there (after w.holding (Clear y)).circuits (Pair y h.slot w.holding.next) (Pair h.slot y w.holding.next) in (
       y,
       c.1,
       record {
         allowed = (apart w.legs h.slot y h.leg other at c.3.1 c.3.2, cleared_idle bridges w.holding y valid, silent_idle bridges w.holding h.slot y valid silent);
-        there = rw operations (two.0);
-        back = rw operations (two.1);
+        there = rw done (two.0);
+        back = rw done (two.1);
       },
     )
 

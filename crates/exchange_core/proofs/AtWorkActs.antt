@@ -11,7 +11,7 @@ use Rattle.call_states.specs.declared.act.Act.TheVariants as act
 use Rattle.exchange_core.specs.declared.leg_table.Held.{Held}
 use Rattle.exchange_core.specs.Acts.{course_of, peer_of}
 use Rattle.exchange_core.specs.AtWork.{IsAtWork}
-use Rattle.exchange_core.specs.Calls.{sent_by}
+use Rattle.exchange_core.specs.Calls.{done_by}
 use Rattle.exchange_core.specs.EndedCalls.{records_of_act}
 use Rattle.exchange_core.specs.Legs.{Legs, leg_at}
 use Rattle.exchange_core.specs.Peers.{IsThere, PeerIsThere}
@@ -53,5 +53,5 @@ module _ (s : Setting) (map : Connections) (legs : Legs) (w : World) (work : IsA
       work.holds.circuits.holds.heard h.slot
       ∙ rings_silent s.dimensions.external w h work.stands.legs in_world at_world (answers_among h.leg.state m.kind _ _ answers)
 
-  pub known_records : (m : Message) → records_of_act w h (act_on h.leg.state m) ≡ (sent_by s w (course_of w.legs h m.kind (act_on h.leg.state m))).records
+  pub known_records : (m : Message) → records_of_act w h (act_on h.leg.state m) ≡ (done_by s w (course_of w.legs h m.kind (act_on h.leg.state m))).told
   known_records m = sym (leg_records s w h m.kind work.stands.legs in_world at_world m)

@@ -62,10 +62,10 @@ module _ (d : Dimensions) (w : World) (x : Slot) (leg : Leg) (o : Option Leg) (c
   valid_left : Valid d.bridges m.world.holding
   valid_left = subst (Valid d.bridges) (sym holding) (valid-clear d.bridges w.holding x valid)
 
-  alone_kept : ((p : Slot) → leg.peer ≡ peer.Leg p → ⊥) → Kept d m.world
+  pub alone_kept : ((p : Slot) → leg.peer ≡ peer.Leg p → ⊥) → Kept d m.world
   alone_kept no_peer = (valid_left, alone_left d.external d.bridges w m.world x leg o valid stand within at left legs holding no_peer)
 
-  both_kept : (y : Slot) (other : Leg) → IsExternal d.external y → leg_at w.legs y ≡ Some other → IsInCall leg.side x leg y other
+  pub both_kept : (y : Slot) (other : Leg) → IsExternal d.external y → leg_at w.legs y ≡ Some other → IsInCall leg.side x leg y other
       → Kept d (performed_all d m (clear_with cause (record { slot = y; leg = other }))).world
   both_kept y other in_y at_y call = (
     valid-clear d.bridges m.world.holding y valid_left,

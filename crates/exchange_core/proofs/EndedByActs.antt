@@ -21,7 +21,8 @@ use Rattle.call_states.proofs.Causes.{cause_fits}
 use Rattle.exchange_core.specs.declared.leg_table.Held.{Held}
 use Rattle.exchange_core.specs.declared.record.CallRecord.{CallRecord}
 use Rattle.exchange_core.specs.Acts.{course_of, released, disconnected, in_state, peer_of, with_peer, clear_with, disconnecting, releasing, removing, alerting, answer}
-use Rattle.exchange_core.specs.Calls.{is_calling, records, made_by}
+use Rattle.exchange_core.specs.CallRecords.{is_calling, records}
+use Rattle.exchange_core.specs.Calls.{made_by}
 use Rattle.exchange_core.specs.EndedCalls.{caller_in, record_calling, record_ended, records_of_act}
 use Rattle.exchange_core.specs.LegStanding.{LegsStand, HasPeer, IsInCall, AreOneCall}
 use Rattle.exchange_core.specs.Legs.{Legs, leg_at}
@@ -58,7 +59,7 @@ left_silent : (leg : Leg) (o : Option Leg) → IsLeft leg o → is_calling o ≡
 left_silent leg o (inl gone) = rw gone refl
 left_silent leg o (inr waits) = rw waits (and_false _)
 
-disconnected_silent : (cause : ℕ) (leg : Leg) → is_calling (Some (disconnected cause leg)) ≡ false
+pub disconnected_silent : (cause : ℕ) (leg : Leg) → is_calling (Some (disconnected cause leg)) ≡ false
 disconnected_silent cause leg = and_false _
 
 same_goes_on : (before after : Legs) (x : Slot) → leg_at after x ≡ leg_at before x → GoesOn before after x
@@ -88,50 +89,48 @@ module _ (d : Dimensions) (w : World) (x : Slot) (leg : Leg) (o : Option Leg) (c
     | inr apart ↦ alone_else z in_z apart
   ])
 
-  alone_records : (side : Side) → leg.side ≡ side → records w m.world cause ≡ cons_option (option_and_then (record_calling w cause) (caller_in side (record { slot = x; leg = leg }) None)) []
+  pub alone_records : (side : Side) → leg.side ≡ side → records w m.world cause ≡ cons_option (option_and_then (record_calling w cause) (caller_in side (record { slot = x; leg = leg }) None)) []
   alone_records Caller is = alone_caller
   alone_records Called is = alone_called is
 
-  -- with the other leg of its call, which is disconnected
-  module _ (y : Slot) (other : Leg) (in_y : IsExternal d.external y) (at_y : leg_at w.legs y ≡ Some other) (apart : y ≡ x → ⊥) where
-    abbrev after_both : World
-    after_both = (performed_all d m (clear_with cause (record { slot = y; leg = other }))).world
+  -- with the other leg of its call, which calls no more either
+  module _ (v : World) (y : Slot) (other : Leg) (p : Option Leg) (in_y : IsExternal d.external y) (at_y : leg_at w.legs y ≡ Some other) (apart : y ≡ x → ⊥)
+      (over : is_calling p ≡ false) (both : v.legs ≡ set m.world.legs (number_of y) p) where
+    both_legs : v.legs ≡ set (set w.legs (number_of x) o) (number_of y) p
+    both_legs = both ∙ ap (λ (ls : Legs). set ls (number_of y) p) legs
 
-    both_legs : after_both.legs ≡ set (set w.legs (number_of x) o) (number_of y) (Some (disconnected cause other))
-    both_legs = ap (λ (ls : Legs). set ls (number_of y) (Some (disconnected cause other))) legs
-
-    both_others : (z : Slot) → IsExternal d.external z → (z ≡ x → ⊥) → (z ≡ y → ⊥) → GoesOn w.legs after_both.legs z
+    both_others : (z : Slot) → IsExternal d.external z → (z ≡ x → ⊥) → (z ≡ y → ⊥) → GoesOn w.legs v.legs z
     both_others z in_z not_x not_y =
-        same_goes_on w.legs after_both.legs z
-        (ap (λ ls. leg_at ls z) both_legs ∙ both_else d.external w.legs x y o (Some (disconnected cause other)) stand.count within in_y apart z in_z not_x not_y)
+        same_goes_on w.legs v.legs z
+        (ap (λ ls. leg_at ls z) both_legs ∙ both_else d.external w.legs x y o p stand.count within in_y apart z in_z not_x not_y)
 
-    both_over_x : is_calling (leg_at after_both.legs x) ≡ false
+    both_over_x : is_calling (leg_at v.legs x) ≡ false
     both_over_x =
         ap (λ ls. is_calling (leg_at ls x)) both_legs
-        ∙ ap is_calling (both_first d.external w.legs x y o (Some (disconnected cause other)) stand.count within in_y apart)
+        ∙ ap is_calling (both_first d.external w.legs x y o p stand.count within in_y apart)
         ∙ left_silent leg o left
 
-    both_over_y : is_calling (leg_at after_both.legs y) ≡ false
+    both_over_y : is_calling (leg_at v.legs y) ≡ false
     both_over_y =
         ap (λ ls. is_calling (leg_at ls y)) both_legs
-        ∙ ap is_calling (both_second d.external w.legs x y o (Some (disconnected cause other)) stand.count within in_y apart)
-        ∙ disconnected_silent cause other
+        ∙ ap is_calling (both_second d.external w.legs x y o p stand.count within in_y apart)
+        ∙ over
 
     -- the leg is the caller's, or its peer is
-    both_caller : other.side ≡ Called → records w after_both cause ≡ one leg x
-    both_caller is = one_record d.external w after_both cause x leg stand.count within at both_over_x (λ z in_z not_x. elim (same_or_apart z y) [
-      | inl same ↦ subst (GoesOn w.legs after_both.legs) (sym same) (called_silent w.legs after_both.legs y other at_y is)
+    both_caller : other.side ≡ Called → records w v cause ≡ one leg x
+    both_caller is = one_record d.external w v cause x leg stand.count within at both_over_x (λ z in_z not_x. elim (same_or_apart z y) [
+      | inl same ↦ subst (GoesOn w.legs v.legs) (sym same) (called_silent w.legs v.legs y other at_y is)
       | inr not_y ↦ both_others z in_z not_x not_y
     ])
 
-    both_called : leg.side ≡ Called → records w after_both cause ≡ one other y
-    both_called is = one_record d.external w after_both cause y other stand.count in_y at_y both_over_y (λ z in_z not_y. elim (same_or_apart z x) [
-      | inl same ↦ subst (GoesOn w.legs after_both.legs) (sym same) (called_silent w.legs after_both.legs x leg at is)
+    both_called : leg.side ≡ Called → records w v cause ≡ one other y
+    both_called is = one_record d.external w v cause y other stand.count in_y at_y both_over_y (λ z in_z not_y. elim (same_or_apart z x) [
+      | inl same ↦ subst (GoesOn w.legs v.legs) (sym same) (called_silent w.legs v.legs x leg at is)
       | inr not_x ↦ both_others z in_z not_x not_y
     ])
 
-    both_records : (side : Side) → leg.side ≡ side → IsInCall side x leg y other
-        → records w after_both cause ≡ cons_option (option_and_then (record_calling w cause) (caller_in side (record { slot = x; leg = leg }) (Some (record { slot = y; leg = other })))) []
+    pub both_records : (side : Side) → leg.side ≡ side → IsInCall side x leg y other
+        → records w v cause ≡ cons_option (option_and_then (record_calling w cause) (caller_in side (record { slot = x; leg = leg }) (Some (record { slot = y; leg = other })))) []
     both_records Caller is call = both_caller call.is_called
     both_records Called is call = both_called is
 
@@ -141,7 +140,8 @@ module _ (d : Dimensions) (w : World) (x : Slot) (leg : Leg) (o : Option Leg) (c
   peer_records peer.Alone is has = alone_records leg.side refl
   peer_records (peer.Leg y) is has =
       rw (held_there w.legs y has.1.0 has.1.1)
-      (both_records y has.1.0 has.0 has.1.1 (peers_apart w.legs x y leg has.1.0 at has.1.1 has.1.2) leg.side refl has.1.2)
+      (both_records (performed_all d m (clear_with cause (record { slot = y; leg = has.1.0 }))).world y has.1.0 (Some (disconnected cause has.1.0)) has.0 has.1.1
+      (peers_apart w.legs x y leg has.1.0 at has.1.1 has.1.2) (disconnected_silent cause has.1.0) refl leg.side refl has.1.2)
   peer_records (peer.Room room) is has = alone_records leg.side refl
 
   pub clearing_records : records w (performed_all d m (with_peer (peer_of w.legs leg.peer) (clear_with cause))).world cause

@@ -11,7 +11,7 @@ use Rattle.q931_codec.specs.Outgoing.{OutgoingMessage}
 use Rattle.q931_codec.specs.Reading.{reading}
 use Rattle.q931_codec.proofs.Messages.{read_message}
 use Rattle.clearing_rules.specs.UnknownReference.{answer_without_call}
-use Rattle.exchange_core.specs.Calls.{Received, For_leg, New_call, On_no_call, Unanswered, received, answer_back, course_for, made_by}
+use Rattle.exchange_core.specs.Calls.{Received, For_leg, New_call, On_no_call, Restarts, Unanswered, received, answer_back, done_for, made_by}
 use Rattle.exchange_core.specs.Course.{only}
 use Rattle.exchange_core.specs.declared.trace.Event.{Event}
 use Rattle.exchange_core.specs.declared.trace.Event.TheVariants.{Nail, Seat, Free, Message, Frame}
@@ -27,6 +27,7 @@ use Rattle.exchange_core.proofs.Clears.{Kept}
 use Rattle.exchange_core.proofs.Commands.{nail_kept, seat_kept, free_kept, frame_kept}
 use Rattle.exchange_core.proofs.ForLegs.{leg_kept}
 use Rattle.exchange_core.proofs.Named.{received_stands}
+use Rattle.exchange_core.proofs.RestartKeeps.{below_kept}
 use Rattle.exchange_core.proofs.Setups.{setup_kept, new_from}
 
 pub octets_small : (octets : List ℕ) → All (λ octet. octet < 256) octets → (i : ℕ) → get_or octets i 0 < 256
@@ -45,7 +46,7 @@ kept_stands s v kept = record { circuits = kept.0; legs = kept.1 }
 
 module _ (s : Setting) (w : World) (line : ℕ) (octets : List ℕ) (planned : IsPlanned s) (can : Fits s.dimensions.external (Message line octets)) (valid : Valid s.dimensions.bridges w.holding)
     (stand : LegsStand s.dimensions.external w) where
-  received_kept : (r : Received) → received w.legs line octets ≡ r → Kept s.dimensions (made_by s w (course_for s w line r)).world
+  received_kept : (r : Received) → received w.legs line octets ≡ r → Kept s.dimensions (done_for s w line r).making.world
   received_kept (For_leg h m) is =
       let named = received_stands w.legs line octets h m is in
       let on = named.among in
@@ -55,6 +56,7 @@ module _ (s : Setting) (w : World) (line : ℕ) (octets : List ℕ) (planned : I
       let message = read_message octets m (octets_small octets can.1) new.0 in
       setup_kept s w line m (record { planned = planned; valid = valid; stand = stand; below = can.0; own = (new.1, message.value); unused = new.2 })
   received_kept (On_no_call m) is = kept_without s w line (answer_without_call m) (valid, stand)
+  received_kept (Restarts r) is = below_kept s.dimensions r line w can.0 (valid, stand) 30 (omega arith)
   received_kept Unanswered is = (valid, stand)
 
 pub happened_kept : (s : Setting) (w : World) (e : Event) → IsPlanned s → Fits s.dimensions.external e → CallsStand s w → CallsStand s (next s w e)

@@ -16,21 +16,29 @@ use Rattle.circuit_model.proofs.Slots.{true_or_false}
 use Rattle.circuit_model.proofs.Validity.{valid-empty}
 use Rattle.exchange_core.specs.declared.trace.Event.{Event}
 use Rattle.exchange_core.specs.declared.trace.Event.TheVariants.{Nail, Seat as Seat_event, Free, Message, Frame as Frame_event}
-use Rattle.exchange_core.specs.Calls.{course}
+use Rattle.call_states.specs.Acts.{act_on}
+use Rattle.clearing_rules.specs.declared.scope.Restart.{Restart}
+use Rattle.clearing_rules.specs.UnknownReference.{answer_without_call}
+use Rattle.exchange_core.specs.Acts.{course_of}
+use Rattle.exchange_core.specs.Calls.{Received, For_leg, New_call, On_no_call, Restarts, Unanswered, received, answer_back, done_for}
 use Rattle.exchange_core.specs.IdleSlots.{idle, nailed}
 use Rattle.exchange_core.specs.LegStanding.{CallsStand}
 use Rattle.exchange_core.specs.Legs.{Legs, leg_at, with_leg, without_leg}
 use Rattle.exchange_core.specs.Operations.{Operation, Making, begun, performed, performed_all}
 use Rattle.exchange_core.specs.Operations as op
 use Rattle.exchange_core.specs.Permitted.{CanPair, CanSeat, IsPermitted, ArePermitted}
-use Rattle.exchange_core.specs.Setup.{Setting}
+use Rattle.exchange_core.specs.Restarts.{Done, restart_slot, restarted_below}
+use Rattle.exchange_core.specs.Setup.{Setting, course_of_setup}
 use Rattle.exchange_core.specs.Sound.{Fits, IsPlanned}
 use Rattle.exchange_core.specs.Standing.{IsMade, is_tone, ports_after_all}
 use Rattle.exchange_core.specs.Step.{may_nail, may_seat, next, world}
 use Rattle.exchange_core.specs.World.{Dimensions, World, start, obey, pass, is_full}
+use Rattle.exchange_core.proofs.Clears.{Kept}
 use Rattle.exchange_core.proofs.Commands.{both_true}
 use Rattle.exchange_core.proofs.Happened.{start_stands, happened_kept}
-use Rattle.exchange_core.proofs.Permits.{course_permitted}
+use Rattle.exchange_core.proofs.Permits.{act_may, call_may, answer_may}
+use Rattle.exchange_core.proofs.Below.{each_below}
+use Rattle.exchange_core.proofs.RestartKeeps.{slot_kept, slot_permitted}
 
 ports_after_all-append : (ports : Ports) (cs ds : List Command) → ports_after_all ports (cs ++ ds) ≡ ports_after_all (ports_after_all ports cs) ds
 ports_after_all-append ports [] ds = refl
@@ -150,6 +158,27 @@ made_performed_all : (d : Dimensions) (m : Making) (os : List Operation) → Are
 made_performed_all d m [] may made = made
 made_performed_all d m (o ∷ os) may made = made_performed_all d (performed d m o) os may.1 (made_performed d m o may.0 made)
 
+-- ---- a world after a message
+
+module _ (s : Setting) (w : World) (line : ℕ) (octets : List ℕ) (planned : IsPlanned s) (fits : Fits s.dimensions.external (Message line octets)) (stands : CallsStand s w) (made : IsMade s.dimensions w) where
+  -- each slot that is restarted keeps the legs standing, so that the next one can be
+  abbrev restarts : Restart → Done
+  restarts r = restarted_below s.dimensions r line w 30
+
+  made_restarted : (r : Restart) → IsMade s.dimensions (restarts r).making.world
+  made_restarted r = (each_below s.dimensions r line w (λ a. IsMade s.dimensions a.making.world × Kept s.dimensions a.making.world) (made, (stands.circuits, stands.legs)) (λ a place small k.
+      let x : Slot = record { line = line; place = place } in (
+        made_performed_all s.dimensions a.making (restart_slot r a.making.world.legs x) (slot_permitted s.dimensions r a.making x k.1 (fits.0, small)) k.0,
+        slot_kept s.dimensions r a.making x k.1 (fits.0, small),
+      )) 30 (omega arith)).0
+
+  made_received : (r : Received) → received w.legs line octets ≡ r → IsMade s.dimensions (done_for s w line r).making.world
+  made_received (For_leg h m) is = made_performed_all s.dimensions (begun w) (course_of w.legs h m.kind (act_on h.leg.state m)).operations (act_may s w line octets planned fits stands h m is) made
+  made_received (New_call m) is = made_performed_all s.dimensions (begun w) (course_of_setup s w line m).operations (call_may s w line octets planned fits stands m is) made
+  made_received (On_no_call m) is = made_performed_all s.dimensions (begun w) (answer_back line (answer_without_call m)) (answer_may s w line octets planned fits stands m is) made
+  made_received (Restarts r) is = made_restarted r
+  made_received Unanswered is = made
+
 -- ---- a world after an event
 
 pub made_next : (s : Setting) (w : World) (e : Event) → IsPlanned s → Fits s.dimensions.external e → CallsStand s w → IsMade s.dimensions w → IsMade s.dimensions (next s w e)
@@ -173,7 +202,7 @@ made_next s w (Free x) planned fits stands made = elim (true_or_false (nailed w 
   | inr not_now ↦ rw not_now made
 ]
 made_next s w (Message line octets) planned fits stands made =
-    made_performed_all s.dimensions (begun w) (course s w line octets).operations (course_permitted s w line octets planned fits stands) made
+    made_received s w line octets planned fits stands made (received w.legs line octets) refl
 made_next s w (Frame_event input) planned fits stands made = made_pass s.dimensions w made input
 
 pub made_start : (d : Dimensions) → IsMade d (start d)

@@ -3,6 +3,7 @@ pub mod Steps
 pub mod Obeying
 pub mod Taken
 pub mod EarlierFrames
+pub mod Below
 pub mod Refusals
 pub mod Named
 pub mod Answering
@@ -30,6 +31,7 @@ pub mod EndedByActs
 pub mod ActPermits
 pub mod AtWorkActs
 pub mod SetupPermits
+pub mod RestartKeeps
 pub mod SetupEnds
 pub mod Makes
 pub mod BegunEnds

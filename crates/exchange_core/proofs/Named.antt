@@ -1,6 +1,6 @@
 -- The leg that a message names stands at its slot.
-use Rattle.std.proofs.Common.{◌≡◌, ℕ, zero, suc, ◌+◌, ◌<◌, ◌≤◌, ◌==◌, Bool, true, List, [], ◌∷◌, map, Option, Some, None, refl, subst, inl, inr, arith}
-use Rattle.std.specs.Prelude.{Result, Ok, Err, find, filter_map, option_map}
+use Rattle.std.proofs.Common.{◌≡◌, ℕ, zero, suc, ◌+◌, ◌<◌, ◌≤◌, ◌==◌, Bool, true, false, List, [], ◌∷◌, map, Option, Some, None, refl, subst, inl, inr, arith}
+use Rattle.std.specs.Prelude.{Result, Ok, Err, find, filter_map, option_map, if◌then◌else◌}
 use Rattle.std.specs.List.{range_with_len, cons_option, AllByRecursion}
 use Rattle.circuit_model.specs.declared.channel.Slot.{Slot}
 use Rattle.circuit_model.proofs.Slots.{true_or_false}
@@ -8,8 +8,10 @@ use Rattle.q931_codec.specs.declared.message.Discard.{Discard}
 use Rattle.q931_codec.specs.declared.message.Message.{Message}
 use Rattle.q931_codec.specs.Reading.{reading}
 use Rattle.call_states.specs.declared.leg.Leg.{Leg}
+use Rattle.clearing_rules.specs.declared.scope.Restart.{Restart}
+use Rattle.clearing_rules.specs.Restarting.{restart_asked}
 use Rattle.exchange_core.specs.declared.leg_table.Held.{Held}
-use Rattle.exchange_core.specs.Calls.{For_leg, New_call, On_no_call, Unanswered, asks_for_call, without_leg, with_leg_named, received_from, received}
+use Rattle.exchange_core.specs.Calls.{Received, For_leg, New_call, On_no_call, asks_for_call, on_global_reference, without_leg, with_leg_named, received_from, received}
 use Rattle.exchange_core.specs.Legs.{Legs, leg_at, held_at, slots_of, is_for, leg_named}
 
 -- a slot of the line
@@ -55,14 +57,23 @@ leg_named_stands legs line flag reference h e = found_among legs (is_for flag re
 
 -- ---- what is for a leg names it
 
+not_on_global : (o : Option Restart) (h : Held) (n : Message) → on_global_reference o ≡ For_leg h n → ⊥
+not_on_global None h n e = cc
+not_on_global (Some r) h n e = cc
+
+either : (b : Bool) (P : Received → Type 0) (r q : Received) → (b ≡ true → P r) → (b ≡ false → P q) → P (if b then r else q)
+either true P r q yes_case no_case = yes_case refl
+either false P r q yes_case no_case = no_case refl
+
+-- a message that names no leg, by what it may be
+pub without_leg_by : (m : Message) (P : Received → Type 0) → ((o : Option Restart) → P (on_global_reference o))
+    → (asks_for_call m ≡ true → (m.reference == 0) ≡ false → P (New_call m)) → (asks_for_call m ≡ false → (m.reference == 0) ≡ false → P (On_no_call m)) → P (without_leg m)
+without_leg_by m P global asks back =
+    either (m.reference == 0) P (on_global_reference (restart_asked m)) (if asks_for_call m then New_call m else On_no_call m) (λ e. global (restart_asked m))
+    (λ own. either (asks_for_call m) P (New_call m) (On_no_call m) (λ e. asks e own) (λ e. back e own))
+
 not_for_leg : (m : Message) (h : Held) (n : Message) → without_leg m ≡ For_leg h n → ⊥
-not_for_leg m h n e = elim (true_or_false (m.reference == 0)) [
-  | inl global ↦ let f : Unanswered ≡ For_leg h n = rw global at e in cc
-  | inr own ↦ elim (true_or_false (asks_for_call m)) [
-    | inl asks ↦ let f : New_call m ≡ For_leg h n = rw (own, asks) at e in cc
-    | inr back ↦ let f : On_no_call m ≡ For_leg h n = rw (own, back) at e in cc
-  ]
-]
+not_for_leg m h n = without_leg_by m (λ r. r ≡ For_leg h n → ⊥) (λ o e. not_on_global o h n e) (λ asks own e. cc) (λ back own e. cc)
 
 for_named : (m : Message) (o : Option Held) (h : Held) (n : Message) → with_leg_named m o ≡ For_leg h n → (o ≡ Some h) × (m ≡ n)
 for_named m None h n e = absurd (not_for_leg m h n e)

@@ -1,18 +1,28 @@
 -- A call that is refused changes nothing, and the fabric decides nothing.
-use Rattle.std.proofs.Common.{◌≡◌, ℕ, Bool, true, false, not, ◌&&◌, List, [], ◌∷◌, Option, Some, None, length, refl, ◌∙◌, ap}
+use Rattle.std.proofs.Common.{◌≡◌, ℕ, zero, suc, Bool, true, false, not, ◌&&◌, List, [], ◌∷◌, ◌++◌, Option, Some, None, length, refl, sym, ap, subst}
 use Rattle.std.specs.Prelude.{filter_map, is_some}
 use Rattle.std.specs.List.{range_with_len}
+use Rattle.circuit_model.specs.declared.channel.Slot.{Slot}
 use Rattle.control_memory.specs.Layout.{Layout, slot_numbered}
+use Rattle.q931_codec.specs.Causes.{temporary_failure}
+use Rattle.call_states.specs.Acts.{act_on}
+use Rattle.clearing_rules.specs.declared.scope.Restart.{Restart}
+use Rattle.clearing_rules.specs.Restarting.{acknowledgement}
+use Rattle.clearing_rules.specs.UnknownReference.{answer_without_call}
 use Rattle.exchange_core.specs.declared.record.CallRecord.{CallRecord}
-use Rattle.exchange_core.specs.Calls.{Received, For_leg, New_call, On_no_call, Unanswered, received, course_for, refusal_for, after_message, answer_to, refused_with, course, record_at, records, is_ended, is_calling, made_by}
-use Rattle.exchange_core.specs.Legs.{Legs, leg_at}
+use Rattle.exchange_core.specs.Acts.{course_of}
+use Rattle.exchange_core.specs.CallRecords.{record_at, records, is_ended, is_calling}
+use Rattle.exchange_core.specs.Calls.{Received, For_leg, New_call, On_no_call, Restarts, Unanswered, received, answer_back, done_for, done, refusal_for, after_message, answer_to, refused_with}
+use Rattle.exchange_core.specs.Legs.{leg_at}
 use Rattle.exchange_core.specs.Operations.{Operation, Clear, Pair, Seat, Put, Remove, Send, Making, begun, performed, performed_all}
+use Rattle.exchange_core.specs.Restarts.{Done, slot_done, restart_slot, restarted_below, restarted}
 use Rattle.exchange_core.specs.declared.trace.Event.{Event}
 use Rattle.exchange_core.specs.declared.trace.Event.TheVariants.{Nail, Seat as Seat_event, Free, Message, Frame}
 use Rattle.exchange_core.specs.IdleSlots.{nailed}
-use Rattle.exchange_core.specs.Setup.{Setting}
+use Rattle.exchange_core.specs.Setup.{Setting, course_of_setup}
 use Rattle.exchange_core.specs.Step.{is_refused, next, may_nail, may_seat}
 use Rattle.exchange_core.specs.World.{Dimensions, World}
+use Rattle.exchange_core.proofs.Below.{below_none, below_more}
 
 -- ---- what is told where nothing has changed
 
@@ -35,22 +45,27 @@ no_records w cause = none_of (λ n. record_at w w cause (slot_numbered n)) (rang
 
 -- ---- a call that is refused
 
-made_refused : (s : Setting) (w : World) (line : ℕ) (r : Received) (cause : ℕ) → refusal_for s w line r ≡ Some cause
-    → ((made_by s w (course_for s w line r)).world ≡ w) × ((made_by s w (course_for s w line r)).moves ≡ None)
-made_refused s w line (For_leg h m) cause e = absurd cc
-made_refused s w line (New_call m) cause e = rw e (refl, refl)
-made_refused s w line (On_no_call m) cause e = absurd cc
-made_refused s w line Unanswered cause e = absurd cc
+-- nothing is made, moved or told
+pub record Nothing_done (w : World) (a : Done) : Type 0 where
+  pub world : a.making.world ≡ w
+  pub moves : a.making.moves ≡ None
+  pub told : a.told ≡ []
+
+done_refused : (s : Setting) (w : World) (line : ℕ) (r : Received) (cause : ℕ) → refusal_for s w line r ≡ Some cause → Nothing_done w (done_for s w line r)
+done_refused s w line (For_leg h m) cause e = absurd cc
+done_refused s w line (New_call m) cause e = rw e (record { world = refl; moves = refl; told = no_records w 0 })
+done_refused s w line (On_no_call m) cause e = absurd cc
+done_refused s w line (Restarts r) cause e = absurd cc
+done_refused s w line Unanswered cause e = absurd cc
 
 pub refused_world : (s : Setting) (w : World) (line : ℕ) (octets : List ℕ) (cause : ℕ) → refused_with s w line octets ≡ Some cause → after_message s w line octets ≡ w
-refused_world s w line octets cause e = (made_refused s w line (received w.legs line octets) cause e).0
+refused_world s w line octets cause e = (done_refused s w line (received w.legs line octets) cause e).world
 
 pub refused_moves : (s : Setting) (w : World) (line : ℕ) (octets : List ℕ) (cause : ℕ) → refused_with s w line octets ≡ Some cause → (answer_to s w line octets).moved ≡ None
-refused_moves s w line octets cause e = (made_refused s w line (received w.legs line octets) cause e).1
+refused_moves s w line octets cause e = (done_refused s w line (received w.legs line octets) cause e).moves
 
 pub refused_records : (s : Setting) (w : World) (line : ℕ) (octets : List ℕ) (cause : ℕ) → refused_with s w line octets ≡ Some cause → (answer_to s w line octets).records ≡ []
-refused_records s w line octets cause e =
-    ap (λ after. records w after (course s w line octets).cause) (refused_world s w line octets cause e) ∙ no_records w (course s w line octets).cause
+refused_records s w line octets cause e = (done_refused s w line (received w.legs line octets) cause e).told
 
 -- ---- an event that is refused
 
@@ -89,15 +104,70 @@ same_performed_all : (d : Dimensions) (a b : Making) (os : List Operation) → S
 same_performed_all d a b [] same = same
 same_performed_all d a b (o ∷ os) same = same_performed_all d (performed d a o) (performed d b o) os (same_performed d a b o same)
 
+append_both : (xs ys us vs : List CallRecord) → xs ≡ us → ys ≡ vs → xs ++ ys ≡ us ++ vs
+append_both xs ys us vs e f = λ i. e i ++ f i
+
+-- records look at the circuits and the legs alone
+same_records : (u v after_u after_v : World) (cause : ℕ) → u.holding ≡ v.holding → u.legs ≡ v.legs → after_u.legs ≡ after_v.legs → records u after_u cause ≡ records v after_v cause
+same_records u v after_u after_v cause holding legs after_legs =
+    λ i. filter_map (λ n. record_at (record u { holding = holding i; legs = legs i }) (record u { legs = after_legs i }) cause (slot_numbered n)) (range_with_len 0 (length (legs i)))
+
+-- what was done differs in nothing but paths
+pub record DoneAlike (a b : Done) : Type 0 where
+  pub making : SameButPaths a.making b.making
+  pub told : a.told ≡ b.told
+
+alike_at : (a b c e : Done) → a ≡ c → b ≡ e → DoneAlike c e → DoneAlike a b
+alike_at a b c e first second alike = subst (λ z. DoneAlike z b) (sym first) (subst (DoneAlike c) (sym second) alike)
+
 -- what is done does not look at the paths
-pub same_made : (s : Setting) (w : World) (layout : Layout) (line : ℕ) (octets : List ℕ)
-    → SameButPaths (made_by s (record w { layout = layout }) (course s (record w { layout = layout }) line octets)) (made_by s w (course s w line octets))
-same_made s w layout line octets =
-    same_performed_all s.dimensions (begun (record w { layout = layout })) (begun w) (course s w line octets).operations (record { holding = refl; legs = refl; sends = refl })
+module _ (s : Setting) (w : World) (layout : Layout) where
+  abbrev other : World
+  other = record w { layout = layout }
 
-same_records : (w : World) (layout : Layout) (a b : World) (cause : ℕ) → a.legs ≡ b.legs → records (record w { layout = layout }) a cause ≡ records w b cause
-same_records w layout a b cause same = ap (λ (legs : Legs). filter_map (λ n. record_at w (record w { legs = legs }) cause (slot_numbered n)) (range_with_len 0 (length w.legs))) same
+  begun_alike : SameButPaths (begun other) (begun w)
+  begun_alike = record { holding = refl; legs = refl; sends = refl }
 
-pub same_told : (s : Setting) (w : World) (layout : Layout) (line : ℕ) (octets : List ℕ)
-    → (answer_to s (record w { layout = layout }) line octets).records ≡ (answer_to s w line octets).records
-same_told s w layout line octets = same_records w layout (after_message s (record w { layout = layout }) line octets) (after_message s w line octets) (course s w line octets).cause (same_made s w layout line octets).legs
+  operations_alike : (cause : ℕ) (os : List Operation)
+      → DoneAlike (record { making = performed_all s.dimensions (begun other) os; told = records other (performed_all s.dimensions (begun other) os).world cause })
+      (record { making = performed_all s.dimensions (begun w) os; told = records w (performed_all s.dimensions (begun w) os).world cause })
+  operations_alike cause os =
+      let same = same_performed_all s.dimensions (begun other) (begun w) os begun_alike in
+      record { making = same; told = same_records other w (performed_all s.dimensions (begun other) os).world (performed_all s.dimensions (begun w) os).world cause refl refl same.legs }
+
+  slot_alike : (r : Restart) (x : Slot) (a b : Done) → DoneAlike a b → DoneAlike (slot_done s.dimensions r x a) (slot_done s.dimensions r x b)
+  slot_alike r x a b alike =
+      let operations : restart_slot r a.making.world.legs x ≡ restart_slot r b.making.world.legs x = ap (λ ls. restart_slot r ls x) alike.making.legs in
+      let step : List Operation → Making = performed_all s.dimensions b.making in
+      let same : SameButPaths (performed_all s.dimensions a.making (restart_slot r a.making.world.legs x)) (step (restart_slot r b.making.world.legs x)) =
+      subst (λ os. SameButPaths (performed_all s.dimensions a.making (restart_slot r a.making.world.legs x)) (step os)) operations
+      (same_performed_all s.dimensions a.making b.making (restart_slot r a.making.world.legs x) alike.making) in
+      record {
+        making = same;
+        told = append_both _ _ _ _ alike.told (same_records a.making.world b.making.world (performed_all s.dimensions a.making (restart_slot r a.making.world.legs x)).world
+            (step (restart_slot r b.making.world.legs x)).world temporary_failure alike.making.holding alike.making.legs same.legs);
+      }
+
+  below_alike : (r : Restart) (line place : ℕ) → DoneAlike (restarted_below s.dimensions r line other place) (restarted_below s.dimensions r line w place)
+  below_alike r line zero = alike_at _ _ _ _ (below_none s.dimensions r line other) (below_none s.dimensions r line w) (record { making = begun_alike; told = refl })
+  below_alike r line (suc place) =
+      alike_at _ _ _ _ (below_more s.dimensions r line other place) (below_more s.dimensions r line w place)
+      (slot_alike r (record { line = line; place = place }) (restarted_below s.dimensions r line other place) (restarted_below s.dimensions r line w place) (below_alike r line place))
+
+  restarted_alike : (r : Restart) (line : ℕ) → DoneAlike (restarted s.dimensions r line other) (restarted s.dimensions r line w)
+  restarted_alike r line =
+      let alike = below_alike r line 30 in
+      record {
+        making = same_performed s.dimensions (restarted_below s.dimensions r line other 30).making (restarted_below s.dimensions r line w 30).making (Send line (acknowledgement r)) alike.making;
+        told = alike.told;
+      }
+
+  received_alike : (line : ℕ) (r : Received) → DoneAlike (done_for s other line r) (done_for s w line r)
+  received_alike line (For_leg h m) = operations_alike (course_of w.legs h m.kind (act_on h.leg.state m)).cause (course_of w.legs h m.kind (act_on h.leg.state m)).operations
+  received_alike line (New_call m) = operations_alike 0 (course_of_setup s w line m).operations
+  received_alike line (On_no_call m) = operations_alike 0 (answer_back line (answer_without_call m))
+  received_alike line (Restarts r) = restarted_alike r line
+  received_alike line Unanswered = operations_alike 0 []
+
+  pub done_alike : (line : ℕ) (octets : List ℕ) → DoneAlike (done s other line octets) (done s w line octets)
+  done_alike line octets = received_alike line (received w.legs line octets)

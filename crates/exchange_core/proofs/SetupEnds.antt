@@ -8,7 +8,8 @@ use Rattle.q931_codec.specs.CallStates.{outgoing_call_proceeding, active}
 use Rattle.call_states.specs.declared.leg.Peer.TheVariants as peer
 use Rattle.number_plan.specs.declared.target.Found.{Found}
 use Rattle.number_plan.specs.declared.target.Found.TheVariants.{Line, Room, More, Nothing}
-use Rattle.exchange_core.specs.Calls.{made_by, records}
+use Rattle.exchange_core.specs.CallRecords.{records}
+use Rattle.exchange_core.specs.Calls.{made_by}
 use Rattle.exchange_core.specs.LegStanding.{CallsStand}
 use Rattle.exchange_core.specs.Legs.{leg_at, new_reference}
 use Rattle.exchange_core.specs.Operations.{begun, performed_all}

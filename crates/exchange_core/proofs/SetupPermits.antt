@@ -53,7 +53,7 @@ passed_short most contents = elim (true_or_false (nat_le (length contents) most)
 
 -- ---- what is sent can be written
 
-bears : (place : ℕ) → place < 30 → is_bearer_channel (channel_at place) ≡ true
+pub bears : (place : ℕ) → place < 30 → is_bearer_channel (channel_at place) ≡ true
 bears place within = grind (arith, common_steps, within)
 
 refusal_writable : (reference cause : ℕ) → reference < 2 ^ 15 → cause < 128 → IsWritable (record (bare true reference kind.ReleaseComplete) { cause = Some cause })

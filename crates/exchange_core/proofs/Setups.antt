@@ -19,7 +19,8 @@ use Rattle.number_plan.specs.declared.target.Found.TheVariants.{Line, Room, More
 use Rattle.number_plan.specs.declared.target.Target.TheVariants as target
 use Rattle.number_plan.proofs.Meanings.{found_passes}
 use Rattle.exchange_core.specs.declared.leg_table.Held.{Held}
-use Rattle.exchange_core.specs.Calls.{New_call, On_no_call, Unanswered, asks_for_call, is_setup, made_by, received_from, with_leg_named, without_leg as unnamed}
+use Rattle.clearing_rules.specs.declared.scope.Restart.{Restart}
+use Rattle.exchange_core.specs.Calls.{New_call, On_no_call, on_global_reference, is_setup, made_by, received_from, with_leg_named, without_leg as unnamed}
 use Rattle.exchange_core.specs.IdleSlots.{idle, lowest_idle, lowest_idle_beside}
 use Rattle.exchange_core.specs.LegStanding.{LegsStand}
 use Rattle.exchange_core.specs.Sound.{IsPlanned, is_reached}
@@ -29,7 +30,7 @@ use Rattle.exchange_core.specs.Setup.{Setting, Check, checks, is_room_full, firs
 use Rattle.exchange_core.specs.World.{World, is_full}
 use Rattle.exchange_core.proofs.Clears.{Kept}
 use Rattle.exchange_core.proofs.Commands.{both_true}
-use Rattle.exchange_core.proofs.Named.{IsOn}
+use Rattle.exchange_core.proofs.Named.{IsOn, without_leg_by}
 use Rattle.exchange_core.proofs.NewCalls.{MayCall, MayOffer, empty_slot, line_call_kept, room_call_kept}
 use Rattle.exchange_core.proofs.Vacant.{found_on, new_unused}
 
@@ -185,14 +186,18 @@ unflagged setup false e = refl
 unflagged true true e = absurd cc
 unflagged false true e = absurd cc
 
+not_on_global : (o : Option Restart) (m : Message) → on_global_reference o ≡ New_call m → ⊥
+not_on_global None m e = cc
+not_on_global (Some r) m e = cc
+
+not_back_on_global : (o : Option Restart) (m : Message) → on_global_reference o ≡ On_no_call m → ⊥
+not_back_on_global None m e = cc
+not_back_on_global (Some r) m e = cc
+
 asked_for : (n m : Message) → unnamed n ≡ New_call m → (n ≡ m) × (n.flag ≡ false) × ((n.reference == 0) ≡ false)
-asked_for n m e = elim (true_or_false (n.reference == 0)) [
-  | inl global ↦ let f : Unanswered ≡ New_call m = rw global at e in absurd cc
-  | inr own ↦ elim (true_or_false (asks_for_call n)) [
-    | inl asks ↦ let f : New_call n ≡ New_call m = rw (own, asks) at e in (cc, unflagged (is_setup n.kind) n.flag asks, own)
-    | inr back ↦ let f : On_no_call n ≡ New_call m = rw (own, back) at e in absurd cc
-  ]
-]
+asked_for n m =
+    without_leg_by n (λ r. r ≡ New_call m → (n ≡ m) × (n.flag ≡ false) × ((n.reference == 0) ≡ false))
+    (λ o e. absurd (not_on_global o m e)) (λ asks own e. (cc, unflagged (is_setup n.kind) n.flag asks, own)) (λ back own e. absurd cc)
 
 named_new : (n : Message) (o : Option Held) (m : Message) → with_leg_named n o ≡ New_call m → (o ≡ None) × (n ≡ m) × (n.flag ≡ false) × ((n.reference == 0) ≡ false)
 named_new n None m e = let is = asked_for n m e in (refl, is.0, is.1, is.2)
@@ -212,13 +217,7 @@ new_from legs line (Ok n) m e =
 -- ---- what is received on the call reference of no call
 
 back_from : (n m : Message) → unnamed n ≡ On_no_call m → n ≡ m
-back_from n m e = elim (true_or_false (n.reference == 0)) [
-  | inl global ↦ let f : Unanswered ≡ On_no_call m = rw global at e in absurd cc
-  | inr own ↦ elim (true_or_false (asks_for_call n)) [
-    | inl asks ↦ let f : New_call n ≡ On_no_call m = rw (own, asks) at e in absurd cc
-    | inr back ↦ let f : On_no_call n ≡ On_no_call m = rw (own, back) at e in cc
-  ]
-]
+back_from n m = without_leg_by n (λ r. r ≡ On_no_call m → n ≡ m) (λ o e. absurd (not_back_on_global o m e)) (λ asks own e. absurd cc) (λ back own e. cc)
 
 named_back : (n : Message) (o : Option Held) (m : Message) → with_leg_named n o ≡ On_no_call m → n ≡ m
 named_back n None m e = back_from n m e

@@ -12,19 +12,24 @@ use Rattle.exchange_core.specs.declared.trace.Event.{Event}
 use Rattle.exchange_core.specs.declared.trace.Event.TheVariants.{Nail, Seat, Free, Message, Frame}
 use Rattle.exchange_core.specs.declared.trace.Trace.{Trace}
 use Rattle.exchange_core.specs.AtWork.{IsAtWork}
-use Rattle.exchange_core.specs.Calls.{course}
+use Rattle.call_states.specs.Acts.{act_on}
+use Rattle.clearing_rules.specs.UnknownReference.{answer_without_call}
+use Rattle.exchange_core.specs.Acts.{course_of}
+use Rattle.exchange_core.specs.Calls.{Received, For_leg, New_call, On_no_call, Restarts, Unanswered, received, answer_back, done_for}
 use Rattle.exchange_core.specs.IdleSlots.{nailed}
 use Rattle.exchange_core.specs.Legs.{Legs, no_legs}
 use Rattle.exchange_core.specs.Operations as op
 use Rattle.exchange_core.specs.Operations.{Operation, Making, begun, performed, performed_all}
 use Rattle.exchange_core.specs.Orders.{IsEvent}
-use Rattle.exchange_core.specs.Setup.{Setting}
+use Rattle.exchange_core.specs.Restarts.{restart_slot}
+use Rattle.exchange_core.specs.Setup.{Setting, course_of_setup}
 use Rattle.exchange_core.specs.Sound.{Fits, IsSound, setting_of}
 use Rattle.exchange_core.specs.Standing.{Holds}
 use Rattle.exchange_core.specs.Step.{next, world, events_of, may_nail, may_seat}
 use Rattle.exchange_core.specs.Working.{Entry, Working, IsWorking, IsNumbered, order_of, setting, world_of}
 use Rattle.exchange_core.specs.World.{Dimensions, World, start}
 use Rattle.exchange_core.proofs.Happened.{start_stands, run_stands}
+use Rattle.exchange_core.proofs.Below.{each_below}
 
 -- ---- one event more
 
@@ -109,6 +114,15 @@ performed_all_next : (d : Dimensions) (m : Making) (os : List Operation) → (pe
 performed_all_next d m [] = refl
 performed_all_next d m (o ∷ os) = performed_all_next d (performed d m o) os ∙ performed_next d m o
 
+received_next : (s : Setting) (w : World) (line : ℕ) (r : Received) → (done_for s w line r).making.world.holding.next ≡ w.holding.next
+received_next s w line (For_leg h m) = performed_all_next s.dimensions (begun w) (course_of w.legs h m.kind (act_on h.leg.state m)).operations
+received_next s w line (New_call m) = performed_all_next s.dimensions (begun w) (course_of_setup s w line m).operations
+received_next s w line (On_no_call m) = performed_all_next s.dimensions (begun w) (answer_back line (answer_without_call m))
+received_next s w line (Restarts r) =
+    each_below s.dimensions r line w (λ a. a.making.world.holding.next ≡ w.holding.next) refl
+    (λ a place small same. performed_all_next s.dimensions a.making (restart_slot r a.making.world.legs (record { line = line; place = place })) ∙ same) 30 (omega arith)
+received_next s w line Unanswered = refl
+
 either_next : (b : Bool) (v w : World) → v.holding.next ≡ w.holding.next → (if b then v else w).holding.next ≤ w.holding.next + 1
 either_next true v w same = omega (arith, same)
 either_next false v w same = omega arith
@@ -117,7 +131,7 @@ next_next : (s : Setting) (w : World) (e : Event) → (next s w e).holding.next 
 next_next s w (Nail x y) = either_next (may_nail w x y) _ w refl
 next_next s w (Seat x room) = either_next (may_seat s.dimensions w x) _ w refl
 next_next s w (Free x) = either_next (nailed w x) _ w refl
-next_next s w (Message line octets) = let same = performed_all_next s.dimensions (begun w) (course s w line octets).operations in omega (arith, same)
+next_next s w (Message line octets) = let same = received_next s w line (received w.legs line octets) in omega (arith, same)
 next_next s w (Frame input) = omega arith
 
 world_next : (s : Setting) (w : World) (es : List Event) → (world s w es).holding.next ≤ w.holding.next + length es

@@ -1,14 +1,19 @@
 -- The record of the call of a leg that begins to be cleared. Source: this exchange's own.
 use Rattle.std.specs.Prelude.{ℕ, List, [], Option, Some, None, option_and_then, if◌then◌else◌}
 use Rattle.std.specs.List.{cons_option}
+use Rattle.circuit_model.specs.declared.channel.Slot.{Slot}
+use Rattle.q931_codec.specs.Causes.{temporary_failure}
 use Rattle.call_states.specs.Acts.{cause_of_act}
 use Rattle.call_states.specs.declared.act.Act.{Act}
 use Rattle.call_states.specs.declared.leg.Side.{Side}
 use Rattle.call_states.specs.declared.leg.Side.TheVariants.{Caller, Called}
+use Rattle.clearing_rules.specs.declared.scope.Restart.{Restart}
+use Rattle.clearing_rules.specs.Restarting.{is_restarted}
 use Rattle.exchange_core.specs.declared.leg_table.Held.{Held}
 use Rattle.exchange_core.specs.declared.record.CallRecord.{CallRecord}
 use Rattle.exchange_core.specs.Acts.{peer_of}
-use Rattle.exchange_core.specs.Calls.{is_calling, record_of}
+use Rattle.exchange_core.specs.CallRecords.{is_calling, record_of}
+use Rattle.exchange_core.specs.Legs.{held_at}
 use Rattle.exchange_core.specs.World.{World}
 
 -- the caller's leg of a leg's call: that leg itself, or its peer
@@ -27,3 +32,7 @@ record_ended w h cause = option_and_then (record_calling w cause) (caller_in h.l
 -- the records of what an act ends
 abbrev pub records_of_act : World → Held → Act → List CallRecord
 records_of_act w h a = cons_option (option_and_then (record_ended w h) (cause_of_act a)) []
+
+-- the records of what the restart of a slot ends
+abbrev pub slot_records : Restart → World → Slot → List CallRecord
+slot_records r w x = if is_restarted r x.place then cons_option (option_and_then (λ h. record_ended w h temporary_failure) (held_at w.legs x)) [] else []

@@ -10,6 +10,8 @@ pub mod Operations
 pub mod Permitted
 pub mod Course
 pub mod Acts
+pub mod CallRecords
+pub mod Restarts
 pub mod Setup
 pub mod Choices
 pub mod Calls

@@ -8,7 +8,7 @@ ghost use Rattle.call_states.specs.Status.{IsTold};
 ghost use Rattle.call_states.specs.declared.act.Act.TheVariants as asked;
 ghost use Rattle.exchange_core.specs.Acts.{course_of, peer_of, with_peer, message_to, disconnect, in_state, alerting, answer, disconnecting, releasing, removing, clear_with};
 ghost use Rattle.exchange_core.specs.AtWork.{IsAtWork};
-ghost use Rattle.exchange_core.specs.Calls.{made_by, sent_by};
+ghost use Rattle.exchange_core.specs.Calls.{made_by, done_by};
 ghost use Rattle.exchange_core.specs.Legs.{leg_at};
 ghost use Rattle.exchange_core.specs.Limits.{most_sends};
 ghost use Rattle.exchange_core.specs.Operations.{Clear, Pair, Making, performed_all};
@@ -42,7 +42,7 @@ impl<P: PathMap> CallControl<P> {
         ensures makes { (s : Setting) (w : World) → IsAtWork s self.old.map self.old.legs w
             → Makes s.dimensions self.new.map self.new.legs out.new.sends out.new.moved (made_by s w (course_of w.legs held message.now.kind (act_on held.leg.state message.now))) }
         ensures records { (s : Setting) (w : World) → IsAtWork s self.old.map self.old.legs w
-            → result ≡ (sent_by s w (course_of w.legs held message.now.kind (act_on held.leg.state message.now))).records }
+            → result ≡ (done_by s w (course_of w.legs held message.now.kind (act_on held.leg.state message.now))).told }
         ensures few { IfSome out.new.moved (λ moves. (moves.0 ≤ self.old.map.bound) × (moves.1 ≤ self.old.map.bound)) }
         ensures sizes { SameSizes self.old.map self.new.map }
     {
@@ -53,8 +53,8 @@ impl<P: PathMap> CallControl<P> {
         records
     }
 
-    // The other leg of a call.
-    fn peer_of(&self, peer: Peer) -> Option<Held>
+    /// The other leg of a call.
+    pub(crate) fn peer_of(&self, peer: Peer) -> Option<Held>
         ensures { result ≡ peer_of self.now.legs peer }
     {
         match peer {
@@ -217,8 +217,8 @@ impl<P: PathMap> CallControl<P> {
         tell(out, held, MessageKind::ReleaseComplete);
     }
 
-    // The leg is gone, and every circuit that names its slot.
-    fn forget(&mut self, held: Held)
+    /// The leg is gone, and every circuit that names its slot.
+    pub(crate) fn forget(&mut self, held: Held)
         requires external { IsExternal self.old.map.external held.slot }
         requires count { length self.old.legs ≡ 30 * self.old.map.external }
         ensures makes { (d : Dimensions) (m : Making) → Makes d self.old.map self.old.legs m.sends m.moves m
@@ -230,14 +230,15 @@ impl<P: PathMap> CallControl<P> {
         self.remove(held.slot);
     }
 
-    // The other leg of a call is cleared with a cause.
-    fn clear_peer(&mut self, out: &mut Outbox, peer: Option<Held>, cause: u8)
+    /// The other leg of a call is cleared with a cause.
+    pub(crate) fn clear_peer(&mut self, out: &mut Outbox, peer: Option<Held>, cause: u8)
         requires there { IfSome peer (λ other. IsThere self.old.map.external other) }
         requires count { length self.old.legs ≡ 30 * self.old.map.external }
         requires room { length out.old.sends < most_sends }
         requires cause { cause < 128 }
         ensures makes { (d : Dimensions) (m : Making) → Makes d self.old.map self.old.legs out.old.sends out.old.moved m
             → Makes d self.new.map self.new.legs out.new.sends out.new.moved (performed_all d m (with_peer peer (clear_with cause))) }
+        ensures few { length out.new.sends ≤ length out.old.sends + 1 }
         ensures moved { out.new.moved ≡ out.old.moved }
         ensures sizes { SameSizes self.old.map self.new.map }
     {

@@ -10,7 +10,7 @@ ghost use Rattle.exchange_core.specs.Setup.{Setting};
 ghost use Rattle.exchange_core.specs.Sound.{Fits, IsPlanned};
 ghost use Rattle.exchange_core.specs.Step.{is_refused, next, world};
 ghost use Rattle.exchange_core.specs.World.{World, start};
-ghost use Rattle.exchange_core.specs.WorkedCalls.{two_lines, one_line, answers, whole_call, whole_call_answered, refused_or_moved, refused_or_moved_answered, clear_collision, clear_collision_answered, on_no_call, on_no_call_answered, lenient_reading, lenient_reading_answered, call_to_room, call_to_room_answered, no_port_answered, unexpected, unexpected_answered, line_full, line_full_answered};
+ghost use Rattle.exchange_core.specs.WorkedCalls.{two_lines, one_line, answers, whole_call, whole_call_answered, refused_or_moved, refused_or_moved_answered, clear_collision, clear_collision_answered, on_no_call, on_no_call_answered, own_line, restart_of_called, restart_of_called_answered, restart_of_both, restart_of_both_answered, restart_of_one, restart_of_one_answered, lenient_reading, lenient_reading_answered, call_to_room, call_to_room_answered, no_port_answered, unexpected, unexpected_answered, line_full, line_full_answered};
 
 /// The definitions of what is done for messages, evaluated on small exchanges.
 pub fn worked_calls()
@@ -22,6 +22,9 @@ pub fn worked_calls()
     ensures room { answers (one_line 1) call_to_room ≡ call_to_room_answered }
     ensures no_port { answers (one_line 0) call_to_room ≡ no_port_answered }
     ensures unexpected { answers two_lines unexpected ≡ unexpected_answered }
+    ensures restart_called { answers two_lines restart_of_called ≡ restart_of_called_answered }
+    ensures restart_both { answers own_line restart_of_both ≡ restart_of_both_answered }
+    ensures restart_one { answers own_line restart_of_one ≡ restart_of_one_answered }
     ensures full { answers two_lines line_full ≡ line_full_answered }
 {}
 

@@ -1,8 +1,9 @@
 ghost use Rattle.std.specs.Prelude.{◌≡◌, ◌<◌, ◌≤◌, ◌^◌, ℕ, [], None, IfSome};
 ghost use Rattle.circuit_map.specs.Connections.{SameSizes};
 ghost use Rattle.exchange_core.specs.declared.trace.Event.TheVariants as event;
+ghost use Rattle.clearing_rules.specs.Restarting.{restart_asked};
 ghost use Rattle.exchange_core.specs.AtWork.{IsAtWork};
-ghost use Rattle.exchange_core.specs.Calls.{with_leg_named, course, course_for, made_by, sent_by, answer_to};
+ghost use Rattle.exchange_core.specs.Calls.{with_leg_named, done, done_for, on_global_reference, answer_to};
 ghost use Rattle.exchange_core.specs.Legs.{leg_named};
 ghost use Rattle.exchange_core.specs.Responses.{reply_of};
 ghost use Rattle.exchange_core.specs.Setup.{Setting};
@@ -13,7 +14,7 @@ ghost use Rattle.exchange_core.specs.World.{World};
 use crate::call_control::CallControl;
 use crate::outbox::{Outbox, Response};
 use crate::record::Records;
-use clearing_rules::{GLOBAL_CALL_REFERENCE, unknown_reference};
+use clearing_rules::{GLOBAL_CALL_REFERENCE, restart, unknown_reference};
 use control_memory::PathMap;
 use number_plan::Plan;
 use q931_codec::{Message, MessageKind, read};
@@ -48,7 +49,7 @@ impl<P: PathMap> CallControl<P> {
         requires line { line < self.old.map.external }
         requires fresh { (out.old.sends ≡ []) × (out.old.moved ≡ None) }
         ensures makes { (s : Setting) (w : World) → s.plan ≡ plan.now → IsAtWork s self.old.map self.old.legs w
-            → Makes s.dimensions self.new.map self.new.legs out.new.sends out.new.moved (made_by s w (course s w line octets.now)) }
+            → Makes s.dimensions self.new.map self.new.legs out.new.sends out.new.moved (done s w line octets.now).making }
         ensures records { (s : Setting) (w : World) → s.plan ≡ plan.now → IsAtWork s self.old.map self.old.legs w → result ≡ (answer_to s w line octets.now).records }
         ensures few { IfSome out.new.moved (λ moves. (moves.0 ≤ self.old.map.bound) × (moves.1 ≤ self.old.map.bound)) }
         ensures sizes { SameSizes self.old.map self.new.map }
@@ -67,40 +68,58 @@ impl<P: PathMap> CallControl<P> {
         requires reference { message.now.reference < 2 ^ 15 }
         requires fresh { (out.old.sends ≡ []) × (out.old.moved ≡ None) }
         ensures makes { (s : Setting) (w : World) → s.plan ≡ plan.now → IsAtWork s self.old.map self.old.legs w → Makes s.dimensions self.new.map self.new.legs out.new.sends out.new.moved
-            (made_by s w (course_for s w line (with_leg_named message.now (leg_named self.old.legs line message.now.flag message.now.reference)))) }
+            (done_for s w line (with_leg_named message.now (leg_named self.old.legs line message.now.flag message.now.reference))).making }
         ensures records { (s : Setting) (w : World) → s.plan ≡ plan.now → IsAtWork s self.old.map self.old.legs w
-            → result ≡ (sent_by s w (course_for s w line (with_leg_named message.now (leg_named self.old.legs line message.now.flag message.now.reference)))).records }
+            → result ≡ (done_for s w line (with_leg_named message.now (leg_named self.old.legs line message.now.flag message.now.reference))).told }
         ensures few { IfSome out.new.moved (λ moves. (moves.0 ≤ self.old.map.bound) × (moves.1 ≤ self.old.map.bound)) }
         ensures sizes { SameSizes self.old.map self.new.map }
     {
         match self.legs.named(line, message.flag, message.reference) {
             Some(held) => self.act(out, held, message),
-            None => {
-                self.begin(out, plan, line, message);
-                Records::new()
-            }
+            None => self.begin(out, plan, line, message),
         }
     }
 
-    // Does what a message that names no leg asks for.
-    fn begin(&mut self, out: &mut Outbox, plan: &Plan, line: u8, message: &Message)
+    // Does what a message that names no leg asks for, and answers the records of the calls that it ends:
+    // a RESTART on the global call reference, a SETUP from the side that chose the call reference, or one
+    // that is answered there.
+    fn begin(&mut self, out: &mut Outbox, plan: &Plan, line: u8, message: &Message) -> Records
         requires work { (s : Setting) × (w : World) × (s.plan ≡ plan.now) × IsAtWork s self.old.map self.old.legs w }
         requires line { line < self.old.map.external }
         requires reference { message.now.reference < 2 ^ 15 }
         requires nameless { leg_named self.old.legs line message.now.flag message.now.reference ≡ None }
         requires fresh { (out.old.sends ≡ []) × (out.old.moved ≡ None) }
         ensures makes { (s : Setting) (w : World) → s.plan ≡ plan.now → IsAtWork s self.old.map self.old.legs w
-            → Makes s.dimensions self.new.map self.new.legs out.new.sends out.new.moved (made_by s w (course_for s w line (with_leg_named message.now None))) }
+            → Makes s.dimensions self.new.map self.new.legs out.new.sends out.new.moved (done_for s w line (with_leg_named message.now None)).making }
+        ensures records { (s : Setting) (w : World) → s.plan ≡ plan.now → IsAtWork s self.old.map self.old.legs w → result ≡ (done_for s w line (with_leg_named message.now None)).told }
         ensures few { IfSome out.new.moved (λ moves. (moves.0 ≤ self.old.map.bound) × (moves.1 ≤ self.old.map.bound)) }
         ensures sizes { SameSizes self.old.map self.new.map }
     {
         if message.reference == GLOBAL_CALL_REFERENCE {
-            return;
+            return self.restart_if_asked(out, line, message);
         }
         if asks_for_call(message) {
             self.setup(out, plan, line, message);
-        } else {
-            out.answer_on_no_call(line, message);
+            return Records::new();
+        }
+        out.answer_on_no_call(line, message);
+        Records::new()
+    }
+
+    // Does what a message on the global call reference asks for, which a RESTART alone does.
+    fn restart_if_asked(&mut self, out: &mut Outbox, line: u8, message: &Message) -> Records
+        requires work { (s : Setting) × (w : World) × IsAtWork s self.old.map self.old.legs w }
+        requires line { line < self.old.map.external }
+        requires fresh { (out.old.sends ≡ []) × (out.old.moved ≡ None) }
+        ensures makes { (s : Setting) (w : World) → IsAtWork s self.old.map self.old.legs w
+            → Makes s.dimensions self.new.map self.new.legs out.new.sends out.new.moved (done_for s w line (on_global_reference (restart_asked message.now))).making }
+        ensures records { (s : Setting) (w : World) → IsAtWork s self.old.map self.old.legs w → result ≡ (done_for s w line (on_global_reference (restart_asked message.now))).told }
+        ensures moved { out.new.moved ≡ None }
+        ensures sizes { SameSizes self.old.map self.new.map }
+    {
+        match restart(message) {
+            Some(restarted) => self.restart_line(out, line, restarted),
+            None => Records::new(),
         }
     }
 }

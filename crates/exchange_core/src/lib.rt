@@ -17,6 +17,7 @@ mod outbox;
 mod record;
 mod records;
 mod reply;
+mod restarting;
 mod setup;
 mod signal;
 mod step;

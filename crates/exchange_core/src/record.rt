@@ -100,4 +100,18 @@ impl Records {
     {
         self.items.push(told);
     }
+
+    ghost use Rattle.std.specs.Prelude.{◌+◌, ◌≤◌};
+    ghost use Rattle.std.specs.List.{cons_option};
+
+    /// One record more, where there is one.
+    pub(crate) fn extend(&mut self, told: Option<CallRecord>)
+        requires { length self.old < most_records }
+        ensures all { self.new ≡ self.old ++ cons_option told [] }
+        ensures few { length self.new ≤ length self.old + 1 }
+    {
+        if let Some(told) = told {
+            self.push(told);
+        }
+    }
 }

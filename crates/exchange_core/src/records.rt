@@ -3,7 +3,7 @@ ghost use Rattle.circuit_model.specs.Circuits.{since_of};
 ghost use Rattle.circuit_model.specs.Extent.{IsExternal};
 ghost use Rattle.call_states.specs.Acts.{cause_of_act};
 ghost use Rattle.exchange_core.specs.Acts.{peer_of};
-ghost use Rattle.exchange_core.specs.Calls.{is_calling, party_of, began};
+ghost use Rattle.exchange_core.specs.CallRecords.{is_calling, party_of, began};
 ghost use Rattle.exchange_core.specs.EndedCalls.{record_calling, record_ended, records_of_act};
 ghost use Rattle.exchange_core.specs.Standing.{Holds};
 ghost use Rattle.exchange_core.specs.World.{Dimensions, World};
@@ -35,8 +35,13 @@ impl<P: PathMap> CallControl<P> {
         records
     }
 
-    // The record of the call of a leg.
-    fn record_ended(&self, held: Held, peer: Option<Held>, cause: u8) -> Option<CallRecord>
+    /// The record of the call of a leg, where its clearing hasn't begun.
+    pub(crate) fn record_ended(
+        &self,
+        held: Held,
+        peer: Option<Held>,
+        cause: u8,
+    ) -> Option<CallRecord>
         requires external { IsExternal self.now.map.external held.slot }
         requires peer_external { IfSome peer (λ other. IsExternal self.now.map.external other.slot) }
         requires peer { peer ≡ peer_of self.now.legs held.leg.peer }

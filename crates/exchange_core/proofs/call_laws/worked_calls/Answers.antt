@@ -1,6 +1,7 @@
 use Rattle.std.proofs.Common.{refl}
 use Rattle.q931_elements.specs.Reading.{elements_of, elements_within}
 use Rattle.exchange_core.specs.Legs.{slots_of}
+use Rattle.exchange_core.specs.Restarts.{restarted_below}
 use Rattle.exchange_core.proofs.call_laws.worked_calls.Goals as goal
 
 pub returns-clause-whole : goal.returns-clause-whole
@@ -38,3 +39,15 @@ returns-clause-unexpected c = refl
 pub returns-clause-full : goal.returns-clause-full
 unfolding elements_of elements_within slots_of
 returns-clause-full c = refl
+
+pub returns-clause-restart_called : goal.returns-clause-restart_called
+unfolding elements_of elements_within slots_of restarted_below
+returns-clause-restart_called c = refl
+
+pub returns-clause-restart_both : goal.returns-clause-restart_both
+unfolding elements_of elements_within slots_of restarted_below
+returns-clause-restart_both c = refl
+
+pub returns-clause-restart_one : goal.returns-clause-restart_one
+unfolding elements_of elements_within slots_of restarted_below
+returns-clause-restart_one c = refl

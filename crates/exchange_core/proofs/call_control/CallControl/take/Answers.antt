@@ -1,5 +1,5 @@
 use Rattle.std.proofs.Common.{◌≡◌, sym, ◌∙◌}
-use Rattle.exchange_core.specs.Calls.{Received, made_by, course_for, sent_by}
+use Rattle.exchange_core.specs.Calls.{Received, done_for}
 use Rattle.exchange_core.specs.Standing.{Makes}
 use Rattle.exchange_core.proofs.Refusals.{no_records}
 use Rattle.exchange_core.proofs.Taken.{taken}
@@ -9,16 +9,16 @@ pub returns-in-Ok-clause-makes : goal.returns-in-Ok-clause-makes
 returns-in-Ok-clause-makes g c s w plan work =
     let e = c.receive.ensures in
     taken _ _ c.args.line c.args.octets.now _
-    (λ (r : Received). Makes s.dimensions c.receive.new.self.map c.receive.new.self.legs c.receive.new.out.sends c.receive.new.out.moved (made_by s w (course_for s w c.args.line r)))
+    (λ (r : Received). Makes s.dimensions c.receive.new.self.map c.receive.new.self.legs c.receive.new.out.sends c.receive.new.out.moved (done_for s w c.args.line r).making)
     work.holds.legs_are (sym c.in-Ok.is ∙ c.read.ensures.computed) (e.makes s w plan work)
 
 pub returns-in-Ok-clause-records : goal.returns-in-Ok-clause-records
 returns-in-Ok-clause-records g c s w plan work =
     let e = c.receive.ensures in
-    taken _ _ c.args.line c.args.octets.now _ (λ (r : Received). c.receive.result ≡ (sent_by s w (course_for s w c.args.line r)).records)
+    taken _ _ c.args.line c.args.octets.now _ (λ (r : Received). c.receive.result ≡ (done_for s w c.args.line r).told)
     work.holds.legs_are (sym c.in-Ok.is ∙ c.read.ensures.computed) (e.records s w plan work)
 
 pub returns-in-Err-clause-records : goal.returns-in-Err-clause-records
 returns-in-Err-clause-records g c s w plan work =
-    taken _ _ c.args.line c.args.octets.now _ (λ (r : Received). c.new.result ≡ (sent_by s w (course_for s w c.args.line r)).records)
+    taken _ _ c.args.line c.args.octets.now _ (λ (r : Received). c.new.result ≡ (done_for s w c.args.line r).told)
     work.holds.legs_are (sym c.in-Err.is ∙ c.read.ensures.computed) (c.new.ensures ∙ sym (no_records w 0))
