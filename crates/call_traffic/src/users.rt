@@ -5,7 +5,7 @@ use plain_calls::types::{
     ALERTING, BEARER_CAPABILITY, CALL_PROCEEDING, CALL_STATE, CALLED_PARTY_NUMBER,
     CALLING_PARTY_NUMBER, CAUSE, CHANNEL_IDENTIFICATION, CONNECT, CONNECT_ACKNOWLEDGE, DISCONNECT,
     FACILITY, HIGH_LAYER_COMPATIBILITY, LOW_LAYER_COMPATIBILITY, NAMED_TYPES, NOTIFY, PROGRESS,
-    RELEASE, RELEASE_COMPLETE, SETUP, STATUS, STATUS_ENQUIRY, USER_INFORMATION,
+    RELEASE, RELEASE_COMPLETE, RESTART, RESTART_INDICATOR, SETUP, STATUS, STATUS_ENQUIRY, USER_INFORMATION,
 };
 use plain_calls::{Leg, PlainExchange, Side, State};
 use std::alloc::{AllocError, Global};
@@ -60,6 +60,7 @@ pub(crate) fn draw_message(
     let line = random.below(exchange.external().max(1));
     match (random.below(12), draw_leg(random, exchange)) {
         (0..=6, Some(leg)) => Ok((leg.at.line, message_to_leg(alloc, random, leg)?)),
+        (7, _) if random.once_in(5) => Ok((line, restart_message(alloc, random)?)),
         (7, _) => Ok((line, stray_message(alloc, random)?)),
         (8, _) if random.once_in(3) => Ok((line, noise(alloc, random)?)),
         _ => Ok((line, setup(alloc, random, exchange)?)),
@@ -108,6 +109,23 @@ fn stray_message(alloc: Global, random: &mut Random) -> Result<Vec<u8>, AllocErr
     let kind = draw_kind(random);
     let mut octets = header(alloc, flag, reference, kind)?;
     add_reply_elements(&mut octets, random)?;
+    damage(&mut octets, random);
+    Ok(octets)
+}
+
+// A RESTART, mostly one that is taken: of a channel, named in some way, or of the line.
+fn restart_message(alloc: Global, random: &mut Random) -> Result<Vec<u8>, AllocError> {
+    let flag = random.once_in(12);
+    let mut octets = header(alloc, flag, 0, RESTART)?;
+    let indicator = random.pick(&[0x80, 0x80, 0x80, 0x86, 0x87, 0x81]);
+    if indicator == 0x80 || random.once_in(4) {
+        let channel = 0x80 | (1 + random.below(31));
+        let kind = random.pick(&[0xA9, 0xA9, 0xA1, 0xA3]);
+        octets.extend_from_slice(&[CHANNEL_IDENTIFICATION, 3, kind, 0x83, channel])?;
+    }
+    if !random.once_in(12) {
+        octets.extend_from_slice(&[RESTART_INDICATOR, 1, indicator])?;
+    }
     damage(&mut octets, random);
     Ok(octets)
 }

@@ -48,8 +48,8 @@ impl PlainExchange {
         replace_leg(&mut self.legs, Leg { state, ..leg });
     }
 
-    // The leg that a leg is in a call with.
-    fn peer_of(&self, leg: Leg) -> Option<Leg> {
+    /// The leg that a leg is in a call with.
+    pub(crate) fn peer_of(&self, leg: Leg) -> Option<Leg> {
         match leg.peer {
             Peer::Leg(at) => leg_at(self.legs(), at),
             Peer::Room(_) | Peer::Alone => None,
@@ -105,14 +105,14 @@ impl PlainExchange {
         );
     }
 
-    // The leg is gone.
-    fn remove(&mut self, leg: Leg) {
+    /// The leg is gone.
+    pub(crate) fn remove(&mut self, leg: Leg) {
         self.clear(leg.at);
         self.legs.retain(|held| held.at != leg.at);
     }
 
-    // The leg that this one was in a call with is cleared.
-    fn clear_peer(
+    /// The leg that this one was in a call with is cleared.
+    pub(crate) fn clear_peer(
         &mut self,
         alloc: Global,
         leg: Leg,

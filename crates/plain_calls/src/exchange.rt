@@ -130,9 +130,11 @@ impl PlainExchange {
             for call in &calls {
                 self.tell_if_ended(*call, cause, &mut sent)?;
             }
-        } else if message.reference > 0 && message.kind == SETUP && !message.flag {
+        } else if message.reference == 0 {
+            self.restart(alloc, line, &message, &mut sent)?;
+        } else if message.kind == SETUP && !message.flag {
             self.set_up(alloc, line, &message, &mut sent)?;
-        } else if message.reference > 0 {
+        } else {
             answer_without_leg(alloc, line, &message, &mut sent)?;
         }
         Ok(sent)
@@ -182,8 +184,8 @@ impl PlainExchange {
         find_heard(self.circuits.circuits(), x)
     }
 
-    // The records of the calls whose clearing hasn't begun, as if it began now.
-    fn calls(&self, alloc: Global) -> Result<Vec<CallRecord>, AllocError> {
+    /// The records of the calls whose clearing hasn't begun, as if it began now.
+    pub(crate) fn calls(&self, alloc: Global) -> Result<Vec<CallRecord>, AllocError> {
         let mut calls = Vec::new(alloc);
         for leg in self.legs() {
             if let (true, Some(called)) = (leg.is_calling(), party_of(leg.peer)) {

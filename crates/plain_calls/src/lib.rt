@@ -19,6 +19,7 @@ mod numbers;
 mod paths;
 mod ports;
 mod report;
+mod restart;
 mod sent;
 mod setup;
 mod table;

@@ -15,6 +15,10 @@ pub enum Course {
     Unanswered,
     /// It names no leg, and the answer says so.
     NoLeg,
+    /// It restarted one channel.
+    RestartedChannel,
+    /// It restarted a whole line.
+    RestartedLine,
     /// It was for a leg.
     For(Act),
     /// It asked for a call, which was refused.

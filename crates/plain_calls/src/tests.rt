@@ -238,3 +238,27 @@ fn unexpected_messages(rt: HostRuntime) -> Result<(), Fail> {
     check(&rt, rt.alloc(), 0, &steps, wanted)?;
     Ok(())
 }
+
+#[test]
+fn restarts(rt: HostRuntime) -> Result<(), Fail> {
+    let steps = [
+        SETUP,
+        Message(1, "0802000046790186"),
+        Message(1, "08020000461803A98382790180"),
+        Message(0, "080280004E790186"),
+    ];
+    let wanted = "2 message 0:0802800145080282A9 1:080280004E790186\n\
+        3 message 1:080280004E1803A98382790180\n\
+        4 message\n";
+    let run = check(&rt, rt.alloc(), 0, &steps, wanted)?;
+    let told = CallRecord {
+        caller: first(0),
+        called: Party::Line(first(1)),
+        answered: false,
+        from: 0,
+        to: 0,
+        cause: 41,
+    };
+    assert_eq!(rt; run.records(), [told].as_slice());
+    Ok(())
+}

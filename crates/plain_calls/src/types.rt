@@ -72,6 +72,8 @@ pub const CHANNEL_IDENTIFICATION: u8 = 0x18;
 pub const CALLING_PARTY_NUMBER: u8 = 0x6C;
 /// Element: Called party number.
 pub const CALLED_PARTY_NUMBER: u8 = 0x70;
+/// Element: Restart indicator.
+pub const RESTART_INDICATOR: u8 = 0x79;
 /// Element: Low layer compatibility.
 pub const LOW_LAYER_COMPATIBILITY: u8 = 0x7C;
 /// Element: High layer compatibility.

@@ -1,0 +1,120 @@
+use crate::channels::place_of_channel;
+use crate::elements::Received;
+use crate::exchange::PlainExchange;
+use crate::legs::{Leg, leg_at};
+use crate::sent::{CallRecord, Course, Sent};
+use crate::types::{
+    CHANNEL_IDENTIFICATION, RESTART, RESTART_ACKNOWLEDGE, RESTART_INDICATOR, TEMPORARY_FAILURE,
+};
+use crate::writing::{add_channel, add_element};
+use circuit_model::{PLACES, Slot};
+use std::alloc::{AllocError, Global};
+
+// What a RESTART names: the place of one channel, or with None every channel of the line; and the octet
+// of its restart indicator.
+#[derive(Clone, Copy)]
+struct Scope {
+    place: Option<u8>,
+    indicator: u8,
+}
+
+impl Scope {
+    // The scope of a RESTART that is taken.
+    fn of(message: &Received) -> Option<Scope> {
+        if message.kind != RESTART || message.flag {
+            return None;
+        }
+        let indicator = *message.find(RESTART_INDICATOR)?.first()?;
+        match indicator {
+            0x80 => Some(Scope {
+                place: Some(place_named(message)?),
+                indicator,
+            }),
+            0x86 | 0x87 => Some(Scope {
+                place: None,
+                indicator,
+            }),
+            _ => None,
+        }
+    }
+
+    fn holds(&self, line: u8, at: Slot) -> bool {
+        at.line == line && self.place.is_none_or(|place| at.place == place)
+    }
+}
+
+// The place of the channel that a message names, exclusively or as preferred.
+fn place_named(message: &Received) -> Option<u8> {
+    match message.find(CHANNEL_IDENTIFICATION)? {
+        [0xA9 | 0xA1, 0x83, channel] => place_of_channel(*channel % 0x80),
+        _ => None,
+    }
+}
+
+impl PlainExchange {
+    /// Takes a message on call reference 0, where a RESTART alone does something: the legs of the slots that
+    /// it names are gone, one after another, and those that they were in calls with are cleared where
+    /// they aren't named too.
+    pub(crate) fn restart(
+        &mut self,
+        alloc: Global,
+        line: u8,
+        message: &Received,
+        sent: &mut Sent,
+    ) -> Result<(), AllocError> {
+        let Some(scope) = Scope::of(message) else {
+            return Ok(());
+        };
+        sent.course = match scope.place {
+            Some(_) => Course::RestartedChannel,
+            None => Course::RestartedLine,
+        };
+        let calls = self.calls(alloc)?;
+        for place in 0..PLACES {
+            let at = Slot { line, place };
+            if let (true, Some(leg)) = (scope.holds(line, at), leg_at(self.legs(), at)) {
+                self.restart_leg(alloc, leg, scope, calls.as_slice(), sent)?;
+            }
+        }
+        let mut octets = Vec::from_slice(alloc, &[0x08, 0x02, 0x80, 0x00, RESTART_ACKNOWLEDGE])?;
+        if let Some(place) = scope.place {
+            if place < PLACES {
+                add_channel(&mut octets, place)?;
+            }
+        }
+        add_element(&mut octets, RESTART_INDICATOR, &[scope.indicator])?;
+        sent.send(line, octets)
+    }
+
+    // A leg is gone whose slot is restarted. Its call is told of at the first of its legs.
+    fn restart_leg(
+        &mut self,
+        alloc: Global,
+        leg: Leg,
+        scope: Scope,
+        calls: &[CallRecord],
+        sent: &mut Sent,
+    ) -> Result<(), AllocError> {
+        let peer = self.peer_of(leg);
+        let caller = match peer {
+            Some(peer) if peer.is_calling() => peer.at,
+            _ => leg.at,
+        };
+        let told = calls.iter().find(|call| call.caller == caller).copied();
+        if let (Some(call), false) = (told, is_told(sent.records.as_slice(), caller)) {
+            sent.records.push(CallRecord {
+                cause: TEMPORARY_FAILURE,
+                ..call
+            })?;
+        }
+        self.remove(leg);
+        match peer {
+            Some(peer) if scope.holds(leg.at.line, peer.at) => Ok(()),
+            _ => self.clear_peer(alloc, leg, TEMPORARY_FAILURE, sent),
+        }
+    }
+}
+
+fn is_told(records: &[CallRecord], caller: Slot) -> bool {
+    records.iter().any(|told| told.caller == caller)
+}
