@@ -4,13 +4,14 @@ use std::fmt;
 /// How often each course of a message came.
 #[derive(Clone, Copy, Debug)]
 pub struct Counts {
-    counts: [(Course, u32); 25],
+    counts: [(Course, u32); 26],
 }
 
 // Each course, not come yet.
-const NONE: [(Course, u32); 25] = [
+const NONE: [(Course, u32); 26] = [
     (Course::Discarded, 0),
     (Course::Unanswered, 0),
+    (Course::NoLeg, 0),
     (Course::Offered, 0),
     (Course::Seated, 0),
     (Course::For(Act::Nothing), 0),
@@ -81,6 +82,7 @@ fn words_for(course: Course) -> &'static str {
     match course {
         Course::Discarded => "discarded",
         Course::Unanswered => "unanswered",
+        Course::NoLeg => "on no leg",
         Course::Offered => "offered",
         Course::Seated => "seated",
         Course::For(act) => name_of(act),

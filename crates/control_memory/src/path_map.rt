@@ -10,7 +10,7 @@ use circuit_model::Slot;
 
 /// A live map of the paths through the fabric: a legal layout, which new paths join by the rule of
 /// rearrangement. No call takes memory, and none is refused. After each call its layout is legal.
-pub trait PathMap: Send {
+pub trait PathMap {
     /// How many lines it has, external and bridge lines together.
     ghost width: { Self → ℕ };
 

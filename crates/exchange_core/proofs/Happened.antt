@@ -1,5 +1,5 @@
 -- Every event keeps the legs standing.
-use Rattle.std.proofs.Common.{◌≡◌, ℕ, zero, suc, inl, inr, ◌*◌, ◌<◌, List, [], ◌∷◌, Some, None, refl, sym, ◌∙◌, subst, arith, get_or}
+use Rattle.std.proofs.Common.{◌≡◌, ℕ, zero, suc, inl, inr, ◌*◌, ◌<◌, List, [], ◌∷◌, Option, Some, None, refl, sym, ◌∙◌, subst, arith, get_or}
 use Rattle.std.specs.Prelude.{All, length, replicate}
 use Rattle.std.proofs.lemmas.Bool.{cases_lt}
 use Rattle.std.proofs.lemmas.List.{length-replicate}
@@ -7,9 +7,12 @@ use Rattle.std.proofs.Math.ListN.{get_or-eq_default}
 use Rattle.circuit_model.specs.declared.channel.Slot.{Slot}
 use Rattle.circuit_model.specs.Holding.{Valid}
 use Rattle.circuit_model.proofs.Validity.{valid-empty}
+use Rattle.q931_codec.specs.Outgoing.{OutgoingMessage}
 use Rattle.q931_codec.specs.Reading.{reading}
 use Rattle.q931_codec.proofs.Messages.{read_message}
-use Rattle.exchange_core.specs.Calls.{Received, For_leg, New_call, Unanswered, received, course_for, made_by}
+use Rattle.clearing_rules.specs.UnknownReference.{answer_without_call}
+use Rattle.exchange_core.specs.Calls.{Received, For_leg, New_call, On_no_call, Unanswered, received, answer_back, course_for, made_by}
+use Rattle.exchange_core.specs.Course.{only}
 use Rattle.exchange_core.specs.declared.trace.Event.{Event}
 use Rattle.exchange_core.specs.declared.trace.Event.TheVariants.{Nail, Seat, Free, Message, Frame}
 use Rattle.exchange_core.specs.Sound.{Fits, IsPlanned}
@@ -32,6 +35,11 @@ octets_small octets all i = elim (cases_lt i (length octets)) [
   | inr beyond ↦ subst (λ n. n < 256) (sym (get_or-eq_default octets 0 beyond)) (omega arith)
 ]
 
+-- a message that is sent changes nothing else
+kept_without : (s : Setting) (w : World) (line : ℕ) (o : Option OutgoingMessage) → Kept s.dimensions w → Kept s.dimensions (made_by s w (only (answer_back line o))).world
+kept_without s w line None kept = kept
+kept_without s w line (Some message) kept = kept
+
 kept_stands : (s : Setting) (v : World) → Kept s.dimensions v → CallsStand s v
 kept_stands s v kept = record { circuits = kept.0; legs = kept.1 }
 
@@ -46,6 +54,7 @@ module _ (s : Setting) (w : World) (line : ℕ) (octets : List ℕ) (planned : I
       let new = new_from w.legs line (reading octets) m is in
       let message = read_message octets m (octets_small octets can.1) new.0 in
       setup_kept s w line m (record { planned = planned; valid = valid; stand = stand; below = can.0; own = (new.1, message.value); unused = new.2 })
+  received_kept (On_no_call m) is = kept_without s w line (answer_without_call m) (valid, stand)
   received_kept Unanswered is = (valid, stand)
 
 pub happened_kept : (s : Setting) (w : World) (e : Event) → IsPlanned s → Fits s.dimensions.external e → CallsStand s w → CallsStand s (next s w e)

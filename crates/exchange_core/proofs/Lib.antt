@@ -33,6 +33,7 @@ pub mod SetupPermits
 pub mod SetupEnds
 pub mod Makes
 pub mod BegunEnds
+pub mod OnNoCall
 pub mod Permits
 pub mod Histories
 pub mod Stepping

@@ -1,17 +1,15 @@
 -- The leg that a message names stands at its slot.
-use Rattle.std.proofs.Common.{◌≡◌, ℕ, zero, suc, ◌+◌, ◌<◌, ◌≤◌, ◌||◌, ◌==◌, Bool, true, List, [], ◌∷◌, map, Option, Some, None, refl, subst, inl, inr, arith}
+use Rattle.std.proofs.Common.{◌≡◌, ℕ, zero, suc, ◌+◌, ◌<◌, ◌≤◌, ◌==◌, Bool, true, List, [], ◌∷◌, map, Option, Some, None, refl, subst, inl, inr, arith}
 use Rattle.std.specs.Prelude.{Result, Ok, Err, find, filter_map, option_map}
 use Rattle.std.specs.List.{range_with_len, cons_option, AllByRecursion}
 use Rattle.circuit_model.specs.declared.channel.Slot.{Slot}
 use Rattle.circuit_model.proofs.Slots.{true_or_false}
-use Rattle.q931_codec.specs.declared.kind.MessageKind.{MessageKind}
-use Rattle.q931_codec.specs.declared.kind.MessageKind.TheVariants as kind
 use Rattle.q931_codec.specs.declared.message.Discard.{Discard}
 use Rattle.q931_codec.specs.declared.message.Message.{Message}
 use Rattle.q931_codec.specs.Reading.{reading}
 use Rattle.call_states.specs.declared.leg.Leg.{Leg}
 use Rattle.exchange_core.specs.declared.leg_table.Held.{Held}
-use Rattle.exchange_core.specs.Calls.{For_leg, New_call, Unanswered, without_leg, with_leg_named, received_from, received}
+use Rattle.exchange_core.specs.Calls.{For_leg, New_call, On_no_call, Unanswered, asks_for_call, without_leg, with_leg_named, received_from, received}
 use Rattle.exchange_core.specs.Legs.{Legs, leg_at, held_at, slots_of, is_for, leg_named}
 
 -- a slot of the line
@@ -57,15 +55,17 @@ leg_named_stands legs line flag reference h e = found_among legs (is_for flag re
 
 -- ---- what is for a leg names it
 
-not_for_leg : (m : Message) (k : MessageKind) (h : Held) (n : Message) → without_leg m k ≡ For_leg h n → ⊥
-not_for_leg m kind.Setup h n e = elim (true_or_false (m.flag || (m.reference == 0))) [
-  | inl unasked ↦ let f : Unanswered ≡ For_leg h n = rw unasked at e in cc
-  | inr asked ↦ let f : New_call m ≡ For_leg h n = rw asked at e in cc
+not_for_leg : (m : Message) (h : Held) (n : Message) → without_leg m ≡ For_leg h n → ⊥
+not_for_leg m h n e = elim (true_or_false (m.reference == 0)) [
+  | inl global ↦ let f : Unanswered ≡ For_leg h n = rw global at e in cc
+  | inr own ↦ elim (true_or_false (asks_for_call m)) [
+    | inl asks ↦ let f : New_call m ≡ For_leg h n = rw (own, asks) at e in cc
+    | inr back ↦ let f : On_no_call m ≡ For_leg h n = rw (own, back) at e in cc
+  ]
 ]
-not_for_leg m _ h n e = cc
 
 for_named : (m : Message) (o : Option Held) (h : Held) (n : Message) → with_leg_named m o ≡ For_leg h n → (o ≡ Some h) × (m ≡ n)
-for_named m None h n e = absurd (not_for_leg m m.kind h n e)
+for_named m None h n e = absurd (not_for_leg m h n e)
 for_named m (Some g) h n e = (cc, cc)
 
 -- the leg that a message is for stands on the message's line

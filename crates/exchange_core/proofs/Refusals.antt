@@ -1,13 +1,17 @@
 -- A call that is refused changes nothing, and the fabric decides nothing.
 use Rattle.std.proofs.Common.{◌≡◌, ℕ, Bool, true, false, not, ◌&&◌, List, [], ◌∷◌, Option, Some, None, length, refl, ◌∙◌, ap}
-use Rattle.std.specs.Prelude.{filter_map}
+use Rattle.std.specs.Prelude.{filter_map, is_some}
 use Rattle.std.specs.List.{range_with_len}
 use Rattle.control_memory.specs.Layout.{Layout, slot_numbered}
 use Rattle.exchange_core.specs.declared.record.CallRecord.{CallRecord}
-use Rattle.exchange_core.specs.Calls.{Received, For_leg, New_call, Unanswered, received, course_for, refusal_for, after_message, answer_to, refused_with, course, record_at, records, is_ended, is_calling, made_by}
+use Rattle.exchange_core.specs.Calls.{Received, For_leg, New_call, On_no_call, Unanswered, received, course_for, refusal_for, after_message, answer_to, refused_with, course, record_at, records, is_ended, is_calling, made_by}
 use Rattle.exchange_core.specs.Legs.{Legs, leg_at}
 use Rattle.exchange_core.specs.Operations.{Operation, Clear, Pair, Seat, Put, Remove, Send, Making, begun, performed, performed_all}
+use Rattle.exchange_core.specs.declared.trace.Event.{Event}
+use Rattle.exchange_core.specs.declared.trace.Event.TheVariants.{Nail, Seat as Seat_event, Free, Message, Frame}
+use Rattle.exchange_core.specs.IdleSlots.{nailed}
 use Rattle.exchange_core.specs.Setup.{Setting}
+use Rattle.exchange_core.specs.Step.{is_refused, next, may_nail, may_seat}
 use Rattle.exchange_core.specs.World.{Dimensions, World}
 
 -- ---- what is told where nothing has changed
@@ -35,6 +39,7 @@ made_refused : (s : Setting) (w : World) (line : ℕ) (r : Received) (cause : �
     → ((made_by s w (course_for s w line r)).world ≡ w) × ((made_by s w (course_for s w line r)).moves ≡ None)
 made_refused s w line (For_leg h m) cause e = absurd cc
 made_refused s w line (New_call m) cause e = rw e (refl, refl)
+made_refused s w line (On_no_call m) cause e = absurd cc
 made_refused s w line Unanswered cause e = absurd cc
 
 pub refused_world : (s : Setting) (w : World) (line : ℕ) (octets : List ℕ) (cause : ℕ) → refused_with s w line octets ≡ Some cause → after_message s w line octets ≡ w
@@ -46,6 +51,23 @@ refused_moves s w line octets cause e = (made_refused s w line (received w.legs 
 pub refused_records : (s : Setting) (w : World) (line : ℕ) (octets : List ℕ) (cause : ℕ) → refused_with s w line octets ≡ Some cause → (answer_to s w line octets).records ≡ []
 refused_records s w line octets cause e =
     ap (λ after. records w after (course s w line octets).cause) (refused_world s w line octets cause e) ∙ no_records w (course s w line octets).cause
+
+-- ---- an event that is refused
+
+not_so : (b : Bool) → not b ≡ true → b ≡ false
+not_so true e = absurd cc
+not_so false e = refl
+
+some_cause : (o : Option ℕ) → is_some o ≡ true → (cause : ℕ) × (o ≡ Some cause)
+some_cause None e = absurd cc
+some_cause (Some cause) e = (cause, refl)
+
+pub refused_next : (s : Setting) (w : World) (e : Event) → is_refused s w e ≡ true → next s w e ≡ w
+refused_next s w (Nail x y) e = rw (not_so (may_nail w x y) e) refl
+refused_next s w (Seat_event x room) e = rw (not_so (may_seat s.dimensions w x) e) refl
+refused_next s w (Free x) e = rw (not_so (nailed w x) e) refl
+refused_next s w (Message line octets) e = let refused = some_cause (refused_with s w line octets) e in refused_world s w line octets refused.0 refused.1
+refused_next s w (Frame input) e = absurd cc
 
 -- ---- the fabric decides nothing
 

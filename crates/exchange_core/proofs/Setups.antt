@@ -1,5 +1,5 @@
 -- Whatever a SETUP is answered, the legs stand afterwards.
-use Rattle.std.proofs.Common.{◌≡◌, ℕ, zero, suc, drop, ◌-◌, ◌^◌, ◌<◌, ◌≤◌, ◌⊎◌, inl, inr, Bool, true, false, ◌&&◌, ◌||◌, ◌==◌, List, [], ◌∷◌, Option, Some, None, refl, sym, ◌∙◌, ap, subst, arith}
+use Rattle.std.proofs.Common.{◌≡◌, ℕ, zero, suc, drop, ◌-◌, ◌^◌, ◌<◌, ◌≤◌, ◌⊎◌, inl, inr, Bool, true, false, ◌&&◌, ◌==◌, List, [], ◌∷◌, Option, Some, None, refl, sym, ◌∙◌, ap, subst, arith}
 use Rattle.std.specs.Prelude.{Result, Ok, Err, is_none, not, option_map, option_and_then}
 use Rattle.std.specs.List.{AllByRecursion}
 use Rattle.std.specs.Option.{option_or}
@@ -11,8 +11,6 @@ use Rattle.circuit_model.specs.Holding.{Valid}
 use Rattle.circuit_model.proofs.Slots.{true_or_false, same_slot-refl}
 use Rattle.q931_codec.specs.declared.contents.ChannelIdentification.{ChannelIdentification}
 use Rattle.q931_codec.specs.declared.contents.ChannelIdentification.TheVariants.{Any, Preferred, Exclusive, Invalid}
-use Rattle.q931_codec.specs.declared.kind.MessageKind.{MessageKind}
-use Rattle.q931_codec.specs.declared.kind.MessageKind.TheVariants as kind
 use Rattle.q931_codec.specs.declared.message.Discard.{Discard}
 use Rattle.q931_codec.specs.declared.message.Message.{Message}
 use Rattle.q931_codec.specs.Contents.{channel_in}
@@ -21,7 +19,7 @@ use Rattle.number_plan.specs.declared.target.Found.TheVariants.{Line, Room, More
 use Rattle.number_plan.specs.declared.target.Target.TheVariants as target
 use Rattle.number_plan.proofs.Meanings.{found_passes}
 use Rattle.exchange_core.specs.declared.leg_table.Held.{Held}
-use Rattle.exchange_core.specs.Calls.{New_call, Unanswered, made_by, received_from, with_leg_named, without_leg as unnamed}
+use Rattle.exchange_core.specs.Calls.{New_call, On_no_call, Unanswered, asks_for_call, is_setup, made_by, received_from, with_leg_named, without_leg as unnamed}
 use Rattle.exchange_core.specs.IdleSlots.{idle, lowest_idle, lowest_idle_beside}
 use Rattle.exchange_core.specs.LegStanding.{LegsStand}
 use Rattle.exchange_core.specs.Sound.{IsPlanned, is_reached}
@@ -182,20 +180,23 @@ module _ (s : Setting) (w : World) (line : ℕ) (m : Message) (new : IsNew s w l
 
 -- ---- what is received as a new call
 
-asked_for : (n : Message) (k : MessageKind) (m : Message) → unnamed n k ≡ New_call m → (n ≡ m) × ((n.flag || (n.reference == 0)) ≡ false)
-asked_for n kind.Setup m e = elim (true_or_false (n.flag || (n.reference == 0))) [
-  | inl unasked ↦ let f : Unanswered ≡ New_call m = rw unasked at e in absurd cc
-  | inr asked ↦ let f : New_call n ≡ New_call m = rw asked at e in (cc, asked)
+unflagged : (setup flag : Bool) → (setup && not flag) ≡ true → flag ≡ false
+unflagged setup false e = refl
+unflagged true true e = absurd cc
+unflagged false true e = absurd cc
+
+asked_for : (n m : Message) → unnamed n ≡ New_call m → (n ≡ m) × (n.flag ≡ false) × ((n.reference == 0) ≡ false)
+asked_for n m e = elim (true_or_false (n.reference == 0)) [
+  | inl global ↦ let f : Unanswered ≡ New_call m = rw global at e in absurd cc
+  | inr own ↦ elim (true_or_false (asks_for_call n)) [
+    | inl asks ↦ let f : New_call n ≡ New_call m = rw (own, asks) at e in (cc, unflagged (is_setup n.kind) n.flag asks, own)
+    | inr back ↦ let f : On_no_call n ≡ New_call m = rw (own, back) at e in absurd cc
+  ]
 ]
-asked_for n _ m e = absurd cc
 
-named_new : (n : Message) (o : Option Held) (m : Message) → with_leg_named n o ≡ New_call m → (o ≡ None) × (n ≡ m) × ((n.flag || (n.reference == 0)) ≡ false)
-named_new n None m e = let is = asked_for n n.kind m e in (refl, is.0, is.1)
+named_new : (n : Message) (o : Option Held) (m : Message) → with_leg_named n o ≡ New_call m → (o ≡ None) × (n ≡ m) × (n.flag ≡ false) × ((n.reference == 0) ≡ false)
+named_new n None m e = let is = asked_for n m e in (refl, is.0, is.1, is.2)
 named_new n (Some h) m e = absurd cc
-
-flag_of : (flag zero_reference : Bool) → (flag || zero_reference) ≡ false → (flag ≡ false) × (zero_reference ≡ false)
-flag_of true b e = absurd cc
-flag_of false b e = (refl, e)
 
 positive : (n : ℕ) → (n == 0) ≡ false → 1 ≤ n
 positive n e = grind (arith, nat_tests, e)
@@ -205,6 +206,24 @@ pub new_from : (legs : Legs) (line : ℕ) (r : Result Message Discard) (m : Mess
 new_from legs line (Err why) m e = absurd cc
 new_from legs line (Ok n) m e =
     let is = named_new n (leg_named legs line n.flag n.reference) m e in
-    let both = flag_of n.flag (n.reference == 0) is.2 in
-    let none : leg_named legs line false n.reference ≡ None = subst (λ flag. leg_named legs line flag n.reference ≡ None) both.0 is.0 in
-    (ap (λ (k : Message). Ok k) is.1, subst (λ (k : Message). 1 ≤ k.reference) is.1 (positive n.reference both.1), subst (λ (k : Message). leg_named legs line false k.reference ≡ None) is.1 none)
+    let none : leg_named legs line false n.reference ≡ None = subst (λ flag. leg_named legs line flag n.reference ≡ None) is.2 is.0 in
+    (ap (λ (k : Message). Ok k) is.1, subst (λ (k : Message). 1 ≤ k.reference) is.1 (positive n.reference is.3), subst (λ (k : Message). leg_named legs line false k.reference ≡ None) is.1 none)
+
+-- ---- what is received on the call reference of no call
+
+back_from : (n m : Message) → unnamed n ≡ On_no_call m → n ≡ m
+back_from n m e = elim (true_or_false (n.reference == 0)) [
+  | inl global ↦ let f : Unanswered ≡ On_no_call m = rw global at e in absurd cc
+  | inr own ↦ elim (true_or_false (asks_for_call n)) [
+    | inl asks ↦ let f : New_call n ≡ On_no_call m = rw (own, asks) at e in absurd cc
+    | inr back ↦ let f : On_no_call n ≡ On_no_call m = rw (own, back) at e in cc
+  ]
+]
+
+named_back : (n : Message) (o : Option Held) (m : Message) → with_leg_named n o ≡ On_no_call m → n ≡ m
+named_back n None m e = back_from n m e
+named_back n (Some h) m e = absurd cc
+
+pub no_call_read : (legs : Legs) (line : ℕ) (r : Result Message Discard) (m : Message) → received_from legs line r ≡ On_no_call m → r ≡ Ok m
+no_call_read legs line (Err why) m e = absurd cc
+no_call_read legs line (Ok n) m e = ap (λ (k : Message). Ok k) (named_back n (leg_named legs line n.flag n.reference) m e)

@@ -1,5 +1,5 @@
 -- What a message makes of the world, from its octets to the octets that are sent and the records that are told. Source: this exchange's own.
-use Rattle.std.specs.Prelude.{ℕ, ◌==◌, ◌&&◌, ◌||◌, not, Bool, false, List, [], ◌∷◌, length, filter_map, Option, Some, None, option_map, option_and_then, Ok, Err, Result, if◌then◌else◌}
+use Rattle.std.specs.Prelude.{ℕ, ◌==◌, ◌&&◌, not, Bool, true, false, List, [], ◌∷◌, length, filter_map, Option, Some, None, option_map, option_and_then, Ok, Err, Result, if◌then◌else◌}
 use Rattle.std.specs.List.{range_with_len}
 use Rattle.circuit_model.specs.declared.channel.Slot.{Slot}
 use Rattle.circuit_model.specs.declared.circuit.Circuit.{Circuit}
@@ -10,39 +10,54 @@ use Rattle.q931_codec.specs.declared.kind.MessageKind.TheVariants as kind
 use Rattle.q931_codec.specs.declared.message.Discard.{Discard}
 use Rattle.q931_codec.specs.declared.message.Message.{Message}
 use Rattle.q931_codec.specs.CallStates.{outgoing_call_proceeding, call_delivered, active}
+use Rattle.q931_codec.specs.Outgoing.{OutgoingMessage}
 use Rattle.q931_codec.specs.Reading.{reading}
 use Rattle.call_states.specs.declared.leg.Leg.{Leg}
 use Rattle.call_states.specs.declared.leg.Peer.{Peer}
 use Rattle.call_states.specs.declared.leg.Peer.TheVariants as peer
 use Rattle.call_states.specs.declared.leg.Side.TheVariants.{Caller}
 use Rattle.call_states.specs.Acts.{act_on, is_among}
+use Rattle.clearing_rules.specs.Restarting.{global_call_reference}
+use Rattle.clearing_rules.specs.UnknownReference.{answer_without_call}
 use Rattle.exchange_core.specs.declared.record.CallRecord.{CallRecord}
 use Rattle.exchange_core.specs.declared.record.Party.{Party}
 use Rattle.exchange_core.specs.declared.record.Party.TheVariants as party
 use Rattle.exchange_core.specs.declared.signal.Signal.{Signal}
 use Rattle.exchange_core.specs.declared.leg_table.Held.{Held}
 use Rattle.exchange_core.specs.Acts.{course_of}
-use Rattle.exchange_core.specs.Course.{Course, nothing}
+use Rattle.exchange_core.specs.Course.{Course, only, nothing}
 use Rattle.exchange_core.specs.Legs.{Legs, leg_at, held_at, leg_named, same_side}
-use Rattle.exchange_core.specs.Operations.{Making, begun, performed_all}
+use Rattle.exchange_core.specs.Operations.{Operation, Send, Making, begun, performed_all}
 use Rattle.exchange_core.specs.Setup.{Setting, refusal, course_of_setup}
 use Rattle.exchange_core.specs.World.{World}
 
 -- ---- what is done
 
--- what the user of a line has sent: a message for a leg, a SETUP that asks for a call, or something that is not answered
+-- what the user of a line has sent: a message for a leg, a SETUP that asks for a call, a message on the call reference of no call, or
+-- something that is not answered
 pub data Received : Type 0 where
   For_leg : (held : Held) (message : Message) → Received
   New_call : (setup : Message) → Received
+  On_no_call : (message : Message) → Received
   Unanswered : Received
 
--- a message that names no leg. A SETUP from the side that chose the call reference asks for a call; call reference 0 is no call's
-abbrev pub without_leg : Message → MessageKind → Received
-without_leg m kind.Setup = if m.flag || (m.reference == 0) then Unanswered else New_call m
-without_leg m _ = Unanswered
+-- a SETUP from the side that chose the call reference asks for a call
+abbrev pub is_setup : MessageKind → Bool
+is_setup kind.Setup = true
+is_setup _ = false
+
+abbrev pub asks_for_call : Message → Bool
+asks_for_call m = is_setup m.kind && not m.flag
+
+-- a message that names no leg. The global call reference is no call's
+abbrev pub without_leg : Message → Received
+without_leg m =
+    if m.reference == global_call_reference then Unanswered
+    else if asks_for_call m then New_call m
+    else On_no_call m
 
 abbrev pub with_leg_named : Message → Option Held → Received
-with_leg_named m None = without_leg m m.kind
+with_leg_named m None = without_leg m
 with_leg_named m (Some h) = For_leg h m
 
 -- octets that are no message have no effect
@@ -53,10 +68,16 @@ received_from legs line (Err why) = Unanswered
 abbrev pub received : Legs → ℕ → List ℕ → Received
 received legs line octets = received_from legs line (reading octets)
 
+-- the answer to a message, where there is one
+abbrev pub answer_back : ℕ → Option OutgoingMessage → List Operation
+answer_back line None = []
+answer_back line (Some message) = Send line message ∷ []
+
 -- what is done for it
 abbrev pub course_for : Setting → World → ℕ → Received → Course
 course_for s w line (For_leg h m) = course_of w.legs h m.kind (act_on h.leg.state m)
 course_for s w line (New_call m) = course_of_setup s w line m
+course_for s w line (On_no_call m) = only (answer_back line (answer_without_call m))
 course_for s w line Unanswered = nothing
 
 abbrev pub course : Setting → World → ℕ → List ℕ → Course
@@ -66,6 +87,7 @@ course s w line octets = course_for s w line (received w.legs line octets)
 abbrev pub refusal_for : Setting → World → ℕ → Received → Option ℕ
 refusal_for s w line (For_leg h m) = None
 refusal_for s w line (New_call m) = refusal s w line m
+refusal_for s w line (On_no_call m) = None
 refusal_for s w line Unanswered = None
 
 abbrev pub refused_with : Setting → World → ℕ → List ℕ → Option ℕ

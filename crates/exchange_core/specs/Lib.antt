@@ -20,5 +20,6 @@ pub mod AtWork
 pub mod EndedCalls
 pub mod Peers
 pub mod Working
+pub mod Responses
 pub mod Answered
 pub mod Seats

@@ -17,8 +17,9 @@ ghost use Rattle.exchange_core.specs.Setup.{Setting};
 ghost use Rattle.exchange_core.specs.Standing.{Holds, Makes};
 ghost use Rattle.exchange_core.specs.World.{Dimensions, World};
 
-use crate::call_control::{CallControl, Sending};
+use crate::call_control::CallControl;
 use crate::leg_table::Held;
+use crate::outbox::Outbox;
 use crate::record::Records;
 use call_states::{Act, Leg, Peer, on_message, status, unexpected};
 use circuit_model::Slot;
@@ -33,7 +34,7 @@ use q931_codec::{Message, MessageKind, Outgoing};
 impl<P: PathMap> CallControl<P> {
     /// Does with a leg what a message to it asks for, and answers the records of the calls that this
     /// begins to clear.
-    pub(crate) fn act(&mut self, out: &mut Sending, held: Held, message: &Message) -> Records
+    pub(crate) fn act(&mut self, out: &mut Outbox, held: Held, message: &Message) -> Records
         requires work { (s : Setting) × (w : World) × IsAtWork s self.old.map self.old.legs w }
         requires external { IsExternal self.old.map.external held.slot }
         requires held { leg_at self.old.legs held.slot ≡ Some held.leg }
@@ -68,7 +69,7 @@ impl<P: PathMap> CallControl<P> {
     // Does what an act is.
     fn perform(
         &mut self,
-        out: &mut Sending,
+        out: &mut Outbox,
         held: Held,
         peer: Option<Held>,
         act: Act,
@@ -116,7 +117,7 @@ impl<P: PathMap> CallControl<P> {
     }
 
     // The called user is being alerted, and the caller is told so.
-    fn alert(&mut self, out: &mut Sending, held: Held, peer: Option<Held>)
+    fn alert(&mut self, out: &mut Outbox, held: Held, peer: Option<Held>)
         requires there { IsThere self.old.map.external held }
         requires count { length self.old.legs ≡ 30 * self.old.map.external }
         requires peer_there { PeerIsThere self.old.map.external held peer }
@@ -135,7 +136,7 @@ impl<P: PathMap> CallControl<P> {
     }
 
     // The called user has answered: the two slots are connected.
-    fn answer(&mut self, out: &mut Sending, held: Held, peer: Option<Held>)
+    fn answer(&mut self, out: &mut Outbox, held: Held, peer: Option<Held>)
         requires work { (d : Dimensions) × (w : World) × Holds d self.old.map self.old.legs w }
         requires there { IsThere self.old.map.external held }
         requires count { length self.old.legs ≡ 30 * self.old.map.external }
@@ -177,7 +178,7 @@ impl<P: PathMap> CallControl<P> {
     }
 
     // The user of the leg has asked for the call to be cleared.
-    fn disconnect(&mut self, out: &mut Sending, held: Held)
+    fn disconnect(&mut self, out: &mut Outbox, held: Held)
         requires there { IsThere self.old.map.external held }
         requires count { length self.old.legs ≡ 30 * self.old.map.external }
         requires room { length out.old.sends < most_sends }
@@ -201,7 +202,7 @@ impl<P: PathMap> CallControl<P> {
     }
 
     // The user of the leg has released its channel, or its call reference too.
-    fn release(&mut self, out: &mut Sending, held: Held)
+    fn release(&mut self, out: &mut Outbox, held: Held)
         requires there { IsThere self.old.map.external held }
         requires count { length self.old.legs ≡ 30 * self.old.map.external }
         requires room { length out.old.sends < most_sends }
@@ -230,7 +231,7 @@ impl<P: PathMap> CallControl<P> {
     }
 
     // The other leg of a call is cleared with a cause.
-    fn clear_peer(&mut self, out: &mut Sending, peer: Option<Held>, cause: u8)
+    fn clear_peer(&mut self, out: &mut Outbox, peer: Option<Held>, cause: u8)
         requires there { IfSome peer (λ other. IsThere self.old.map.external other) }
         requires count { length self.old.legs ≡ 30 * self.old.map.external }
         requires room { length out.old.sends < most_sends }
@@ -282,7 +283,7 @@ fn disconnect_message(leg: &Leg, cause: u8) -> Outgoing<'static>
 }
 
 // Sends a message of a type, without elements, to the user of a leg.
-fn tell(out: &mut Sending, held: Held, kind: MessageKind)
+fn tell(out: &mut Outbox, held: Held, kind: MessageKind)
     requires room { length out.old.sends < most_sends }
     requires told { IsTold held.leg }
     requires named { IsNamed kind }

@@ -1,6 +1,8 @@
 ghost use Rattle.std.specs.Prelude.{◌≡◌, IfOk};
 ghost use Rattle.exchange_core.specs.Kept.{kept};
+ghost use Rattle.exchange_core.specs.Responses.{reply_of};
 
+use crate::outbox::{Outbox, Response};
 use crate::record::CallRecord;
 use crate::reply::Reply;
 use crate::signal::Signal;
@@ -170,6 +172,54 @@ impl Answer {
             octets: Rows::of(Vec::from_slice(alloc, octets)?),
         })
     }
+}
+
+impl Answer {
+    /// Keeps what an event was answered by a response and the outbox of its step.
+    ///
+    /// # Errors
+    ///
+    /// [`AllocError`] for want of memory.
+    pub fn keep_response(
+        alloc: Global,
+        event: u32,
+        response: Response,
+        out: &Outbox,
+        octets: &[[u8; 30]],
+    ) -> Result<Answer, AllocError>
+        ensures event { IfOk result (λ a. a.event ≡ event) }
+        ensures reply { IfOk result (λ a. a.reply ≡ kept (reply_of response out.now)) }
+        ensures octets { IfOk result (λ a. a.octets ≡ octets.now) }
+    {
+        Ok(Answer {
+            event,
+            reply: keep_with(alloc, response, out)?,
+            octets: Rows::of(Vec::from_slice(alloc, octets)?),
+        })
+    }
+}
+
+fn keep_with(alloc: Global, response: Response, out: &Outbox) -> Result<Kept, AllocError>
+    ensures { IfOk result (λ k. k ≡ kept (reply_of response out.now)) }
+{
+    Ok(match response {
+        Response::Granted(a, b) => Kept::Granted(a, b),
+        Response::Busy => Kept::Busy,
+        Response::Seated(a, b) => Kept::Seated(a, b),
+        Response::NoPort => Kept::NoPort,
+        Response::Freed => Kept::Freed,
+        Response::NotNailed => Kept::NotNailed,
+        Response::Sent => Kept::Sent {
+            sends: keep_signals(alloc, out.sends.as_slice())?,
+            moved: out.moved,
+            records: keep_records(alloc, out.records.as_slice())?,
+        },
+        Response::Frame(number) => Kept::Frame {
+            number,
+            sends: keep_signals(alloc, out.sends.as_slice())?,
+            records: keep_records(alloc, out.records.as_slice())?,
+        },
+    })
 }
 
 fn keep_reply(alloc: Global, reply: &Reply) -> Result<Kept, AllocError>

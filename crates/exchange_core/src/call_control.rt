@@ -13,12 +13,10 @@ ghost use Rattle.exchange_core.specs.Standing.{Holds};
 ghost use Rattle.exchange_core.specs.World.{Dimensions, World, obey};
 
 use crate::leg_table::LegTable;
-use crate::signal::{Encoded, Signal, Signals};
 use call_states::Leg;
 use circuit_map::CircuitMap;
 use circuit_model::Slot;
 use control_memory::PathMap;
-use q931_codec::{Outgoing, write};
 
 /// The circuits that stand, with their paths and conference ports, and the legs of the calls: what
 /// call control works on. None of its operations takes memory.
@@ -26,41 +24,6 @@ use q931_codec::{Outgoing, write};
 pub(crate) struct CallControl<P: PathMap> {
     pub(crate) map: CircuitMap<P>,
     pub(crate) legs: LegTable,
-}
-
-/// What a step has sent and moved so far.
-#[derive(Drop)]
-pub(crate) struct Sending {
-    /// The messages, in order.
-    pub(crate) sends: Signals,
-    /// How many live paths were moved for a connection or a seat, where one was made.
-    pub(crate) moved: Option<(u32, u32)>,
-}
-
-impl Sending {
-    /// Nothing yet.
-    pub(crate) fn new() -> Sending
-        ensures sends { result.sends ≡ [] }
-        ensures moved { result.moved ≡ None }
-    {
-        Sending {
-            sends: Signals::new(),
-            moved: None,
-        }
-    }
-
-    /// Sends a message to the user of a line.
-    pub(crate) fn send(&mut self, line: u8, message: &Outgoing)
-        requires room { length self.old.sends < most_sends }
-        requires writable { IsWritable (outgoing_of message.now) }
-        ensures sends { self.new.sends ≡ self.old.sends ++ record { line = line; octets = encoding (outgoing_of message.now) } ∷ [] }
-        ensures moved { self.new.moved ≡ self.old.moved }
-    {
-        self.sends.push(Signal {
-            line,
-            octets: Encoded::of(write(message)),
-        });
-    }
 }
 
 impl<P: PathMap> CallControl<P> {

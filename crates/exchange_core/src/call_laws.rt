@@ -1,5 +1,5 @@
 //! Laws of calls, and worked calls.
-ghost use Rattle.std.specs.Prelude.{◌≡◌, [], ℕ, List, All, Some, None};
+ghost use Rattle.std.specs.Prelude.{◌≡◌, [], ℕ, List, All, Some, None, true};
 ghost use Rattle.control_memory.specs.Layout.{Layout};
 ghost use Rattle.exchange_core.specs.Answered.{IsAnswered, GetsBothPaths, relaid};
 ghost use Rattle.exchange_core.specs.Calls.{after_message, answer_to, refused_with};
@@ -8,15 +8,16 @@ ghost use Rattle.exchange_core.specs.LegStanding.{CallsStand};
 ghost use Rattle.exchange_core.specs.declared.leg_table.Held.{Held};
 ghost use Rattle.exchange_core.specs.Setup.{Setting};
 ghost use Rattle.exchange_core.specs.Sound.{Fits, IsPlanned};
-ghost use Rattle.exchange_core.specs.Step.{next, world};
+ghost use Rattle.exchange_core.specs.Step.{is_refused, next, world};
 ghost use Rattle.exchange_core.specs.World.{World, start};
-ghost use Rattle.exchange_core.specs.WorkedCalls.{two_lines, one_line, answers, whole_call, whole_call_answered, refused_or_moved, refused_or_moved_answered, clear_collision, clear_collision_answered, lenient_reading, lenient_reading_answered, call_to_room, call_to_room_answered, no_port_answered, unexpected, unexpected_answered, line_full, line_full_answered};
+ghost use Rattle.exchange_core.specs.WorkedCalls.{two_lines, one_line, answers, whole_call, whole_call_answered, refused_or_moved, refused_or_moved_answered, clear_collision, clear_collision_answered, on_no_call, on_no_call_answered, lenient_reading, lenient_reading_answered, call_to_room, call_to_room_answered, no_port_answered, unexpected, unexpected_answered, line_full, line_full_answered};
 
 /// The definitions of what is done for messages, evaluated on small exchanges.
 pub fn worked_calls()
     ensures whole { answers two_lines whole_call ≡ whole_call_answered }
     ensures channel { answers two_lines refused_or_moved ≡ refused_or_moved_answered }
     ensures collision { answers two_lines clear_collision ≡ clear_collision_answered }
+    ensures no_call { answers two_lines on_no_call ≡ on_no_call_answered }
     ensures lenient { answers two_lines lenient_reading ≡ lenient_reading_answered }
     ensures room { answers (one_line 1) call_to_room ≡ call_to_room_answered }
     ensures no_port { answers (one_line 0) call_to_room ≡ no_port_answered }
@@ -56,4 +57,10 @@ pub fn law_of_legs()
     ensures begins { (s : Setting) → CallsStand s (start s.dimensions) }
     ensures kept { (s : Setting) (w : World) (e : Event) → IsPlanned s → Fits s.dimensions.external e → CallsStand s w → CallsStand s (next s w e) }
     ensures always { (s : Setting) (es : List Event) → IsPlanned s → All (Fits s.dimensions.external) es → CallsStand s (world s (start s.dimensions) es) }
+{}
+
+/// An event that is refused makes nothing of the world: no slot, no leg and no path is another
+/// afterwards.
+pub fn law_of_refusals()
+    ensures { (s : Setting) (w : World) (e : Event) → is_refused s w e ≡ true → next s w e ≡ w }
 {}

@@ -4,14 +4,16 @@ ghost use Rattle.exchange_core.specs.declared.trace.Event.TheVariants as event;
 ghost use Rattle.exchange_core.specs.AtWork.{IsAtWork};
 ghost use Rattle.exchange_core.specs.Calls.{with_leg_named, course, course_for, made_by, sent_by, answer_to};
 ghost use Rattle.exchange_core.specs.Legs.{leg_named};
+ghost use Rattle.exchange_core.specs.Responses.{reply_of};
 ghost use Rattle.exchange_core.specs.Setup.{Setting};
 ghost use Rattle.exchange_core.specs.Standing.{Holds, Makes};
 ghost use Rattle.exchange_core.specs.Step.{reply, next, MovesAtMost};
 ghost use Rattle.exchange_core.specs.World.{World};
 
-use crate::call_control::{CallControl, Sending};
+use crate::call_control::CallControl;
+use crate::outbox::{Outbox, Response};
 use crate::record::Records;
-use crate::reply::Reply;
+use clearing_rules::{GLOBAL_CALL_REFERENCE, unknown_reference};
 use control_memory::PathMap;
 use number_plan::Plan;
 use q931_codec::{Message, MessageKind, read};
@@ -19,26 +21,29 @@ use q931_codec::{Message, MessageKind, read};
 impl<P: PathMap> CallControl<P> {
     /// Does what the octets that the user of a line has sent ask for. Octets that are no message have no
     /// effect.
-    pub(crate) fn message(&mut self, plan: &Plan, line: u8, octets: &[u8]) -> Reply
+    pub(crate) fn message(
+        &mut self,
+        plan: &Plan,
+        line: u8,
+        octets: &[u8],
+        out: &mut Outbox,
+    ) -> Response
         requires work { (s : Setting) × (w : World) × (s.plan ≡ plan.now) × IsAtWork s self.old.map self.old.legs w }
         requires line { line < self.old.map.external }
-        ensures reply { (s : Setting) (w : World) → s.plan ≡ plan.now → IsAtWork s self.old.map self.old.legs w → result ≡ reply s w (event.Message line octets.now) }
+        requires fresh { (out.old.sends ≡ []) × (out.old.moved ≡ None) }
+        ensures reply { (s : Setting) (w : World) → s.plan ≡ plan.now → IsAtWork s self.old.map self.old.legs w
+            → reply_of result out.new ≡ reply s w (event.Message line octets.now) }
         ensures world { (s : Setting) (w : World) → s.plan ≡ plan.now → IsAtWork s self.old.map self.old.legs w
             → Holds s.dimensions self.new.map self.new.legs (next s w (event.Message line octets.now)) }
-        ensures few { MovesAtMost self.old.map.bound result }
+        ensures few { MovesAtMost self.old.map.bound (reply_of result out.new) }
         ensures sizes { SameSizes self.old.map self.new.map }
     {
-        let mut out = Sending::new();
-        let records = self.take(&mut out, plan, line, octets);
-        Reply::Sent {
-            sends: out.sends,
-            moved: out.moved,
-            records,
-        }
+        out.records = self.take(out, plan, line, octets);
+        Response::Sent
     }
 
     // Does what octets ask for, and answers the records of the calls that they begin to clear.
-    fn take(&mut self, out: &mut Sending, plan: &Plan, line: u8, octets: &[u8]) -> Records
+    fn take(&mut self, out: &mut Outbox, plan: &Plan, line: u8, octets: &[u8]) -> Records
         requires work { (s : Setting) × (w : World) × (s.plan ≡ plan.now) × IsAtWork s self.old.map self.old.legs w }
         requires line { line < self.old.map.external }
         requires fresh { (out.old.sends ≡ []) × (out.old.moved ≡ None) }
@@ -56,7 +61,7 @@ impl<P: PathMap> CallControl<P> {
 
     // Does what a message asks for, and answers the records of the calls that it begins to clear: one to a
     // leg what the leg's state says, a SETUP from the side that chose the call reference a new call.
-    fn receive(&mut self, out: &mut Sending, plan: &Plan, line: u8, message: &Message) -> Records
+    fn receive(&mut self, out: &mut Outbox, plan: &Plan, line: u8, message: &Message) -> Records
         requires work { (s : Setting) × (w : World) × (s.plan ≡ plan.now) × IsAtWork s self.old.map self.old.legs w }
         requires line { line < self.old.map.external }
         requires reference { message.now.reference < 2 ^ 15 }
@@ -78,7 +83,7 @@ impl<P: PathMap> CallControl<P> {
     }
 
     // Does what a message that names no leg asks for.
-    fn begin(&mut self, out: &mut Sending, plan: &Plan, line: u8, message: &Message)
+    fn begin(&mut self, out: &mut Outbox, plan: &Plan, line: u8, message: &Message)
         requires work { (s : Setting) × (w : World) × (s.plan ≡ plan.now) × IsAtWork s self.old.map self.old.legs w }
         requires line { line < self.old.map.external }
         requires reference { message.now.reference < 2 ^ 15 }
@@ -89,11 +94,46 @@ impl<P: PathMap> CallControl<P> {
         ensures few { IfSome out.new.moved (λ moves. (moves.0 ≤ self.old.map.bound) × (moves.1 ≤ self.old.map.bound)) }
         ensures sizes { SameSizes self.old.map self.new.map }
     {
-        match message.kind {
-            MessageKind::Setup if !message.flag && message.reference != 0 => {
-                self.setup(out, plan, line, message);
-            }
-            _ => {}
+        if message.reference == GLOBAL_CALL_REFERENCE {
+            return;
+        }
+        if asks_for_call(message) {
+            self.setup(out, plan, line, message);
+        } else {
+            out.answer_on_no_call(line, message);
         }
     }
+}
+
+impl Outbox {
+    ghost use Rattle.std.specs.Prelude.{◌<◌, length, Option};
+    ghost use Rattle.circuit_map.specs.Connections.{Connections};
+    ghost use Rattle.clearing_rules.specs.UnknownReference.{answer_without_call};
+    ghost use Rattle.exchange_core.specs.Calls.{answer_back};
+    ghost use Rattle.exchange_core.specs.Legs.{Legs};
+    ghost use Rattle.exchange_core.specs.Limits.{most_sends};
+    ghost use Rattle.exchange_core.specs.Operations.{Making, performed_all};
+    ghost use Rattle.exchange_core.specs.World.{Dimensions};
+
+    // Answers a message on the call reference of no call, where there is an answer.
+    fn answer_on_no_call(&mut self, line: u8, message: &Message)
+        requires room { length self.old.sends < most_sends }
+        requires reference { message.now.reference < 2 ^ 15 }
+        ensures makes { (d : Dimensions) (map : Connections) (legs : Legs) (m : Making) → Makes d map legs self.old.sends self.old.moved m
+            → Makes d map legs self.new.sends self.new.moved (performed_all d m (answer_back line (answer_without_call message.now))) }
+        ensures moved { self.new.moved ≡ self.old.moved }
+    {
+        if let Some(answer) = unknown_reference(message) {
+            self.send(line, &answer);
+        }
+    }
+}
+
+ghost use Rattle.exchange_core.specs.Calls.{asks_for_call};
+
+// Whether the message is a SETUP from the side that chose the call reference.
+fn asks_for_call(message: &Message) -> bool
+    ensures { result ≡ asks_for_call message.now }
+{
+    message.kind == MessageKind::Setup && !message.flag
 }

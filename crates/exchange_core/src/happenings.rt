@@ -1,9 +1,9 @@
-ghost use Rattle.std.specs.Prelude.{◌≡◌, ◌<◌, []};
+ghost use Rattle.std.specs.Prelude.{◌≡◌, ◌<◌, [], None};
 ghost use Rattle.circuit_model.specs.FrameInput.{Input};
 ghost use Rattle.circuit_map.specs.Connections.{SameSizes};
 ghost use Rattle.exchange_core.specs.declared.trace.Event.TheVariants as event;
-ghost use Rattle.exchange_core.specs.declared.reply.Reply.TheVariants.{Frame as Frame_reply};
 ghost use Rattle.exchange_core.specs.AtWork.{IsAtWork};
+ghost use Rattle.exchange_core.specs.Responses.{reply_of};
 ghost use Rattle.exchange_core.specs.Setup.{Setting};
 ghost use Rattle.exchange_core.specs.Sound.{Fits};
 ghost use Rattle.exchange_core.specs.Standing.{Holds};
@@ -12,9 +12,7 @@ ghost use Rattle.exchange_core.specs.Working.{IsToolFor, ShowsWorld};
 ghost use Rattle.exchange_core.specs.World.{Dimensions, World, pass};
 
 use crate::call_control::CallControl;
-use crate::record::Records;
-use crate::reply::Reply;
-use crate::signal::Signals;
+use crate::outbox::{Outbox, Response};
 use crate::tool::Tool;
 use crate::trace::Event;
 use control_memory::PathMap;
@@ -22,13 +20,20 @@ use number_plan::Plan;
 
 impl<P: PathMap> CallControl<P> {
     /// Does an event, whichever it is. A frame's boundary is written into the tool.
-    pub(crate) fn happen(&mut self, plan: &Plan, event: &Event, tool: &mut Tool) -> Reply
+    pub(crate) fn happen(
+        &mut self,
+        plan: &Plan,
+        event: &Event,
+        tool: &mut Tool,
+        out: &mut Outbox,
+    ) -> Response
         requires work { (s : Setting) × (w : World) × (s.plan ≡ plan.now) × IsAtWork s self.old.map self.old.legs w × IsToolFor s.dimensions event.now tool.old }
         requires fits { Fits self.old.map.external event.now }
         requires room { self.old.map.next < 65535 }
-        ensures reply { (s : Setting) (w : World) → s.plan ≡ plan.now → IsAtWork s self.old.map self.old.legs w → result ≡ reply s w event.now }
+        requires fresh { (out.old.sends ≡ []) × (out.old.moved ≡ None) × (out.old.records ≡ []) }
+        ensures reply { (s : Setting) (w : World) → s.plan ≡ plan.now → IsAtWork s self.old.map self.old.legs w → reply_of result out.new ≡ reply s w event.now }
         ensures world { (s : Setting) (w : World) → s.plan ≡ plan.now → IsAtWork s self.old.map self.old.legs w → Holds s.dimensions self.new.map self.new.legs (next s w event.now) }
-        ensures few { MovesAtMost self.old.map.bound result }
+        ensures few { MovesAtMost self.old.map.bound (reply_of result out.new) }
         ensures shows { (d : Dimensions) (w : World) → Holds d self.old.map self.old.legs w → ShowsWorld w event.now tool.new }
         ensures tool { (d : Dimensions) → IsToolFor d event.now tool.old → IsToolFor d event.now tool.new }
         ensures sizes { SameSizes self.old.map self.new.map }
@@ -37,27 +42,23 @@ impl<P: PathMap> CallControl<P> {
             Event::Nail(x, y) => self.nail(*x, *y),
             Event::Seat(x, room) => self.take_seat(*x, *room),
             Event::Free(x) => self.free(*x),
-            Event::Message(line, octets) => self.message(plan, *line, octets.as_slice()),
-            Event::Frame(_) => self.frame(tool),
+            Event::Message(line, octets) => self.message(plan, *line, octets.as_slice(), out),
+            Event::Frame(_) => Response::Frame(self.frame(tool)),
         }
     }
 
-    // The boundary of a frame.
-    fn frame(&mut self, tool: &mut Tool) -> Reply
+    // The boundary of a frame; its number.
+    fn frame(&mut self, tool: &mut Tool) -> u32
         requires tool { (d : Dimensions) × (w : World) × Holds d self.old.map self.old.legs w × IsToolFor d (event.Frame []) tool.old }
         requires room { self.old.map.next < 65535 }
-        ensures reply { (d : Dimensions) (w : World) → Holds d self.old.map self.old.legs w → result ≡ Frame_reply w.holding.next [] [] }
+        ensures number { (d : Dimensions) (w : World) → Holds d self.old.map self.old.legs w → result ≡ w.holding.next }
         ensures world { (d : Dimensions) (w : World) (input : Input) → Holds d self.old.map self.old.legs w → Holds d self.new.map self.new.legs (pass w input) }
         ensures shows { (d : Dimensions) (w : World) → Holds d self.old.map self.old.legs w → ShowsWorld w (event.Frame []) tool.new }
         ensures tool { (d : Dimensions) → IsToolFor d (event.Frame []) tool.old → IsToolFor d (event.Frame []) tool.new }
         ensures sizes { SameSizes self.old.map self.new.map }
     {
         match tool {
-            Tool::Image(image) => Reply::Frame {
-                number: self.boundary(image),
-                sends: Signals::new(),
-                records: Records::new(),
-            },
+            Tool::Image(image) => self.boundary(image),
             Tool::Nothing => unreachable!(),
         }
     }

@@ -13,6 +13,7 @@ mod laws;
 mod leg_table;
 mod nails;
 mod new_call;
+mod outbox;
 mod record;
 mod records;
 mod reply;
@@ -25,10 +26,12 @@ mod trace;
 
 pub use answer::{Answer, Kept, RecordList, Rows, SignalList};
 pub use call_laws::{
-    law_of_answered_calls, law_of_legs, law_of_paths, law_of_refused_calls, worked_calls,
+    law_of_answered_calls, law_of_legs, law_of_paths, law_of_refusals, law_of_refused_calls,
+    worked_calls,
 };
 pub use laws::{file_order_is_lawful, later_frames_change_nothing, worlds_are_made};
 pub use leg_table::{Held, LegTable};
+pub use outbox::{Outbox, Response};
 pub use record::{CallRecord, MOST_RECORDS, Party, Records};
 pub use reply::Reply;
 pub use signal::{Encoded, MOST_SENDS, Signal, Signals};

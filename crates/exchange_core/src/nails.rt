@@ -7,14 +7,16 @@ ghost use Rattle.circuit_map.specs.Connections.{SameSizes, hears_at};
 ghost use Rattle.exchange_core.specs.declared.trace.Event.TheVariants as event;
 ghost use Rattle.exchange_core.specs.IdleSlots.{idle};
 ghost use Rattle.exchange_core.specs.Legs.{leg_at};
+ghost use Rattle.exchange_core.specs.Responses.{reply_of};
 ghost use Rattle.exchange_core.specs.Setup.{Setting};
+ghost use Rattle.exchange_core.specs.declared.outbox.Outbox.{Outbox};
 ghost use Rattle.exchange_core.specs.Sound.{Fits};
 ghost use Rattle.exchange_core.specs.Standing.{Holds};
 ghost use Rattle.exchange_core.specs.Step.{reply, next, may_nail, MovesAtMost};
 ghost use Rattle.exchange_core.specs.World.{Dimensions, World, pass};
 
 use crate::call_control::CallControl;
-use crate::reply::Reply;
+use crate::outbox::Response;
 use circuit_model::Slot;
 use control_memory::{Image, PathMap};
 
@@ -30,18 +32,18 @@ impl<P: PathMap> CallControl<P> {
     }
 
     /// Connects two slots, where both are idle.
-    pub(crate) fn nail(&mut self, x: Slot, y: Slot) -> Reply
+    pub(crate) fn nail(&mut self, x: Slot, y: Slot) -> Response
         requires fits { Fits self.old.map.external (event.Nail x y) }
-        ensures reply { (s : Setting) (w : World) → Holds s.dimensions self.old.map self.old.legs w → result ≡ reply s w (event.Nail x y) }
+        ensures reply { (s : Setting) (w : World) (o : Outbox) → Holds s.dimensions self.old.map self.old.legs w → reply_of result o ≡ reply s w (event.Nail x y) }
         ensures world { (s : Setting) (w : World) → Holds s.dimensions self.old.map self.old.legs w → Holds s.dimensions self.new.map self.new.legs (next s w (event.Nail x y)) }
-        ensures few { MovesAtMost self.old.map.bound result }
+        ensures few { (o : Outbox) → MovesAtMost self.old.map.bound (reply_of result o) }
         ensures sizes { SameSizes self.old.map self.new.map }
     {
         if !self.may_nail(x, y) {
-            return Reply::Busy;
+            return Response::Busy;
         }
         let (there, back) = self.pair(x, y);
-        Reply::Granted(there, back)
+        Response::Granted(there, back)
     }
 
     // Whether both slots are idle.
@@ -54,35 +56,35 @@ impl<P: PathMap> CallControl<P> {
     }
 
     /// Seats a slot in a room, where it is idle and a conference port is free.
-    pub(crate) fn take_seat(&mut self, x: Slot, room: u8) -> Reply
+    pub(crate) fn take_seat(&mut self, x: Slot, room: u8) -> Response
         requires fits { Fits self.old.map.external (event.Seat x room) }
-        ensures reply { (s : Setting) (w : World) → Holds s.dimensions self.old.map self.old.legs w → result ≡ reply s w (event.Seat x room) }
+        ensures reply { (s : Setting) (w : World) (o : Outbox) → Holds s.dimensions self.old.map self.old.legs w → reply_of result o ≡ reply s w (event.Seat x room) }
         ensures world { (s : Setting) (w : World) → Holds s.dimensions self.old.map self.old.legs w → Holds s.dimensions self.new.map self.new.legs (next s w (event.Seat x room)) }
-        ensures few { MovesAtMost self.old.map.bound result }
+        ensures few { (o : Outbox) → MovesAtMost self.old.map.bound (reply_of result o) }
         ensures sizes { SameSizes self.old.map self.new.map }
     {
         if !self.idle(x) {
-            return Reply::Busy;
+            return Response::Busy;
         }
         let Ok((there, back)) = self.map.seat(x, room) else {
-            return Reply::NoPort;
+            return Response::NoPort;
         };
-        Reply::Seated(there, back)
+        Response::Seated(there, back)
     }
 
     /// Takes away the nail or the seat of a slot, where it has one and no leg holds it.
-    pub(crate) fn free(&mut self, x: Slot) -> Reply
+    pub(crate) fn free(&mut self, x: Slot) -> Response
         requires fits { Fits self.old.map.external (event.Free x) }
-        ensures reply { (s : Setting) (w : World) → Holds s.dimensions self.old.map self.old.legs w → result ≡ reply s w (event.Free x) }
+        ensures reply { (s : Setting) (w : World) (o : Outbox) → Holds s.dimensions self.old.map self.old.legs w → reply_of result o ≡ reply s w (event.Free x) }
         ensures world { (s : Setting) (w : World) → Holds s.dimensions self.old.map self.old.legs w → Holds s.dimensions self.new.map self.new.legs (next s w (event.Free x)) }
-        ensures few { MovesAtMost self.old.map.bound result }
+        ensures few { (o : Outbox) → MovesAtMost self.old.map.bound (reply_of result o) }
         ensures sizes { SameSizes self.old.map self.new.map }
     {
         if self.map.idle(x) || self.legs.at(x).is_some() {
-            return Reply::NotNailed;
+            return Response::NotNailed;
         }
         self.clear(x);
-        Reply::Freed
+        Response::Freed
     }
 
     /// Writes the control memory of the next frame, and answers the frame's number.

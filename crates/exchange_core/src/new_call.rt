@@ -13,7 +13,8 @@ ghost use Rattle.exchange_core.specs.Standing.{Holds, Makes};
 ghost use Rattle.exchange_core.specs.World.{Dimensions, World};
 
 use crate::acts::message_to;
-use crate::call_control::{CallControl, Sending};
+use crate::call_control::CallControl;
+use crate::outbox::Outbox;
 use call_states::{Leg, Peer, Side};
 use circuit_model::{Slot, channel_of};
 use control_memory::PathMap;
@@ -84,7 +85,7 @@ fn offer<'a>(message: &Message<'a>, y: Slot, leg: &Leg) -> Outgoing<'a>
     }
 }
 
-impl Sending {
+impl Outbox {
     /// Refuses a SETUP with a cause.
     pub(crate) fn refuse(&mut self, line: u8, reference: u16, cause: u8)
         requires room { length self.old.sends ≤ 60 }
@@ -103,7 +104,7 @@ impl<P: PathMap> CallControl<P> {
     /// reference.
     pub(crate) fn call_line(
         &mut self,
-        out: &mut Sending,
+        out: &mut Outbox,
         message: &Message,
         x: Slot,
         y: Slot,
@@ -130,7 +131,7 @@ impl<P: PathMap> CallControl<P> {
     }
 
     /// Makes a call to a conference room, which is answered at once.
-    pub(crate) fn call_room(&mut self, out: &mut Sending, message: &Message, x: Slot, room: u8)
+    pub(crate) fn call_room(&mut self, out: &mut Outbox, message: &Message, x: Slot, room: u8)
         requires can { (d : Dimensions) × (w : World) × Holds d self.old.map self.old.legs w × CanSeat d w x }
         requires external { IsExternal self.old.map.external x }
         requires count { length self.old.legs ≡ 30 * self.old.map.external }

@@ -86,6 +86,13 @@ impl Records {
         self.items.as_slice()
     }
 
+    /// No record any more.
+    pub fn clear(&mut self)
+        ensures { self.new ≡ [] }
+    {
+        self.items.clear();
+    }
+
     /// One record more.
     pub fn push(&mut self, told: CallRecord)
         requires { length self.old < most_records }

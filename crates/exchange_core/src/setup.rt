@@ -10,7 +10,8 @@ ghost use Rattle.exchange_core.specs.Standing.{Makes};
 ghost use Rattle.exchange_core.specs.World.{World};
 
 use crate::asked::target_of;
-use crate::call_control::{CallControl, Sending};
+use crate::call_control::CallControl;
+use crate::outbox::Outbox;
 use control_memory::PathMap;
 use number_plan::{Found, Plan};
 use q931_codec::Message;
@@ -18,7 +19,7 @@ use q931_codec::Message;
 impl<P: PathMap> CallControl<P> {
     /// Does what a SETUP asks for: refuses it with the cause of its first check that fails, or makes the
     /// legs of its call.
-    pub(crate) fn setup(&mut self, out: &mut Sending, plan: &Plan, line: u8, message: &Message)
+    pub(crate) fn setup(&mut self, out: &mut Outbox, plan: &Plan, line: u8, message: &Message)
         requires work { (s : Setting) × (w : World) × (s.plan ≡ plan.now) × IsAtWork s self.old.map self.old.legs w }
         requires line { line < self.old.map.external }
         requires reference { (1 ≤ message.now.reference) × (message.now.reference < 2 ^ 15) }
@@ -36,7 +37,7 @@ impl<P: PathMap> CallControl<P> {
     }
 
     // Makes the legs of the call that a SETUP asks for which passes each check.
-    fn accept(&mut self, out: &mut Sending, plan: &Plan, line: u8, message: &Message)
+    fn accept(&mut self, out: &mut Outbox, plan: &Plan, line: u8, message: &Message)
         requires work { (s : Setting) × (w : World) × (s.plan ≡ plan.now) × IsAtWork s self.old.map self.old.legs w × (refusal s w line message.now ≡ None) }
         requires line { line < self.old.map.external }
         requires reference { (1 ≤ message.now.reference) × (message.now.reference < 2 ^ 15) }

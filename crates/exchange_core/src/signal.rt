@@ -86,6 +86,13 @@ impl Signals {
         self.items.as_slice()
     }
 
+    /// No message any more.
+    pub fn clear(&mut self)
+        ensures { self.new ≡ [] }
+    {
+        self.items.clear();
+    }
+
     /// One message more.
     pub fn push(&mut self, signal: Signal)
         requires { length self.old < most_sends }

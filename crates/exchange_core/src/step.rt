@@ -1,6 +1,7 @@
 ghost use Rattle.std.specs.Prelude.{◌≡◌, ◌+◌, ◌<◌, ◌++◌, [], ◌∷◌, length, IfOk};
 ghost use Rattle.exchange_core.specs.declared.trace.Event.{Event as An_event};
 ghost use Rattle.exchange_core.specs.Orders.{IsEvent};
+ghost use Rattle.exchange_core.specs.Responses.{reply_of};
 ghost use Rattle.exchange_core.specs.Sound.{IsSound, setting_of};
 ghost use Rattle.exchange_core.specs.Step.{reply, next, MovesAtMost};
 ghost use Rattle.exchange_core.specs.Working.{IsNumbered, IsToolFor, ShowsWorld, setting, world_of};
@@ -8,6 +9,7 @@ ghost use Rattle.exchange_core.specs.World.{start};
 
 use crate::call_control::CallControl;
 use crate::leg_table::LegTable;
+use crate::outbox::{Outbox, Response};
 use crate::reply::Reply;
 use crate::tool::Tool;
 use crate::trace::Trace;
@@ -92,11 +94,30 @@ impl<'t, P: PathMap> Core<'t, P> {
         ensures shows { (e : An_event) → IsNumbered self.old.trace event e → ShowsWorld (world_of self.old) e tool.new }
         ensures tool { (e : An_event) → IsNumbered self.old.trace event e → IsToolFor (setting self.old).dimensions e tool.new }
     {
+        let mut out = Outbox::new();
+        let response = self.work(by, event, tool, &mut out);
+        response.with(out)
+    }
+
+    /// The same as [`step`](Core::step), with what is sent and told put into an outbox that is lent, in
+    /// place of what it held.
+    pub fn work(&mut self, by: u32, event: u32, tool: &mut Tool, out: &mut Outbox) -> Response
+        requires known { IsEvent self.old.trace event }
+        requires room { length self.old.journal < length self.old.trace.events }
+        requires tool { (e : An_event) → IsNumbered self.old.trace event e → IsToolFor (setting self.old).dimensions e tool.old }
+        ensures reply { (e : An_event) → IsNumbered self.old.trace event e → reply_of result out.new ≡ reply (setting self.old) (world_of self.old) e }
+        ensures journal { self.new ≡ record self.old { journal = self.old.journal ++ (by, event) ∷ [] } }
+        ensures world { (e : An_event) → IsNumbered self.old.trace event e → world_of self.new ≡ next (setting self.old) (world_of self.old) e }
+        ensures few { MovesAtMost self.old.bound (reply_of result out.new) }
+        ensures shows { (e : An_event) → IsNumbered self.old.trace event e → ShowsWorld (world_of self.old) e tool.new }
+        ensures tool { (e : An_event) → IsNumbered self.old.trace event e → IsToolFor (setting self.old).dimensions e tool.new }
+    {
+        out.clear();
         let trace = self.trace;
         let event_done = &trace.events.as_slice()[event as usize - 1];
-        let reply = self.control.happen(&trace.plan, event_done, tool);
+        let response = self.control.happen(&trace.plan, event_done, tool, out);
         self.journal.push_reserved((by, event));
-        reply
+        response
     }
 
     /// The trace that it is at work on. It is a sound one.

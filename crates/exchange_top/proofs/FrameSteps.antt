@@ -1,120 +1,236 @@
 -- One event, and what the engine makes of it where it is a frame.
-use Rattle.std.proofs.Common.{◌≡◌, ℕ, List, ◌++◌, Bool, true, false, not, Option, Some, None, [], ◌∷◌, refl, sym, subst, inl, inr, if◌then◌else◌, ◌∙◌, ap}
+use Rattle.std.proofs.Common.{◌≡◌, ℕ, suc, ◌+◌, ◌-◌, ◌<◌, ◌≤◌, List, ◌++◌, Bool, true, false, not, Option, Some, None, [], ◌∷◌, length, slice_get, refl, sym, subst, arith, if◌then◌else◌, ◌∙◌, ap}
+use Rattle.std.specs.List.{cons_option}
+use Rattle.std.proofs.lemmas.Option.{slice_get_within, get_or_from_slice_get}
 use Rattle.circuit_model.specs.declared.channel.Slot.{Slot}
 use Rattle.circuit_model.specs.declared.circuit.Circuit.{Circuit}
-use Rattle.circuit_model.specs.Circuits.{is_idle}
 use Rattle.circuit_model.specs.FrameInput.{Input}
+use Rattle.circuit_model.specs.Holding.{Connect, Seat as Take_seat, Clear}
 use Rattle.circuit_model.specs.Ports.{Ports, given, port_of}
-use Rattle.circuit_model.proofs.Slots.{true_or_false}
-use Rattle.circuit_map.specs.Connections.{Connections, SameSizes}
-use Rattle.control_memory.specs.Image.{Control}
+use Rattle.control_memory.specs.Image.{Control, SameSizes}
+use Rattle.control_memory.specs.Layout.{Layout}
 use Rattle.control_memory.specs.Shown.{Shows}
 use Rattle.frame_engine.specs.Frames.{Boundary, Come, IsNext}
 use Rattle.exchange_core.specs.declared.trace.Event.{Event}
-use Rattle.exchange_core.specs.declared.trace.Event.TheVariants.{Nail, Seat, Free, Frame as Frame_event}
+use Rattle.exchange_core.specs.declared.trace.Event.TheVariants.{Nail, Seat, Free, Message, Frame}
 use Rattle.exchange_core.specs.declared.reply.Reply.{Reply}
-use Rattle.exchange_core.specs.declared.reply.Reply.TheVariants.{Busy, NoPort, Freed, NotNailed, Frame}
-use Rattle.control_memory.specs.Layout.{Layout}
-use Rattle.exchange_core.specs.Sound.{Fits}
-use Rattle.exchange_core.specs.Standing.{StandsFor, IsMade, dimensions_of}
-use Rattle.exchange_core.specs.World.{Dimensions, World, start, next, reply, can_nail, can_seat, is_nailed, is_full, granted, seated}
-use Rattle.exchange_core.proofs.Histories.{made_start, made_next, made_pass}
-use Rattle.exchange_top.specs.Report.{Carrying}
-use Rattle.exchange_top.specs.Switching.{Works}
+use Rattle.exchange_core.specs.declared.tool.Tool.{Tool}
+use Rattle.exchange_core.specs.declared.tool.Tool.TheVariants.{Nothing, Image}
+use Rattle.exchange_core.specs.Calls.{course}
+use Rattle.exchange_core.specs.IdleSlots.{idle, nailed}
+use Rattle.exchange_core.specs.Kept.{kept}
+use Rattle.exchange_core.specs.Operations.{Operation, Making, begun, performed, performed_all}
+use Rattle.exchange_core.specs.Operations as op
+use Rattle.exchange_core.specs.Setup.{Setting}
+use Rattle.exchange_core.specs.Sound.{Fits, IsSound}
+use Rattle.exchange_core.specs.Standing.{IsMade}
+use Rattle.exchange_core.specs.Step.{next, reply, world, events_of, may_nail, may_seat}
+use Rattle.exchange_core.specs.Working.{Entry, Working, IsNumbered, IsOfSize, IsToolFor, ShowsWorld, order_of, setting, world_of}
+use Rattle.exchange_core.specs.World.{Dimensions, World, start, obey, is_full, seated}
+use Rattle.exchange_core.proofs.Histories.{made, made_pass}
+use Rattle.exchange_core.proofs.Stepping.{fits_all}
+use Rattle.report_text.specs.Report.{report_line}
+use Rattle.exchange_top.specs.Report.{Plays, Carrying, CarriesFrames}
+use Rattle.exchange_top.specs.Switching.{IsFrameTool, Works, AreSent}
+
+-- ---- the event with a number
+
+one_number : (events : List Event) (k : ℕ) (one other : Event) → slice_get events k ≡ Some one → slice_get events k ≡ Some other → one ≡ other
+one_number events k one other is is_too = let same : Some one ≡ Some other = sym is ∙ is_too in cc
+
+-- the tools of the two kinds of events
+pub frame_tool : (x : Working) (n : ℕ) (e : Event) (input : Input) (tool : Tool) → IsNumbered x.trace n e → e ≡ Frame input → IsFrameTool (setting x).dimensions tool
+    → (f : Event) → IsNumbered x.trace n f → IsToolFor (setting x).dimensions f tool
+frame_tool x n e input tool number frame image f named =
+    subst (λ g. IsToolFor (setting x).dimensions g tool) (sym frame ∙ one_number x.trace.events (n - 1) e f number named) image
+
+no_tool_needed : (d : Dimensions) (e : Event) → ((input : Input) → ¬ (e ≡ Frame input)) → IsToolFor d e Nothing
+no_tool_needed d (Nail x y) other = tt
+no_tool_needed d (Seat x room) other = tt
+no_tool_needed d (Free x) other = tt
+no_tool_needed d (Message line octets) other = tt
+no_tool_needed d (Frame input) other = absurd (other input refl)
+
+pub no_tool : (x : Working) (n : ℕ) (e : Event) → IsNumbered x.trace n e → ((input : Input) → ¬ (e ≡ Frame input))
+    → (f : Event) → IsNumbered x.trace n f → IsToolFor (setting x).dimensions f Nothing
+no_tool x n e number other f named =
+    subst (λ g. IsToolFor (setting x).dimensions g Nothing) (one_number x.trace.events (n - 1) e f number named) (no_tool_needed (setting x).dimensions e other)
+
+-- what arrives in a frame has a part for each line
+pub input_whole : (x : Working) (n : ℕ) (e : Event) (input : Input) → IsSound x.trace → IsNumbered x.trace n e → e ≡ Frame input → length input ≡ x.trace.external
+input_whole x n e input sound number frame =
+    let fits : Fits x.trace.external e =
+    subst (Fits x.trace.external) (get_or_from_slice_get x.trace.events (n - 1) e e number) (sound.events (n - 1) e (slice_get_within x.trace.events (n - 1) e number)) in
+    subst (Fits x.trace.external) frame fits
+
+-- ---- an event that is no frame leaves the frames as they are
+
+-- two worlds with the same frames behind them
+pub record SameFrames (w v : World) : Type 0 where
+  pub inputs : v.inputs ≡ w.inputs
+  pub held : v.held ≡ w.held
+  pub seated : v.seated ≡ w.seated
+  pub next : v.holding.next ≡ w.holding.next
+
+performed_same : (d : Dimensions) (m : Making) (o : Operation) → SameFrames m.world (performed d m o).world
+performed_same d m (op.Clear x) = record { inputs = refl; held = refl; seated = refl; next = refl }
+performed_same d m (op.Pair x y) = record { inputs = refl; held = refl; seated = refl; next = refl }
+performed_same d m (op.Seat x room) = record { inputs = refl; held = refl; seated = refl; next = refl }
+performed_same d m (op.Put x leg) = record { inputs = refl; held = refl; seated = refl; next = refl }
+performed_same d m (op.Remove x) = record { inputs = refl; held = refl; seated = refl; next = refl }
+performed_same d m (op.Send line message) = record { inputs = refl; held = refl; seated = refl; next = refl }
+
+performed_all_same : (d : Dimensions) (m : Making) (os : List Operation) → SameFrames m.world (performed_all d m os).world
+performed_all_same d m [] = record { inputs = refl; held = refl; seated = refl; next = refl }
+performed_all_same d m (o ∷ os) =
+    let one = performed_same d m o in
+    let rest = performed_all_same d (performed d m o) os in
+    record { inputs = rest.inputs ∙ one.inputs; held = rest.held ∙ one.held; seated = rest.seated ∙ one.seated; next = rest.next ∙ one.next }
+
+either_same : (may : Bool) (w v : World) → SameFrames w v → SameFrames w (if may then v else w)
+either_same true w v same = same
+either_same false w v same = record { inputs = refl; held = refl; seated = refl; next = refl }
+
+pub quiet : (s : Setting) (w : World) (e : Event) → ((input : Input) → ¬ (e ≡ Frame input)) → SameFrames w (next s w e)
+quiet s w (Nail x y) other = either_same (may_nail w x y) w (obey s.dimensions w (Connect x y)) (record { inputs = refl; held = refl; seated = refl; next = refl })
+quiet s w (Seat x room) other = either_same (may_seat s.dimensions w x) w (obey s.dimensions w (Take_seat x room)) (record { inputs = refl; held = refl; seated = refl; next = refl })
+quiet s w (Free x) other = either_same (nailed w x) w (obey s.dimensions w (Clear x)) (record { inputs = refl; held = refl; seated = refl; next = refl })
+quiet s w (Message line octets) other = performed_all_same s.dimensions (begun w) (course s w line octets).operations
+quiet s w (Frame input) other = absurd (other input refl)
+
+pub none_sent : (plays : Plays) (s : Setting) (w : World) (e : Event) (octets : List (List ℕ)) → ((input : Input) → ¬ (e ≡ Frame input)) → AreSent plays s w e octets
+none_sent plays s w (Nail x y) octets other = tt
+none_sent plays s w (Seat x room) octets other = tt
+none_sent plays s w (Free x) octets other = tt
+none_sent plays s w (Message line sent) octets other = tt
+none_sent plays s w (Frame input) octets other = absurd (other input refl)
+
+-- what lines send matters to a frame's line alone
+module _ (rows others : List (List ℕ)) (n : ℕ) where
+  abbrev IsSame : Reply → Type 0
+  IsSame r = report_line rows n (kept r) ≡ report_line others n (kept r)
+
+  same_either : (b : Bool) (r q : Reply) → IsSame r → IsSame q → IsSame (if b then r else q)
+  same_either true r q one other = one
+  same_either false r q one other = other
+
+  same_seated : (d : Dimensions) (layout : Layout) (x : Slot) (port : Option Slot) → IsSame (seated d layout x port)
+  same_seated d layout x None = refl
+  same_seated d layout x (Some p) = refl
+
+  pub command_line : (s : Setting) (w : World) (e : Event) → ((input : Input) → ¬ (e ≡ Frame input)) → IsSame (reply s w e)
+  command_line s w (Nail x y) other = same_either (may_nail w x y) _ _ refl refl
+  command_line s w (Seat x room) other =
+      same_either (not (idle w x)) _ _ refl
+      (same_either (is_full s.dimensions w) _ _ refl (same_seated s.dimensions w.layout x (port_of s.dimensions.external (given x w.ports) x)))
+  command_line s w (Free x) other = same_either (nailed w x) _ _ refl refl
+  command_line s w (Message line octets) other = refl
+  command_line s w (Frame input) other = absurd (other input refl)
+
+-- ---- how many frames there have been
+
+-- an event leaves the number of the next frame, or raises it by one
+next_grows : (s : Setting) (w : World) (e : Event) → (next s w e).holding.next ≤ w.holding.next + 1
+next_grows s w (Nail x y) = let same = (quiet s w (Nail x y) (λ input e. cc)).next in omega (arith, same)
+next_grows s w (Seat x room) = let same = (quiet s w (Seat x room) (λ input e. cc)).next in omega (arith, same)
+next_grows s w (Free x) = let same = (quiet s w (Free x) (λ input e. cc)).next in omega (arith, same)
+next_grows s w (Message line octets) = let same = (quiet s w (Message line octets) (λ input e. cc)).next in omega (arith, same)
+next_grows s w (Frame input) = omega arith
+
+world_grows : (s : Setting) (w : World) (es : List Event) → (world s w es).holding.next ≤ w.holding.next + length es
+world_grows s w [] = omega arith
+world_grows s w (e ∷ es) =
+    let one = next_grows s w e in
+    let rest = world_grows s (next s w e) es in
+    omega (arith, one, rest)
+
+few_more : (o : Option Event) (es : List Event) → length (cons_option o es) ≤ 1 + length es
+few_more None es = omega arith
+few_more (Some e) es = omega arith
+
+few_events : (events : List Event) (journal : List Entry) → length (events_of events (order_of journal)) ≤ length journal
+few_events events [] = omega arith
+few_events events (entry ∷ journal) =
+    let rest = few_events events journal in
+    let one = few_more (slice_get events (entry.1 - 1)) (events_of events (order_of journal)) in
+    omega (arith, rest, one)
+
+-- no more than events were done
+pub frames_few : (x : Working) → IsSound x.trace → length x.journal < length x.trace.events → (world_of x).holding.next < 4294967295
+frames_few x sound room =
+    let s = setting x in
+    let grows = world_grows s (start s.dimensions) (events_of x.trace.events (order_of x.journal)) in
+    let few = few_events x.trace.events x.journal in
+    let most = sound.count in
+    omega (arith, grows, few, room, most)
+
+-- ---- a frame
+
+pub made_of : (x : Working) → IsSound x.trace → IsMade (setting x).dimensions (world_of x)
+made_of x sound = made (setting x) (events_of x.trace.events (order_of x.journal)) sound.planned (fits_all x.trace (order_of x.journal) sound.events)
 
 -- the circuits and ports of the frames so far, and of the one that begins, come of one list of commands
-come : (d : Dimensions) (w : World) (input : Input) → IsMade d w → Come d.external d.bridges (w.held ++ w.holding.circuits ∷ []) (w.seated ++ w.ports ∷ [])
-come d w input made = let m = made_pass d w made input in record { commands = m.commands; within = m.within; allowed = m.allowed; circuits = m.held; seats = m.seated }
-
--- what an engine is asked for a frame, which its control memory shows: the circuits and ports at the frame's boundary
-pub record Asked (image : Control) (external bridges next : ℕ) (w : World) : Type 0 where
-  pub shows : Shows image w.holding.circuits w.ports next
-  pub came : Come external bridges (w.held ++ w.holding.circuits ∷ []) (w.seated ++ w.ports ∷ [])
-
-pub asked : {E : Type 0} (carries : Carrying E) (m : Connections) (engine : E) (w : World) (e : Event) (input : Input) (r : Reply) (image : Control) (external bridges next : ℕ)
-    → Works carries m engine w → e ≡ Frame_event input → r ≡ reply (dimensions_of m) w e → ((v : World) (f : ℕ) → StandsFor m v → r ≡ Frame f → Shows image v.holding.circuits v.ports f)
-    → external ≡ m.external → bridges ≡ m.bridges → next ≡ m.next → Asked image external bridges next w
-asked carries m engine w e input r image external bridges next works frame replied shows same_external same_bridges same_next = record {
-  shows = subst (Shows image w.holding.circuits w.ports) (sym (same_next ∙ works.stands.holds.next)) (shows w w.holding.next works.stands (replied ∙ ap (reply (dimensions_of m) w) frame));
-  came = rw (same_external, same_bridges) (come (dimensions_of m) w input works.made);
-}
+come : (d : Dimensions) (w : World) → IsMade d w → Come d.external d.bridges (w.held ++ w.holding.circuits ∷ []) (w.seated ++ w.ports ∷ [])
+come d w is = let m = made_pass d w is [] in record { commands = m.commands; within = m.within; allowed = m.allowed; circuits = m.held; seats = m.seated }
 
 -- the boundary of the frame that begins
 abbrev pub boundary : World → Boundary
 boundary w = record { inputs = w.inputs; held = w.held; ports = w.seated; circuits = w.holding.circuits; seats = w.ports }
 
-pub next_frame : (carried : List Input → List (List Circuit) → List Ports → Type 0) (image : Control) (external bridges next : ℕ) (w : World)
-    → Asked image external bridges next w → image.external ≡ external → image.bridges ≡ bridges → carried w.inputs w.held w.seated → IsNext carried image (boundary w)
-next_frame carried image external bridges next w a same_external same_bridges carries = record {
+-- what an engine is asked for a frame: its control memory, of the exchange's size, shows the circuits and ports at the frame's boundary
+pub record Asked (image : Control) (d : Dimensions) (w : World) : Type 0 where
+  pub size : IsOfSize d image
+  pub shows : Shows image w.holding.circuits w.ports w.holding.next
+  pub came : Come image.external image.bridges (w.held ++ w.holding.circuits ∷ []) (w.seated ++ w.ports ∷ [])
+
+pub asked : (x : Working) (n : ℕ) (e : Event) (input : Input) (tool : Tool) (image : Control) → IsSound x.trace → IsNumbered x.trace n e → e ≡ Frame input → tool ≡ Image image
+    → ((f : Event) → IsNumbered x.trace n f → ShowsWorld (world_of x) f tool) → ((f : Event) → IsNumbered x.trace n f → IsToolFor (setting x).dimensions f tool)
+    → Asked image (setting x).dimensions (world_of x)
+asked x n e input tool image sound number frame is shows sized =
+    let d = (setting x).dimensions in
+    let size : IsOfSize d image = subst (λ t. IsToolFor d (Frame input) t) is (subst (λ f. IsToolFor d f tool) frame (sized e number)) in
+    record {
+      size = size;
+      shows = subst (λ t. ShowsWorld (world_of x) (Frame input) t) is (subst (λ f. ShowsWorld (world_of x) f tool) frame (shows e number));
+      came = rw (size.external, size.bridges) (come d (world_of x) (made_of x sound));
+    }
+
+pub next_frame : (carried : List Input → List (List Circuit) → List Ports → Type 0) (image : Control) (d : Dimensions) (w : World) → Asked image d w
+    → carried w.inputs w.held w.seated → IsNext carried image (boundary w)
+next_frame carried image d w a carries = record {
   carries = carries;
   shows = subst (Shows image w.holding.circuits w.ports) (sym a.shows.1.frame) a.shows;
-  came = rw (same_external, same_bridges) a.came;
+  came = a.came;
 }
 
--- an event that is no frame leaves the frames as they are
-pub record IsQuiet (d : Dimensions) (w : World) (e : Event) : Type 0 where
-  pub inputs : (next d w e).inputs ≡ w.inputs
-  pub held : (next d w e).held ≡ w.held
-  pub seated : (next d w e).seated ≡ w.seated
-  pub next : (next d w e).holding.next ≡ w.holding.next
-  pub told : (f : ℕ) → ¬ (reply d w e ≡ Frame f)
+-- ---- the exchange at work after an event
 
-no_frame_seated : (d : Dimensions) (layout : Layout) (x : Slot) (port : Option Slot) (f : ℕ) → ¬ (seated d layout x port ≡ Frame f)
-no_frame_seated d layout x None f e = cc
-no_frame_seated d layout x (Some p) f e = cc
+module _ {E : Type 0} (carries : Carrying E) (x y : Working) (engine : E) (tool : Tool) (works : Works carries x engine tool) (journal : List Entry) (grown : y ≡ record x { journal = journal }) where
+  pub same_dimensions : (setting y).dimensions ≡ (setting x).dimensions
+  same_dimensions = ap (λ (z : Working). (setting z).dimensions) grown
 
-no_frame_one : (can : Bool) (r q : Reply) (f : ℕ) → ¬ (r ≡ Frame f) → ¬ (q ≡ Frame f) → ¬ ((if can then r else q) ≡ Frame f)
-no_frame_one true r q f one other e = one e
-no_frame_one false r q f one other e = other e
+  sound_after : IsSound y.trace
+  sound_after = subst (λ (z : Working). IsSound z.trace) (sym grown) works.sound
 
-no_frame_seat : (busy full : Bool) (r : Reply) (f : ℕ) → ¬ (r ≡ Frame f) → ¬ ((if busy then Busy else if full then NoPort else r) ≡ Frame f)
-no_frame_seat true full r f other e = cc
-no_frame_seat false true r f other e = cc
-no_frame_seat false false r f other e = other e
-
-pub quiet : (d : Dimensions) (w : World) (e : Event) → ((input : Input) → ¬ (e ≡ Frame_event input)) → IsQuiet d w e
-quiet d w (Nail x y) other =
-    let told = λ (f : ℕ). no_frame_one (can_nail w x y) (granted d w.layout x y) Busy f (λ e. cc) (λ e. cc) in
-    elim (true_or_false (can_nail w x y)) [
-      | inl can ↦ record { inputs = rw can refl; held = rw can refl; seated = rw can refl; next = rw can refl; told = told }
-      | inr not_can ↦ record { inputs = rw not_can refl; held = rw not_can refl; seated = rw not_can refl; next = rw not_can refl; told = told }
-    ]
-quiet d w (Seat x room) other =
-    let told = λ (f : ℕ). no_frame_seat (not (is_idle w.holding.circuits x)) (is_full d w) _ f (no_frame_seated d w.layout x (port_of d.external (given x w.ports) x) f) in
-    elim (true_or_false (can_seat d w x)) [
-      | inl can ↦ record { inputs = rw can refl; held = rw can refl; seated = rw can refl; next = rw can refl; told = told }
-      | inr not_can ↦ record { inputs = rw not_can refl; held = rw not_can refl; seated = rw not_can refl; next = rw not_can refl; told = told }
-    ]
-quiet d w (Free x) other =
-    let told = λ (f : ℕ). no_frame_one (is_nailed w x) Freed NotNailed f (λ e. cc) (λ e. cc) in
-    elim (true_or_false (is_nailed w x)) [
-      | inl nailed ↦ record { inputs = rw nailed refl; held = rw nailed refl; seated = rw nailed refl; next = rw nailed refl; told = told }
-      | inr idle ↦ record { inputs = rw idle refl; held = rw idle refl; seated = rw idle refl; next = rw idle refl; told = told }
-    ]
-quiet d w (Frame_event input) other = absurd (other input refl)
-
--- before the first event
-pub works_start : {E : Type 0} (carries : Carrying E) (m : Connections) (engine : E) (d : Dimensions) → dimensions_of m ≡ d → StandsFor m (start (dimensions_of m)) → carries engine [] [] []
-    → Works carries m engine (start d)
-works_start carries m engine d same stands carried = record { stands = subst (λ x. StandsFor m (start x)) same stands; made = subst (λ x. IsMade x (start d)) (sym same) (made_start d); carried = carried }
-
-pub same_dimensions : (m n : Connections) → SameSizes m n → dimensions_of n ≡ dimensions_of m
-same_dimensions m n sizes = λ i. record { external = sizes.external i; bridges = sizes.bridges i; slots = sizes.slots i }
-
-module _ {E : Type 0} (carries : Carrying E) (m n : Connections) (engine : E) (w : World) (works : Works carries m engine w) (sizes : SameSizes m n) where
-  pub works_quiet : (e : Event) → Fits m.external e → ((input : Input) → ¬ (e ≡ Frame_event input)) → StandsFor n (next (dimensions_of m) w e) → Works carries n engine (next (dimensions_of m) w e)
-  works_quiet e fits other stands =
-      let still = quiet (dimensions_of m) w e other in
+  pub works_quiet : (e : Event) → ((input : Input) → ¬ (e ≡ Frame input)) → world_of y ≡ next (setting x) (world_of x) e → Works carries y engine tool
+  works_quiet e other world =
+      let still = quiet (setting x) (world_of x) e other in
       record {
-        stands = stands;
-        made = rw (same_dimensions m n sizes) (made_next (dimensions_of m) w e fits works.made);
-        carried = rw (still.inputs, still.held, still.seated) works.carried;
+        sound = sound_after;
+        carried = subst (CarriesFrames carries engine) (sym world) (rw (still.inputs, still.held, still.seated) works.carried);
+        image = subst (λ d. IsFrameTool d tool) (sym same_dimensions) works.image;
       }
 
-  pub works_frame : (after : E) (input : Input) → StandsFor n (next (dimensions_of m) w (Frame_event input))
-      → carries after (w.inputs ++ input ∷ []) (w.held ++ w.holding.circuits ∷ []) (w.seated ++ w.ports ∷ []) → Works carries n after (next (dimensions_of m) w (Frame_event input))
-  works_frame after input stands carried = record {
-    stands = stands;
-    made = rw (same_dimensions m n sizes) (made_pass (dimensions_of m) w works.made input);
-    carried = carried;
-  }
+  pub works_frame : (after : E) (image later : Control) (input : Input) → IsOfSize (setting x).dimensions image → SameSizes image later → world_of y ≡ next (setting x) (world_of x) (Frame input)
+      → carries after ((world_of x).inputs ++ input ∷ []) ((world_of x).held ++ (world_of x).holding.circuits ∷ []) ((world_of x).seated ++ (world_of x).ports ∷ []) → Works carries y after (Image later)
+  works_frame after image later input size same world carried =
+      let sized : IsOfSize (setting x).dimensions later = record {
+        external = omega (arith, size.external, same.external);
+        bridges = omega (arith, size.bridges, same.bridges);
+        slots = omega (arith, size.slots, same.slots);
+      } in
+      record {
+        sound = sound_after;
+        carried = subst (CarriesFrames carries after) (sym world) carried;
+        image = subst (λ d. IsOfSize d later) (sym same_dimensions) sized;
+      }

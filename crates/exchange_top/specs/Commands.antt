@@ -10,8 +10,10 @@ use Rattle.fabric_map.specs.Map.{most_moves}
 use Rattle.trace_text.specs.TraceGrammar.{IsTrace, IsRefused, most_bytes}
 use Rattle.exchange_core.specs.Orders.{IsLawful, IsLawfulPrefix}
 use Rattle.exchange_top.specs.Outcomes.{Fabric, IsReported, IsBegun}
+use Rattle.exchange_core.specs.Sound.{setting_of}
+use Rattle.exchange_core.specs.Working.{world_after}
 use Rattle.exchange_core.specs.World.{Dimensions, World}
-use Rattle.exchange_top.specs.Report.{Plays, dimensions, world_of}
+use Rattle.exchange_top.specs.Report.{Plays}
 use Rattle.exchange_top.specs.Streams.{AppendsFront}
 
 -- the one command: the word `run`, alone
@@ -71,7 +73,7 @@ pub record IsDone (plays : Plays) (handed : Handing) (bytes order : List ℕ) (o
   pub is_trace : IsTrace bytes trace
   pub lawful : IsLawful trace order
   pub report : IsReported plays (fabric_of trace) trace order old new
-  pub engine : let slots = (fabric_of trace).slots in handed (dimensions slots trace) (world_of slots trace order)
+  pub engine : let slots = (fabric_of trace).slots in handed (setting_of slots trace).dimensions (world_after slots trace order)
 
 -- the bytes were answered by the refusal of the line that they are no trace for
 pub record IsTurnedDown (bytes order : List ℕ) (old new : Option (List ℕ)) : Type 0 where
@@ -108,7 +110,7 @@ pub data Answers (plays : Plays) (handed : Handing) (bytes : List ℕ) (status :
 
 -- how a run of a trace ends
 pub data Runs (plays : Plays) (handed : Handing) (trace : Trace) (status : ℕ) (order : List ℕ) (old new : Option (List ℕ)) (before after : ℕ) : Type 0 where
-  Whole : status ≡ 0 → IsReported plays (fabric_of trace) trace order old new → handed (dimensions (fabric_of trace).slots trace) (world_of (fabric_of trace).slots trace order) → Runs plays handed trace status order old new before after
+  Whole : status ≡ 0 → IsReported plays (fabric_of trace) trace order old new → handed (setting_of (fabric_of trace).slots trace).dimensions (world_after (fabric_of trace).slots trace order) → Runs plays handed trace status order old new before after
   Unwritten_from : status ≡ 4 → Rose before after → IsBegun plays (fabric_of trace).slots trace order old new → Runs plays handed trace status order old new before after
   No_memory_from : status ≡ 5 → IsBegun plays (fabric_of trace).slots trace order old new → Runs plays handed trace status order old new before after
 

@@ -4,8 +4,10 @@ use Rattle.std.specs.Io.KnownBytes.{Appends}
 use Rattle.std.specs.declared.option.Option.{Option}
 use Rattle.exchange_core.specs.declared.trace.Trace.{Trace}
 use Rattle.exchange_core.specs.Orders.{file_order}
-use Rattle.exchange_core.specs.World.{start, run, events_of, MovesAtMost}
-use Rattle.exchange_top.specs.Report.{Plays, dimensions, report}
+use Rattle.exchange_core.specs.Sound.{setting_of}
+use Rattle.exchange_core.specs.Step.{run, events_of, MovesAtMost}
+use Rattle.exchange_core.specs.World.{start}
+use Rattle.exchange_top.specs.Report.{Plays, report}
 use Rattle.exchange_top.specs.Streams.{AppendsFront}
 
 -- the fabric that a trace is run on: how many internal slots it has, and how many live paths a new path moves at the most
@@ -15,7 +17,7 @@ pub record Fabric : Type 0 where
 
 -- no path that joined in a run of these events moved more than so many others
 abbrev pub MovesFew : Fabric → Trace → List ℕ → Type 0
-MovesFew fabric trace order = let d = dimensions fabric.slots trace in All (MovesAtMost fabric.most_moves) (run d (start d) (events_of trace.events order))
+MovesFew fabric trace order = let s = setting_of fabric.slots trace in All (MovesAtMost fabric.most_moves) (run s (start s.dimensions) (events_of trace.events order))
 
 -- every event of the trace was done, in the order of the file, and their report was written
 pub record IsReported (plays : Plays) (fabric : Fabric) (trace : Trace) (order : List ℕ) (old new : Option (List ℕ)) : Type 0 where

@@ -7,12 +7,12 @@ use Rattle.circuit_model.specs.FrameInput.{Input}
 use Rattle.circuit_model.specs.Ports.{Ports}
 use Rattle.exchange_core.specs.declared.trace.Event.{Event}
 use Rattle.exchange_core.specs.declared.trace.Trace.{Trace}
-use Rattle.exchange_core.specs.World.{Dimensions, World, start, world, next, reply, events_of}
+use Rattle.exchange_core.specs.Kept.{kept}
+use Rattle.exchange_core.specs.Setup.{Setting}
+use Rattle.exchange_core.specs.Sound.{setting_of}
+use Rattle.exchange_core.specs.Step.{next, reply, events_of}
+use Rattle.exchange_core.specs.World.{Dimensions, World, start}
 use Rattle.report_text.specs.Report.{lines_sent, report_line}
-
--- the dimensions of an exchange over a fabric of so many internal slots that a trace is run on
-abbrev pub dimensions : ℕ → Trace → Dimensions
-dimensions slots trace = record { external = trace.external; bridges = trace.bridges; slots = slots }
 
 -- what an engine plays on a slot in a frame, given the tones and each frame's input and circuits
 abbrev pub Plays : Type 0
@@ -31,31 +31,31 @@ abbrev pub engine_octet : Plays → World → ℕ → Slot → ℕ
 engine_octet plays w f y = plays no_tones w.inputs w.held f y
 
 -- what each line sends in the frame that an event is, if it is one
-abbrev pub sent_at : Plays → Dimensions → World → Event → List (List ℕ)
-sent_at plays d w e = lines_sent (engine_octet plays (next d w e) w.holding.next) d.external
+abbrev pub sent_at : Plays → Setting → World → Event → List (List ℕ)
+sent_at plays s w e = lines_sent (engine_octet plays (next s w e) w.holding.next) s.dimensions.external
 
 -- the line of an event, and the lines of events that happen one after another
-abbrev pub event_line : Plays → Dimensions → World → ℕ → Event → List ℕ
-event_line plays d w n e = report_line (sent_at plays d w e) n (reply d w e)
+abbrev pub event_line : Plays → Setting → World → ℕ → Event → List ℕ
+event_line plays s w n e = report_line (sent_at plays s w e) n (kept (reply s w e))
 
-abbrev pub event_lines : Plays → Dimensions → World → List ℕ → List Event → List ℕ
-event_lines plays d w [] events = []
-event_lines plays d w (n ∷ order) [] = []
-event_lines plays d w (n ∷ order) (e ∷ events) = event_line plays d w n e ++ event_lines plays d (next d w e) order events
+abbrev pub event_lines : Plays → Setting → World → List ℕ → List Event → List ℕ
+event_lines plays s w [] events = []
+event_lines plays s w (n ∷ order) [] = []
+event_lines plays s w (n ∷ order) (e ∷ events) = event_line plays s w n e ++ event_lines plays s (next s w e) order events
 
 -- the report of a trace whose events happen in this order: a line for each, in that order
 abbrev pub report : Plays → ℕ → Trace → List ℕ → List ℕ
-report plays slots trace order = let d = dimensions slots trace in event_lines plays d (start d) order (events_of trace.events order)
-
--- the world that these events make
-abbrev pub world_of : ℕ → Trace → List ℕ → World
-world_of slots trace order = let d = dimensions slots trace in world d (start d) (events_of trace.events order)
+report plays slots trace order = let s = setting_of slots trace in event_lines plays s (start s.dimensions) order (events_of trace.events order)
 
 -- how many lines and internal slots an engine has, by what its type tells of each
 abbrev pub engine_dimensions : {E : Type 0} → (E → ℕ) → (E → ℕ) → (E → ℕ) → E → Dimensions
 engine_dimensions external bridges slots e = record { external = external e; bridges = bridges e; slots = slots e }
 
+-- the engine carries the frames of a world
+abbrev pub CarriesFrames : {E : Type 0} → Carrying E → E → World → Type 0
+CarriesFrames carries e w = carries e w.inputs w.held w.seated
+
 -- the engine that a call hands out has these dimensions, and carries the frames of the world
 abbrev pub HandsOut : {E : Type 0} → (E → Dimensions) → Carrying E → Option E → Dimensions → World → Type 0
 HandsOut sizes carries None d w = ⊥
-HandsOut sizes carries (Some e) d w = (sizes e ≡ d) × carries e w.inputs w.held w.seated
+HandsOut sizes carries (Some e) d w = (sizes e ≡ d) × CarriesFrames carries e w

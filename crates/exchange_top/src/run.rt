@@ -1,23 +1,23 @@
-ghost use Rattle.std.specs.Prelude.{◌≡◌, ℕ, ◌+◌, ◌<◌, ◌≤◌, List, [], length, vec_len, vec_capacity, IfOk, OnOk, OnErr, IsErrOf};
+ghost use Rattle.std.specs.Prelude.{◌≡◌, ℕ, ◌+◌, ◌<◌, ◌≤◌, ◌++◌, ◌∷◌, List, [], length, vec_capacity, IfOk, OnOk, OnErr, IsErrOf};
 ghost use Rattle.std.specs.declared.option.Option.{Option};
 ghost use Rattle.std.specs.Io.KnownBytes.{Appends};
 ghost use Rattle.ex_io.specs.Ends.{Rose};
 ghost use Rattle.exchange_top.specs.declared.run.RunFault.TheVariants.{Memory, Write};
-ghost use Rattle.circuit_map.specs.Connections.{SameSizes};
-ghost use Rattle.exchange_core.specs.Sound.{IsSound, Fits};
-ghost use Rattle.exchange_core.specs.Standing.{dimensions_of};
-ghost use Rattle.exchange_core.specs.World.{World, reply, MovesAtMost};
+ghost use Rattle.exchange_core.specs.Orders.{IsEvent};
+ghost use Rattle.exchange_core.specs.Sound.{IsSound, setting_of};
+ghost use Rattle.exchange_core.specs.Step.{reply, MovesAtMost};
+ghost use Rattle.exchange_core.specs.Working.{IsNumbered, order_of, setting, world_of, world_after};
 ghost use Rattle.exchange_top.specs.Outcomes.{IsReported, IsBegun, IsPending};
-ghost use Rattle.exchange_top.specs.Report.{dimensions, engine_dimensions, world_of};
+ghost use Rattle.exchange_top.specs.Report.{CarriesFrames, engine_dimensions, event_line};
 ghost use Rattle.exchange_top.specs.Streams.{AppendsFront};
-ghost use Rattle.exchange_top.specs.Switching.{IsReady, Works, Advances, AddsLine};
+ghost use Rattle.exchange_top.specs.Switching.{IsReady, Works};
 
 use crate::streams::write_all;
 use crate::switch::Switch;
 use circuit_model::IDLE;
 use control_memory::PathMap;
 use ex_io::{Failed, Sink};
-use exchange_core::{Event, Trace};
+use exchange_core::{Answer, Event, Outbox, Trace};
 use frame_engine::Carrier;
 use report_text::append_answer;
 use std::alloc::{AllocError, Global};
@@ -25,8 +25,9 @@ use std::alloc::{AllocError, Global};
 // So many bytes of a report are written at once, and the last of them as they are.
 const PIECE: usize = 65_536;
 
-// Room for the longest line of a report: a frame in which each of 32 lines sends thirty octets.
-const LONGEST_LINE: usize = 4096;
+// Room for a line more: of a frame in which each of 32 lines sends thirty octets, or of a message with
+// some answers. For a longer one the text grows.
+const LONG_LINE: usize = 4096;
 
 /// Why a run did not come to its end (this exchange's own).
 #[derive(Clone, Copy, Debug, PartialEq, Eq)]
@@ -54,8 +55,8 @@ impl From<Failed> for RunFault {
 }
 
 /// Does the events of a trace in the order of the file on a map of paths, writes their report, and
-/// notes the numbers of the events in `order`, which has room for them. Answers the engine that
-/// carried the octets.
+/// notes the numbers of the events of the journal in `order`, which has room for them. Answers the
+/// engine that carried the octets.
 ///
 /// # Errors
 ///
@@ -75,46 +76,102 @@ pub fn run<P: PathMap + Drop, K: Sink, C: Carrier>(
     requires room { length trace.now.events ≤ vec_capacity order.old }
     ensures whole { OnOk result (IsReported C.plays (record { slots = P.depth paths; most_moves = P.bound paths })
         trace.now order.new.items (K.written sink.old) (K.written sink.new)) }
-    ensures carried { IfOk result (λ e. let w = world_of (P.depth paths) trace.now order.new.items in C.carries e w.inputs w.held w.seated) }
-    ensures sized { IfOk result (λ e. engine_dimensions C.external_lines C.bridge_lines C.depth e ≡ dimensions (P.depth paths) trace.now) }
+    ensures carried { IfOk result (λ e. CarriesFrames C.carries e (world_after (P.depth paths) trace.now order.new.items)) }
+    ensures sized { IfOk result (λ e. engine_dimensions C.external_lines C.bridge_lines C.depth e ≡ (setting_of (P.depth paths) trace.now).dimensions) }
     ensures steady { OnOk result (K.faults sink.new ≡ K.faults sink.old) }
 
     ensures begun { OnErr result (IsBegun C.plays (P.depth paths) trace.now order.new.items (K.written sink.old) (K.written sink.new)) }
     ensures cause { IsErrOf result RunFault.Write → Rose (K.faults sink.old) (K.faults sink.new) }
     ensures no_fault { IsErrOf result RunFault.Memory → K.faults sink.new ≡ K.faults sink.old }
 {
-    let mut switch = Switch::<P, C>::new(alloc, paths, trace.external, trace.bridges)?;
+    let mut switch = Switch::<P, C>::new(alloc, trace, paths)?;
+    let done = report_events(alloc, trace, &mut switch, sink);
+    note_order(order, switch.journal());
+    done?;
+    Ok(switch.into_engine())
+}
+
+// Does the events of a trace in the order of the file, and writes their report.
+fn report_events<P: PathMap, K: Sink, C: Carrier>(
+    alloc: Global,
+    trace: &Trace,
+    switch: &mut Switch<'_, P, C>,
+    sink: &mut K,
+) -> Result<(), RunFault>
+    requires works { Works C.carries switch.old.core switch.old.engine switch.old.tool }
+    requires trace { switch.old.core.trace ≡ trace.now }
+    requires fresh { switch.old.core.journal ≡ [] }
+    ensures works { Works C.carries switch.new.core switch.new.engine switch.new.tool }
+    ensures journal { switch.new.core ≡ record switch.old.core { journal = switch.new.core.journal } }
+    ensures room { length switch.new.core.journal ≤ length trace.now.events }
+    ensures whole { OnOk result (IsReported C.plays (record { slots = switch.old.core.slots; most_moves = switch.old.core.bound })
+        trace.now (order_of switch.new.core.journal) (K.written sink.old) (K.written sink.new)) }
+    ensures steady { OnOk result (K.faults sink.new ≡ K.faults sink.old) }
+
+    ensures begun { OnErr result (IsBegun C.plays switch.old.core.slots trace.now (order_of switch.new.core.journal) (K.written sink.old) (K.written sink.new)) }
+    ensures cause { IsErrOf result RunFault.Write → Rose (K.faults sink.old) (K.faults sink.new) }
+    ensures no_fault { IsErrOf result RunFault.Memory → K.faults sink.new ≡ K.faults sink.old }
+{
     let mut octets = vec![in alloc; [IDLE; 30]; usize::from(trace.external)]?;
-    let mut text = Vec::with_capacity(alloc, PIECE + LONGEST_LINE)?;
+    let mut text = Vec::with_capacity(alloc, PIECE + LONG_LINE)?;
+    let mut out = Outbox::new();
     for (index, event) in trace.events.as_slice().iter().enumerate() {
         let number = index as u32 + 1;
-        order.push_reserved(number);
-        report_event(&mut switch, &mut octets, number, event, &mut text)?;
+        report_event(
+            alloc,
+            switch,
+            &mut octets,
+            &mut out,
+            number,
+            event,
+            &mut text,
+        )?;
         flush_full(sink, &mut text)?;
     }
     flush(sink, &mut text)?;
-    Ok(switch.into_engine())
+    Ok(())
 }
 
 // Does one event, and appends its line to the text.
 fn report_event<P: PathMap, C: Carrier>(
-    switch: &mut Switch<P, C>,
+    alloc: Global,
+    switch: &mut Switch<'_, P, C>,
     octets: &mut [[u8; 30]],
+    out: &mut Outbox,
     number: u32,
     event: &Event,
     text: &mut Vec<u8>,
 ) -> Result<(), AllocError>
-    requires fits { Fits switch.old.core.external event.now }
-    requires room { switch.old.core.next < 4294967295 }
-    requires lines { length octets.old ≡ switch.old.core.external }
-    ensures works { Advances C.carries switch.old.core switch.old.engine switch.new.core switch.new.engine event.now }
-    ensures line { OnOk result (AddsLine C.plays C.carries switch.old.core switch.old.engine number event.now text.old.items text.new.items) }
-    ensures few { (w : World) → Works C.carries switch.old.core switch.old.engine w → MovesAtMost switch.old.core.bound (reply (dimensions_of switch.old.core) w event.now) }
+    requires works { Works C.carries switch.old.core switch.old.engine switch.old.tool }
+    requires known { IsEvent switch.old.core.trace number }
+    requires event { IsNumbered switch.old.core.trace number event.now }
+    requires room { length switch.old.core.journal < length switch.old.core.trace.events }
+    requires lines { length octets.old ≡ switch.old.core.trace.external }
+    ensures works { Works C.carries switch.new.core switch.new.engine switch.new.tool }
+    ensures journal { switch.new.core ≡ record switch.old.core { journal = switch.old.core.journal ++ (0, number) ∷ [] } }
+    ensures line { OnOk result (text.new.items ≡ text.old.items ++ event_line C.plays (setting switch.old.core) (world_of switch.old.core) number event.now) }
+    ensures few { MovesAtMost switch.old.core.bound (reply (setting switch.old.core) (world_of switch.old.core) event.now) }
     ensures kept { OnErr result (text.new.items ≡ text.old.items) }
-    ensures sizes { SameSizes switch.old.core switch.new.core }
 {
-    let reply = switch.step(event, octets);
-    append_answer(text, number, reply, octets)
+    let response = switch.step(number, event, octets, out);
+    let sent: &[[u8; 30]] = match event {
+        Event::Frame(_) => octets,
+        _ => &[],
+    };
+    append_answer(
+        text,
+        &Answer::keep_response(alloc, number, response, out, sent)?,
+    )
+}
+
+// Notes the numbers of the events of a journal.
+fn note_order(order: &mut Vec<u32>, journal: &[(u32, u32)])
+    requires room { length order.old.items + length journal.now ≤ vec_capacity order.old }
+    ensures { order.new.items ≡ order.old.items ++ order_of journal.now }
+{
+    for entry in journal {
+        order.push_reserved(entry.1);
+    }
 }
 
 // Writes what is pending, once it is a whole piece.

@@ -1,91 +1,102 @@
-ghost use Rattle.std.specs.Prelude.{◌≡◌, ◌+◌, ◌<◌, ◌≤◌, [], IfOk, length};
-ghost use Rattle.circuit_map.specs.Connections.{SameSizes};
-ghost use Rattle.exchange_core.specs.Sound.{Fits};
-ghost use Rattle.exchange_core.specs.Standing.{dimensions_of};
-ghost use Rattle.exchange_core.specs.World.{World, start, reply, next, MovesAtMost};
+ghost use Rattle.std.specs.Prelude.{◌≡◌, ◌<◌, ◌+◌, ◌++◌, ◌∷◌, [], IfOk, length};
+ghost use Rattle.exchange_core.specs.Orders.{IsEvent};
+ghost use Rattle.exchange_core.specs.Responses.{reply_of};
+ghost use Rattle.exchange_core.specs.Sound.{IsSound};
+ghost use Rattle.exchange_core.specs.Step.{reply, next, MovesAtMost};
+ghost use Rattle.exchange_core.specs.Working.{IsNumbered, setting, world_of};
 ghost use Rattle.exchange_top.specs.Report.{engine_dimensions};
-ghost use Rattle.exchange_top.specs.Switching.{IsReady, Works, Advances, AreSent};
+ghost use Rattle.exchange_top.specs.Switching.{IsReady, Works, AreSent};
 
 use control_memory::{Image, PathMap};
-use exchange_core::{Core, Event, Reply};
+use exchange_core::{Core, Event, Outbox, Response, Tool, Trace};
 use frame_engine::Carrier;
 use std::alloc::{AllocError, Global};
 use tone_rules::Tones;
 
-/// The exchange at work: what stands, on the paths of a map, the engine that carries the octets, and
-/// the control memory that a frame's boundary writes.
+// Who does the events, as the journal says.
+const BY: u32 = 0;
+
+/// The exchange at work on a trace: what stands, on the paths of a map, the engine that carries the
+/// octets, and the control memory that a frame's boundary writes.
 #[derive(Drop)]
-pub struct Switch<P: PathMap, C: Carrier> {
-    core: Core<P>,
+pub struct Switch<'t, P: PathMap, C: Carrier> {
+    core: Core<'t, P>,
     engine: C,
-    image: Image,
+    tool: Tool,
     tones: Tones,
-    ghost image_external: { image.external ≡ core.external },
-    ghost image_bridges: { image.bridges ≡ core.bridges },
-    ghost image_slots: { image.slots ≡ core.slots },
-    ghost engine_external: { C.external_lines engine ≡ core.external },
-    ghost engine_bridges: { C.bridge_lines engine ≡ core.bridges },
-    ghost engine_slots: { C.depth engine ≡ core.slots },
-    ghost engine_next: { C.next engine ≡ core.next },
-    ghost works: { ∥ ((w : World) × Works C.carries core engine w) ∥₁ },
+    ghost sizes: { engine_dimensions C.external_lines C.bridge_lines C.depth engine ≡ (setting core).dimensions },
+    ghost next: { C.next engine ≡ (world_of core).holding.next },
     ghost no_ringback: { tones.ringback ≡ [] },
     ghost no_busy: { tones.busy ≡ [] },
 }
 
-impl<P: PathMap + Drop, C: Carrier> Switch<P, C> {
-    /// An exchange with so many external and bridge lines, before its first event, over a map of paths
-    /// that has none yet. It has as many internal slots as the map.
-    pub fn new(
-        alloc: Global,
-        paths: P,
-        external: u8,
-        bridges: u8,
-    ) -> Result<Switch<P, C>, AllocError>
-        requires external { (1 ≤ external) × (external ≤ 32) }
-        requires bridges { bridges ≤ 2 }
-        requires paths { IsReady (external + bridges) (P.width paths) (P.depth paths) (P.layout paths) }
-        ensures works { IfOk result (λ s. Works C.carries s.core s.engine (start (record { external = external; bridges = bridges; slots = P.depth paths }))) }
-        ensures external { IfOk result (λ s. s.core.external ≡ external) }
-        ensures bridges { IfOk result (λ s. s.core.bridges ≡ bridges) }
-        ensures slots { IfOk result (λ s. s.core.slots ≡ P.depth paths) }
-        ensures bound { IfOk result (λ s. s.core.bound ≡ P.bound paths) }
-        ensures next { IfOk result (λ s. s.core.next ≡ 0) }
+impl<'t, P: PathMap + Drop, C: Carrier> Switch<'t, P, C> {
+    /// An exchange before the first event of a trace, over a map of paths that has none yet. It has as
+    /// many internal slots as the map.
+    pub fn new(alloc: Global, trace: &'t Trace, paths: P) -> Result<Switch<'t, P, C>, AllocError>
+        requires sound { IsSound trace.now }
+        requires paths { IsReady (trace.now.external + trace.now.bridges) (P.width paths) (P.depth paths) (P.layout paths) }
+        ensures works { IfOk result (λ s. Works C.carries s.core s.engine s.tool) }
+        ensures core { IfOk result (λ s. s.core ≡ record { trace = trace.now; slots = P.depth paths; bound = P.bound paths; journal = [] }) }
     {
         let slots = paths.slots();
+        let (external, bridges) = (trace.external, trace.bridges);
         Ok(Switch {
-            core: Core::new(alloc, paths, external, bridges)?,
+            core: Core::new(alloc, trace, paths)?,
             engine: C::new(alloc, external, bridges, slots)?,
-            image: Image::new(alloc, external, bridges, slots)?,
+            tool: Tool::Image(Image::new(alloc, external, bridges, slots)?),
             tones: Tones::none(alloc),
         })
     }
 
     /// The engine, once the last event is done.
     pub fn into_engine(self) -> C
-        ensures engine { result ≡ self.engine }
-        ensures sizes { engine_dimensions C.external_lines C.bridge_lines C.depth result ≡ dimensions_of self.core }
+        ensures sizes { engine_dimensions C.external_lines C.bridge_lines C.depth result ≡ (setting self.entry.core).dimensions }
+        ensures engine { result ≡ self.entry.engine }
     {
         self.engine
     }
 }
 
-impl<P: PathMap, C: Carrier> Switch<P, C> {
-    /// Does one event. At a frame, the engine writes what each external line sends to `octets`.
-    pub fn step(&mut self, event: &Event, octets: &mut [[u8; 30]]) -> Reply
-        requires fits { Fits self.old.core.external event.now }
-        requires room { self.old.core.next < 4294967295 }
-        requires lines { length octets.old ≡ self.old.core.external }
-        ensures works { Advances C.carries self.old.core self.old.engine self.new.core self.new.engine event.now }
-        ensures reply { (w : World) → Works C.carries self.old.core self.old.engine w → result ≡ reply (dimensions_of self.old.core) w event.now }
-        ensures octets { (w : World) → Works C.carries self.old.core self.old.engine w → AreSent C.plays (dimensions_of self.old.core) w event.now result octets.new }
-        ensures few { MovesAtMost self.old.core.bound result }
-        ensures sizes { SameSizes self.old.core self.new.core }
+impl<'t, P: PathMap, C: Carrier> Switch<'t, P, C> {
+    /// Does the event of the trace that has this number, with what is sent and told in `out`. At a frame,
+    /// the engine writes what each external line sends to `octets`.
+    pub fn step(
+        &mut self,
+        number: u32,
+        event: &Event,
+        octets: &mut [[u8; 30]],
+        out: &mut Outbox,
+    ) -> Response
+        requires works { Works C.carries self.old.core self.old.engine self.old.tool }
+        requires known { IsEvent self.old.core.trace number }
+        requires event { IsNumbered self.old.core.trace number event.now }
+        requires room { length self.old.core.journal < length self.old.core.trace.events }
+        requires lines { length octets.old ≡ self.old.core.trace.external }
+        ensures works { Works C.carries self.new.core self.new.engine self.new.tool }
+        ensures journal { self.new.core ≡ record self.old.core { journal = self.old.core.journal ++ (0, number) ∷ [] } }
+        ensures reply { reply_of result out.new ≡ reply (setting self.old.core) (world_of self.old.core) event.now }
+        ensures octets { AreSent C.plays (setting self.old.core) (world_of self.old.core) event.now octets.new }
+        ensures few { MovesAtMost self.old.core.bound (reply_of result out.new) }
     {
-        let reply = self.core.step(event, &mut self.image);
-        if let Event::Frame(input) = event {
-            self.engine
-                .frame(&mut self.image, &self.tones, input.as_slice(), octets);
+        match event {
+            Event::Frame(input) => {
+                let response = self.core.work(BY, number, &mut self.tool, out);
+                let Tool::Image(image) = &mut self.tool else {
+                    unreachable!()
+                };
+                self.engine
+                    .frame(image, &self.tones, input.as_slice(), octets);
+                response
+            }
+            _ => self.core.work(BY, number, &mut Tool::Nothing, out),
         }
-        reply
+    }
+
+    /// Who did which event, in the order in which they were done.
+    pub fn journal(&self) -> &[(u32, u32)]
+        ensures { result.now ≡ self.now.core.journal }
+    {
+        self.core.journal()
     }
 }

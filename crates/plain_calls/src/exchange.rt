@@ -2,6 +2,7 @@ ghost use Rattle.std.specs.Prelude.{◌<◌, IfSome, IfOk};
 
 use crate::elements::receive;
 use crate::legs::{Leg, Peer, State, leg_at, leg_named};
+use crate::no_leg::answer_without_leg;
 use crate::numbers::Number;
 use crate::paths::Paths;
 use crate::ports::Ports;
@@ -129,8 +130,10 @@ impl PlainExchange {
             for call in &calls {
                 self.tell_if_ended(*call, cause, &mut sent)?;
             }
-        } else if message.kind == SETUP && !message.flag && message.reference > 0 {
+        } else if message.reference > 0 && message.kind == SETUP && !message.flag {
             self.set_up(alloc, line, &message, &mut sent)?;
+        } else if message.reference > 0 {
+            answer_without_leg(alloc, line, &message, &mut sent)?;
         }
         Ok(sent)
     }

@@ -14,6 +14,7 @@ mod elements;
 mod exchange;
 mod legs;
 mod new_call;
+mod no_leg;
 mod numbers;
 mod paths;
 mod ports;

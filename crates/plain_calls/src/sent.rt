@@ -11,8 +11,10 @@ use std::alloc::{AllocError, Global};
 pub enum Course {
     /// The octets are no message.
     Discarded,
-    /// It names no leg and asks for no call.
+    /// It names no leg and asks for no call, and nothing answers it.
     Unanswered,
+    /// It names no leg, and the answer says so.
+    NoLeg,
     /// It was for a leg.
     For(Act),
     /// It asked for a call, which was refused.

@@ -167,11 +167,17 @@ fn clear_collision(rt: HostRuntime) -> Result<(), Fail> {
         Message(1, "080280014508028090"),
         Message(1, "080280014D"),
         Message(0, "080200014D"),
+        Message(0, "0802000175"),
+        Message(1, "080280014D"),
+        Message(1, "080280015A"),
     ];
     let wanted = "4 message 0:080280014D 1:080200014508028290\n\
         5 message 1:080200014D\n\
         6 message\n\
-        7 message\n";
+        7 message\n\
+        8 message 0:080280017D0802829E140100\n\
+        9 message 1:080200015A080282D1\n\
+        10 message\n";
     check(&rt, rt.alloc(), 0, &steps, wanted)?;
     Ok(())
 }

@@ -85,6 +85,8 @@ pub const NORMAL_CLEARING: u8 = 16;
 pub const RESPONSE_TO_STATUS_ENQUIRY: u8 = 30;
 /// Cause: temporary failure.
 pub const TEMPORARY_FAILURE: u8 = 41;
+/// Cause: invalid call reference value.
+pub const INVALID_CALL_REFERENCE: u8 = 81;
 /// Cause: message type non-existent or not implemented.
 pub const TYPE_NOT_IMPLEMENTED: u8 = 97;
 /// Cause: message not compatible with call state.

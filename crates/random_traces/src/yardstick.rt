@@ -264,8 +264,8 @@ impl Yardstick {
     }
 }
 
-/// Adds the sixty digits of a line's octets.
-pub fn append_octets(text: &mut String, octets: &[u8; 30]) -> Result<(), AllocError> {
+/// Adds octets in hexadecimal digits.
+pub fn append_octets(text: &mut String, octets: &[u8]) -> Result<(), AllocError> {
     for octet in octets.iter() {
         write!(text, "{octet:02X}")?;
     }

@@ -1,5 +1,5 @@
 -- The lock's words in those of the exchange. Source: this exchange's own.
-use Rattle.std.specs.Prelude.{◌≡◌, ℕ, List, map, length}
+use Rattle.std.specs.Prelude.{◌≡◌, ℕ, List, map}
 use Rattle.exchange_core.specs.declared.reply.Reply.{Reply}
 use Rattle.exchange_core.specs.declared.tool.Tool.{Tool}
 use Rattle.exchange_core.specs.Seats.{Board, Known, Kept, IsToolAt, AnswersAt, ShowsAt, turns_of}

@@ -12,6 +12,7 @@ use std::sync::Wait;
 use turn_lock::TurnLock;
 
 /// A core that many callers share: a switchboard. Contracts see the lock, whose setting is the board.
+#[derive(Drop)]
 pub struct SharedExchange<'t, P: PathMap> {
     lock: TurnLock<Exchange<'t, P>>,
 }
@@ -51,9 +52,9 @@ impl<'t, P: PathMap + Drop> SharedExchange<'t, P> {
         core: Core<'t, P>,
     ) -> Result<(SharedExchange<'t, P>, Seat<'t, P>), AllocError>
         requires empty { core.journal ≡ [] }
-        ensures board { IfOk result (λ r. r.0.setting ≡ board_of core) }
+        ensures board { IfOk result (λ r. r.0.setting ≡ board_of core.entry) }
         ensures of { IfOk result (λ r. IsSeatOf r.0 r.1) }
-        ensures seat { IfOk result (λ r. known r.1 ≡ first_seat (length core.trace.events)) }
+        ensures seat { IfOk result (λ r. known r.1 ≡ first_seat (length core.entry.trace.events)) }
     {
         let turns = core.trace().events.as_slice().len() as u32;
         match TurnLock::open(alloc, Exchange { core }, turns) {
@@ -70,9 +71,9 @@ impl<'t, P: PathMap> SharedExchange<'t, P> {
         requires of { IsSeatOf self seat }
         requires chief { seat.number ≡ 0 }
         requires all { seat.made ≡ length seat.kept }
-        ensures board { board_of result ≡ self.setting }
-        ensures journal { result.journal ≡ (known seat).seen }
-        ensures settled { Settled (turns_of self.setting) (known seat) }
+        ensures board { board_of result ≡ self.entry.setting }
+        ensures journal { result.journal ≡ (known seat.entry).seen }
+        ensures settled { Settled (turns_of self.entry.setting) (known seat.entry) }
     {
         let SharedExchange { lock } = self;
         let Seat { turns } = seat;
@@ -81,7 +82,7 @@ impl<'t, P: PathMap> SharedExchange<'t, P> {
     }
 }
 
-impl<'t, P: PathMap> Switchboard for SharedExchange<'t, P> {
+impl<'t, P: PathMap + Send> Switchboard for SharedExchange<'t, P> {
     type Seat = Seat<'t, P>;
 
     ghost board = { λ x. x.setting };

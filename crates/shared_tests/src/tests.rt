@@ -2,37 +2,35 @@
 mod traces;
 mod work;
 
-use control_memory::Image;
+ghost use Rattle.std.specs.Prelude.{◌≡◌, ◌≤◌, length};
+ghost use Rattle.exchange_core.specs.Sound.{IsSound};
+
 use exchange_core::{Core, Switchboard, Trace};
 use fabric_map::FabricMap;
-use shared_exchange::{Seat, SharedExchange};
+use shared_exchange::SharedExchange;
 use std::alloc::Global;
 use std::sync::Wait;
 use std::test::Fail;
 use std::thread::Threads;
 use traces::nails_and_frames;
-use work::{Told, frame, nail, side_by_side};
+use work::{Told, do_all, side_by_side};
 
-// What one thread does with two seats: seat 1 is granted a nail which seat 0 then finds busy, and seat 0 does both frames, with another nail of seat 1
-// in between. The place and the answer of each event, and the journal.
+// What one thread does with two seats. The place and the answer of each event, and the journal.
 fn by_turns<R: Wait>(
     rt: &R,
     alloc: Global,
     trace: &Trace,
+    steps: &[(u32, u32)],
 ) -> Option<(Vec<(u32, Told)>, Vec<(u32, u32)>)>
+    requires sound { IsSound trace.now }
+    requires sizes { (trace.now.external ≡ 4) × (trace.now.bridges ≡ 0) × (length trace.now.events ≡ 62) }
+    requires few { length steps.now ≤ 30 }
 {
     let paths = FabricMap::new(alloc, 4).ok()?;
     let core = Core::new(alloc, trace, paths).ok()?;
     let (exchange, mut zero) = SharedExchange::open(alloc, core).ok()?;
-    let mut one = exchange.split(&mut zero, 2, false);
-    let first = Image::new(alloc, 4, 0, 30).ok()?;
-    let second = Image::new(alloc, 4, 0, 30).ok()?;
-    let mut answers = Vec::new(alloc);
-    answers.push(nail(rt, &exchange, trace, &mut one, 1)?).ok()?;
-    answers.push(nail(rt, &exchange, trace, &mut zero, 1)?).ok()?;
-    answers.push(frame(rt, &exchange, trace, &mut zero, 61, first)?).ok()?;
-    answers.push(nail(rt, &exchange, trace, &mut one, 2)?).ok()?;
-    answers.push(frame(rt, &exchange, trace, &mut zero, 62, second)?).ok()?;
+    let mut one = exchange.split(&mut zero, 31, false);
+    let answers = do_all(rt, alloc, &exchange, trace, &mut zero, &mut one, steps)?;
     exchange.join(&mut zero, one);
     Some((answers, exchange.close(zero).into_journal()))
 }
@@ -43,6 +41,8 @@ fn in_threads<R: Threads + Wait + Sync>(
     alloc: Global,
     trace: &Trace,
 ) -> Option<((u32, u32), Vec<(u32, u32)>)>
+    requires sound { IsSound trace.now }
+    requires sizes { (trace.now.external ≡ 4) × (trace.now.bridges ≡ 0) × (length trace.now.events ≡ 62) }
 {
     let paths = FabricMap::new(alloc, 4).ok()?;
     let core = Core::new(alloc, trace, paths).ok()?;
@@ -68,7 +68,9 @@ fn has_every_second(journal: &[(u32, u32)], seat: u32, first: u32) -> bool {
 #[test]
 fn two_seats_share_one_history(rt: HostRuntime) -> Result<(), Fail> {
     let trace = nails_and_frames(rt.alloc()).ok().ok_or("no trace")?;
-    let (answers, journal) = by_turns(&rt, rt.alloc(), &trace).ok_or("no run")?;
+    // Seat 1 is granted a nail, which seat 0 then finds busy; seat 0 does both frames.
+    let steps = [(1, 1), (0, 1), (0, 61), (1, 2), (0, 62)];
+    let (answers, journal) = by_turns(&rt, rt.alloc(), &trace, &steps).ok_or("no run")?;
     let expected = [
         (0, Told::Granted(0, 0)),
         (1, Told::Busy),
@@ -77,8 +79,7 @@ fn two_seats_share_one_history(rt: HostRuntime) -> Result<(), Fail> {
         (4, Told::Frame(1)),
     ];
     assert_eq!(rt; answers.as_slice(), expected.as_slice());
-    let history = [(1, 1), (0, 1), (0, 61), (1, 2), (0, 62)];
-    assert_eq!(rt; journal.as_slice(), history.as_slice());
+    assert_eq!(rt; journal.as_slice(), steps.as_slice());
     Ok(())
 }
 

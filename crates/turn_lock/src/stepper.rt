@@ -3,7 +3,7 @@ ghost use Rattle.turn_lock.specs.declared.history.Entry.{Entry};
 ghost use Rattle.turn_lock.specs.History.{entry};
 
 /// A state that is stepped by one event at a time, and keeps a journal of its steps.
-pub trait Stepper: Send {
+pub trait Stepper {
     /// What a step works with beside the state. The caller lends it.
     type Tool;
 

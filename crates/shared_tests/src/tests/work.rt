@@ -1,5 +1,5 @@
 //! Seats at work at any switchboard, one after the other and in threads of their own.
-ghost use Rattle.std.specs.Prelude.{◌≡◌, ◌≤◌, ◌<◌, ◌+◌, ◌×◌, ◌^◌, length, IsTrue, true};
+ghost use Rattle.std.specs.Prelude.{◌≡◌, ◌≤◌, ◌<◌, ◌+◌, ◌^◌, length, IsTrue, true};
 ghost use Rattle.std.specs.Thread.{IsSync};
 ghost use Rattle.exchange_core.specs.Seats.{IsToolAt};
 ghost use Rattle.control_memory.specs.Image.{Control};
@@ -19,7 +19,7 @@ pub enum Told {
     Other,
 }
 
-fn told(reply: &Reply) -> Told {
+fn answer_of(reply: &Reply) -> Told {
     match reply {
         Reply::Granted(there, back) => Told::Granted(*there, *back),
         Reply::Busy => Told::Busy,
@@ -28,8 +28,8 @@ fn told(reply: &Reply) -> Told {
     }
 }
 
-/// Does a nail. `None` where the event is none.
-pub fn nail<B: Switchboard, R: Wait>(
+// Does a nail. `None` where the event is none.
+fn nail<B: Switchboard, R: Wait>(
     rt: &R,
     board: &B,
     trace: &Trace,
@@ -52,11 +52,11 @@ pub fn nail<B: Switchboard, R: Wait>(
     }
     let mut tool = Tool::Nothing;
     let (place, reply) = board.handle(rt, seat, event, &mut tool);
-    Some((place, told(&reply)))
+    Some((place, answer_of(&reply)))
 }
 
-/// Does a frame, by the holder of the baton. `None` where the event is none.
-pub fn frame<B: Switchboard, R: Wait>(
+// Does a frame, by the holder of the baton. `None` where the event is none.
+fn frame<B: Switchboard, R: Wait>(
     rt: &R,
     board: &B,
     trace: &Trace,
@@ -82,7 +82,63 @@ pub fn frame<B: Switchboard, R: Wait>(
     }
     let mut tool = Tool::Image(image);
     let (place, reply) = board.handle(rt, seat, event, &mut tool);
-    Some((place, told(&reply)))
+    Some((place, answer_of(&reply)))
+}
+
+// Does a nail or a frame, by the holder of the baton. `None` where the event is neither, or memory is lacking.
+fn nail_or_frame<B: Switchboard, R: Wait>(
+    rt: &R,
+    alloc: Global,
+    board: &B,
+    trace: &Trace,
+    seat: &mut B::Seat,
+    event: u32,
+) -> Option<(u32, Told)>
+    requires trace { trace.now ≡ (B.board board.now).trace }
+    requires sizes { (trace.now.external ≡ 4) × (trace.now.bridges ≡ 0) × ((B.board board.now).slots ≡ 30) }
+    requires seated { B.seated board.now seat.old }
+    requires turn { 0 < (B.known seat.old).left }
+    requires baton { IsTrue (B.known seat.old).baton }
+    ensures seated { B.seated board.now seat.new }
+    ensures left { (B.known seat.old).left ≤ (B.known seat.new).left + 1 }
+    ensures baton { (B.known seat.new).baton ≡ (B.known seat.old).baton }
+    ensures number { (B.known seat.new).number ≡ (B.known seat.old).number }
+    ensures seats { ((B.known seat.new).made ≡ (B.known seat.old).made) × (length (B.known seat.new).kept ≡ length (B.known seat.old).kept) }
+{
+    if event <= 60 {
+        return nail(rt, board, trace, seat, event);
+    }
+    let image = Image::new(alloc, 4, 0, 30).ok()?;
+    frame(rt, board, trace, seat, event, image)
+}
+
+/// Steps of two seats in this order, each a seat's number and an event; seat 0 holds the baton. The place and the answer of each.
+pub fn do_all<B: Switchboard, R: Wait>(
+    rt: &R,
+    alloc: Global,
+    board: &B,
+    trace: &Trace,
+    zero: &mut B::Seat,
+    one: &mut B::Seat,
+    steps: &[(u32, u32)],
+) -> Option<Vec<(u32, Told)>>
+    requires trace { trace.now ≡ (B.board board.now).trace }
+    requires sizes { (trace.now.external ≡ 4) × (trace.now.bridges ≡ 0) × ((B.board board.now).slots ≡ 30) }
+    requires zero { B.seated board.now zero.old × IsTrue (B.known zero.old).baton × (length steps.now ≤ (B.known zero.old).left) }
+    requires one { B.seated board.now one.old × (length steps.now ≤ (B.known one.old).left) }
+    ensures seated { B.seated board.now zero.new × B.seated board.now one.new }
+    ensures number { (B.known zero.new).number ≡ (B.known zero.old).number }
+    ensures seats { ((B.known zero.new).made ≡ (B.known zero.old).made) × (length (B.known zero.new).kept ≡ length (B.known zero.old).kept) }
+{
+    let mut answers = Vec::new(alloc);
+    for &(number, event) in steps {
+        let answer = match number {
+            0 => nail_or_frame(rt, alloc, board, trace, zero, event),
+            _ => nail(rt, board, trace, one, event),
+        };
+        answers.push(answer?).ok()?;
+    }
+    Some(answers)
 }
 
 /// Every second event from `first` on is done, so many. How many were granted.

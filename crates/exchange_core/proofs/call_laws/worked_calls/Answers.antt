@@ -15,6 +15,10 @@ pub returns-clause-collision : goal.returns-clause-collision
 unfolding elements_of elements_within slots_of
 returns-clause-collision c = refl
 
+pub returns-clause-no_call : goal.returns-clause-no_call
+unfolding elements_of elements_within slots_of
+returns-clause-no_call c = refl
+
 pub returns-clause-lenient : goal.returns-clause-lenient
 unfolding elements_of elements_within slots_of
 returns-clause-lenient c = refl

@@ -16,11 +16,14 @@ returns-in_default-clause-makes g c s w plan work =
     makes_same s.dimensions c.args.self.now.map c.args.self.now.legs c.args.out.now.sends c.args.out.now.moved (begun w) [] (accept s w m (caller_slot w c.args.line (channel_in m.elements))) (ap (accept s w m) none)
     (makes_begun s.dimensions c.args.self.now.map c.args.self.now.legs c.args.out.now.sends c.args.out.now.moved w work.holds c.requires.fresh)
 
-pub lowest_idle_beside-requires-clause-external : goal.lowest_idle_beside-requires-clause-external
-lowest_idle_beside-requires-clause-external g c κs within =
+pub lowest_idle_beside-requires : goal.lowest_idle_beside-requires
+lowest_idle_beside-requires g c =
     let work = c.requires.work in
-    reaches c.args.self.now.map.external c.args.plan.now (unwrap_or (digits_in c.args.message.now) []) (Line c.in-Line.line)
-    (planned_by work.0 c.args.plan.now c.args.self.now.map work.2 work.3.holds.sizes work.3.planned) (sym c.target_of.ensures ∙ c.in-Line.is)
+    record {
+      external =
+          reaches c.args.self.now.map.external c.args.plan.now (unwrap_or (digits_in c.args.message.now) []) (Line c.in-Line.line)
+          (planned_by work.0 c.args.plan.now c.args.self.now.map work.2 work.3.holds.sizes work.3.planned) (sym c.target_of.ensures ∙ c.in-Line.is);
+    }
 
 pub returns-in_default-lowest_idle_beside-clause-makes : goal.returns-in_default-lowest_idle_beside-clause-makes
 returns-in_default-lowest_idle_beside-clause-makes g c s w plan work =
@@ -33,7 +36,7 @@ returns-in_default-lowest_idle_beside-clause-makes g c s w plan work =
     (makes_begun s.dimensions c.args.self.now.map c.args.self.now.legs c.args.out.now.sends c.args.out.now.moved w work.holds c.requires.fresh)
 
 pub call_room-requires-clause-can : goal.call_room-requires-clause-can
-call_room-requires-clause-can g c κs within =
+call_room-requires-clause-can g c =
     let work = c.requires.work in
     let s = work.0 in
     let w = work.1 in

@@ -10,32 +10,32 @@ use Rattle.exchange_core.proofs.call_control.CallControl.act.Goals as goal
 
 pub records_of_act-records-requires-clause-peer_external :
     goal.records_of_act-records-requires-clause-peer_external
-records_of_act-records-requires-clause-peer_external g c κs within =
+records_of_act-records-requires-clause-peer_external g c =
     let work = c.requires.work in
     let now = c.args.self.now in
     peer_external now.map.external c.args.held c.peer_of-peer.result
     (known_peer work.0 now.map now.legs work.1 work.2 c.args.held c.requires.external c.requires.held c.peer_of-peer.result c.peer_of-peer.ensures)
 
 pub perform-requires-clause-there : goal.perform-requires-clause-there
-perform-requires-clause-there g c κs within =
+perform-requires-clause-there g c =
     let work = c.requires.work in
     let now = c.args.self.now in
     known_there work.0 now.map now.legs work.1 work.2 c.args.held c.requires.external c.requires.held
 
 pub perform-requires-clause-peer_there : goal.perform-requires-clause-peer_there
-perform-requires-clause-peer_there g c κs within =
+perform-requires-clause-peer_there g c =
     let work = c.requires.work in
     let now = c.args.self.now in
     known_peer work.0 now.map now.legs work.1 work.2 c.args.held c.requires.external c.requires.held c.peer_of-peer.result c.peer_of-peer.ensures
 
 pub perform-requires-clause-cause : goal.perform-requires-clause-cause
-perform-requires-clause-cause g c κs within =
+perform-requires-clause-cause g c =
     let m = c.args.message.now in
     subst (λ (a : Act). IfSome (cause_of_act a) (λ cause. cause < 128)) (sym c.on_message-act.ensures)
     (act_fits c.args.held.leg.state m.kind (clearing_cause m.elements) (is_null (call_state_in m.elements)) (cause_fits m.elements))
 
 pub perform-requires-clause-silent : goal.perform-requires-clause-silent
-perform-requires-clause-silent g c κs within answers =
+perform-requires-clause-silent g c answers =
     let work = c.requires.work in
     let now = c.args.self.now in
     known_silent work.0 now.map now.legs work.1 work.2 c.args.held c.requires.external c.requires.held c.args.message.now (sym c.on_message-act.ensures ∙ answers)

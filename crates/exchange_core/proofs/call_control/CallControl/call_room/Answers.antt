@@ -9,14 +9,16 @@ use Rattle.exchange_core.specs.Standing.{Makes}
 use Rattle.exchange_core.proofs.Makings.{holds_with, can_still, makes_put, makes_seat, makes_send}
 use Rattle.exchange_core.proofs.call_control.CallControl.call_room.Goals as goal
 
-pub seat-requires-clause-can : goal.seat-requires-clause-can
-seat-requires-clause-can g c κs within =
-    let can = c.requires.can in (
-      can.0,
-      record can.1 { legs = c.put.new.self.legs },
-      holds_with can.0 c.args.self.now.map c.put.new.self.map c.args.self.now.legs c.put.new.self.legs can.1 can.2 c.put.ensures.map,
-      can_still can.0 can.1 c.args.x c.put.new.self.legs can.3,
-    )
+pub seat-requires : goal.seat-requires
+seat-requires g c =
+    let can = c.requires.can in record {
+      can = (
+        can.0,
+        record can.1 { legs = c.put.new.self.legs },
+        holds_with can.0 c.args.self.now.map c.put.new.self.map c.args.self.now.legs c.put.new.self.legs can.1 can.2 c.put.ensures.map,
+        can_still can.0 can.1 c.args.x c.put.new.self.legs can.3,
+      );
+    }
 
 pub returns-clause-makes : goal.returns-clause-makes
 returns-clause-makes g c d m makes =

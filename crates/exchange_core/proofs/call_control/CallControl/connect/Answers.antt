@@ -4,7 +4,7 @@ use Rattle.exchange_core.proofs.Makes.{connected_makes}
 use Rattle.exchange_core.proofs.call_control.CallControl.connect.Goals as goal
 
 pub pair-requires-clause-silent_x : goal.pair-requires-clause-silent_x
-pair-requires-clause-silent_x g c κs within =
+pair-requires-clause-silent_x g c =
     let work = c.requires.work in
     c.clear.ensures.hears c.args.caller ∙ cleared_silent work.0 c.args.self.now.map c.args.self.now.legs work.1 c.args.caller work.2
 

@@ -5,7 +5,7 @@ use Rattle.exchange_core.proofs.Refusing.{reaches, number_refused, slot_refused}
 use Rattle.exchange_core.proofs.call_control.CallControl.refusal.Goals as goal
 
 pub slot_cause-requires-clause-reached : goal.slot_cause-requires-clause-reached
-slot_cause-requires-clause-reached g c κs within =
+slot_cause-requires-clause-reached g c =
     reaches c.args.self.now.map.external c.args.plan.now (unwrap_or (digits_in c.args.message.now) []) c.target_of-target.result c.requires.planned (sym c.target_of-target.ensures)
 
 pub returns-in-Some-number_cause : goal.returns-in-Some-number_cause

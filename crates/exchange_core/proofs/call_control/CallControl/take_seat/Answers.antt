@@ -15,7 +15,7 @@ returns-then-not-idle-clause-world g c s w h =
     rw taken h
 
 pub returns-clause-reply : goal.returns-clause-reply
-returns-clause-reply g c s w h =
+returns-clause-reply g c s w o h =
     let free : idle w c.args.x ≡ true = grind (arith, common_steps, c.idle.ensures.idle s.dimensions w h, c.if-not-idle.false) in
     let e = c.in-Ok.ensures in
     let port : is_full s.dimensions w ≡ false = sym (full_is s.dimensions _ _ w h false (sym (ne_eqb _ _ (λ full. false_is_no ((e.full w.holding w.ports h.circuits.holds).1 full))))) in

@@ -1,20 +1,21 @@
 use Rattle.std.proofs.Common.{◌≡◌, ◌<◌, ◌++◌, ◌∷◌, [], List, length, refl, sym, ◌∙◌, ap, subst}
 use Rattle.exchange_core.specs.declared.trace.Event.{Event}
+use Rattle.exchange_core.specs.Responses.{reply_of}
 use Rattle.exchange_core.specs.Step.{reply, next}
 use Rattle.exchange_core.specs.Working.{Entry, Working, IsWorking, IsNumbered, IsToolFor, ShowsWorld, order_of, setting, world_of, world_after}
 use Rattle.exchange_core.specs.World.{World}
 use Rattle.exchange_core.proofs.Stepping.{next_few, stepped, facts, of_each, world_more}
-use Rattle.exchange_core.proofs.step.Core.step.Goals as goal
+use Rattle.exchange_core.proofs.step.Core.work.Goals as goal
 
-pub happen-reply-requires-clause-work : goal.happen-reply-requires-clause-work
-happen-reply-requires-clause-work g c lifetimes outlive =
+pub happen-response-requires-clause-work : goal.happen-response-requires-clause-work
+happen-response-requires-clause-work g c =
     let e = c.index-as_slice-event.result in
     let f = facts _ c.args.self.now _ _ _ c.args.event _ e c.self.view_is c.self.invariant c.requires.known c.as_slice.ensures c.index-as_slice-event.is in
     let tools = subst (λ (x : Working). (e : Event) → IsNumbered x.trace c.args.event e → IsToolFor (setting x).dimensions e c.args.tool.now) (sym c.self.view_is) c.requires.tool in
     (_, _, refl, f.at, tools e f.number)
 
-pub happen-reply-requires-clause-room : goal.happen-reply-requires-clause-room
-happen-reply-requires-clause-room g c lifetimes outlive =
+pub happen-response-requires-clause-room : goal.happen-response-requires-clause-room
+happen-response-requires-clause-room g c =
     next_few _ _ _ _ c.self.invariant (subst (λ (x : Working). length x.journal < length x.trace.events) (sym c.self.view_is) c.requires.room)
 
 pub invariant_of-self : goal.invariant_of-self
@@ -24,29 +25,29 @@ invariant_of-self g c =
     let own : Working = record { trace = c.self.inside.trace.now; slots = c.self.inside.control.map.slots; bound = c.self.inside.control.map.bound; journal = c.self.inside.journal.items } in
     let grown : Working = record {
       trace = c.self.inside.trace.now;
-      slots = c.happen-reply.new.self.map.slots;
-      bound = c.happen-reply.new.self.map.bound;
+      slots = c.happen-response.new.self.map.slots;
+      bound = c.happen-response.new.self.map.bound;
       journal = c.push_reserved.new.self.items;
     } in
-    let done = c.happen-reply.ensures in
-    subst (λ room. IsWorking grown c.happen-reply.new.self.map c.happen-reply.new.self.legs room) (sym c.push_reserved.ensures.capacity)
-    (stepped own _ _ _ c.args.by c.args.event e c.happen-reply.new.self.map c.happen-reply.new.self.legs c.push_reserved.new.self.items
+    let done = c.happen-response.ensures in
+    subst (λ room. IsWorking grown c.happen-response.new.self.map c.happen-response.new.self.legs room) (sym c.push_reserved.ensures.capacity)
+    (stepped own _ _ _ c.args.by c.args.event e c.happen-response.new.self.map c.happen-response.new.self.legs c.push_reserved.new.self.items
     c.self.invariant f.known f.number c.push_reserved.ensures.items (done.world (setting own) (world_of own) refl f.at) done.sizes.bound done.sizes.slots refl)
 
 pub returns-clause-reply : goal.returns-clause-reply
 returns-clause-reply g c =
     let e = c.index-as_slice-event.result in
     let f = facts _ c.args.self.now _ _ _ c.args.event _ e c.self.view_is c.self.invariant c.requires.known c.as_slice.ensures c.index-as_slice-event.is in
-    of_each _ c.args.self.now c.args.event e (λ (x : Working) (e : Event). c.happen-reply.result ≡ reply (setting x) (world_of x) e) c.self.view_is f.number
-    (c.happen-reply.ensures.reply _ _ refl f.at)
+    of_each _ c.args.self.now c.args.event e (λ (x : Working) (e : Event). reply_of c.happen-response.result c.happen-response.new.out ≡ reply (setting x) (world_of x) e) c.self.view_is f.number
+    (c.happen-response.ensures.reply _ _ refl f.at)
 
 pub returns-clause-world : goal.returns-clause-world
 returns-clause-world g c =
     let own : Working = record { trace = c.self.inside.trace.now; slots = c.self.inside.control.map.slots; bound = c.self.inside.control.map.bound; journal = c.self.inside.journal.items } in
     let e = c.index-as_slice-event.result in
     let f = facts _ c.args.self.now _ _ _ c.args.event _ e c.self.view_is c.self.invariant c.requires.known c.as_slice.ensures c.index-as_slice-event.is in
-    let slots = c.happen-reply.ensures.sizes.slots in
-    let grown : World = world_after c.happen-reply.new.self.map.slots own.trace (order_of c.push_reserved.new.self.items) in
+    let slots = c.happen-response.ensures.sizes.slots in
+    let grown : World = world_after c.happen-response.new.self.map.slots own.trace (order_of c.push_reserved.new.self.items) in
     let same : grown ≡ world_after own.slots own.trace (order_of (own.journal ++ (c.args.by, c.args.event) ∷ [])) =
     ap (λ n. world_after n own.trace (order_of c.push_reserved.new.self.items)) slots
     ∙ ap (λ (j : List Entry). world_after own.slots own.trace (order_of j)) c.push_reserved.ensures.items in
@@ -57,13 +58,13 @@ pub returns-clause-shows : goal.returns-clause-shows
 returns-clause-shows g c =
     let e = c.index-as_slice-event.result in
     let f = facts _ c.args.self.now _ _ _ c.args.event _ e c.self.view_is c.self.invariant c.requires.known c.as_slice.ensures c.index-as_slice-event.is in
-    of_each _ c.args.self.now c.args.event e (λ (x : Working) (e : Event). ShowsWorld (world_of x) e c.happen-reply.new.tool) c.self.view_is f.number
-    (c.happen-reply.ensures.shows _ _ f.at.holds)
+    of_each _ c.args.self.now c.args.event e (λ (x : Working) (e : Event). ShowsWorld (world_of x) e c.happen-response.new.tool) c.self.view_is f.number
+    (c.happen-response.ensures.shows _ _ f.at.holds)
 
 pub returns-clause-tool : goal.returns-clause-tool
 returns-clause-tool g c =
     let e = c.index-as_slice-event.result in
     let f = facts _ c.args.self.now _ _ _ c.args.event _ e c.self.view_is c.self.invariant c.requires.known c.as_slice.ensures c.index-as_slice-event.is in
     let tools = subst (λ (x : Working). (e : Event) → IsNumbered x.trace c.args.event e → IsToolFor (setting x).dimensions e c.args.tool.now) (sym c.self.view_is) c.requires.tool in
-    of_each _ c.args.self.now c.args.event e (λ (x : Working) (e : Event). IsToolFor (setting x).dimensions e c.happen-reply.new.tool) c.self.view_is f.number
-    (c.happen-reply.ensures.tool _ (tools e f.number))
+    of_each _ c.args.self.now c.args.event e (λ (x : Working) (e : Event). IsToolFor (setting x).dimensions e c.happen-response.new.tool) c.self.view_is f.number
+    (c.happen-response.ensures.tool _ (tools e f.number))

@@ -2,7 +2,7 @@ use Rattle.std.proofs.Common.{true, Some}
 use Rattle.q931_codec.specs.declared.kind.MessageKind.TheVariants as kind
 use Rattle.q931_codec.specs.Outgoing.{bare, outgoing_of}
 use Rattle.exchange_core.proofs.Makings.{makes_send}
-use Rattle.exchange_core.proofs.call_control.Sending.refuse.Goals as goal
+use Rattle.exchange_core.proofs.outbox.Outbox.refuse.Goals as goal
 
 pub returns-clause-makes : goal.returns-clause-makes
 returns-clause-makes c d map legs m makes =
