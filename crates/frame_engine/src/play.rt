@@ -85,7 +85,7 @@ fn is_idle(read: &[u8]) -> bool
 }
 
 // Writes what each place of a line sends by its path. Each octet is read before it is known whether
-// it is heard, so that no branch is needed.
+// it is heard, so that it is chosen by its age without a branch.
 fn play_each(read: &[u8], heard: &[Heard], frame: u32, octets: &mut [u8; 30])
     requires read { length read.now ≡ 30 }
     requires heard { length heard.now ≡ 30 }
