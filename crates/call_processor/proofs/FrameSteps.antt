@@ -17,10 +17,7 @@ use Rattle.exchange_core.specs.declared.trace.Event.TheVariants.{Nail, Seat, Fre
 use Rattle.exchange_core.specs.declared.trace.Trace.{Trace}
 use Rattle.exchange_core.specs.declared.tool.Tool.{Tool}
 use Rattle.exchange_core.specs.declared.tool.Tool.TheVariants.{Image}
-use Rattle.exchange_core.specs.Calls.{course}
 use Rattle.exchange_core.specs.IdleSlots.{nailed}
-use Rattle.exchange_core.specs.Operations.{Operation, Making, begun, performed, performed_all}
-use Rattle.exchange_core.specs.Operations as op
 use Rattle.exchange_core.specs.Seats.{Board, StartsWith, IsFrame, NoFrames, IsToolAt, ShowsAt, setting_at, unseen, world_at}
 use Rattle.exchange_core.specs.Setup.{Setting}
 use Rattle.exchange_core.specs.Sound.{Fits, IsSound}
@@ -29,6 +26,7 @@ use Rattle.exchange_core.specs.Step.{next, world, events_of, may_nail, may_seat}
 use Rattle.exchange_core.specs.Working.{Entry, IsNumbered, IsOfSize, IsToolFor, ShowsWorld, order_of}
 use Rattle.exchange_core.specs.World.{Dimensions, World, start, obey, pass}
 use Rattle.exchange_core.proofs.Histories.{made, made_pass}
+use Rattle.exchange_core.proofs.Quiet.{SameFrames, same_self, then_same as same_then, quiet}
 use Rattle.exchange_core.proofs.Stepping.{world_more}
 use Rattle.call_processor.specs.Frames.{Plays, Carrying, CarriesFrames, IsReady, IsPlayed}
 
@@ -49,42 +47,6 @@ input_whole trace n input sound number =
     fits
 
 -- ---- an event that is no frame leaves the frames as they are
-
--- two worlds with the same frames behind them
-pub record SameFrames (w v : World) : Type 0 where
-  pub inputs : v.inputs ≡ w.inputs
-  pub held : v.held ≡ w.held
-  pub seated : v.seated ≡ w.seated
-  pub next : v.holding.next ≡ w.holding.next
-
-same_self : (w : World) → SameFrames w w
-same_self w = record { inputs = refl; held = refl; seated = refl; next = refl }
-
-same_then : (u v w : World) → SameFrames u v → SameFrames v w → SameFrames u w
-same_then u v w one rest = record { inputs = rest.inputs ∙ one.inputs; held = rest.held ∙ one.held; seated = rest.seated ∙ one.seated; next = rest.next ∙ one.next }
-
-performed_same : (d : Dimensions) (m : Making) (o : Operation) → SameFrames m.world (performed d m o).world
-performed_same d m (op.Clear x) = record { inputs = refl; held = refl; seated = refl; next = refl }
-performed_same d m (op.Pair x y) = record { inputs = refl; held = refl; seated = refl; next = refl }
-performed_same d m (op.Seat x room) = record { inputs = refl; held = refl; seated = refl; next = refl }
-performed_same d m (op.Put x leg) = record { inputs = refl; held = refl; seated = refl; next = refl }
-performed_same d m (op.Remove x) = record { inputs = refl; held = refl; seated = refl; next = refl }
-performed_same d m (op.Send line message) = record { inputs = refl; held = refl; seated = refl; next = refl }
-
-performed_all_same : (d : Dimensions) (m : Making) (os : List Operation) → SameFrames m.world (performed_all d m os).world
-performed_all_same d m [] = same_self m.world
-performed_all_same d m (o ∷ os) = same_then m.world (performed d m o).world _ (performed_same d m o) (performed_all_same d (performed d m o) os)
-
-either_same : (may : Bool) (w v : World) → SameFrames w v → SameFrames w (if may then v else w)
-either_same true w v same = same
-either_same false w v same = same_self w
-
-quiet : (s : Setting) (w : World) (e : Event) → ((input : Input) → e ≡ Frame input → ⊥) → SameFrames w (next s w e)
-quiet s w (Nail x y) other = either_same (may_nail w x y) w (obey s.dimensions w (Connect x y)) (record { inputs = refl; held = refl; seated = refl; next = refl })
-quiet s w (Seat x room) other = either_same (may_seat s.dimensions w x) w (obey s.dimensions w (Take_seat x room)) (record { inputs = refl; held = refl; seated = refl; next = refl })
-quiet s w (Free x) other = either_same (nailed w x) w (obey s.dimensions w (Clear x)) (record { inputs = refl; held = refl; seated = refl; next = refl })
-quiet s w (Message line octets) other = performed_all_same s.dimensions (begun w) (course s w line octets).operations
-quiet s w (Frame input) other = absurd (other input refl)
 
 quiet_one : (s : Setting) (trace : Trace) (w : World) (n : ℕ) (o : Option Event) (es : List Event) → slice_get trace.events (n - 1) ≡ o → (IsFrame trace n → ⊥)
     → ((v : World) → SameFrames v (world s v es)) → SameFrames w (world s w (cons_option o es))

@@ -38,4 +38,5 @@ pub mod BegunEnds
 pub mod OnNoCall
 pub mod Permits
 pub mod Histories
+pub mod Quiet
 pub mod Stepping

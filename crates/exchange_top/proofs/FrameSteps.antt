@@ -16,11 +16,8 @@ use Rattle.exchange_core.specs.declared.trace.Event.TheVariants.{Nail, Seat, Fre
 use Rattle.exchange_core.specs.declared.reply.Reply.{Reply}
 use Rattle.exchange_core.specs.declared.tool.Tool.{Tool}
 use Rattle.exchange_core.specs.declared.tool.Tool.TheVariants.{Nothing, Image}
-use Rattle.exchange_core.specs.Calls.{course}
 use Rattle.exchange_core.specs.IdleSlots.{idle, nailed}
 use Rattle.exchange_core.specs.Kept.{kept}
-use Rattle.exchange_core.specs.Operations.{Operation, Making, begun, performed, performed_all}
-use Rattle.exchange_core.specs.Operations as op
 use Rattle.exchange_core.specs.Setup.{Setting}
 use Rattle.exchange_core.specs.Sound.{Fits, IsSound}
 use Rattle.exchange_core.specs.Standing.{IsMade}
@@ -28,6 +25,7 @@ use Rattle.exchange_core.specs.Step.{next, reply, world, events_of, may_nail, ma
 use Rattle.exchange_core.specs.Working.{Entry, Working, IsNumbered, IsOfSize, IsToolFor, ShowsWorld, order_of, setting, world_of}
 use Rattle.exchange_core.specs.World.{Dimensions, World, start, obey, is_full, seated}
 use Rattle.exchange_core.proofs.Histories.{made, made_pass}
+use Rattle.exchange_core.proofs.Quiet.{SameFrames, quiet}
 use Rattle.exchange_core.proofs.Stepping.{fits_all}
 use Rattle.report_text.specs.Report.{report_line}
 use Rattle.exchange_top.specs.Report.{Plays, Carrying, CarriesFrames}
@@ -63,40 +61,7 @@ input_whole x n e input sound number frame =
     subst (Fits x.trace.external) (get_or_from_slice_get x.trace.events (n - 1) e e number) (sound.events (n - 1) e (slice_get_within x.trace.events (n - 1) e number)) in
     subst (Fits x.trace.external) frame fits
 
--- ---- an event that is no frame leaves the frames as they are
-
--- two worlds with the same frames behind them
-pub record SameFrames (w v : World) : Type 0 where
-  pub inputs : v.inputs ≡ w.inputs
-  pub held : v.held ≡ w.held
-  pub seated : v.seated ≡ w.seated
-  pub next : v.holding.next ≡ w.holding.next
-
-performed_same : (d : Dimensions) (m : Making) (o : Operation) → SameFrames m.world (performed d m o).world
-performed_same d m (op.Clear x) = record { inputs = refl; held = refl; seated = refl; next = refl }
-performed_same d m (op.Pair x y) = record { inputs = refl; held = refl; seated = refl; next = refl }
-performed_same d m (op.Seat x room) = record { inputs = refl; held = refl; seated = refl; next = refl }
-performed_same d m (op.Put x leg) = record { inputs = refl; held = refl; seated = refl; next = refl }
-performed_same d m (op.Remove x) = record { inputs = refl; held = refl; seated = refl; next = refl }
-performed_same d m (op.Send line message) = record { inputs = refl; held = refl; seated = refl; next = refl }
-
-performed_all_same : (d : Dimensions) (m : Making) (os : List Operation) → SameFrames m.world (performed_all d m os).world
-performed_all_same d m [] = record { inputs = refl; held = refl; seated = refl; next = refl }
-performed_all_same d m (o ∷ os) =
-    let one = performed_same d m o in
-    let rest = performed_all_same d (performed d m o) os in
-    record { inputs = rest.inputs ∙ one.inputs; held = rest.held ∙ one.held; seated = rest.seated ∙ one.seated; next = rest.next ∙ one.next }
-
-either_same : (may : Bool) (w v : World) → SameFrames w v → SameFrames w (if may then v else w)
-either_same true w v same = same
-either_same false w v same = record { inputs = refl; held = refl; seated = refl; next = refl }
-
-pub quiet : (s : Setting) (w : World) (e : Event) → ((input : Input) → ¬ (e ≡ Frame input)) → SameFrames w (next s w e)
-quiet s w (Nail x y) other = either_same (may_nail w x y) w (obey s.dimensions w (Connect x y)) (record { inputs = refl; held = refl; seated = refl; next = refl })
-quiet s w (Seat x room) other = either_same (may_seat s.dimensions w x) w (obey s.dimensions w (Take_seat x room)) (record { inputs = refl; held = refl; seated = refl; next = refl })
-quiet s w (Free x) other = either_same (nailed w x) w (obey s.dimensions w (Clear x)) (record { inputs = refl; held = refl; seated = refl; next = refl })
-quiet s w (Message line octets) other = performed_all_same s.dimensions (begun w) (course s w line octets).operations
-quiet s w (Frame input) other = absurd (other input refl)
+-- ---- an event that is no frame
 
 pub none_sent : (plays : Plays) (s : Setting) (w : World) (e : Event) (octets : List (List ℕ)) → ((input : Input) → ¬ (e ≡ Frame input)) → AreSent plays s w e octets
 none_sent plays s w (Nail x y) octets other = tt

@@ -4,7 +4,8 @@ use Rattle.exchange_core.specs.declared.trace.Event.TheVariants.{Frame}
 use Rattle.exchange_core.specs.Step.{next}
 use Rattle.exchange_core.specs.Working.{setting, world_of}
 use Rattle.exchange_core.specs.World.{World, Dimensions}
-use Rattle.exchange_top.proofs.FrameSteps.{asked, boundary, frames_few, input_whole, made_of, next_frame, none_sent, quiet, same_dimensions, works_quiet, works_frame}
+use Rattle.exchange_core.proofs.Quiet.{quiet}
+use Rattle.exchange_top.proofs.FrameSteps.{asked, boundary, frames_few, input_whole, made_of, next_frame, none_sent, same_dimensions, works_quiet, works_frame}
 use Rattle.exchange_top.proofs.Reports.{sent_played}
 use Rattle.exchange_top.proofs.Silence.{sounds_none, silent}
 use Rattle.exchange_top.proofs.switch.Switch.step.Goals as goal

@@ -1,0 +1,82 @@
+-- An event that is no frame leaves the frames as they are.
+use Rattle.std.proofs.Common.{◌≡◌, ℕ, suc, ◌+◌, ◌-◌, ◌<◌, ◌≤◌, Bool, true, false, List, [], ◌∷◌, ◌++◌, get_or, length, Option, Some, None, refl, sym, ◌∙◌, ap, subst, arith, if◌then◌else◌}
+use Rattle.std.specs.Prelude.{All, map, slice_get}
+use Rattle.std.specs.List.{cons_option}
+use Rattle.std.proofs.lemmas.List.{map-append}
+use Rattle.std.proofs.lemmas.Option.{slice_get_within, slice_get-get_or, get_or_from_slice_get}
+use Rattle.std.proofs.lemmas.List.Elements.{filter_map-append, All-nil, All-cons, All-append}
+use Rattle.circuit_model.specs.FrameInput.{Input}
+use Rattle.circuit_model.specs.Holding.{Connect, Seat as Take_seat, Clear}
+use Rattle.circuit_model.specs.Ports.{free_ports}
+use Rattle.circuit_map.specs.Connections.{Connections, Represents}
+use Rattle.exchange_core.specs.declared.trace.Event.{Event}
+use Rattle.exchange_core.specs.declared.trace.Event.TheVariants.{Nail, Seat, Free, Message, Frame}
+use Rattle.exchange_core.specs.declared.trace.Trace.{Trace}
+use Rattle.exchange_core.specs.AtWork.{IsAtWork}
+use Rattle.call_states.specs.Acts.{act_on}
+use Rattle.clearing_rules.specs.UnknownReference.{answer_without_call}
+use Rattle.exchange_core.specs.Acts.{course_of}
+use Rattle.exchange_core.specs.Calls.{Received, For_leg, New_call, On_no_call, Restarts, Unanswered, received, answer_back, done_for}
+use Rattle.exchange_core.specs.IdleSlots.{nailed}
+use Rattle.exchange_core.specs.Legs.{Legs, no_legs}
+use Rattle.exchange_core.specs.Operations as op
+use Rattle.exchange_core.specs.Operations.{Operation, Making, begun, performed, performed_all}
+use Rattle.exchange_core.specs.Orders.{IsEvent}
+use Rattle.exchange_core.specs.Restarts.{restart_slot}
+use Rattle.exchange_core.specs.Setup.{Setting, course_of_setup}
+use Rattle.exchange_core.specs.Sound.{Fits, IsSound, setting_of}
+use Rattle.exchange_core.specs.Standing.{Holds}
+use Rattle.exchange_core.specs.Step.{next, world, events_of, may_nail, may_seat}
+use Rattle.exchange_core.specs.Working.{Entry, Working, IsWorking, IsNumbered, order_of, setting, world_of}
+use Rattle.exchange_core.specs.World.{Dimensions, World, obey}
+use Rattle.exchange_core.proofs.Happened.{start_stands, run_stands}
+use Rattle.exchange_core.proofs.Below.{each_below}
+
+-- two worlds with the same frames behind them
+pub record SameFrames (w v : World) : Type 0 where
+  pub inputs : v.inputs ≡ w.inputs
+  pub held : v.held ≡ w.held
+  pub seated : v.seated ≡ w.seated
+  pub next : v.holding.next ≡ w.holding.next
+
+performed_same : (d : Dimensions) (m : Making) (o : Operation) → SameFrames m.world (performed d m o).world
+performed_same d m (op.Clear x) = record { inputs = refl; held = refl; seated = refl; next = refl }
+performed_same d m (op.Pair x y) = record { inputs = refl; held = refl; seated = refl; next = refl }
+performed_same d m (op.Seat x room) = record { inputs = refl; held = refl; seated = refl; next = refl }
+performed_same d m (op.Put x leg) = record { inputs = refl; held = refl; seated = refl; next = refl }
+performed_same d m (op.Remove x) = record { inputs = refl; held = refl; seated = refl; next = refl }
+performed_same d m (op.Send line message) = record { inputs = refl; held = refl; seated = refl; next = refl }
+
+performed_all_same : (d : Dimensions) (m : Making) (os : List Operation) → SameFrames m.world (performed_all d m os).world
+performed_all_same d m [] = record { inputs = refl; held = refl; seated = refl; next = refl }
+performed_all_same d m (o ∷ os) =
+    let one = performed_same d m o in
+    let rest = performed_all_same d (performed d m o) os in
+    record { inputs = rest.inputs ∙ one.inputs; held = rest.held ∙ one.held; seated = rest.seated ∙ one.seated; next = rest.next ∙ one.next }
+
+either_same : (may : Bool) (w v : World) → SameFrames w v → SameFrames w (if may then v else w)
+either_same true w v same = same
+either_same false w v same = record { inputs = refl; held = refl; seated = refl; next = refl }
+
+
+pub same_self : (w : World) → SameFrames w w
+same_self w = record { inputs = refl; held = refl; seated = refl; next = refl }
+
+pub then_same : (u v w : World) → SameFrames u v → SameFrames v w → SameFrames u w
+then_same u v w one rest = record { inputs = rest.inputs ∙ one.inputs; held = rest.held ∙ one.held; seated = rest.seated ∙ one.seated; next = rest.next ∙ one.next }
+
+received_same : (s : Setting) (w : World) (line : ℕ) (r : Received) → SameFrames w (done_for s w line r).making.world
+received_same s w line (For_leg h m) = performed_all_same s.dimensions (begun w) (course_of w.legs h m.kind (act_on h.leg.state m)).operations
+received_same s w line (New_call m) = performed_all_same s.dimensions (begun w) (course_of_setup s w line m).operations
+received_same s w line (On_no_call m) = performed_all_same s.dimensions (begun w) (answer_back line (answer_without_call m))
+received_same s w line (Restarts r) =
+    each_below s.dimensions r line w (λ a. SameFrames w a.making.world) (record { inputs = refl; held = refl; seated = refl; next = refl })
+    (λ a place small same. then_same w a.making.world _ same (performed_all_same s.dimensions a.making (restart_slot r a.making.world.legs (record { line = line; place = place })))) 30 (omega arith)
+received_same s w line Unanswered = record { inputs = refl; held = refl; seated = refl; next = refl }
+
+pub quiet : (s : Setting) (w : World) (e : Event) → ((input : Input) → ¬ (e ≡ Frame input)) → SameFrames w (next s w e)
+quiet s w (Nail x y) other = either_same (may_nail w x y) w (obey s.dimensions w (Connect x y)) (record { inputs = refl; held = refl; seated = refl; next = refl })
+quiet s w (Seat x room) other = either_same (may_seat s.dimensions w x) w (obey s.dimensions w (Take_seat x room)) (record { inputs = refl; held = refl; seated = refl; next = refl })
+quiet s w (Free x) other = either_same (nailed w x) w (obey s.dimensions w (Clear x)) (record { inputs = refl; held = refl; seated = refl; next = refl })
+quiet s w (Message line octets) other = received_same s w line (received w.legs line octets)
+quiet s w (Frame input) other = absurd (other input refl)
