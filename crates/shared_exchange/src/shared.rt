@@ -69,8 +69,8 @@ impl<'t, P: PathMap> SharedExchange<'t, P> {
     /// the whole history, which is what seat 0 has seen.
     pub fn close(self, seat: Seat<'t, P>) -> Core<'t, P>
         requires of { IsSeatOf self seat }
-        requires chief { seat.number ≡ 0 }
-        requires all { seat.made ≡ length seat.kept }
+        requires chief { (known seat).number ≡ 0 }
+        requires all { (known seat).made ≡ length (known seat).kept }
         ensures board { board_of result ≡ self.entry.setting }
         ensures journal { result.journal ≡ (known seat.entry).seen }
         ensures settled { Settled (turns_of self.entry.setting) (known seat.entry) }

@@ -1,4 +1,5 @@
 use Rattle.std.proofs.Common.{sym, ap, ◌∙◌, rules}
+use Rattle.std.proofs.lemmas.List.{length-map}
 use Rattle.shared_exchange.specs.Sharing.{history_of}
 use Rattle.shared_exchange.proofs.Histories.{history_in, settled_same}
 use Rattle.shared_exchange.proofs.shared.SharedExchange.close.Goals as goal
@@ -8,3 +9,6 @@ returns-clause-journal g c = sym (history_in c.close-core.result.core.journal) �
 
 pub returns-clause-settled : goal.returns-clause-settled
 returns-clause-settled g c = settled_same c.args.self.setting c.args.seat (search rules) (search rules)
+
+pub close-core-requires-clause-all : goal.close-core-requires-clause-all
+close-core-requires-clause-all g c = search (rules, length-map)

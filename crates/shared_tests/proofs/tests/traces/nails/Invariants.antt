@@ -4,7 +4,7 @@ use Rattle.exchange_core.specs.Sound.{Fits}
 use Rattle.shared_tests.proofs.tests.traces.nails.Given as goal
 
 abbrev pub invariant-loop-place : goal.invariant-loop-place
-invariant-loop-place g l = record {
+invariant-loop-place l = record {
   count : length l.events.items ≡ 2 * l.place;
   fits : All (Fits 4) l.events.items;
 }
