@@ -1,5 +1,5 @@
 -- A frame at its place in the history, and what the engine makes of it.
-use Rattle.std.proofs.Common.{◌≡◌, ℕ, ◌+◌, ◌-◌, ◌<◌, ◌≤◌, List, ◌++◌, Bool, true, false, Option, Some, None, [], ◌∷◌, length, take, drop, drop_of_length-le, append-nil, take_all, slice_get, refl, sym, subst, arith, if◌then◌else◌, ◌∙◌, ap}
+use Rattle.std.proofs.Common.{◌≡◌, ℕ, ◌+◌, ◌-◌, ◌<◌, ◌≤◌, List, ◌++◌, Option, Some, None, [], ◌∷◌, length, take, drop, drop_of_length-le, append-nil, take_all, slice_get, refl, sym, subst, arith, ◌∙◌, ap}
 use Rattle.std.specs.Prelude.{All}
 use Rattle.std.specs.List.{cons_option}
 use Rattle.std.proofs.lemmas.List.{map-append}
@@ -7,7 +7,6 @@ use Rattle.std.proofs.lemmas.List.Elements.{All-nil, All-cons, All-head, All-tai
 use Rattle.std.proofs.lemmas.Option.{slice_get_within, get_or_from_slice_get}
 use Rattle.circuit_model.specs.declared.circuit.Circuit.{Circuit}
 use Rattle.circuit_model.specs.FrameInput.{Input}
-use Rattle.circuit_model.specs.Holding.{Connect, Seat as Take_seat, Clear}
 use Rattle.circuit_model.specs.Ports.{Ports}
 use Rattle.control_memory.specs.Image.{Control, SameSizes}
 use Rattle.control_memory.specs.Shown.{Shows}
@@ -17,14 +16,13 @@ use Rattle.exchange_core.specs.declared.trace.Event.TheVariants.{Nail, Seat, Fre
 use Rattle.exchange_core.specs.declared.trace.Trace.{Trace}
 use Rattle.exchange_core.specs.declared.tool.Tool.{Tool}
 use Rattle.exchange_core.specs.declared.tool.Tool.TheVariants.{Image}
-use Rattle.exchange_core.specs.IdleSlots.{nailed}
 use Rattle.exchange_core.specs.Seats.{Board, StartsWith, IsFrame, NoFrames, IsToolAt, ShowsAt, setting_at, unseen, world_at}
 use Rattle.exchange_core.specs.Setup.{Setting}
 use Rattle.exchange_core.specs.Sound.{Fits, IsSound}
 use Rattle.exchange_core.specs.Standing.{IsMade}
-use Rattle.exchange_core.specs.Step.{next, world, events_of, may_nail, may_seat}
+use Rattle.exchange_core.specs.Step.{next, world, events_of}
 use Rattle.exchange_core.specs.Working.{Entry, IsNumbered, IsOfSize, IsToolFor, ShowsWorld, order_of}
-use Rattle.exchange_core.specs.World.{Dimensions, World, start, obey, pass}
+use Rattle.exchange_core.specs.World.{Dimensions, World, start, pass}
 use Rattle.exchange_core.proofs.Histories.{made, made_pass}
 use Rattle.exchange_core.proofs.Quiet.{SameFrames, same_self, then_same as same_then, quiet}
 use Rattle.exchange_core.proofs.Stepping.{world_more}

@@ -1,35 +1,20 @@
 -- An event that is no frame leaves the frames as they are.
-use Rattle.std.proofs.Common.{◌≡◌, ℕ, suc, ◌+◌, ◌-◌, ◌<◌, ◌≤◌, Bool, true, false, List, [], ◌∷◌, ◌++◌, get_or, length, Option, Some, None, refl, sym, ◌∙◌, ap, subst, arith, if◌then◌else◌}
-use Rattle.std.specs.Prelude.{All, map, slice_get}
-use Rattle.std.specs.List.{cons_option}
-use Rattle.std.proofs.lemmas.List.{map-append}
-use Rattle.std.proofs.lemmas.Option.{slice_get_within, slice_get-get_or, get_or_from_slice_get}
-use Rattle.std.proofs.lemmas.List.Elements.{filter_map-append, All-nil, All-cons, All-append}
+use Rattle.std.proofs.Common.{◌≡◌, ℕ, Bool, true, false, List, [], ◌∷◌, refl, ◌∙◌, arith, if◌then◌else◌}
 use Rattle.circuit_model.specs.FrameInput.{Input}
 use Rattle.circuit_model.specs.Holding.{Connect, Seat as Take_seat, Clear}
-use Rattle.circuit_model.specs.Ports.{free_ports}
-use Rattle.circuit_map.specs.Connections.{Connections, Represents}
 use Rattle.exchange_core.specs.declared.trace.Event.{Event}
 use Rattle.exchange_core.specs.declared.trace.Event.TheVariants.{Nail, Seat, Free, Message, Frame}
-use Rattle.exchange_core.specs.declared.trace.Trace.{Trace}
-use Rattle.exchange_core.specs.AtWork.{IsAtWork}
 use Rattle.call_states.specs.Acts.{act_on}
 use Rattle.clearing_rules.specs.UnknownReference.{answer_without_call}
 use Rattle.exchange_core.specs.Acts.{course_of}
 use Rattle.exchange_core.specs.Calls.{Received, For_leg, New_call, On_no_call, Restarts, Unanswered, received, answer_back, done_for}
 use Rattle.exchange_core.specs.IdleSlots.{nailed}
-use Rattle.exchange_core.specs.Legs.{Legs, no_legs}
 use Rattle.exchange_core.specs.Operations as op
 use Rattle.exchange_core.specs.Operations.{Operation, Making, begun, performed, performed_all}
-use Rattle.exchange_core.specs.Orders.{IsEvent}
 use Rattle.exchange_core.specs.Restarts.{restart_slot}
 use Rattle.exchange_core.specs.Setup.{Setting, course_of_setup}
-use Rattle.exchange_core.specs.Sound.{Fits, IsSound, setting_of}
-use Rattle.exchange_core.specs.Standing.{Holds}
-use Rattle.exchange_core.specs.Step.{next, world, events_of, may_nail, may_seat}
-use Rattle.exchange_core.specs.Working.{Entry, Working, IsWorking, IsNumbered, order_of, setting, world_of}
+use Rattle.exchange_core.specs.Step.{next, may_nail, may_seat}
 use Rattle.exchange_core.specs.World.{Dimensions, World, obey}
-use Rattle.exchange_core.proofs.Happened.{start_stands, run_stands}
 use Rattle.exchange_core.proofs.Below.{each_below}
 
 -- two worlds with the same frames behind them
@@ -57,7 +42,6 @@ performed_all_same d m (o ∷ os) =
 either_same : (may : Bool) (w v : World) → SameFrames w v → SameFrames w (if may then v else w)
 either_same true w v same = same
 either_same false w v same = record { inputs = refl; held = refl; seated = refl; next = refl }
-
 
 pub same_self : (w : World) → SameFrames w w
 same_self w = record { inputs = refl; held = refl; seated = refl; next = refl }

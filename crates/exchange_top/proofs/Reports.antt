@@ -1,5 +1,5 @@
 -- How a run and its report grow by one event.
-use Rattle.std.proofs.Common.{◌≡◌, ℕ, zero, suc, ◌+◌, ◌-◌, ◌<◌, ◌≤◌, List, [], ◌∷◌, ◌++◌, length, take, Some, slice_get, refl, arith, sym, ◌∙◌, ap, inl, inr}
+use Rattle.std.proofs.Common.{◌≡◌, ℕ, zero, suc, ◌+◌, ◌-◌, ◌<◌, ◌≤◌, List, [], ◌∷◌, ◌++◌, length, take, Some, slice_get, refl, arith, sym, ◌∙◌, ap}
 use Rattle.std.specs.List.{range_with_len, cons_option}
 use Rattle.std.proofs.lemmas.Grind.{common_steps}
 use Rattle.std.proofs.lemmas.List.{append_assoc, append-nil, length-take-le}
@@ -7,17 +7,14 @@ use Rattle.std.proofs.lemmas.List.Elements.{filter_map-append}
 use Rattle.std.proofs.lemmas.Option.{slice_get_within}
 use Rattle.std.proofs.lemmas.List.FromFn.{length-range_with_len}
 use Rattle.circuit_model.specs.declared.channel.Slot.{Slot}
-use Rattle.circuit_model.proofs.Slots.{true_or_false}
 use Rattle.exchange_core.specs.declared.trace.Event.{Event}
 use Rattle.exchange_core.specs.declared.trace.Trace.{Trace}
-use Rattle.exchange_core.specs.declared.reply.Reply.{Reply}
 use Rattle.exchange_core.specs.Orders.{file_order}
 use Rattle.exchange_core.specs.Setup.{Setting}
 use Rattle.exchange_core.specs.Sound.{setting_of}
 use Rattle.exchange_core.specs.Step.{next, reply, world, run, events_of}
 use Rattle.exchange_core.specs.Working.{world_after}
 use Rattle.exchange_core.specs.World.{World, start}
-use Rattle.exchange_core.proofs.Stepping.{world-snoc}
 use Rattle.report_text.specs.Report.{lines_sent, octet_of}
 use Rattle.report_text.proofs.Rows.{sent_same}
 use Rattle.frame_engine.specs.Frames.{PlaysOut}

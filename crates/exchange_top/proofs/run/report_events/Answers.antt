@@ -1,4 +1,4 @@
-use Rattle.std.proofs.Common.{◌≡◌, ℕ, ◌+◌, ◌<◌, ◌≤◌, ◌++◌, List, length, Some, slice_get, refl, arith, sym, ◌∙◌, ap, subst}
+use Rattle.std.proofs.Common.{◌≡◌, ◌+◌, ◌<◌, ◌≤◌, ◌++◌, length, Some, slice_get, refl, arith, ◌∙◌, ap, subst}
 use Rattle.std.proofs.lemmas.Option.{slice_get_read}
 use Rattle.exchange_core.specs.declared.trace.Trace.{Trace}
 use Rattle.exchange_core.specs.Orders.{file_order}
