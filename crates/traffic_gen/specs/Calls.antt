@@ -74,12 +74,16 @@ abbrev pub state_after_frames : Option ℕ → ℕ → ℕ → ℕ
 state_after_frames far zero state = state
 state_after_frames far (suc count) state = state_after_frames far count (state_after_frame far state)
 
+-- the frames of a call, which begin at a state
+abbrev pub frames_of : Call → ℕ → List Line
+frames_of call state = frames_drawn call.caller (far_line call.caller call.callee) call.frames state
+
 -- the lines of a call, its frames drawn from a state on: the caller is the one that clears
 abbrev pub call_lines : Call → ℕ → List Line
 call_lines call state =
     message_of call.caller (setup (number_of call.callee))
     ++ message_from call.callee connect
-    ++ segment (frames_drawn call.caller (far_line call.caller call.callee) call.frames state)
+    ++ segment (frames_of call state)
     ++ clearing_of call.caller
     ++ message_from call.callee release
 

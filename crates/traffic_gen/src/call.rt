@@ -1,5 +1,5 @@
 ghost use Rattle.std.specs.Prelude.{◌≡◌, [], ◌∷◌, ◌++◌, OnOk};
-ghost use Rattle.traffic_gen.specs.Calls.{IsCallee, call_drawn, call_lines, clearing_of, far_line, frame_drawn, frames_drawn, segment, state_after_call, state_after_frame};
+ghost use Rattle.traffic_gen.specs.Calls.{IsCallee, call_drawn, call_lines, clearing_of, far_line, frame_drawn, frames_of, segment, state_after_call, state_after_frame};
 ghost use Rattle.traffic_gen.specs.Draws.{state_after};
 ghost use Rattle.traffic_gen.specs.Lines.{text};
 
@@ -66,7 +66,7 @@ impl Call {
 
     // Appends the frames of the call, a segment.
     fn put_frames(&self, out: &mut Vec<u8>, draws: &mut Draws) -> Result<(), AllocError>
-        ensures lines { OnOk result (out.new.items ≡ out.old.items ++ text (segment (frames_drawn self.now.caller (far_line self.now.caller self.now.callee) self.now.frames draws.old.state))) }
+        ensures lines { OnOk result (out.new.items ≡ out.old.items ++ text (segment (frames_of self.now draws.old.state))) }
         ensures state { OnOk result (draws.new.state ≡ state_after_call self.now draws.old.state) }
     {
         let far = self.far_line();
