@@ -1,0 +1,61 @@
+-- What a run of a segment does, from what seat 0 knew before it to what it knows afterwards. Source: this exchange's own.
+use Rattle.std.specs.Prelude.{◌≡◌, ℕ, ◌+◌, ◌≤◌, IsTrue, List, ◌++◌, length, map, filter, slice_get, Some, All}
+use Rattle.circuit_model.specs.declared.circuit.Kind.{Kind}
+use Rattle.circuit_model.specs.FrameInput.{Input}
+use Rattle.exchange_core.specs.declared.answer.Answer.{Answer}
+use Rattle.exchange_core.specs.declared.reply.Reply.{Reply}
+use Rattle.exchange_core.specs.declared.trace.Event.TheVariants.{Frame}
+use Rattle.exchange_core.specs.declared.trace.Trace.{Trace}
+use Rattle.exchange_core.specs.Kept.{kept}
+use Rattle.exchange_core.specs.Orders.{Worker, IsEvent, segment_of}
+use Rattle.exchange_core.specs.Seats.{Board, Known, Settled, StartsWith, AnswersAt, before, unseen, world_at}
+use Rattle.exchange_core.specs.Step.{MovesAtMost}
+use Rattle.exchange_core.specs.Working.{Entry, IsNumbered, order_of}
+use Rattle.call_processor.specs.Frames.{Plays, IsPlayed}
+use Rattle.call_processor.specs.Parts.{is_its, part_of}
+
+-- seat 0 between two segments: it holds the baton, all other seats are joined, and what it has seen is accounted for
+pub record IsChief (turns : ℕ) (v : Known) : Type 0 where
+  pub number : v.number ≡ 0
+  pub baton : IsTrue v.baton
+  pub joined : v.made ≡ length v.kept
+  pub settled : Settled turns v
+
+-- the numbers of the events that the history grew by, in the order in which they were done
+abbrev pub grown : Known → Known → List ℕ
+grown v w = order_of (unseen v.seen w.seen)
+
+-- those of these events that the worker does
+abbrev pub of_worker : Trace → Worker → List ℕ → List ℕ
+of_worker trace worker events = filter (is_its trace worker) events
+
+-- the event is one of the segment; segments are counted from 0
+abbrev pub IsOfSegment : Trace → ℕ → ℕ → Type 0
+IsOfSegment trace segment n = IsEvent trace n × (segment_of trace.segments n ≡ segment)
+
+-- the history grew by events of the segment alone, by the first of each worker's part in the order of the file, and each took a turn
+pub record Ran (trace : Trace) (segment : ℕ) (v w : Known) : Type 0 where
+  pub begins : StartsWith w.seen v.seen
+  pub only : All (IsOfSegment trace segment) (grown v w)
+  pub fronts : (worker : Worker) → (rest : List ℕ) × (part_of trace segment worker ≡ of_worker trace worker (grown v w) ++ rest)
+  pub turns : w.left + length (grown v w) ≡ v.left
+  pub few : w.made ≤ v.made + 9
+
+-- and by each worker's whole part
+abbrev pub RanWhole : Trace → ℕ → Known → Known → Type 0
+RanWhole trace segment v w = (worker : Worker) → of_worker trace worker (grown v w) ≡ part_of trace segment worker
+
+-- the answer is that of the history's event at this place: it keeps the exchange's reply after the history before it, and the octets of a frame
+-- are those that the engine plays
+pub record IsAnswered (plays : Plays) (tones : Kind → List ℕ) (board : Board) (history : List Entry) (place : ℕ) (a : Answer) : Type 0 where
+  pub reply : Reply
+  pub given : AnswersAt board (before place history) a.event reply
+  pub few : MovesAtMost board.bound reply
+  pub keeps : a.reply ≡ kept reply
+  pub played : (input : Input) → IsNumbered board.trace a.event (Frame input)
+    → IsPlayed plays tones board.trace.external (world_at board (before place history)) input a.octets
+
+-- the answers of what the history grew by, in its order
+pub record AreAnswered (plays : Plays) (tones : Kind → List ℕ) (board : Board) (v w : Known) (answers : List Answer) : Type 0 where
+  pub events : map (λ (a : Answer). a.event) answers ≡ grown v w
+  pub each : (i : ℕ) (a : Answer) → slice_get answers i ≡ Some a → IsAnswered plays tones board w.seen (length v.seen + i) a
