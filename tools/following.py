@@ -1,0 +1,179 @@
+"""Follows the calls and the taken slots of a run, event by event, in the order of its report.
+
+What a call is told by its messages: a SETUP that CALL PROCEEDING answers begins a leg on the
+caller's line, and the SETUP that goes out for it begins the other. A leg ends with RELEASE, RELEASE
+COMPLETE or a STATUS of the null state from its user, with RELEASE COMPLETE to it, or by RESTART.
+"""
+
+from dataclasses import dataclass, field, replace
+
+from q931 import CONNECT, DISCONNECT, RELEASE, RELEASE_COMPLETE, RESTART, SETUP, STATUS
+from q931 import CALL_PROCEEDING, Message, read_message
+from reading import Arrival, Frame, Free, Nail, Seat, Slot
+
+
+@dataclass(eq=False)
+class Leg:
+    call: "Call"
+    slot: Slot
+
+
+@dataclass(frozen=True)
+class Row:
+    """A message of a call, or one on no call."""
+
+    event: int
+    frame: int  # the number of the next frame
+    line: int
+    is_sent: bool
+    message: Message | None
+    leg: Leg | None = None
+    moved: tuple | None = None
+
+
+@dataclass(eq=False)
+class Call:
+    number: int
+    line: int
+    digits: str | None
+    rows: list = field(default_factory=list)
+    caller: Leg | None = None
+    called: Leg | None = None
+    answered: int | None = None  # the frame
+    cleared: tuple | None = None  # the frame and the cause
+    refused: int | None = None  # the cause
+
+
+class Run:
+    """The calls of a run so far, and the slots that are taken."""
+
+    def __init__(self):
+        self.calls = []
+        self.on_no_call = []
+        self.frames = 0
+        self.taken = set()
+        self._partner = {}
+        self._legs = {}  # by line, who chose the reference, and its value
+
+    def take(self, event, reply):
+        if isinstance(event, Frame):
+            self.frames = reply.frame + 1
+        elif isinstance(event, Arrival):
+            self._message(event, reply)
+        elif isinstance(event, Nail) and reply.word == "granted":
+            self._partner[event.first] = event.second
+            self._partner[event.second] = event.first
+            self.taken |= {event.first, event.second}
+        elif isinstance(event, Seat) and reply.word == "seated":
+            self.taken.add(event.slot)
+        elif isinstance(event, Free) and reply.word == "freed":
+            other = self._partner.pop(event.slot, event.slot)
+            self._partner.pop(other, None)
+            self.taken -= {event.slot, other}
+
+    def _message(self, event, reply):
+        message = read_message(event.octets)
+        sent = [(line, read_message(octets)) for line, octets in reply.sent]
+        row = Row(reply.event, self.frames, event.line, False, message, moved=reply.moved)
+        leg = None if message is None else self._legs.get(key(event.line, message, 0))
+        if leg is not None:
+            self._on_call(leg, row, sent)
+        elif sent and message.kind == SETUP and message.flag == 0:
+            self._setup(row, sent)
+        elif sent and message.kind == RESTART and message.reference == 0:
+            self._restart(row, sent)
+        else:
+            self._on_none(row, sent)
+
+    def _setup(self, row, sent):
+        call = Call(len(self.calls) + 1, row.line, row.message.digits)
+        self.calls.append(call)
+        for line, message in sent:
+            if message.kind == CALL_PROCEEDING:
+                call.caller = self._begin(call, line, message)
+            elif message.kind == SETUP:
+                call.called = self._begin(call, line, message)
+            elif message.kind == RELEASE_COMPLETE:
+                call.refused = message.cause
+            elif message.kind == CONNECT:
+                call.answered = row.frame
+        self._note(call, row, call.caller, sent)
+
+    def _on_call(self, leg, row, sent):
+        call = leg.call
+        self._note(call, row, leg, sent)
+        if any(message.kind == CONNECT for _, message in sent):
+            call.answered = row.frame
+        if ends_leg(row.message) or row.message.kind == DISCONNECT:
+            if call.cleared is None:
+                call.cleared = row.frame, clearing_cause(row.message)
+        if ends_leg(row.message):
+            self._end(key(row.line, row.message, 0))
+
+    def _restart(self, row, sent):
+        """A RESTART stands in the ladder of each call that it ends, with what was sent for it."""
+        message = row.message
+        slots = None if message.restarts_line else {Slot(row.line, message.channel[0])}
+        ended = [
+            (name, leg)
+            for name, leg in self._legs.items()
+            if name[0] == row.line and (slots is None or leg.slot in slots)
+        ]
+        calls = list(dict.fromkeys(leg.call for _, leg in ended))
+        for call in calls:
+            own = [
+                (line, out)
+                for line, out in sent
+                if out.reference == 0 or self._call_at(line, out) is call
+            ]
+            leg = next(leg for _, leg in ended if leg.call is call)
+            self._note(call, row, leg, own)
+            if call.cleared is None:
+                call.cleared = row.frame, 41
+        for name, _ in ended:
+            self._end(name)
+        if not calls:
+            self._on_none(row, sent)
+
+    def _call_at(self, line, message):
+        leg = self._legs.get(key(line, message, 1))
+        return None if leg is None else leg.call
+
+    def _begin(self, call, line, message):
+        leg = Leg(call, Slot(line, message.channel[0]))
+        self._legs[key(line, message, 1)] = leg
+        self.taken.add(leg.slot)
+        return leg
+
+    def _end(self, name):
+        self.taken.discard(self._legs.pop(name).slot)
+
+    def _note(self, call, row, leg, sent):
+        call.rows.append(replace(row, leg=leg))
+        for line, message in sent:
+            to = self._legs.get(key(line, message, 1), leg)
+            call.rows.append(Row(row.event, row.frame, line, True, message, to))
+
+    def _on_none(self, row, sent):
+        self.on_no_call.append(row)
+        for line, message in sent:
+            self.on_no_call.append(Row(row.event, row.frame, line, True, message))
+
+
+def key(line, message, is_sent):
+    """The leg that a message names: who chose its reference is told by the flag and the direction."""
+    return line, message.flag ^ is_sent, message.reference
+
+
+def ends_leg(message):
+    """Whether a message from the user of a leg ends that leg."""
+    if message.kind == STATUS:
+        return message.call_state == 0
+    return message.kind in (RELEASE, RELEASE_COMPLETE)
+
+
+def clearing_cause(message):
+    """The cause that the other user is told; 16 where the message has no readable one."""
+    if message.kind == STATUS:
+        return 41
+    return 16 if message.cause is None else message.cause

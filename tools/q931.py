@@ -1,0 +1,247 @@
+"""Reads messages of ITU-T Q.931 as the exchange does, and names what they say.
+
+Only codeset 0 is read, elements may come in any order, and the first of a kind counts.
+"""
+
+from dataclasses import dataclass
+
+BEARER_CAPABILITY = 0x04
+CAUSE = 0x08
+CALL_STATE = 0x14
+CHANNEL_IDENTIFICATION = 0x18
+PROGRESS_INDICATOR = 0x1E
+CALLING_PARTY_NUMBER = 0x6C
+CALLED_PARTY_NUMBER = 0x70
+RESTART_INDICATOR = 0x79
+
+ALERTING = 0x01
+CALL_PROCEEDING = 0x02
+SETUP = 0x05
+CONNECT = 0x07
+DISCONNECT = 0x45
+RESTART = 0x46
+RELEASE = 0x4D
+RELEASE_COMPLETE = 0x5A
+STATUS = 0x7D
+
+TYPES = {
+    0x01: "ALERTING",
+    0x02: "CALL PROCEEDING",
+    0x03: "PROGRESS",
+    0x05: "SETUP",
+    0x07: "CONNECT",
+    0x0D: "SETUP ACKNOWLEDGE",
+    0x0F: "CONNECT ACKNOWLEDGE",
+    0x20: "USER INFORMATION",
+    0x45: "DISCONNECT",
+    0x46: "RESTART",
+    0x4D: "RELEASE",
+    0x4E: "RESTART ACKNOWLEDGE",
+    0x5A: "RELEASE COMPLETE",
+    0x62: "FACILITY",
+    0x6E: "NOTIFY",
+    0x75: "STATUS ENQUIRY",
+    0x7B: "INFORMATION",
+    0x7D: "STATUS",
+}
+
+# The names of ITU-T Q.850.
+CAUSES = {
+    1: "unallocated (unassigned) number",
+    2: "no route to specified transit network",
+    3: "no route to destination",
+    4: "send special information tone",
+    5: "misdialled trunk prefix",
+    6: "channel unacceptable",
+    7: "call awarded and being delivered in an established channel",
+    8: "preemption",
+    9: "preemption, circuit reserved for reuse",
+    16: "normal call clearing",
+    17: "user busy",
+    18: "no user responding",
+    19: "no answer from user (user alerted)",
+    20: "subscriber absent",
+    21: "call rejected",
+    22: "number changed",
+    26: "non-selected user clearing",
+    27: "destination out of order",
+    28: "invalid number format (address incomplete)",
+    29: "facility rejected",
+    30: "response to STATUS ENQUIRY",
+    31: "normal, unspecified",
+    34: "no circuit/channel available",
+    38: "network out of order",
+    39: "permanent frame mode connection out of service",
+    40: "permanent frame mode connection operational",
+    41: "temporary failure",
+    42: "switching equipment congestion",
+    43: "access information discarded",
+    44: "requested circuit/channel not available",
+    46: "precedence call blocked",
+    47: "resource unavailable, unspecified",
+    49: "quality of service not available",
+    50: "requested facility not subscribed",
+    53: "outgoing calls barred within closed user group",
+    55: "incoming calls barred within closed user group",
+    57: "bearer capability not authorized",
+    58: "bearer capability not presently available",
+    62: "inconsistency in designated outgoing access information and subscriber class",
+    63: "service or option not available, unspecified",
+    65: "bearer capability not implemented",
+    66: "channel type not implemented",
+    69: "requested facility not implemented",
+    70: "only restricted digital information bearer capability is available",
+    79: "service or option not implemented, unspecified",
+    81: "invalid call reference value",
+    82: "identified channel does not exist",
+    83: "a suspended call exists, but this call identity does not",
+    84: "call identity in use",
+    85: "no call suspended",
+    86: "call having the requested call identity has been cleared",
+    87: "user not member of closed user group",
+    88: "incompatible destination",
+    90: "non-existent closed user group",
+    91: "invalid transit network selection",
+    95: "invalid message, unspecified",
+    96: "mandatory information element is missing",
+    97: "message type non-existent or not implemented",
+    98: "message not compatible with call state or message type non-existent",
+    99: "information element non-existent or not implemented",
+    100: "invalid information element contents",
+    101: "message not compatible with call state",
+    102: "recovery on timer expiry",
+    103: "parameter non-existent or not implemented, passed on",
+    110: "message with unrecognized parameter discarded",
+    111: "protocol error, unspecified",
+    127: "interworking, unspecified",
+}
+
+# The call states of the network side that the exchange keeps a leg in, and the null state.
+STATES = {
+    0: "null",
+    2: "overlap sending",
+    3: "outgoing call proceeding",
+    4: "call delivered",
+    6: "call present",
+    7: "call received",
+    9: "incoming call proceeding",
+    10: "active",
+    12: "disconnect indication",
+    19: "release request",
+}
+
+
+@dataclass(frozen=True)
+class Message:
+    flag: int  # 0 from the side that chose the call reference, 1 towards it
+    reference: int
+    kind: int
+    elements: dict  # code to contents, the first of each code
+
+    @property
+    def name(self):
+        return TYPES.get(self.kind, f"type {self.kind:02X}")
+
+    @property
+    def reference_digits(self):
+        """The two octets of the call reference, flag and all."""
+        return f"{self.flag << 15 | self.reference:04X}"
+
+    @property
+    def cause(self):
+        contents = self.elements.get(CAUSE, b"")
+        at = 1 if contents and contents[0] & 0x80 else 2
+        return contents[at] & 0x7F if len(contents) > at else None
+
+    @property
+    def call_state(self):
+        contents = self.elements.get(CALL_STATE)
+        return contents[0] & 0x3F if contents else None
+
+    @property
+    def digits(self):
+        contents = self.elements.get(CALLED_PARTY_NUMBER)
+        return "".join(chr(octet & 0x7F) for octet in contents[1:]) if contents else None
+
+    @property
+    def channel(self):
+        """The channel that is named, with `True` where no other will do; None where none is."""
+        contents = self.elements.get(CHANNEL_IDENTIFICATION, b"")
+        if len(contents) == 3 and contents[0] in (0xA9, 0xA1) and contents[1] == 0x83:
+            return contents[2] & 0x7F, contents[0] == 0xA9
+        return None
+
+    @property
+    def restarts_line(self):
+        """Whether the restart indicator asks for the whole line; None where it is unknown."""
+        indicator = self.elements.get(RESTART_INDICATOR, b"")[:1]
+        return {b"\x80": False, b"\x86": True, b"\x87": True}.get(indicator)
+
+
+def read_message(octets):
+    """The message that these octets are; None where the exchange ignores them."""
+    if len(octets) < 5 or octets[0] != 0x08 or octets[1] != 0x02:
+        return None
+    reference = octets[2] << 8 | octets[3]
+    return Message(reference >> 15, reference & 0x7FFF, octets[4], read_elements(octets[5:]))
+
+
+def read_elements(octets):
+    """The first element of each code; of one octet (top bit set), or with a length and contents."""
+    elements = {}
+    at = 0
+    hidden = False
+    while at < len(octets):
+        code = octets[at]
+        if code & 0x80:
+            contents, end = b"", at + 1
+        else:
+            start = at + 2
+            end = start + (octets[at + 1] if at + 1 < len(octets) else 0)
+            if start > len(octets) or end > len(octets):
+                break  # cut short: the list ends before it
+            contents = octets[start:end]
+        if hidden:
+            hidden = False
+        elif 0x90 <= code <= 0x97:
+            break  # a locking shift: the rest is of another codeset
+        elif 0x98 <= code <= 0x9F:
+            hidden = True
+        else:
+            elements.setdefault(code, contents)
+        at = end
+    return elements
+
+
+def cause_text(cause):
+    name = CAUSES.get(cause)
+    return f"cause {cause}" if name is None else f"cause {cause}, {name}"
+
+
+def state_text(state):
+    name = STATES.get(state)
+    return f"state {state}" if name is None else f"state {state}, {name}"
+
+
+def printable(digits):
+    """Digits as they are where each is printable, and else quoted."""
+    return digits if digits.isprintable() and " " not in digits else repr(digits)
+
+
+def contents_text(message):
+    """What a message says beside its type and reference, in a line."""
+    said = []
+    if message.digits is not None:
+        said.append(f"number {printable(message.digits)}")
+    if message.channel is not None:
+        channel, exclusive = message.channel
+        said.append(f"channel {channel}" + ("" if exclusive else " preferred"))
+    if message.cause is not None:
+        said.append(cause_text(message.cause))
+    if message.call_state is not None:
+        said.append(state_text(message.call_state))
+    if message.restarts_line:
+        said.append("the whole line")
+    if PROGRESS_INDICATOR in message.elements:
+        said.append("tone in band")
+    return "; ".join(said)
