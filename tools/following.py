@@ -5,16 +5,18 @@ caller's line, and the SETUP that goes out for it begins the other. A leg ends w
 COMPLETE or a STATUS of the null state from its user, with RELEASE COMPLETE to it, or by RESTART.
 """
 
+from __future__ import annotations
+
 from dataclasses import dataclass, field, replace
 
 from q931 import CONNECT, DISCONNECT, RELEASE, RELEASE_COMPLETE, RESTART, SETUP, STATUS
 from q931 import CALL_PROCEEDING, Message, read_message
-from reading import Arrival, Frame, Free, Nail, Seat, Slot
+from reading import Arrival, Frame, Free, Nail, Refused, Seat, Slot
 
 
 @dataclass(eq=False)
 class Leg:
-    call: "Call"
+    call: Call
     slot: Slot
 
 
@@ -73,14 +75,16 @@ class Run:
 
     def _message(self, event, reply):
         message = read_message(event.octets)
-        sent = [(line, read_message(octets)) for line, octets in reply.sent]
+        sent = [(line, sent_message(octets, reply)) for line, octets in reply.sent]
         row = Row(reply.event, self.frames, event.line, False, message, moved=reply.moved)
         leg = None if message is None else self._legs.get(key(event.line, message, 0))
-        if leg is not None:
+        if message is None or not (leg or sent):
+            self._on_none(row, sent)
+        elif leg:
             self._on_call(leg, row, sent)
-        elif sent and message.kind == SETUP and message.flag == 0:
+        elif message.kind == SETUP and message.flag == 0:
             self._setup(row, sent)
-        elif sent and message.kind == RESTART and message.reference == 0:
+        elif message.kind == RESTART and message.reference == 0:
             self._restart(row, sent)
         else:
             self._on_none(row, sent)
@@ -113,11 +117,11 @@ class Run:
     def _restart(self, row, sent):
         """A RESTART stands in the ladder of each call that it ends, with what was sent for it."""
         message = row.message
-        slots = None if message.restarts_line else {Slot(row.line, message.channel[0])}
+        channel = message.channel[0] if message.channel else None
         ended = [
             (name, leg)
             for name, leg in self._legs.items()
-            if name[0] == row.line and (slots is None or leg.slot in slots)
+            if name[0] == row.line and (message.restarts_line or leg.slot.channel == channel)
         ]
         calls = list(dict.fromkeys(leg.call for _, leg in ended))
         for call in calls:
@@ -158,6 +162,14 @@ class Run:
         self.on_no_call.append(row)
         for line, message in sent:
             self.on_no_call.append(Row(row.event, row.frame, line, True, message))
+
+
+def sent_message(octets, reply):
+    """A message of a report, which has a header, and a channel where it begins a leg."""
+    message = read_message(octets)
+    if message is None or message.kind in (SETUP, CALL_PROCEEDING) and message.channel is None:
+        raise Refused(f"event {reply.event} of the report has a message that the exchange never sends")
+    return message
 
 
 def key(line, message, is_sent):

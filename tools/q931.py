@@ -3,6 +3,8 @@
 Only codeset 0 is read, elements may come in any order, and the first of a kind counts.
 """
 
+from __future__ import annotations
+
 from dataclasses import dataclass
 
 BEARER_CAPABILITY = 0x04

@@ -5,6 +5,8 @@ is the frame of each tool: it answers wrong words with the usage and status 2, a
 be taken with that line and status 1.
 """
 
+from __future__ import annotations
+
 import re
 import sys
 from dataclasses import dataclass
