@@ -9,8 +9,18 @@ from __future__ import annotations
 
 from dataclasses import dataclass, field, replace
 
-from q931 import CONNECT, DISCONNECT, RELEASE, RELEASE_COMPLETE, RESTART, SETUP, STATUS
-from q931 import CALL_PROCEEDING, Message, read_message
+from q931 import (
+    CALL_PROCEEDING,
+    CONNECT,
+    DISCONNECT,
+    RELEASE,
+    RELEASE_COMPLETE,
+    RESTART,
+    SETUP,
+    STATUS,
+    Message,
+    read_message,
+)
 from reading import Arrival, Frame, Free, Nail, Refused, Seat, Slot
 
 

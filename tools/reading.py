@@ -268,43 +268,35 @@ def read_trace(path):
 
 # ---- reports
 
-PAIR = r" (?P<there>[0-9]+) (?P<back>[0-9]+)"
-REPLY = re.compile(
-    r"(?P<event>[1-9][0-9]*) (?:"
-    rf"(?P<joined>granted|seated){PAIR}"
-    r"|(?P<plain>busy|noport|freed|notnailed)"
-    rf"|message(?: moved{PAIR.replace('there', 'out').replace('back', 'home')})?"
-    r"(?P<sent>(?: [0-9]{1,2}:[0-9A-F]+)*)"
-    r"|frame (?P<frame>[0-9]+)(?P<octets>(?: [0-9]{1,2}:[0-9A-F]{60})*)"
-    r")"
-)
+COUNT = "(0|[1-9][0-9]{0,9})"
+PLAIN = re.compile(f"{COUNT} (busy|noport|freed|notnailed)")
+JOINED = re.compile(f"{COUNT} (granted|seated) {COUNT} {COUNT}")
+MESSAGE = re.compile(f"{COUNT} message(?: moved {COUNT} {COUNT})?((?: [0-9]{{1,2}}:(?:[0-9A-F]{{2}})+)*)")
+FRAME = re.compile(f"{COUNT} frame {COUNT}((?: [0-9]{{1,2}}:[0-9A-F]{{{FRAME_DIGITS}}})*)")
 
 
 def parts(text):
     """The pairs of a line and its octets in ` L:HEX ..`."""
-    for word in text.split():
-        line, _, digits = word.partition(":")
-        yield int(line), bytes.fromhex(digits)
+    words = (word.split(":") for word in text.split())
+    return tuple((int(line), bytes.fromhex(digits)) for line, digits in words)
 
 
 def reply(line):
     """What a line of a report says; None where it is no such line."""
-    match = REPLY.fullmatch(line)
-    if match is None:
-        return None
-    event = int(match["event"])
-    try:
-        if match["joined"]:
-            return Reply(event, match["joined"], moved=(int(match["there"]), int(match["back"])))
-        if match["plain"]:
-            return Reply(event, match["plain"])
-        if match["frame"]:
-            octets = dict(parts(match["octets"]))
-            return Reply(event, "frame", frame=int(match["frame"]), octets=octets)
-        moved = (int(match["out"]), int(match["home"])) if match["out"] else None
-        return Reply(event, "message", moved=moved, sent=tuple(parts(match["sent"])))
-    except ValueError:  # an odd number of digits
-        return None
+    if match := PLAIN.fullmatch(line):
+        event, word = match.groups()
+        return Reply(int(event), word)
+    if match := JOINED.fullmatch(line):
+        event, word, there, back = match.groups()
+        return Reply(int(event), word, moved=(int(there), int(back)))
+    if match := MESSAGE.fullmatch(line):
+        event, there, back, sent = match.groups()
+        moved = None if there is None else (int(there), int(back))
+        return Reply(int(event), "message", moved=moved, sent=parts(sent))
+    if match := FRAME.fullmatch(line):
+        event, frame, octets = match.groups()
+        return Reply(int(event), "frame", frame=int(frame), octets=dict(parts(octets)))
+    return None
 
 
 def read_report(path):
@@ -346,7 +338,7 @@ def read_run(trace_path, report_path):
     for number, answer in enumerate(replies, start=1):
         lines = [line for line, _ in answer.sent] + list(answer.octets or ())
         fits = (
-            answer.event <= len(trace.events)
+            1 <= answer.event <= len(trace.events)
             and answer.event not in seen
             and answer.word in WORDS_OF[type(trace.events[answer.event - 1])]
             and all(line < trace.external for line in lines)
