@@ -1,9 +1,15 @@
-//! A-law companding of ITU-T G.711 (11/88), table 1a: from octets to values and back.
+//! A-law of ITU-T G.711 (11/88), table 1a: from octets to values and back.
 //!
-//! Values are in the table's own units, in which the last decision value is 4096. What an octet and
-//! a value stand for is defined in `circuit_model` by searching the list of decision values. Here a
-//! table gives the value, and the leading bit of a magnitude its segment; both are proved to agree
-//! with the definition, at every octet and at every `i32`.
+//! Values are in the table's own units, in which the last decision value is 4096. The definition
+//! searches the list of decision values. Here a table gives the value, and the leading bit of a
+//! magnitude its segment.
+//!
+//! - [`expand`] returns the definition's value of every octet (`value`), of magnitude 4032 at most
+//!   (`within`).
+//! - [`compress`] returns the definition's octet of every `i32`.
+//! - Coding the value of an octet gives that octet back ([`law_of_round_trip`]).
+//!
+//! It stands on `circuit_model`.
 #![tactic(auto)]
 
 ghost use Rattle.std.specs.Prelude.{◌≡◌, ℕ, ◌<◌, ◌≤◌, nat_abs};

@@ -1,5 +1,11 @@
-//! Mixes a full bridge of four rooms as many times as its one word says, so that the time of a mix
-//! can be measured, and writes a checksum of what was heard.
+//! Mixes a full bridge of four rooms, so that the time of a mix can be measured: the proved half of
+//! `bench/mix`.
+//!
+//! `bench_mix ROUNDS` mixes that many times, and prints a checksum of what was heard. Each round
+//! uses what the one before gave, so none can be left out. It is proved safe; no clause says what
+//! it prints.
+//!
+//! It stands on `conference_mix`.
 #![tactic(auto)]
 
 use conference_mix::{MAX_MEMBERS, Seated, mix_rooms};

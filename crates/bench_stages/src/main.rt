@@ -1,6 +1,11 @@
-//! Carries frames through the three stages of a full fabric: the proved half of `bench/stages`.
+//! Carries frames through the three stages of a full fabric, so that their time can be measured:
+//! the proved half of `bench/stages`.
 //!
-//! `bench_stages PAIRS` carries so many pairs of frames, and prints a sum over the last one.
+//! `bench_stages PAIRS` carries that many pairs of frames, and prints a sum over the last one. It
+//! is proved safe; no clause says what it prints.
+//!
+//! It stands on `circuit_model`, `frame_buffer`, `control_memory`, `space_stage` and `time_stage`,
+//! and on the kit's `anyhow`.
 #![tactic(auto)]
 
 mod fabric;

@@ -1,7 +1,10 @@
-//! Steps a sum by so many seats, each in a thread of its own: the proved half of `bench/turns`.
+//! Steps a sum by several seats, each in a thread of its own, so that the time of a turn can be
+//! measured: the proved half of `bench/turns`.
 //!
-//! `bench_turns SEATS STEPS` has each seat step the events 1 to STEPS, and prints the sum and how many
-//! entries the journal has.
+//! `bench_turns SEATS STEPS` has each seat step the events 1 to STEPS, and prints the sum and how
+//! many entries the journal has. It is proved safe; no clause says what it prints.
+//!
+//! It stands on `turn_lock`, and on the kit's `anyhow`.
 #![tactic(auto)]
 
 mod crew;

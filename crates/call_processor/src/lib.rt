@@ -1,5 +1,16 @@
 //! The workers of a segment: a call processor does its share of the commands and messages, and the
 //! frame worker the frames, each over a seat of its own at a switchboard.
+//!
+//! - [`process`] and [`run_frames`] do the first events of their part of the segment, in the order
+//!   of the file, each once and for one turn: all of them unless memory runs out. Each answer is
+//!   the exchange's at the whole history before it (`works`).
+//! - An answer to a frame has the octets that the engine plays (`octets` of [`run_frames`]), and
+//!   the engine comes back carrying the frames of the history (`ready`).
+//! - [`numbers_of`] returns the numbers of a segment's events, and [`input_of`] the input of a
+//!   frame.
+//!
+//! It stands on `circuit_model`, `control_memory`, `tone_rules`, `frame_engine`, `exchange_core`
+//! and `gate`.
 #![tactic(auto)]
 
 mod framing;

@@ -1,8 +1,15 @@
-//! The call table: what each message of ITU-T Q.931 (05/98) asks of a leg of a call, by the leg's state.
+//! The call table: what each message of ITU-T Q.931 (05/98) asks of a leg of a call, by the leg's
+//! state.
 //!
-//! The table is a definition in `specs/`, one line for each message type, and [`on_message`] is proved to
-//! give what stands there. Which messages are answered by what is this exchange's own profile of the
-//! recommendation's basic call control. Nothing here takes memory.
+//! The table is a definition in `specs/`, one line for each message type. Which message is answered
+//! by what is this exchange's own profile of the recommendation's basic call control.
+//!
+//! - [`on_message`] returns the act of the table, for every message and leg.
+//! - [`status`] and [`unexpected`] return the STATUS that tells a leg its state, with its cause.
+//!
+//! Nothing here allocates.
+//!
+//! It stands on `circuit_model`, `q931_elements` and `q931_codec`.
 #![tactic(auto)]
 
 mod act;

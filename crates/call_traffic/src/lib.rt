@@ -1,9 +1,12 @@
-//! Pseudo-random traces of calls: what the users of several lines send, beside nails, seats, frees and
-//! frames.
+//! Pseudo-random traces of calls, for tests: what the users of several lines send, beside nails,
+//! seats, frees and frames.
 //!
 //! [`draw_traffic`] looks at the legs of a plain exchange that takes the same events, so that most
-//! messages are ones that are expected, and calls come far. The rest are unexpected, damaged or no
-//! messages at all. [`Counts`] tells how often each course of a message came.
+//! messages are expected ones, and calls come far. The rest are unexpected, damaged or no messages
+//! at all. [`Counts`] tells how often each course of a message came. It is proved safe; no clause
+//! says what is drawn.
+//!
+//! It stands on `circuit_model` and `plain_calls`.
 #![tactic(auto)]
 
 mod counts;

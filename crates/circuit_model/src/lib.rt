@@ -1,7 +1,15 @@
-//! The words of the exchange: time slots, circuits, and what a slot hears.
+//! The words of the exchange: slots, circuits, and what a slot hears.
 //!
-//! The types here are plain data. What they mean, which octet a slot hears in a frame, is
-//! defined in `specs/`, and the crates above cite those definitions in their contracts.
+//! The types here are plain data. Which octet a slot hears in a frame is defined in `specs/`, and
+//! the crates above cite those definitions in their contracts.
+//!
+//! - What stands in a frame since an earlier one stood in the frame before ([`law_of_age`]).
+//! - Holdings stay valid under allowed commands ([`law_of_validity`]), each slot hears by one
+//!   circuit at most ([`law_of_one_circuit`]), and [`law_of_commands`] says whom it hears after
+//!   each command.
+//! - Each member of a room has a port of its own ([`law_of_ports`]).
+//!
+//! It stands on no other crate.
 #![tactic(auto)]
 
 mod channel;

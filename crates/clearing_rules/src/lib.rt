@@ -1,9 +1,15 @@
-//! Messages of ITU-T Q.931 (05/98) that are for no call: what answers one on a call reference that names
-//! no leg, and what a RESTART asks for.
+//! Messages of ITU-T Q.931 (05/98) that are for no call, and what a RESTART asks for.
 //!
-//! The rules are definitions in `specs/`, and each function is proved to give what stands there. Which
-//! message is answered by what is this exchange's own profile of the recommendation's sections 5.5 and
-//! 5.8.3. Nothing here takes memory.
+//! The rules are definitions in `specs/`, this exchange's own profile of sections 5.5 and 5.8.3.
+//!
+//! - [`unknown_reference`] returns what answers a message on a call reference that names no leg.
+//! - [`restart`] returns what a message asks to be restarted, and `None` exactly where it is no
+//!   RESTART that is taken (`asked`); [`acknowledgement`] returns the RESTART ACKNOWLEDGE.
+//! - Every such answer can be written ([`law_of_answers`]).
+//!
+//! Nothing here allocates.
+//!
+//! It stands on `circuit_model`, `q931_elements` and `q931_codec`.
 #![tactic(auto)]
 
 mod cause;

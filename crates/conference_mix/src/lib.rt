@@ -1,9 +1,17 @@
 //! The conference bridge: what each member of a room hears of the others.
 //!
-//! A room is a row of places, each with the octet that its member sent or none. The bridge is linear:
-//! a member hears the sum of the values of the other octets, coded once by A-law. `specs/Bridge.antt`
-//! defines it by leaving the member out and adding up the rest. The code adds up all places once and
-//! takes each member's own value out of that total, so a mix takes as many steps as there are places.
+//! A room is a row of places, each with the octet that its member sent or none. A member hears the
+//! sum of the values of the other octets, coded once by A-law; `specs/Bridge.antt` defines it by
+//! adding up the others. The code adds up all places once, and takes each member's own value out of
+//! that total.
+//!
+//! - [`mix`] writes to each place of one room what the definition says.
+//! - [`mix_rooms`] does so for all rooms at once: each place gets what its room alone would give
+//!   it.
+//! - The order of the places does not matter ([`law_of_order`]); a member alone hears the idle
+//!   octet, and one of two hears what the other sends ([`law_of_small_rooms`]).
+//!
+//! It stands on `alaw_codec` and `circuit_model`.
 #![tactic(auto)]
 
 ghost use Rattle.std.specs.Prelude.{◌≡◌, ℕ, ◌*◌, ◌≤◌, length, slice_index, map, All, EachIndex, nat_abs};

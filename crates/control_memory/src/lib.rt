@@ -1,4 +1,16 @@
-//! The control memories of one frame, and the layouts of paths that they carry out.
+//! The control memory of one frame, and the layouts of paths that it carries out.
+//!
+//! - [`Image`] is that memory: three control tables, what each slot hears, and who sits in each
+//!   port. Each read returns what was written, and each write says what it changes and what it
+//!   leaves.
+//! - [`PathMap`] is what any live map of paths promises: a new path joins the layout by its rule
+//!   (`layout`), its pairs are those before and the new one (`pairs`), the result is how many paths
+//!   moved (`moves`), the layout stays legal (`legal`), and the tables at a boundary are those of
+//!   the layout (`tables`).
+//! - [`PathTable`] keeps a layout with its tables, for any such map.
+//! - The tables of a legal layout carry its octets ([`tables_carry_their_layout`]).
+//!
+//! It stands on `circuit_model`.
 #![tactic(auto)]
 
 mod control_table;

@@ -1,9 +1,16 @@
 //! The two ends of the exchange: where its bytes come from, and where they go.
 //!
-//! [`Source`] and [`Sink`] count their faults, so that a caller who answers a fault can be held to
-//! it: that count rises where a read or a write is answered by [`Failed`], and at no other. [`MemSource`] and
-//! [`MemSink`] are ends in memory that fail at the calls they are told to. [`StdSource`] and
-//! [`StdSink`] stand on standard input and output.
+//! - [`Source`]'s `read` returns the next bytes (`next`), and none exactly at the end (`end`,
+//!   `no_more`).
+//! - [`Sink`]'s `write` appends a front of what it is given (`appended`), of one byte at least
+//!   (`some`).
+//! - Both count their faults: a call fails only where that count rose (`cause`), and then nothing
+//!   moved (`kept`); a call that succeeds leaves it as it was (`steady`).
+//!
+//! [`MemSource`] and [`MemSink`] are ends in memory that fail at the calls they are told to;
+//! [`StdSource`] and [`StdSink`] are standard input and output, which tell no bytes.
+//!
+//! It stands on no crate of this repository, and on the kit's `thiserror`.
 #![tactic(auto)]
 
 mod ends;

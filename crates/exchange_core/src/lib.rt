@@ -1,4 +1,18 @@
-//! The events of a trace, and what the exchange makes of each: what stands, and what it answers.
+//! The events of a trace, and what the exchange makes of each: what stands, and what it replies.
+//!
+//! - [`Core`]'s `step` replies as the definition says at the world of its journal (`reply`), makes
+//!   of that world the next one (`world`), and adds its entry to the journal (`journal`). A frame's
+//!   control memory shows the world before it (`shows`).
+//! - What is sent does not depend on the layout, so no call is cleared because a path is lacking
+//!   ([`law_of_paths`]), and an answered call gets both paths ([`law_of_answered_calls`]).
+//! - Every event keeps the legs standing ([`law_of_legs`]); a refused call ends none
+//!   ([`law_of_refused_calls`]); later events change nothing of a frame
+//!   ([`later_frames_change_nothing`]).
+//! - [`Switchboard`] is the interface of an exchange that many callers share; `shared_exchange`
+//!   implements it.
+//!
+//! It stands on `circuit_model`, `control_memory`, `circuit_map`, `q931_elements`, `q931_codec`,
+//! `call_states`, `clearing_rules` and `number_plan`, and on the kit's `arrayvec`.
 #![tactic(auto)]
 
 mod acts;

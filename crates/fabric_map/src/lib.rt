@@ -1,4 +1,15 @@
-//! The live map of the paths through a fabric of thirty internal slots.
+//! The live map of the paths through a fabric of thirty internal slots, as a `PathMap`.
+//!
+//! [`FabricMap`] keeps Paull's matrix beside the layout and its control tables.
+//!
+//! - `connect` never refuses: the new path joins by the rule of rearrangement (`layout`), and at
+//!   most 2r-2 live paths of r lines move (`few`). It returns how many (`moves`).
+//! - `disconnect` takes a path out and moves no other (`layout`).
+//! - `write_tables` writes the tables of the layout (`tables`). After each call the layout is legal
+//!   (`legal`).
+//!
+//! It stands on `circuit_model`, `control_memory`, `paull_matrix` and `rearrange_chain`, and on the
+//! kit's `arrayvec`.
 #![tactic(auto)]
 
 mod fabric;

@@ -1,4 +1,12 @@
-//! The speech memories of the exchange: where the octets of a frame stand between two steps.
+//! Where the octets of a frame stand between two steps: speech memories, highways, a delay line.
+//!
+//! - [`FrameBuffer`] has two halves: `get` reads the one that was filled before `swap`, and
+//!   `put_line` fills the other (`filled`) and leaves the first (`readable`).
+//! - [`Highway`] and [`Crossed`] hold an octet for each line and internal slot: a write changes
+//!   that one alone (`here`, `others`).
+//! - [`DelayLine`]'s `back_two` returns the octet of two frames before, idle where there is none.
+//!
+//! It stands on `circuit_model`.
 #![tactic(auto)]
 
 mod crossed;

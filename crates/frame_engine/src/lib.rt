@@ -1,4 +1,15 @@
-//! The engine that carries the octets of each frame, and the interface that every engine meets.
+//! The engine that carries the octets of each frame, and the interface that every engine
+//! implements.
+//!
+//! - [`Carrier`] is that interface: `frame` plays what the engine is said to play at the boundary
+//!   (`plays`), and carries one frame more afterwards (`carries`).
+//! - [`Engine`] is the one of three stages and bridges. It plays what the definitions say each slot
+//!   hears, whatever the layouts of two frames in a row: octet invariance. Each internal slot of an
+//!   outgoing line has the octet of the layout's path there (`carries`).
+//! - [`Marker`] plays the number of the frame on every slot, for tests.
+//!
+//! It stands on `circuit_model`, `frame_buffer`, `control_memory`, `time_stage`, `space_stage`,
+//! `alaw_codec`, `conference_mix` and `tone_rules`.
 #![tactic(auto)]
 
 mod age;

@@ -1,5 +1,10 @@
-//! The places at which the threads of a segment may be held up: a test holds two of them against
-//! each other, and so sees that they ran at once.
+//! The places at which the threads of a segment may be held up.
+//!
+//! A [`Gate`] is called before and after a turn, and before and after a crossing. [`OpenGate`]
+//! holds nobody. A [`TestGate`] holds two threads against each other, so that a test sees that they
+//! ran at once. A gate promises nothing but that each call ends, so that no reply can rest on one.
+//!
+//! It stands on no other crate.
 #![tactic(auto)]
 
 mod gate;

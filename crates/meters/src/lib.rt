@@ -1,7 +1,16 @@
-//! Meters: what is told of the calls of a run, and what is said of them afterwards.
+//! Meters: what is told of the calls of a run, and what they say of them afterwards.
 //!
-//! A [`Meter`] is told one record of a call after the other and says a summary. Three of them stand
-//! here: [`CallDetail`], [`PegCount`] and [`HoldingTime`]; a program may hand in others of its own.
+//! - A [`Meter`] is told one record after the other: it stands for its list with that record added
+//!   (`stands`, `text`), or memory ran out and it is as it was (`kept`). `summary` appends its
+//!   text.
+//! - [`CallDetail`], [`PegCount`] and [`HoldingTime`] say what `specs/` defines of the list
+//!   ([`law_of_texts`]); none of them runs out of memory at a record (`done`).
+//! - [`append_summaries`] appends the texts of several meters in order (`texts`), or leaves the
+//!   text as it was (`kept`).
+//!
+//! A program may hand in meters of its own. The exchange does not call them yet.
+//!
+//! It stands on `circuit_model` and `exchange_core`, and on the kit's `itoa`.
 #![tactic(auto)]
 
 mod call_detail;

@@ -1,8 +1,15 @@
 //! The number plan: which digits lead to which line or conference room.
 //!
-//! No number of a plan begins another one, so what was dialled leads to at most one of them, and it is
-//! known at each digit whether the number is whole. The plan is kept in the order of its digits, and a
+//! No number of a plan begins another one, so digits lead to one of them at most, and it is known
+//! at each digit whether the number is whole. The plan is kept in the order of its digits, and a
 //! look is one binary search.
+//!
+//! - [`Plan`]'s `add` refuses a number exactly where it equals, begins or continues a held one
+//!   (`prefix`), or where 256 are held (`too_many`); then the plan is as it was (`refused`).
+//! - `look` returns the line or the room to which the digits lead (`line`, `room`), `More` exactly
+//!   where they begin a held number (`more`), and else `Nothing` (`nothing`).
+//!
+//! It stands on no crate of this repository, and on the kit's `arrayvec` and `thiserror`.
 #![tactic(auto)]
 
 mod digits;

@@ -1,13 +1,17 @@
-//! Paull's matrix: which internal time slot each path through a three-stage switch takes.
+//! Paull's matrix: which internal slot each path through a three-stage switch takes.
 //!
-//! A row stands for an incoming line, a column for an outgoing line. In the cell of a row and a
-//! column stand the internal slots of the paths that lead from the one to the other. The matrix is
-//! legal when no slot stands twice in a row or in a column: an incoming line sends one octet in an
-//! internal slot, and an outgoing line gets one.
+//! A row stands for an incoming line, a column for an outgoing line. In their cell stand the
+//! internal slots of the paths from the one to the other. The matrix is legal when no slot stands
+//! twice in a row or a column.
+//!
+//! - [`PaullMatrix`] stays legal at each call (`legal`): `place` and `lift` add and take one path
+//!   (`placed`, `lifted`), and `row_slot` and `column_slot` return where a slot leads.
+//! - `common_free`, `free_in_row` and `free_in_column` return the lowest free slot (`lowest`).
 //!
 //! Source: M. C. Paull, "Reswitching of connection networks", Bell System Technical Journal 41
-//! (1962), of which the matrix is taken. There a cell holds the switches of the middle stage, which
-//! are internal time slots here.
+//! (1962). There a cell holds switches of the middle stage, which are internal slots here.
+//!
+//! It stands on no other crate.
 #![tactic(auto)]
 
 mod matrix;

@@ -1,11 +1,15 @@
-//! The calls of the exchange as their definitions say them: small, slow and plain.
+//! The calls of the exchange as a small, slow and plain program, for tests.
 //!
-//! [`PlainExchange`] takes the events of a trace one by one, and answers what the exchange has to answer
-//! to each: the numbers of moved paths, the messages that are sent, the call records. It keeps lists
-//! and walks over them: legs, paths, conference ports, numbers. It has its own reading and writing of
-//! the messages of ITU-T Q.931 (05/98), its own call table and its own number plan, so that two programs
-//! which were written apart can be compared. The circuits and what is heard by them are those of
+//! [`PlainExchange`] takes the events of a trace one by one, and returns what the exchange has to
+//! reply to each: the numbers of moved paths, the messages that are sent, the call records. It
+//! walks over lists of legs, paths, ports and numbers. It reads and writes messages of ITU-T Q.931
+//! (05/98) by code of its own, and has its own call table and number plan, so that two programs
+//! which were written apart can be compared. Circuits, and what is heard by them, are those of
 //! `plain_model`.
+//!
+//! It is proved safe, and each call returns. No clause says what it returns: that is compared.
+//!
+//! It stands on `circuit_model` and `plain_model`, and on the kit's `hex`.
 #![tactic(auto)]
 
 mod acts;

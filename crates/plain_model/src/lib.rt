@@ -1,8 +1,12 @@
-//! The exchange as its definitions say it: small, slow and plain.
+//! The definitions of the exchange as a small, slow and plain program, for tests.
 //!
-//! Each function computes one definition of `circuit_model` by walking over lists. Nothing here
-//! knows a switching stage, a control memory or a port. The tests of the crates that do the work by
-//! tables compare what they do with this one.
+//! Each function computes one definition of `circuit_model` by walking over lists, and its contract
+//! is that definition: [`expand_by_search`], [`compress_by_search`], [`find_heard`], [`arriving`],
+//! [`mixed`], [`heard`]. [`Exchange`] takes commands and frames, and its `heard` returns what the
+//! definitions say of them ([`law_of_stories`]). Nothing here knows a switching stage, a control
+//! memory or a port.
+//!
+//! It stands on `circuit_model`.
 #![tactic(auto)]
 
 mod alaw;

@@ -1,5 +1,16 @@
-//! Messages of ITU-T Q.931 (05/98) as octets: [`read`] takes a received message apart without copying
-//! it, and [`write`] encodes an outgoing one, always in the same way. Nothing here takes memory.
+//! Messages of ITU-T Q.931 (05/98) as octets, read and written.
+//!
+//! - [`read`] takes a message apart without copying it, exactly where its header is there (`found`,
+//!   `only`), and else says why not (`discriminator`, `short`, `reference_length`). No octets are
+//!   two messages ([`one_message`]).
+//! - [`Message`]'s `cause`, `call_state`, `channel` and the like return what the first element of a
+//!   kind says.
+//! - [`write`] has one spelling of each message (`encoded`), of 107 octets at most (`fits`), which
+//!   reads back (`read_back`, [`written_fields_are_read`]).
+//!
+//! Nothing here allocates.
+//!
+//! It stands on `q931_elements`, and on the kit's `arrayvec` and `thiserror`.
 #![tactic(auto)]
 
 mod bearer;

@@ -1,6 +1,14 @@
-//! The information elements of a Q.931 message (ITU-T Q.931 (05/98), 4.5): [`Elements`] reads them from
-//! the octets after the header, and [`Writer`] writes them. Nothing is copied when reading, and nothing
-//! here takes memory.
+//! The information elements of a message of ITU-T Q.931 (05/98), section 4.5.
+//!
+//! - [`Elements`] reads them from the octets after the header: `new` gives the list of the grammar
+//!   (`grammar`), and `first` returns the first element of a code (`first`, `none`).
+//! - No octets have two lists ([`one_reading`]), and all have one ([`each_string_is_read`]).
+//! - [`Writer`] writes elements, and what it writes is read as what was given
+//!   ([`written_is_read`]).
+//!
+//! Nothing here allocates, and reading copies nothing.
+//!
+//! It stands on no crate of this repository, and on the kit's `arrayvec`.
 #![tactic(auto)]
 
 mod front;

@@ -1,10 +1,13 @@
-//! Runs pseudo-random traces through the whole exchange, and compares the reports with what plain
-//! yardsticks say.
+//! Runs pseudo-random traces through the whole exchange, and compares the reports with those of
+//! plain yardsticks.
 //!
-//! `random_traces TRACES` draws so many traces of nails, whose octets are compared with those of a
-//! delay line, so many with seats too, whose octets are compared with those of the definitions' own
-//! program, and so many of calls, whose reports are compared with those of a plain program of calls. A
-//! trace whose report differs is named, and then the status is 1.
+//! `random_traces TRACES` draws that many traces of nails, whose octets are compared with those of
+//! a delay line; that many with seats too, compared with the definitions' own program; and that
+//! many of calls, compared with a plain program of calls. It names a trace whose report differs,
+//! and then its status is 1. It is proved safe; what it compares is tested, not proved.
+//!
+//! It stands on `ex_io`, `circuit_model`, `frame_buffer`, `plain_model`, `plain_calls`,
+//! `call_traffic`, `frame_engine`, `exchange_core` and `exchange_top`.
 #![tactic(auto)]
 
 mod draw;

@@ -1,8 +1,15 @@
 //! Room for one path more in Paull's matrix: where no slot is free in a row and a column both,
 //! paths that stand are moved along an alternating chain of two slots.
 //!
+//! [`make_room`] returns a slot that is free in both afterwards (`row_free`, `column_free`). It
+//! moves exactly the chain of the definition, in its order (`moves`, `exchanged`, `changes`): at
+//! most 2r-2 paths (`bound`), and none where a common slot was free (`common`). Each cell keeps its
+//! number of paths (`cells`).
+//!
 //! Source: M. C. Paull, "Reswitching of connection networks", Bell System Technical Journal 41
-//! (1962); the Slepian-Duguid theorem says that this always finds room.
+//! (1962); that room is always found is the Slepian-Duguid theorem.
+//!
+//! It stands on `paull_matrix`, and on the kit's `arrayvec`.
 #![tactic(auto)]
 
 mod moves;

@@ -1,9 +1,17 @@
 //! The exchange without its octets, shared by many callers.
 //!
-//! A core does the events of a trace one after the other. Here it stands in a turn lock, so that any
-//! number of call processors and the frame worker can each do their events in threads of their own.
-//! Whoever's turn it is does one event; the others wait. So there is one history, which is the core's
-//! journal, and each reply is that of the exchange after the whole history before it.
+//! A core does the events of a trace one after the other. Here it stands in a turn lock, so that
+//! call processors and the frame worker can each do their events in threads of their own. Whoever's
+//! turn it is does one event; the others wait.
+//!
+//! - [`SharedExchange`] is a `Switchboard`: `handle` replies as the exchange does after the whole
+//!   history before it, whoever made that history (`reply`), and a frame's control memory shows
+//!   that world (`shows`). The seat with the baton had seen every frame of it (`frames`).
+//! - `close` gives the core back, with the whole history as its journal (`journal`).
+//!
+//! That a waiting caller is ever served is not promised.
+//!
+//! It stands on `control_memory`, `exchange_core` and `turn_lock`.
 #![tactic(auto)]
 
 mod shared;

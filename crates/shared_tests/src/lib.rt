@@ -1,5 +1,11 @@
-//! Worked examples of the shared exchange over the fabric of thirty internal slots, on one thread and
-//! on two. They stand here and not beside the shared exchange, which stands on no fabric.
+//! Worked examples of the shared exchange over the fabric of thirty internal slots, on one thread
+//! and on two.
+//!
+//! They stand here and not beside the shared exchange, which stands on no fabric. The crate
+//! promises nothing.
+//!
+//! It stands on `circuit_model`, `control_memory`, `number_plan`, `fabric_map`, `exchange_core` and
+//! `shared_exchange`.
 #![tactic(auto)]
 
 #[cfg(test)]

@@ -1,4 +1,13 @@
-//! The tones of a call: which one a leg hears in its state, and their octets. Nothing here takes memory.
+//! The tones of a call: which one a leg hears in its state, and their octets.
+//!
+//! - [`tone_for`] returns the tone of a state and a cause: ringing tone in call delivered, busy
+//!   tone where a leg was cleared with user busy. [`tone_given`] returns it where its octets are
+//!   given (`tone`, `octets`).
+//! - [`octet_of`] returns the octets of a tone in order, over and over.
+//!
+//! Nothing here allocates. The exchange gives no tone yet.
+//!
+//! It stands on `circuit_model` and `q931_codec`.
 #![tactic(auto)]
 
 mod call_tones;

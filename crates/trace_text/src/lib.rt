@@ -1,4 +1,14 @@
 //! Reading a trace: its lines, their words, and the fields of the words.
+//!
+//! The grammar is a relation in `specs/`, apart from the reader.
+//!
+//! - [`read_trace`] returns a trace exactly where the bytes are one (`read`, `reads_each`), and
+//!   else the first line that fails with its first failing check (`refused`, `refuses_each`).
+//! - All bytes have one reading, a trace or a refusal ([`one_reading`], [`some_reading`]).
+//! - Every trace that is read is sound: its lines exist, and its sizes are those of an exchange
+//!   ([`traces_are_sound`]).
+//!
+//! It stands on `circuit_model`, `number_plan` and `exchange_core`, and on the kit's `memchr`.
 #![tactic(auto)]
 
 mod cut;

@@ -1,5 +1,11 @@
-//! Traces that are generated from a seed: a switch of eight lines with nailed connections, and calls
-//! one after the other. The same seed and number of calls give the same octets everywhere.
+//! Traces that are generated from a seed: a switch of eight lines with nailed connections, and
+//! calls one after the other. The same seed and number of calls give the same octets everywhere.
+//!
+//! - The octets of [`generate`] are exactly those of the definition in `specs/Traffic.antt`.
+//! - Every line fits the exchange that the header describes (`fits` of [`laws::law_of_lines`]), and
+//!   the lengths are bounded ([`laws::law_of_lengths`]).
+//!
+//! It stands on no crate of this repository, and on the kit's `hex` and `itoa`.
 #![tactic(auto)]
 
 mod call;

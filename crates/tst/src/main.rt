@@ -1,5 +1,12 @@
 //! A digital telephone exchange as a filter: a trace of its events on standard input, the report of
 //! what it did on standard output.
+//!
+//! It makes the two standard ends, calls `exchange_top::exchange` with the engine of three stages,
+//! and ends with its status. The promise is that call's; `main` has no contract of its own. Of
+//! standard input and output nothing can be proved, so the tests here run whole traces over ends in
+//! memory.
+//!
+//! It stands on `ex_io`, `frame_engine` and `exchange_top`.
 #![tactic(auto)]
 
 #[cfg(test)]

@@ -1,5 +1,10 @@
 //! A lock for a state that many threads step in turn, and that can say afterwards who did what, in which order.
 //!
+//! Each step replies as the state does at the whole history before it, whoever made that history
+//! (`reply` of `TurnLock::step`), and the state comes out with that history as its journal
+//! (`journal` of `TurnLock::close`). "What is proved" below names every clause. The crate stands on
+//! no other of this repository, and on the kit's `atomic_table`.
+//!
 //! # What it is
 //!
 //! A *ticket lock* works as the counter of a shop does. There are two numbers on the wall: the next
