@@ -43,7 +43,11 @@ fn words_and_what_they_ask_for(rt: HostRuntime) -> Result<(), AllocError> {
     ];
     for (line, command) in asked {
         let words = words_in(rt.alloc(), line)?;
-        assert_eq!(rt; read_command(rt.alloc(), &words), command.ok_or(WordsFault::NoCommand), "{line}");
+        assert_eq!(rt;
+            read_command(rt.alloc(), &words),
+            command.ok_or(WordsFault::NoCommand),
+            "{line}"
+        );
     }
     Ok(())
 }

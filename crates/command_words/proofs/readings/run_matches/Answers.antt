@@ -1,4 +1,4 @@
-use Rattle.std.proofs.Common.{rules, ap, refl, codes, true, map, string_bytes, List, ◌≡◌, ◌∙◌, subst}
+use Rattle.std.proofs.Common.{ap, refl, codes, true, map, string_bytes, List, ◌≡◌, ◌∙◌, subst}
 use Rattle.clap.specs.Words.{App, FailsBy, Text, app_of, fault_of, is_simple_and_free, new_app}
 use Rattle.clap.proofs.OnLiterals.{clap_on_literals}
 use Rattle.command_words.specs.Words.{run_app}
