@@ -1,6 +1,6 @@
 -- What the words of the command line ask for. Source: this exchange's own. The words behind the first are read as
 -- clap's contract of `try_get_matches_from` states for a simple command.
-use Rattle.std.specs.Prelude.{true, false, Bool, List, [], ◌∷◌, codes, Option, Some, None, if◌then◌else◌}
+use Rattle.std.specs.Prelude.{true, false, Bool, List, [], ◌∷◌, codes, Option, Some, None, ◌==◌, if◌then◌else◌}
 use Rattle.std.specs.Str.{bytes_eq}
 use Rattle.clap.specs.Words.{App, Kinds, Rule, Text, fault_of, first_of, matches_of, new_app, new_rule, with_rule}
 use Rattle.clap.specs.declared.builder.ArgAction.TheVariants.{Set}
@@ -60,3 +60,8 @@ command_of (name ∷ others) =
     if bytes_eq name (codes "run") then run_of (name ∷ others)
     else if bytes_eq name (codes "gen") then generation_of (name ∷ others)
     else None
+
+-- the text's first octet is a hyphen
+abbrev pub begins_with_hyphen : Text → Bool
+begins_with_hyphen [] = false
+begins_with_hyphen (octet ∷ octets) = octet == 45
