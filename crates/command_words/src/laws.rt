@@ -1,5 +1,6 @@
 //! Laws of what words ask for.
-ghost use Rattle.std.specs.Prelude.{◌≡◌, ℕ, List, [], ◌∷◌, codes, Some, None, false};
+ghost use Rattle.std.specs.Prelude.{◌≡◌, ◌<◌, ◌≤◌, ◌^◌, ℕ, List, [], ◌∷◌, codes, decimal, Some, None, false};
+ghost use Rattle.command_words.specs.Numerals.{numeral};
 ghost use Rattle.command_words.specs.Words.{begins_with_hyphen, command_of, generation};
 ghost use Rattle.command_words.specs.declared.command.Command.TheVariants.{Generate, Run};
 
@@ -20,4 +21,16 @@ pub fn worked_words()
     ensures gen_and_less { command_of (codes "gen" ∷ codes "0" ∷ []) ≡ None }
     ensures gen_and_more { command_of (codes "gen" ∷ codes "0" ∷ codes "1" ∷ codes "2" ∷ []) ≡ None }
     ensures help { command_of (codes "gen" ∷ codes "--help" ∷ []) ≡ None }
+{}
+
+/// A number's numeral is its decimal digits, and it has no other.
+pub fn law_of_numerals()
+    ensures spelled { (number : ℕ) → number < 10 ^ 10 → numeral (decimal number) ≡ Some number }
+    ensures no_other { (text : List ℕ) (number : ℕ) → numeral text ≡ Some number → text ≡ decimal number }
+{}
+
+/// Every seed of 32 bits and every number of calls from 1 to 2000 can be asked for, by their digits.
+pub fn law_of_asking()
+    ensures { (seed calls : ℕ) → seed < 2 ^ 32 → 1 ≤ calls → calls ≤ 2000
+        → command_of (codes "gen" ∷ decimal seed ∷ decimal calls ∷ []) ≡ Some (Generate seed calls) }
 {}
