@@ -1,6 +1,6 @@
 -- What the words of the command line ask for. Source: this exchange's own. The words behind the first are read as
 -- clap's contract of `try_get_matches_from` states for a simple command.
-use Rattle.std.specs.Prelude.{true, false, Bool, List, [], ◌∷◌, codes, Option, Some, None, ◌==◌, if◌then◌else◌}
+use Rattle.std.specs.Prelude.{◌≤◌, ⊤, true, false, Bool, List, [], ◌∷◌, codes, Option, Some, None, ◌==◌, if◌then◌else◌}
 use Rattle.std.specs.Str.{bytes_eq}
 use Rattle.clap.specs.Words.{App, Kinds, Rule, Text, fault_of, first_of, matches_of, new_app, new_rule, with_rule}
 use Rattle.clap.specs.declared.builder.ArgAction.TheVariants.{Set}
@@ -41,6 +41,11 @@ generation seed_text calls_text = do
   calls_word ← calls_text
   calls ← numeral_in 1 2000 calls_word
   Some (Generate seed calls)
+
+-- the number of calls of a command that asks for some: 1 to 2000
+abbrev pub IsInRange : Command → Type 0
+IsInRange Run = ⊤
+IsInRange (Generate seed calls) = (1 ≤ calls) × (calls ≤ 2000)
 
 -- what words ask for whose first is `run`
 abbrev pub run_of : List Text → Option Command

@@ -1,5 +1,5 @@
-ghost use Rattle.std.specs.Prelude.{◌≡◌, ◌≢◌, codes, map, string_bytes, IfOk, IsErrOf, Some, None};
-ghost use Rattle.command_words.specs.Words.{command_of, generation, generation_of, run_of};
+ghost use Rattle.std.specs.Prelude.{◌≡◌, ◌≢◌, codes, map, string_bytes, IfOk, IfSome, IsErrOf, Some, None};
+ghost use Rattle.command_words.specs.Words.{IsInRange, command_of, generation, generation_of, run_of};
 ghost use Rattle.clap.specs.Words.{first_value, found_of, kind_of};
 
 use crate::numerals::numeral_within;
@@ -43,6 +43,7 @@ pub enum WordsFault {
 /// memory.
 pub fn read_command(alloc: Global, words: &[String]) -> Result<Command, WordsFault>
     ensures command { IfOk result (λ c. command_of (map string_bytes words.now) ≡ Some c) }
+    ensures calls { IfOk result IsInRange }
     ensures no_command { IsErrOf result WordsFault.NoCommand → command_of (map string_bytes words.now) ≡ None }
 {
     match words {
@@ -55,6 +56,7 @@ pub fn read_command(alloc: Global, words: &[String]) -> Result<Command, WordsFau
 // Reads the words of `run`.
 fn read_run(alloc: Global, words: &[String]) -> Result<Command, WordsFault>
     ensures command { IfOk result (λ c. run_of (map string_bytes words.now) ≡ Some c) }
+    ensures calls { IfOk result IsInRange }
     ensures no_command { IsErrOf result WordsFault.NoCommand → run_of (map string_bytes words.now) ≡ None }
 {
     match run_matches(alloc, words) {
@@ -66,6 +68,7 @@ fn read_run(alloc: Global, words: &[String]) -> Result<Command, WordsFault>
 // Reads the words of `gen`.
 fn read_generation(alloc: Global, words: &[String]) -> Result<Command, WordsFault>
     ensures command { IfOk result (λ c. generation_of (map string_bytes words.now) ≡ Some c) }
+    ensures calls { IfOk result IsInRange }
     ensures no_command { IsErrOf result WordsFault.NoCommand → generation_of (map string_bytes words.now) ≡ None }
 {
     match gen_matches(alloc, words) {
@@ -76,7 +79,8 @@ fn read_generation(alloc: Global, words: &[String]) -> Result<Command, WordsFaul
 
 // The command that the texts for SEED and CALLS make.
 fn generation_in(matches: &ArgMatches) -> Option<Command>
-    ensures { result ≡ generation (first_value (found_of matches.now) (codes "SEED")) (first_value (found_of matches.now) (codes "CALLS")) }
+    ensures calls { IfSome result IsInRange }
+    ensures texts { result ≡ generation (first_value (found_of matches.now) (codes "SEED")) (first_value (found_of matches.now) (codes "CALLS")) }
 {
     let seed = numeral_within(0, u32::MAX, matches.get_str("SEED")?)?;
     let calls = numeral_within(1, MOST_CALLS, matches.get_str("CALLS")?)?;

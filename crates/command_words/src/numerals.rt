@@ -1,10 +1,11 @@
 // Numbers in decimal digits.
-ghost use Rattle.std.specs.Prelude.{◌≡◌};
+ghost use Rattle.std.specs.Prelude.{◌≡◌, ◌≤◌, IfSome};
 ghost use Rattle.command_words.specs.Numerals.{numeral, numeral_in};
 
 /// The number that a text says, where it is a numeral and lies between two others.
 pub(crate) fn numeral_within(low: u32, high: u32, text: &str) -> Option<u32>
-    ensures { result ≡ numeral_in low high text.now }
+    ensures text { result ≡ numeral_in low high text.now }
+    ensures within { IfSome result (λ number. (low ≤ number) × (number ≤ high)) }
 {
     let number = numeral_of(text.as_bytes())?;
     if u64::from(low) <= number && number <= u64::from(high) {
