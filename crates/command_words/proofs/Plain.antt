@@ -105,6 +105,7 @@ calls_are seed calls p q = ap (first_of (codes "CALLS")) (rows_are seed calls p 
 
 pub plain_texts : (seed calls : Text) → begins_with_hyphen seed ≡ false → begins_with_hyphen calls ≡ false
     → command_of (words seed calls) ≡ generation (Some seed) (Some calls)
+unfolding command_of
 plain_texts seed calls p q =
     let a = is_plain seed p in
     let b = is_plain calls q in

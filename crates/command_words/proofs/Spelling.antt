@@ -1,12 +1,12 @@
 -- The numeral of a number is its decimal digits.
-use Rattle.std.proofs.Common.{◌≡◌, ◌≢◌, ◌<◌, ◌≤◌, ◌^◌, ℕ, zero, suc, true, false, Bool, not, ◌&&◌, ◌||◌, ◌==◌, nat_le, List, [], ◌∷◌, Option, Some, None, if◌then◌else◌, option_and_then, fold, ◌*◌, ◌+◌, ◌-◌, length, slice_index, get_or, decimal, codes, rules, arith, ap, ap₂, sym, ◌∙◌, refl}
+use Rattle.std.proofs.Common.{◌≡◌, ◌<◌, ◌≤◌, ◌^◌, ℕ, zero, suc, true, false, Bool, not, ◌&&◌, ◌||◌, ◌==◌, nat_le, List, [], ◌∷◌, Option, Some, None, if◌then◌else◌, option_and_then, fold, ◌*◌, ◌+◌, ◌-◌, length, slice_index, decimal, codes, rules, arith, ap, ap₂, sym, ◌∙◌, refl}
 use Rattle.std.specs.List.{list_all}
 use Rattle.std.specs.Char.{is_ascii_digit}
 use Rattle.std.proofs.lemmas.Fmt.{decimal_digit, decimal_nonempty, length-decimal-le, first_decimal, digits_decimal, digits_value-decimal, decimal-digits_value}
 use Rattle.std.proofs.lemmas.Str.Parse.{IsNumeralModel, numerals_by_fold, tells_all_ascii_digits, digits_value_short}
 use Rattle.std.proofs.lemmas.Bool.{and_parts, ne_eqb, eq-eqb, eqb-true, le-leb, leb-true}
 use Rattle.command_words.specs.Numerals.{decimal_value, is_numeral, numeral, numeral_in}
-use Rattle.command_words.specs.Words.{begins_with_hyphen, command_of, generation}
+use Rattle.command_words.specs.Words.{begins_with_hyphen, command_of}
 use Rattle.command_words.specs.declared.command.Command.TheVariants.{Generate}
 use Rattle.command_words.proofs.Plain.{plain_texts}
 

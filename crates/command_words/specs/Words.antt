@@ -7,6 +7,8 @@ use Rattle.clap.specs.declared.builder.ArgAction.TheVariants.{Set}
 use Rattle.command_words.specs.Numerals.{numeral_in, ◌>>=◌}
 use Rattle.command_words.specs.declared.command.Command.{Command}
 use Rattle.command_words.specs.declared.command.Command.TheVariants.{Run, Generate}
+use Rattle.command_words.specs.declared.command.Name.{Name}
+use Rattle.command_words.specs.declared.command.Name.TheVariants as name
 
 -- a text that must be given, known by its place
 abbrev pub positional : Text → Rule
@@ -58,13 +60,23 @@ generation_of words =
     then generation (text_for (codes "SEED") gen_app words) (text_for (codes "CALLS") gen_app words)
     else None
 
--- what words ask for: the first is one of the two names, and clap reads the others
-abbrev pub command_of : List Text → Option Command
-command_of [] = None
-command_of (name ∷ others) =
-    if bytes_eq name (codes "run") then run_of (name ∷ others)
-    else if bytes_eq name (codes "gen") then generation_of (name ∷ others)
+-- the command that the first word names
+abbrev pub name_in : List Text → Option Name
+name_in [] = None
+name_in (word ∷ others) =
+    if bytes_eq word (codes "run") then Some name.Run
+    else if bytes_eq word (codes "gen") then Some name.Gen
     else None
+
+-- what words ask for whose first names this command, or none
+abbrev pub asked_as : Option Name → List Text → Option Command
+asked_as None words = None
+asked_as (Some name.Run) words = run_of words
+asked_as (Some name.Gen) words = generation_of words
+
+-- what words ask for: the first names the command, and clap reads the others
+unfoldable pub command_of : List Text → Option Command
+command_of words = asked_as (name_in words) words
 
 -- the text's first octet is a hyphen
 abbrev pub begins_with_hyphen : Text → Bool

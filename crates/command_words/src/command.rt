@@ -1,5 +1,5 @@
 ghost use Rattle.std.specs.Prelude.{◌≡◌, ◌≢◌, codes, map, string_bytes, IfOk, IfSome, IsErrOf, Some, None};
-ghost use Rattle.command_words.specs.Words.{IsInRange, command_of, generation, generation_of, run_of};
+ghost use Rattle.command_words.specs.Words.{IsInRange, command_of, generation, generation_of, name_in, run_of};
 ghost use Rattle.clap.specs.Words.{first_value, found_of, kind_of};
 
 use crate::numerals::numeral_within;
@@ -46,10 +46,28 @@ pub fn read_command(alloc: Global, words: &[String]) -> Result<Command, WordsFau
     ensures calls { IfOk result IsInRange }
     ensures no_command { IsErrOf result WordsFault.NoCommand → command_of (map string_bytes words.now) ≡ None }
 {
+    match name_in(words) {
+        Some(Name::Run) => read_run(alloc, words),
+        Some(Name::Gen) => read_generation(alloc, words),
+        None => Err(WordsFault::NoCommand),
+    }
+}
+
+// The names of the commands.
+#[derive(Clone, Copy)]
+enum Name {
+    Run,
+    Gen,
+}
+
+// The command that the first word names.
+fn name_in(words: &[String]) -> Option<Name>
+    ensures { result ≡ name_in (map string_bytes words.now) }
+{
     match words {
-        [name, ..] if name.as_str() == "run" => read_run(alloc, words),
-        [name, ..] if name.as_str() == "gen" => read_generation(alloc, words),
-        _ => Err(WordsFault::NoCommand),
+        [word, ..] if word.as_str() == "run" => Some(Name::Run),
+        [word, ..] if word.as_str() == "gen" => Some(Name::Gen),
+        _ => None,
     }
 }
 
