@@ -1,0 +1,4 @@
+mod Named
+mod Plain
+mod Spelling
+mod Taken

@@ -1,0 +1,84 @@
+-- What the words of the command line ask for. Source: this exchange's own. The words behind the first are read as
+-- clap's contract of `try_get_matches_from` states for a simple command.
+use Rattle.std.specs.Prelude.{◌≤◌, ⊤, true, false, Bool, List, [], ◌∷◌, codes, Option, Some, None, ◌==◌, if◌then◌else◌}
+use Rattle.std.specs.Str.{bytes_eq}
+use Rattle.clap.specs.Words.{App, Kinds, Rule, Text, fault_of, first_of, matches_of, new_app, new_rule, with_rule}
+use Rattle.clap.specs.declared.builder.ArgAction.TheVariants.{Set}
+use Rattle.command_words.specs.Numerals.{numeral_in, ◌>>=◌}
+use Rattle.command_words.specs.declared.command.Command.{Command}
+use Rattle.command_words.specs.declared.command.Command.TheVariants.{Run, Generate}
+use Rattle.command_words.specs.declared.command.Name.{Name}
+use Rattle.command_words.specs.declared.command.Name.TheVariants as name
+
+-- a text that must be given, known by its place
+abbrev pub positional : Text → Rule
+positional name = record (new_rule name) { required = true; action = Some Set }
+
+-- the simple command `run`
+unfoldable pub run_app : App
+run_app = new_app (codes "run")
+
+-- the simple command `gen SEED CALLS`
+unfoldable pub gen_app : App
+gen_app = with_rule (with_rule (new_app (codes "gen")) (positional (codes "SEED"))) (positional (codes "CALLS"))
+
+-- no fault was found
+abbrev pub is_faultless : Kinds → Bool
+is_faultless [] = true
+is_faultless (kind ∷ others) = false
+
+-- clap finds no fault in the words, of which the first names the command
+unfoldable pub takes_words : App → List Text → Bool
+takes_words app words = is_faultless (fault_of app words)
+
+-- the text that clap reads for one of the command's names
+unfoldable pub text_for : Text → App → List Text → Option Text
+text_for name app words = first_of name (matches_of app words)
+
+-- the command that the texts for SEED and CALLS make, each of which is a numeral in its range
+abbrev pub generation : Option Text → Option Text → Option Command
+generation seed_text calls_text = do
+  seed_word ← seed_text
+  seed ← numeral_in 0 4294967295 seed_word
+  calls_word ← calls_text
+  calls ← numeral_in 1 2000 calls_word
+  Some (Generate seed calls)
+
+-- the number of calls of a command that asks for some: 1 to 2000
+abbrev pub IsInRange : Command → Type 0
+IsInRange Run = ⊤
+IsInRange (Generate seed calls) = (1 ≤ calls) × (calls ≤ 2000)
+
+-- what words ask for whose first is `run`
+abbrev pub run_of : List Text → Option Command
+run_of words = if takes_words run_app words then Some Run else None
+
+-- what words ask for whose first is `gen`
+abbrev pub generation_of : List Text → Option Command
+generation_of words =
+    if takes_words gen_app words
+    then generation (text_for (codes "SEED") gen_app words) (text_for (codes "CALLS") gen_app words)
+    else None
+
+-- the command that the first word names
+abbrev pub name_in : List Text → Option Name
+name_in [] = None
+name_in (word ∷ others) =
+    if bytes_eq word (codes "run") then Some name.Run
+    else if bytes_eq word (codes "gen") then Some name.Gen
+    else None
+
+-- what words ask for whose first names this command, or none
+abbrev pub asked_as : Option Name → List Text → Option Command
+asked_as None words = None
+asked_as (Some name.Run) words = run_of words
+asked_as (Some name.Gen) words = generation_of words
+
+-- what words ask for: the first names the command, and clap reads the others
+unfoldable pub command_of : List Text → Option Command
+command_of words = asked_as (name_in words) words
+
+-- the text's first octet is a hyphen
+abbrev pub begins_with_hyphen : Text → Bool
+begins_with_hyphen [] = false
+begins_with_hyphen (octet ∷ octets) = octet == 45

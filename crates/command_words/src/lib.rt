@@ -1,0 +1,11 @@
+//! The words of the command line: what they ask the program for.
+#![tactic(auto)]
+
+mod command;
+pub mod laws;
+mod numerals;
+mod readings;
+#[cfg(test)]
+mod tests;
+
+pub use command::{Command, WordsFault, read_command};

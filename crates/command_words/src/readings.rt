@@ -1,0 +1,33 @@
+// The words behind a command's name, as clap reads them.
+ghost use Rattle.std.specs.Prelude.{◌≡◌, ◌≢◌, codes, map, string_bytes, true, false, IfOk, IfErr};
+ghost use Rattle.clap.specs.Words.{first_value, found_of, kind_of};
+ghost use Rattle.command_words.specs.Words.{gen_app, run_app, takes_words, text_for};
+
+use clap::error::ErrorKind;
+use clap::{Arg, ArgAction, ArgMatches, Command, Error};
+use std::alloc::Global;
+
+/// What clap reads in the words of `run`, which has no arguments.
+pub(crate) fn run_matches<'a>(alloc: Global, words: &'a [String]) -> Result<ArgMatches<'a>, Error>
+    ensures taken { IfOk result (λ _. takes_words run_app (map string_bytes words.now) ≡ true) }
+    ensures refused { IfErr result (λ e. kind_of e ≢ ErrorKind.OutOfMemory → takes_words run_app (map string_bytes words.now) ≡ false) }
+{
+    Command::new(alloc, "run").try_get_matches_from(words)
+}
+
+/// What clap reads in the words of `gen`, which has two.
+pub(crate) fn gen_matches<'a>(alloc: Global, words: &'a [String]) -> Result<ArgMatches<'a>, Error>
+    ensures taken { IfOk result (λ _. takes_words gen_app (map string_bytes words.now) ≡ true) }
+    ensures refused { IfErr result (λ e. kind_of e ≢ ErrorKind.OutOfMemory → takes_words gen_app (map string_bytes words.now) ≡ false) }
+    ensures seed { IfOk result (λ m. first_value (found_of m) (codes "SEED") ≡ text_for (codes "SEED") gen_app (map string_bytes words.now)) }
+    ensures calls { IfOk result (λ m. first_value (found_of m) (codes "CALLS") ≡ text_for (codes "CALLS") gen_app (map string_bytes words.now)) }
+{
+    let seed = Arg::new(alloc, "SEED")
+        .required(true)
+        .action(ArgAction::Set);
+    let calls = Arg::new(alloc, "CALLS")
+        .required(true)
+        .action(ArgAction::Set);
+    let command = Command::new(alloc, "gen").arg(seed)?.arg(calls)?;
+    command.try_get_matches_from(words)
+}
