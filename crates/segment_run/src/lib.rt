@@ -3,5 +3,7 @@
 #![tactic(auto)]
 
 mod answers;
+mod laws;
 
 pub use answers::SegmentAnswer;
+pub use laws::{segments_leave_room, segments_make_lawful_orders};
