@@ -13,12 +13,12 @@ use Rattle.std.proofs.Math.Seq.{drop-cons, drop-append_seam, take-append-add}
 use Rattle.exchange_core.specs.declared.trace.Event.{Event}
 use Rattle.exchange_core.specs.declared.trace.Trace.{Trace}
 use Rattle.exchange_core.specs.Orders.{Worker, Processor, Frame_worker, worker_of, segment_of, Precedes, IsEvent, IsLawful, IsLawfulPrefix, file_order}
-use Rattle.exchange_core.specs.Seats.{Known, StartsWith, unseen}
+use Rattle.exchange_core.specs.Seats.{Accounts, Kept, Known, StartsWith, entries_of, first_seat, unseen}
 use Rattle.exchange_core.specs.Sound.{IsSound, last_of}
 use Rattle.exchange_core.specs.Working.{Entry, order_of}
 use Rattle.call_processor.specs.Parts.{is_worker, does, is_its, part_of}
 use Rattle.call_processor.proofs.Segments.{at_least, at_most, rises, below_last}
-use Rattle.segment_run.specs.Segment.{grown, of_worker, IsOfSegment, Ran, RanWhole}
+use Rattle.segment_run.specs.Segment.{grown, of_worker, IsChief, IsOfSegment, Ran, RanWhole}
 use Rattle.segment_run.specs.Segments.{IsDoneBelow, events_before}
 
 -- ---- lists of numbers that rise
@@ -229,6 +229,10 @@ order_grown v w begins =
     ap order_of begins.1
     ∙ (map-append (λ (e : Entry). e.1) v.seen begins.0 ∙ ap (λ (l : List Entry). order_of v.seen ++ order_of l) (sym new))
 
+-- what it adds are events of the trace
+pub grown_known : (trace : Trace) (k : ℕ) (v w : Known) → Ran trace k v w → All (IsEvent trace) (grown v w)
+grown_known trace k v w ran = All-weaker (IsOfSegment trace k) (IsEvent trace) (λ n is. is.0) (grown v w) ran.only
+
 -- before the first segment nothing was done
 pub none : (trace : Trace) → IsDoneBelow trace 0 []
 none trace = record {
@@ -367,3 +371,21 @@ numbers_left trace k made sound within few =
     let segments = few_segments trace sound in
     let most = sound.count in
     omega (arith, segments, most, within, few)
+
+-- the seat that a board begins with may begin the first segment
+pub first_chief : (turns : ℕ) → IsChief turns (first_seat turns)
+first_chief turns = record {
+  number = refl;
+  baton = refl;
+  joined = refl;
+  settled = record {
+    own = refl;
+    kept = All-nil (λ (k : Kept). k.own ≡ entries_of k.number []);
+    others = All-nil (λ (k : Kept). (k.number ≢ 0) × (k.number ≤ 0));
+    once = λ i j d less within. absurd (omega (arith, within));
+    entries_made = All-nil (λ (e : Entry). e.0 ≤ 0);
+    within = omega arith;
+    accounted = λ none_left. All-nil (λ (e : Entry). Accounts (first_seat turns) e.0);
+    whole = λ none_left. omega arith;
+  };
+}

@@ -2,10 +2,10 @@
 ghost use Rattle.std.specs.Prelude.{◌≡◌, ℕ, ◌+◌, ◌*◌, ◌^◌, ◌<◌, ◌≤◌, List, [], length};
 ghost use Rattle.exchange_core.specs.declared.trace.Trace.{Trace};
 ghost use Rattle.exchange_core.specs.Orders.{IsLawful, IsLawfulPrefix};
-ghost use Rattle.exchange_core.specs.Seats.{Known};
+ghost use Rattle.exchange_core.specs.Seats.{Known, first_seat};
 ghost use Rattle.exchange_core.specs.Sound.{IsSound};
 ghost use Rattle.exchange_core.specs.Working.{order_of};
-ghost use Rattle.segment_run.specs.Segment.{Ran, RanWhole};
+ghost use Rattle.segment_run.specs.Segment.{IsChief, Ran, RanWhole};
 ghost use Rattle.segment_run.specs.Segments.{IsDoneBelow, events_before};
 
 /// Segments that are run one after another make a lawful order; where the last of them is cut short,
@@ -15,6 +15,11 @@ pub fn segments_make_lawful_orders()
     ensures more { (t : Trace) (k : ℕ) (v w : Known) → IsDoneBelow t k (order_of v.seen) → Ran t k v w → RanWhole t k v w → IsDoneBelow t (k + 1) (order_of w.seen) }
     ensures begun { (t : Trace) (k : ℕ) (v w : Known) → IsDoneBelow t k (order_of v.seen) → Ran t k v w → IsLawfulPrefix t (order_of w.seen) }
     ensures whole { (t : Trace) (order : List ℕ) → IsSound t → IsDoneBelow t (length t.segments) order → IsLawful t order }
+{}
+
+/// The seat that a board begins with may begin the first segment.
+pub fn first_seat_is_chief()
+    ensures { (turns : ℕ) → IsChief turns (first_seat turns) }
 {}
 
 /// When the segments before one are done, the history is as long as they have events, and there are

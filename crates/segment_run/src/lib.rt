@@ -6,4 +6,4 @@ mod answers;
 mod laws;
 
 pub use answers::SegmentAnswer;
-pub use laws::{segments_leave_room, segments_make_lawful_orders};
+pub use laws::{first_seat_is_chief, segments_leave_room, segments_make_lawful_orders};
