@@ -69,28 +69,6 @@ none_sent plays s w (Free x) octets other = tt
 none_sent plays s w (Message line sent) octets other = tt
 none_sent plays s w (Frame input) octets other = absurd (other input refl)
 
--- what lines send matters to a frame's line alone
-module _ (rows others : List (List ℕ)) (n : ℕ) where
-  abbrev IsSame : Reply → Type 0
-  IsSame r = report_line rows n (kept r) ≡ report_line others n (kept r)
-
-  same_either : (b : Bool) (r q : Reply) → IsSame r → IsSame q → IsSame (if b then r else q)
-  same_either true r q one other = one
-  same_either false r q one other = other
-
-  same_seated : (d : Dimensions) (layout : Layout) (x : Slot) (port : Option Slot) → IsSame (seated d layout x port)
-  same_seated d layout x None = refl
-  same_seated d layout x (Some p) = refl
-
-  pub command_line : (s : Setting) (w : World) (e : Event) → ((input : Input) → ¬ (e ≡ Frame input)) → IsSame (reply s w e)
-  command_line s w (Nail x y) other = same_either (may_nail w x y) _ _ refl refl
-  command_line s w (Seat x room) other =
-      same_either (not (idle w x)) _ _ refl
-      (same_either (is_full s.dimensions w) _ _ refl (same_seated s.dimensions w.layout x (port_of s.dimensions.external (given x w.ports) x)))
-  command_line s w (Free x) other = same_either (nailed w x) _ _ refl refl
-  command_line s w (Message line octets) other = refl
-  command_line s w (Frame input) other = absurd (other input refl)
-
 -- ---- how many frames there have been
 
 -- an event leaves the number of the next frame, or raises it by one
