@@ -1,11 +1,11 @@
 -- The answers of a run and the lines of its report.
-use Rattle.std.proofs.Common.{◌≡◌, ℕ, suc, ◌+◌, ◌-◌, ◌<◌, ◌≤◌, Bool, true, false, not, if◌then◌else◌, List, [], ◌∷◌, ◌++◌, length, map, take, drop, Option, Some, None, slice_get, slice_index, refl, sym, ap, subst, ◌∙◌, arith, add-one, append_assoc, append-nil, length-append, take_all}
+use Rattle.std.proofs.Common.{◌≡◌, ℕ, suc, ◌+◌, ◌-◌, Bool, true, false, not, if◌then◌else◌, List, [], ◌∷◌, ◌++◌, length, map, take, drop, Option, Some, None, slice_get, slice_index, refl, sym, ap, subst, ◌∙◌, arith, add-one, append_assoc, append-nil, length-append, take_all}
 use Rattle.std.specs.Prelude.{All}
 use Rattle.std.specs.Io.KnownBytes.{Appends}
 use Rattle.std.proofs.KnownBytes.{Appends-nil}
 use Rattle.std.specs.List.{cons_option}
 use Rattle.std.proofs.lemmas.List.{take-append-drop, take-append-le}
-use Rattle.std.proofs.lemmas.List.Elements.{All-nil, All-cons, All-head, All-tail, All-append, All-weaker, filter_map-append}
+use Rattle.std.proofs.lemmas.List.Elements.{All-nil, All-cons, All-head, All-tail, All-append, filter_map-append}
 use Rattle.std.proofs.Math.Seq.{take-append_seam, drop-append_seam}
 use Rattle.circuit_model.specs.declared.channel.Slot.{Slot}
 use Rattle.circuit_model.specs.declared.circuit.Kind.{Kind}
@@ -31,7 +31,7 @@ use Rattle.call_processor.specs.Frames.{IsPlayed}
 use Rattle.segment_run.specs.Segment.{AreAnswered, IsAnswered, grown}
 use Rattle.segment_run.proofs.Orders.{order_grown}
 use Rattle.report_text.specs.Report.{answer_line, frame_line, lines_sent, octet_of, report_line}
-use Rattle.exchange_top.specs.Outcomes.{Fabric, IsPending, MovesFew}
+use Rattle.exchange_top.specs.Outcomes.{IsPending, MovesFew}
 use Rattle.exchange_top.specs.Report.{Plays, Played, event_line, event_lines, lines_of, report_with, sent_at}
 use Rattle.exchange_top.specs.Streams.{AppendsFront}
 use Rattle.exchange_top.proofs.Pending.{front_pending, pending_more}

@@ -1,32 +1,26 @@
 -- One event, and what the engine makes of it where it is a frame.
-use Rattle.std.proofs.Common.{◌≡◌, ℕ, ◌+◌, ◌-◌, ◌<◌, ◌≤◌, List, ◌++◌, Bool, true, false, not, Option, Some, None, [], ◌∷◌, length, slice_get, refl, sym, subst, arith, if◌then◌else◌, ◌∙◌, ap}
+use Rattle.std.proofs.Common.{◌≡◌, ℕ, ◌+◌, ◌-◌, ◌<◌, ◌≤◌, List, ◌++◌, Option, Some, None, [], ◌∷◌, length, slice_get, refl, sym, subst, arith, ◌∙◌, ap}
 use Rattle.std.specs.List.{cons_option}
 use Rattle.std.proofs.lemmas.Option.{slice_get_within, get_or_from_slice_get}
-use Rattle.circuit_model.specs.declared.channel.Slot.{Slot}
 use Rattle.circuit_model.specs.declared.circuit.Circuit.{Circuit}
 use Rattle.circuit_model.specs.FrameInput.{Input}
-use Rattle.circuit_model.specs.Ports.{Ports, given, port_of}
+use Rattle.circuit_model.specs.Ports.{Ports}
 use Rattle.control_memory.specs.Image.{Control, SameSizes}
-use Rattle.control_memory.specs.Layout.{Layout}
 use Rattle.control_memory.specs.Shown.{Shows}
 use Rattle.frame_engine.specs.Frames.{Boundary, Come, IsNext}
 use Rattle.exchange_core.specs.declared.trace.Event.{Event}
 use Rattle.exchange_core.specs.declared.trace.Event.TheVariants.{Nail, Seat, Free, Message, Frame}
-use Rattle.exchange_core.specs.declared.reply.Reply.{Reply}
 use Rattle.exchange_core.specs.declared.tool.Tool.{Tool}
 use Rattle.exchange_core.specs.declared.tool.Tool.TheVariants.{Nothing, Image}
-use Rattle.exchange_core.specs.IdleSlots.{idle, nailed}
-use Rattle.exchange_core.specs.Kept.{kept}
 use Rattle.exchange_core.specs.Setup.{Setting}
 use Rattle.exchange_core.specs.Sound.{Fits, IsSound}
 use Rattle.exchange_core.specs.Standing.{IsMade}
-use Rattle.exchange_core.specs.Step.{next, reply, world, events_of, may_nail}
+use Rattle.exchange_core.specs.Step.{next, world, events_of}
 use Rattle.exchange_core.specs.Working.{Entry, Working, IsNumbered, IsOfSize, IsToolFor, ShowsWorld, order_of, setting, world_of}
-use Rattle.exchange_core.specs.World.{Dimensions, World, start, is_full, seated}
+use Rattle.exchange_core.specs.World.{Dimensions, World, start}
 use Rattle.exchange_core.proofs.Histories.{made, made_pass}
 use Rattle.exchange_core.proofs.Quiet.{quiet}
 use Rattle.exchange_core.proofs.Stepping.{fits_all}
-use Rattle.report_text.specs.Report.{report_line}
 use Rattle.exchange_top.specs.Report.{Plays, Carrying, CarriesFrames}
 use Rattle.exchange_top.specs.Switching.{IsFrameTool, Works, AreSent}
 
