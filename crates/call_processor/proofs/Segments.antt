@@ -28,7 +28,7 @@ few_ended n last = one (nat_lt last n)
     one false = omega arith
 
 -- at least k segments end before n where the first k do
-at_least : (ends : List ℕ) (n k : ℕ) → k ≤ length ends → ((i : ℕ) → i < k → get_or ends i 0 < n) → k ≤ segment_of ends n
+pub at_least : (ends : List ℕ) (n k : ℕ) → k ≤ length ends → ((i : ℕ) → i < k → get_or ends i 0 < n) → k ≤ segment_of ends n
 at_least ends n zero within h = omega arith
 at_least [] n (suc k) within h = absurd (omega arith)
 at_least (last ∷ ends) n (suc k) within h =
@@ -37,7 +37,7 @@ at_least (last ∷ ends) n (suc k) within h =
     omega (arith, sum_by-cons (ended_before n) last ends, one, rest)
 
 -- at most k segments end before n where none does from the one with number k on
-at_most : (ends : List ℕ) (n k : ℕ) → ((i : ℕ) → k ≤ i → i < length ends → n ≤ get_or ends i 0) → segment_of ends n ≤ k
+pub at_most : (ends : List ℕ) (n k : ℕ) → ((i : ℕ) → k ≤ i → i < length ends → n ≤ get_or ends i 0) → segment_of ends n ≤ k
 at_most [] n k h = omega arith
 at_most (last ∷ ends) n zero h =
     let one = not_ended n last (h 0 (omega arith) (omega arith)) in
@@ -48,10 +48,10 @@ at_most (last ∷ ends) n (suc k) h =
     let rest = at_most ends n k (λ i le lt. h (suc i) (omega arith) (omega arith)) in
     omega (arith, sum_by-cons (ended_before n) last ends, one, rest)
 
-abbrev Rising : List ℕ → Type 0
+abbrev pub Rising : List ℕ → Type 0
 Rising ends = AllPairs (λ (m n : ℕ). m < n) ends
 
-rises : (ends : List ℕ) → Rising ends → (i j : ℕ) → i ≤ j → j < length ends → get_or ends i 0 ≤ get_or ends j 0
+pub rises : (ends : List ℕ) → Rising ends → (i j : ℕ) → i ≤ j → j < length ends → get_or ends i 0 ≤ get_or ends j 0
 rises ends r i j le within =
     elim (cases_lt i j) [
       | inl below ↦ let h = r i j 0 below within in omega (arith, h)

@@ -3,3 +3,4 @@ pub mod Pending
 pub mod Endings
 pub mod Silence
 pub mod FrameSteps
+pub mod Answered

@@ -53,7 +53,7 @@ pub record IsAnswered (plays : Plays) (tones : Kind → List ℕ) (board : Board
   pub few : MovesAtMost board.bound reply
   pub keeps : a.reply ≡ kept reply
   pub played : (input : Input) → IsNumbered board.trace a.event (Frame input)
-    → IsPlayed plays tones board.trace.external (world_at board (before place history)) input a.octets
+      → IsPlayed plays tones board.trace.external (world_at board (before place history)) input a.octets
 
 -- the answers of what the history grew by, in its order
 pub record AreAnswered (plays : Plays) (tones : Kind → List ℕ) (board : Board) (v w : Known) (answers : List Answer) : Type 0 where

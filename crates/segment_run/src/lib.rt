@@ -8,5 +8,7 @@
 #![tactic(auto)]
 
 mod answers;
+mod laws;
 
 pub use answers::SegmentAnswer;
+pub use laws::{first_seat_is_chief, segments_leave_room, segments_make_lawful_orders};

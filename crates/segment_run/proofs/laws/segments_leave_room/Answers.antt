@@ -1,0 +1,8 @@
+use Rattle.segment_run.proofs.Orders.{seen_done, numbers_left}
+use Rattle.segment_run.proofs.laws.segments_leave_room.Goals as goal
+
+pub returns-clause-long : goal.returns-clause-long
+returns-clause-long c t k v sound within below = seen_done t k v sound within below
+
+pub returns-clause-numbers : goal.returns-clause-numbers
+returns-clause-numbers c t k made sound within few = numbers_left t k made sound within few

@@ -1,0 +1,14 @@
+-- How far the segments of a trace were done. Source: this exchange's own.
+use Rattle.std.specs.Prelude.{ℕ, ◌<◌, List, ◌∷◌, slice_index, All, Contains}
+use Rattle.exchange_core.specs.declared.trace.Trace.{Trace}
+use Rattle.exchange_core.specs.Orders.{IsEvent, IsLawfulPrefix, segment_of}
+
+-- the order is a lawful beginning, and holds every event of the first k segments and no other
+pub record IsDoneBelow (trace : Trace) (k : ℕ) (order : List ℕ) : Type 0 where
+  pub lawful : IsLawfulPrefix trace order
+  pub within : All (λ n. segment_of trace.segments n < k) order
+  pub all : (n : ℕ) → IsEvent trace n → segment_of trace.segments n < k → Contains order n
+
+-- how many events come before segment k, segments being counted from 0
+abbrev pub events_before : List ℕ → ℕ → ℕ
+events_before ends k = slice_index (0 ∷ ends) k

@@ -1,0 +1,30 @@
+//! Laws of the orders in which a trace's segments are done.
+ghost use Rattle.std.specs.Prelude.{◌≡◌, ℕ, ◌+◌, ◌*◌, ◌^◌, ◌<◌, ◌≤◌, List, [], length};
+ghost use Rattle.exchange_core.specs.declared.trace.Trace.{Trace};
+ghost use Rattle.exchange_core.specs.Orders.{IsLawful, IsLawfulPrefix};
+ghost use Rattle.exchange_core.specs.Seats.{Known, first_seat};
+ghost use Rattle.exchange_core.specs.Sound.{IsSound};
+ghost use Rattle.exchange_core.specs.Working.{order_of};
+ghost use Rattle.segment_run.specs.Segment.{IsChief, Ran, RanWhole};
+ghost use Rattle.segment_run.specs.Segments.{IsDoneBelow, events_before};
+
+/// Segments that are run one after another make a lawful order; where the last of them is cut short,
+/// a lawful beginning.
+pub fn segments_make_lawful_orders()
+    ensures none { (t : Trace) → IsDoneBelow t 0 [] }
+    ensures more { (t : Trace) (k : ℕ) (v w : Known) → IsDoneBelow t k (order_of v.seen) → Ran t k v w → RanWhole t k v w → IsDoneBelow t (k + 1) (order_of w.seen) }
+    ensures begun { (t : Trace) (k : ℕ) (v w : Known) → IsDoneBelow t k (order_of v.seen) → Ran t k v w → IsLawfulPrefix t (order_of w.seen) }
+    ensures whole { (t : Trace) (order : List ℕ) → IsSound t → IsDoneBelow t (length t.segments) order → IsLawful t order }
+{}
+
+/// The seat that a board begins with may begin the first segment.
+pub fn first_seat_is_chief()
+    ensures { (turns : ℕ) → IsChief turns (first_seat turns) }
+{}
+
+/// When the segments before one are done, the history is as long as they have events, and there are
+/// numbers left for the seats of the next.
+pub fn segments_leave_room()
+    ensures long { (t : Trace) (k : ℕ) (v : Known) → IsSound t → k ≤ length t.segments → IsDoneBelow t k (order_of v.seen) → length v.seen ≡ events_before t.segments k }
+    ensures numbers { (t : Trace) (k made : ℕ) → IsSound t → k < length t.segments → made ≤ 9 * k → made + 10 < 2 ^ 32 }
+{}
