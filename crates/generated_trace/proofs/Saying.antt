@@ -1,8 +1,8 @@
 -- What each line of a generated trace says, behind lines that leave room for it.
-use Rattle.std.proofs.Common.{◌≡◌, ◌≢◌, ℕ, ◌+◌, ◌<◌, ◌≤◌, Bool, true, false, nat_le, nat_eq, eqb, List, [], ◌∷◌, ◌++◌, length, get_or, set, map, replicate, Option, Some, None, is_some, Result, Ok, refl, sym, ap, ◌∙◌, append_assoc, arith, get_or-set_other}
+use Rattle.std.proofs.Common.{◌≡◌, ◌≢◌, ℕ, ◌+◌, ◌<◌, ◌≤◌, Bool, true, false, nat_le, nat_eq, List, [], ◌∷◌, ◌++◌, length, get_or, set, map, replicate, Some, None, is_some, Result, Ok, refl, ap, ◌∙◌, append_assoc, arith, get_or-set_other}
 use Rattle.std.specs.Prelude.{codes, decimal, if◌then◌else◌}
-use Rattle.std.specs.List.{AllByRecursion, flat_map, list_all}
-use Rattle.std.proofs.lemmas.Bool.{lt-ltb, le-leb, ne_eqb, eq-eqb}
+use Rattle.std.specs.List.{AllByRecursion, flat_map}
+use Rattle.std.proofs.lemmas.Bool.{lt-ltb, le-leb, ne_eqb}
 use Rattle.std.proofs.lemmas.List.{append-nil, get_or-replicate}
 use Rattle.std.proofs.lemmas.Fmt.{decimal_digit}
 use Rattle.std.proofs.lemmas.List.Folds.{list_all-append}
@@ -15,15 +15,15 @@ use Rattle.number_plan.specs.declared.plan.Number.{Number}
 use Rattle.number_plan.specs.declared.target.Target.TheVariants as target
 use Rattle.exchange_core.specs.declared.trace.Event.{Event}
 use Rattle.exchange_core.specs.declared.trace.Event.TheVariants as event
-use Rattle.traffic_gen.specs.Fitting.{Fits, FitsMessage, FitsNail, FitsPart, FitsParts, is_event, is_octet}
+use Rattle.traffic_gen.specs.Fitting.{Fits, FitsMessage, FitsNail, FitsPart, FitsParts, is_event}
 use Rattle.traffic_gen.specs.Lines.{Line, Part, Header, ToLine, ToRoom, Nail, Message, Frame, Sync, line_text, part_text, slot_text}
 use Rattle.traffic_gen.proofs.Spelling.{line_prints}
 use Rattle.trace_text.specs.declared.said.Sizes.{Sizes}
 use Rattle.trace_text.specs.declared.said.Said.{Said}
 use Rattle.trace_text.specs.declared.said.Said.TheVariants as said
-use Rattle.trace_text.specs.TraceWords.{cut_at, is_comment, is_printable, words}
+use Rattle.trace_text.specs.TraceWords.{is_comment, words}
 use Rattle.trace_text.specs.TraceFields.{external_line, header, octets_written, room, slot, thirty}
-use Rattle.trace_text.specs.TraceLines.{SoFar, before_events, by_kind, colon, frame, happens, joins, kind_of, message, nail, number, numbered, reads, says, with_part, with_parts}
+use Rattle.trace_text.specs.TraceLines.{SoFar, before_events, by_kind, frame, happens, joins, kind_of, message, nail, number, numbered, says, with_part, with_parts}
 use Rattle.trace_text.proofs.TraceParts.{part_given, reads_by_kind, reads_sync, says_both}
 use Rattle.generated_trace.specs.Told.{input_of, said_by, slot_at, with_octets}
 use Rattle.generated_trace.proofs.Cutting.{IsWord, is_solid, spaced, words_before_space, words_of}
@@ -176,8 +176,10 @@ parts_read : (parts : List Part) → FitsParts parts → with_parts 8 idle_lines
 parts_read [] fits = absurd fits
 parts_read (one ∷ []) fits = rw (part_read idle_lines one fits (ap is_some (none_given one.line fits.line_is))) refl
 parts_read (one ∷ other ∷ []) fits =
-    rw (part_read idle_lines one fits.0 (ap is_some (none_given one.line fits.0.line_is)),
-        part_read (with_octets idle_lines one) other fits.1 (ap is_some (still_idle one.line other.line one.octets fits.1.line_is fits.2))) refl
+    rw (
+      part_read idle_lines one fits.0 (ap is_some (none_given one.line fits.0.line_is)),
+      part_read (with_octets idle_lines one) other fits.1 (ap is_some (still_idle one.line other.line one.octets fits.1.line_is fits.2)),
+    ) refl
 parts_read (one ∷ other ∷ third ∷ parts) fits = absurd fits
 
 frame_given : (external : ℕ) (others : List (List ℕ)) (input : Input) → with_parts external (replicate external None) others ≡ Ok input → frame external others ≡ Ok (event.Frame input)

@@ -1,19 +1,18 @@
 -- The octets of a generated trace are a trace, and which one.
-use Rattle.std.proofs.Common.{◌≡◌, ℕ, zero, suc, ◌+◌, ◌*◌, ◌<◌, ◌≤◌, Bool, true, false, cond, ◌&&◌, eqb, List, [], ◌∷◌, ◌++◌, length, map, take, Ok, Option, Some, None, refl, sym, ap, subst, ◌∙◌, append_assoc, length-append, arith}
-use Rattle.std.specs.Prelude.{codes, decimal, if◌then◌else◌}
+use Rattle.std.proofs.Common.{◌≡◌, ℕ, zero, suc, ◌+◌, ◌*◌, ◌<◌, ◌≤◌, true, List, [], ◌∷◌, ◌++◌, length, map, take, drop, Ok, Option, Some, None, refl, sym, ap, subst, ◌∙◌, append_assoc, length-append, arith}
+use Rattle.std.specs.Prelude.{codes, if◌then◌else◌}
 use Rattle.std.specs.List.{AllByRecursion, list_all}
 use Rattle.std.proofs.lemmas.Bool.{and_parts}
 use Rattle.std.proofs.lemmas.Bool.Decides.{nat_tests}
 use Rattle.std.proofs.lemmas.List.{append-nil}
 use Rattle.std.proofs.lemmas.List.Folds.{list_all-append}
 use Rattle.std.proofs.lemmas.Fmt.{decimal_digit}
-use Rattle.exchange_core.specs.declared.trace.Event.{Event}
 use Rattle.exchange_core.specs.declared.trace.Trace.{Trace}
 use Rattle.traffic_gen.specs.Calls.{call_drawn, call_lines, calls_drawn, clearing_of, far_line, frame_drawn, frames_drawn, message_from, message_of, number_of, segment, state_after_call, state_after_frame}
 use Rattle.traffic_gen.specs.Draws.{state_after}
 use Rattle.traffic_gen.specs.Fitting.{Fits, event_count, is_digit, is_event}
 use Rattle.traffic_gen.specs.Lines.{Line, Header, ToLine, ToRoom, Nail, Message, Frame, Sync, line_text}
-use Rattle.traffic_gen.specs.Messages.{connect, disconnect, release, release_complete, setup}
+use Rattle.traffic_gen.specs.Messages.{connect, release, setup}
 use Rattle.traffic_gen.specs.Traffic.{header, nails, nails_at, traffic, traffic_lines}
 use Rattle.traffic_gen.specs.declared.call.Call.{Call}
 use Rattle.traffic_gen.specs.declared.callee.Callee.{Callee}
@@ -21,7 +20,6 @@ use Rattle.traffic_gen.specs.declared.callee.Callee.TheVariants as callee
 use Rattle.traffic_gen.proofs.Counts.{events_are_few, traffic_length}
 use Rattle.traffic_gen.proofs.Fit.{lines_fit}
 use Rattle.trace_text.specs.declared.said.Said.{Said}
-use Rattle.trace_text.specs.declared.said.Said.TheVariants as said
 use Rattle.trace_text.specs.declared.fault.Reason.{Reason}
 use Rattle.trace_text.specs.TraceLines.{says}
 use Rattle.trace_text.specs.TraceGrammar.{EachSays, IsRefused, IsTold, events_in, numbers_in, plan_of, segment_ends, sizes_in, so_far}
@@ -73,8 +71,7 @@ running_say : (before : List Said) (ls : List Line) → AllByRecursion Fits ls �
 running_say before [] fit run known few = tt
 running_say before (line ∷ ls) fit run known few =
     let parts = and_parts (is_running line) (list_all is_running ls) run in
-    let more = one_more before line in
-    (
+    let more = one_more before line in (
       running_says (so_far before) line fit.0 parts.0 known (omega arith),
       running_say (before ++ said_by line ∷ []) ls fit.1 parts.1 (sizes_first before (said_by line ∷ []) eight known) (omega arith),
     )
@@ -169,18 +166,17 @@ room_fits : Fits (ToRoom (codes "30") 0)
 room_fits = (record { each = refl; some = omega arith; most = omega arith }, refl)
 
 first_say : Say [] first_lines
-first_say = (
-  header_says (so_far []) refl,
-  (line_at 1 0 (omega arith) (record { known = refl; early = refl; is = refl; free = refl; few = refl }),
-  (line_at 2 1 (omega arith) (record { known = refl; early = refl; is = refl; free = refl; few = refl }),
-  (line_at 3 2 (omega arith) (record { known = refl; early = refl; is = refl; free = refl; few = refl }),
-  (line_at 4 3 (omega arith) (record { known = refl; early = refl; is = refl; free = refl; few = refl }),
-  (line_at 5 4 (omega arith) (record { known = refl; early = refl; is = refl; free = refl; few = refl }),
-  (line_at 6 5 (omega arith) (record { known = refl; early = refl; is = refl; free = refl; few = refl }),
-  (line_at 7 6 (omega arith) (record { known = refl; early = refl; is = refl; free = refl; few = refl }),
-  (line_at 8 7 (omega arith) (record { known = refl; early = refl; is = refl; free = refl; few = refl }),
-  (to_room_says (so_far (told_by 9)) (codes "30") room_fits (record { known = refl; early = refl; is = refl; free = refl; few = refl }), tt))))))))),
-)
+first_say =
+    let last : Say (told_by 9) (drop 9 first_lines) = (to_room_says (so_far (told_by 9)) (codes "30") room_fits (record { known = refl; early = refl; is = refl; free = refl; few = refl }), tt) in
+    let from_seven : Say (told_by 8) (drop 8 first_lines) = (line_at 8 7 (omega arith) (record { known = refl; early = refl; is = refl; free = refl; few = refl }), last) in
+    let from_six : Say (told_by 7) (drop 7 first_lines) = (line_at 7 6 (omega arith) (record { known = refl; early = refl; is = refl; free = refl; few = refl }), from_seven) in
+    let from_five : Say (told_by 6) (drop 6 first_lines) = (line_at 6 5 (omega arith) (record { known = refl; early = refl; is = refl; free = refl; few = refl }), from_six) in
+    let from_four : Say (told_by 5) (drop 5 first_lines) = (line_at 5 4 (omega arith) (record { known = refl; early = refl; is = refl; free = refl; few = refl }), from_five) in
+    let from_three : Say (told_by 4) (drop 4 first_lines) = (line_at 4 3 (omega arith) (record { known = refl; early = refl; is = refl; free = refl; few = refl }), from_four) in
+    let from_two : Say (told_by 3) (drop 3 first_lines) = (line_at 3 2 (omega arith) (record { known = refl; early = refl; is = refl; free = refl; few = refl }), from_three) in
+    let from_one : Say (told_by 2) (drop 2 first_lines) = (line_at 2 1 (omega arith) (record { known = refl; early = refl; is = refl; free = refl; few = refl }), from_two) in
+    let from_none : Say (told_by 1) (drop 1 first_lines) = (line_at 1 0 (omega arith) (record { known = refl; early = refl; is = refl; free = refl; few = refl }), from_one) in
+    (header_says (so_far []) refl, from_none)
 
 header_say : Say [] header
 header_say = subst (λ ls. Say [] ls) (sym header_is) first_say

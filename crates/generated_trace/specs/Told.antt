@@ -1,12 +1,9 @@
 -- What the lines of a generated trace say. Source: this exchange's own.
-use Rattle.std.specs.Prelude.{ℕ, ◌+◌, Bool, true, false, List, [], ◌∷◌, fold, map, replicate, slice_set, Option, Some, None, if◌then◌else◌}
+use Rattle.std.specs.Prelude.{ℕ, List, fold, replicate, slice_set, Some, None}
 use Rattle.circuit_model.specs.declared.channel.Slot.{Slot}
 use Rattle.circuit_model.specs.FrameInput.{Input}
-use Rattle.number_plan.specs.declared.plan.Number.{Number}
 use Rattle.number_plan.specs.declared.target.Target.TheVariants as target
-use Rattle.exchange_core.specs.declared.trace.Event.{Event}
 use Rattle.exchange_core.specs.declared.trace.Event.TheVariants as event
-use Rattle.trace_text.specs.declared.said.Sizes.{Sizes}
 use Rattle.trace_text.specs.declared.said.Said.{Said}
 use Rattle.trace_text.specs.declared.said.Said.TheVariants as said
 use Rattle.traffic_gen.specs.Lines.{Line, Part, Header, ToLine, ToRoom, Nail, Message, Frame, Sync}

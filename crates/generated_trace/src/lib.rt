@@ -6,5 +6,5 @@ mod reading;
 #[cfg(test)]
 mod tests;
 
-pub use reading::generated;
 pub use laws::law_of_generated_traces;
+pub use reading::generated;

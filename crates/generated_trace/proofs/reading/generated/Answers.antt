@@ -1,6 +1,5 @@
-use Rattle.std.proofs.Common.{◌≡◌, ◌∙◌, Err, ap, subst}
+use Rattle.std.proofs.Common.{◌≡◌, ◌∙◌, subst}
 use Rattle.traffic_gen.specs.Traffic.{traffic}
-use Rattle.trace_text.specs.declared.fault.TraceFault.TheVariants as fault
 use Rattle.trace_text.specs.TraceGrammar.{IsRefused}
 use Rattle.generated_trace.proofs.Told.{never_refused}
 use Rattle.generated_trace.proofs.reading.generated.Goals as goal
