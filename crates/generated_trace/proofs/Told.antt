@@ -20,11 +20,10 @@ use Rattle.traffic_gen.specs.declared.callee.Callee.TheVariants as callee
 use Rattle.traffic_gen.proofs.Counts.{events_are_few, traffic_length}
 use Rattle.traffic_gen.proofs.Fit.{lines_fit}
 use Rattle.trace_text.specs.declared.said.Said.{Said}
-use Rattle.trace_text.specs.declared.fault.Reason.{Reason}
 use Rattle.trace_text.specs.TraceLines.{says}
-use Rattle.trace_text.specs.TraceGrammar.{EachSays, IsRefused, IsTold, events_in, numbers_in, plan_of, segment_ends, sizes_in, so_far}
+use Rattle.trace_text.specs.TraceGrammar.{EachSays, IsTold, IsTrace, events_in, numbers_in, plan_of, segment_ends, sizes_in, so_far}
 use Rattle.trace_text.proofs.TraceHolds.{events-append, sizes_first}
-use Rattle.trace_text.proofs.TraceReadings.{never_both, one_trace}
+use Rattle.trace_text.proofs.TraceReadings.{one_trace}
 use Rattle.generated_trace.specs.Told.{said_by}
 use Rattle.generated_trace.specs.Generated.{HasSizes, IsTrafficOf, traffic_told}
 use Rattle.generated_trace.proofs.Cutting.{text_lines}
@@ -250,6 +249,6 @@ all_events (line ∷ ls) =
 pub events_counted : (seed calls : ℕ) (t : Trace) → calls ≤ 2000 → IsTrafficOf seed calls t → length t.events ≡ event_count (traffic_lines seed calls)
 events_counted seed calls t few is = ap length (told_so seed calls t few is).events ∙ all_events (traffic_lines seed calls)
 
--- a reader never refuses what was generated
-pub never_refused : (seed calls : ℕ) (number : ℕ) (why : Reason) → calls ≤ 2000 → IsRefused (traffic seed calls) number why → ⊥
-never_refused seed calls number why few refused = never_both (traffic seed calls) (trace_of (traffic_told seed calls)) number why (is_traffic seed calls few) refused
+-- octets that were generated are a trace
+pub are_trace : (seed calls : ℕ) (bytes : List ℕ) → calls ≤ 2000 → bytes ≡ traffic seed calls → (t : Trace) × IsTrace bytes t
+are_trace seed calls bytes few made = subst (λ octets. (t : Trace) × IsTrace octets t) (sym made) (some_trace seed calls few)
