@@ -1,0 +1,10 @@
+//! The traces that are generated from a seed: each is a trace of the grammar, whatever the seed.
+#![tactic(auto)]
+
+mod laws;
+mod reading;
+#[cfg(test)]
+mod tests;
+
+pub use laws::law_of_generated_traces;
+pub use reading::generated;

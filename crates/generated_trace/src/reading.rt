@@ -1,0 +1,38 @@
+// The trace of a seed, read from the octets that are generated.
+ghost use Rattle.std.specs.Prelude.{◌≤◌, IfOk};
+ghost use Rattle.exchange_core.specs.declared.trace.Trace.{Trace};
+ghost use Rattle.trace_text.specs.TraceGrammar.{IsTrace};
+ghost use Rattle.generated_trace.specs.Generated.{IsTrafficOf};
+
+use exchange_core::Trace;
+use std::alloc::{AllocError, Global};
+use trace_text::{TraceFault, read_trace};
+use traffic_gen::generate;
+
+/// The trace of a seed with so many calls, 1 to 2000.
+///
+/// It is read from the octets that are generated, and these are never refused.
+///
+/// # Errors
+///
+/// [`AllocError`] for want of memory.
+pub fn generated(alloc: Global, seed: u64, calls: u32) -> Result<Trace, AllocError>
+    requires some { 1 ≤ calls }
+    requires most { calls ≤ 2000 }
+    ensures { IfOk result (λ t. IsTrafficOf seed calls t) }
+{
+    let octets = generate(alloc, seed, calls)?;
+    read_back(alloc, octets.as_slice())
+}
+
+// The trace that octets are.
+fn read_back(alloc: Global, octets: &[u8]) -> Result<Trace, AllocError>
+    requires { (t : Trace) × IsTrace octets.now t }
+    ensures { IfOk result (λ t. IsTrace octets.now t) }
+{
+    match read_trace(alloc, octets) {
+        Ok(trace) => Ok(trace),
+        Err(TraceFault::Memory) => Err(AllocError),
+        Err(TraceFault::Line { .. }) => unreachable!(),
+    }
+}
