@@ -6,6 +6,7 @@ pub mod EarlierFrames
 pub mod Below
 pub mod Refusals
 pub mod Named
+pub mod Sounding
 pub mod Answering
 pub mod Looking
 pub mod Beside

@@ -12,7 +12,7 @@ use Rattle.exchange_core.proofs.call_control.CallControl.restart_line.Goals as g
 
 pub loop-place-init : goal.loop-place-init
 loop-place-init g c = (
-  λ s w work. none_done s.dimensions c.args.asked c.args.line w _ _ _ _ _ work.holds c.requires.fresh.0 c.requires.fresh.1 c.new-records.ensures,
+  λ s w work. none_done s.dimensions s.tones c.args.asked c.args.line w _ _ _ _ _ work.holds c.requires.fresh.0 c.requires.fresh.1 c.new-records.ensures,
   subst (λ (list : List Signal). length list ≤ 0) (sym c.requires.fresh.0) (omega arith),
   subst (λ (list : List CallRecord). length list ≤ 0) (sym c.new-records.ensures) (omega arith),
   c.requires.fresh.1,
@@ -27,9 +27,9 @@ restart_slot-requires-clause-work g c =
     let small : c.loop-place.place ≤ 30 = omega (arith, c.loop-place-test.true) in
     let below : c.args.line < s.dimensions.external = subst (λ (d : Dimensions). c.args.line < d.external) work.holds.sizes c.requires.line in (
       s.dimensions,
-      (restarted_below s.dimensions c.args.asked c.args.line w c.loop-place.place).making.world,
+      (restarted_below s.dimensions s.tones c.args.asked c.args.line w c.loop-place.place).making.world,
       (c.loop-place.invariant.0 s w work).0.holds,
-      (below_kept s.dimensions c.args.asked c.args.line w below (work.stands.circuits, work.stands.legs) c.loop-place.place small).1,
+      (below_kept s.dimensions s.tones c.args.asked c.args.line w below (work.stands.circuits, work.stands.legs) c.loop-place.place small).1,
     )
 
 pub loop-place-preserved : goal.loop-place-preserved
@@ -40,9 +40,9 @@ loop-place-preserved g c =
           let small : c.loop-place.place < 30 = omega (arith, c.loop-place-test.true) in
           let below : c.args.line < s.dimensions.external = subst (λ (d : Dimensions). c.args.line < d.external) work.holds.sizes c.requires.line in
           let first = so_far.0 s w work in
-          step_done s.dimensions c.args.asked c.args.line w c.loop-place.place _ _ _ _ c.loop-place.records _ below (work.stands.circuits, work.stands.legs) small first.1
-          (done.makes s.dimensions (restarted_below s.dimensions c.args.asked c.args.line w c.loop-place.place).making first.0)
-          (done.records s.dimensions (restarted_below s.dimensions c.args.asked c.args.line w c.loop-place.place).making.world first.0.holds),
+          step_done s.dimensions s.tones c.args.asked c.args.line w c.loop-place.place _ _ _ _ c.loop-place.records _ below (work.stands.circuits, work.stands.legs) small first.1
+          (done.makes s.dimensions (restarted_below s.dimensions s.tones c.args.asked c.args.line w c.loop-place.place).making first.0)
+          (done.records s.dimensions (restarted_below s.dimensions s.tones c.args.asked c.args.line w c.loop-place.place).making.world first.0.holds),
       (let a = done.few.0 in let b = so_far.1 in omega (arith, a, b)),
       (let a = done.few.1 in let b = so_far.2 in omega (arith, a, b)),
       done.moved ∙ so_far.3,
@@ -56,7 +56,7 @@ pub returns-clause-makes : goal.returns-clause-makes
 returns-clause-makes g c s w work =
     let end : c.loop-place.place ≡ 30 = omega (arith, c.loop-place-test.false, c.loop-place.auto.place-end) in
     let made = subst (λ n. Makes s.dimensions c.loop-place.self.map c.loop-place.self.legs c.loop-place.out.sends c.loop-place.out.moved
-    (restarted_below s.dimensions c.args.asked c.args.line w n).making) end (c.loop-place.invariant.0 s w work).0 in
+    (restarted_below s.dimensions s.tones c.args.asked c.args.line w n).making) end (c.loop-place.invariant.0 s w work).0 in
     makes_send s.dimensions c.loop-place.self.map c.loop-place.self.map c.loop-place.self.legs c.loop-place.self.legs c.loop-place.out.sends c.send.new.self.sends
-    c.loop-place.out.moved c.send.new.self.moved (restarted_below s.dimensions c.args.asked c.args.line w 30).making made c.args.line (outgoing_of c.acknowledgement.result) (acknowledgement c.args.asked)
+    c.loop-place.out.moved c.send.new.self.moved (restarted_below s.dimensions s.tones c.args.asked c.args.line w 30).making made c.args.line (outgoing_of c.acknowledgement.result) (acknowledgement c.args.asked)
     c.acknowledgement.ensures c.send.ensures.sends c.send.ensures.moved
