@@ -156,7 +156,7 @@ made_performed : (d : Dimensions) (tones : Tones) (m : Making) (o : Operation) â
 made_performed d tones m (op.Clear x) may made = made_clear d tones m.world made x
 made_performed d tones m (op.Pair x y) may made = made_pair d tones m.world made x y may
 made_performed d tones m (op.Seat x room) may made = made_seat d tones m.world made x room may
-made_performed d tones m (op.Sound x tone) may made = made_sound d tones m.world made x tone may
+made_performed d tones m (op.Sound x kind) may made = made_sound d tones m.world made x kind may
 made_performed d tones m (op.Put x leg) may made = made_legs d tones m.world made (with_leg m.world.legs x leg)
 made_performed d tones m (op.Remove x) may made = made_legs d tones m.world made (without_leg m.world.legs x)
 made_performed d tones m (op.Send line message) may made = made

@@ -31,9 +31,9 @@ module _ (d : Dimensions) (map map' : Connections) (legs legs' : Legs) (sends se
   pub makes_clear : (x : Slot) → ((w : World) → Holds d map legs w → Holds d map' legs' (obey d w (Clear_slot x))) → Makes d map' legs' sends moved (performed d m (Clear x))
   makes_clear x holds = record { holds = holds m.world makes.holds; sent = makes.sent; moves = makes.moves }
 
-  pub makes_sound : (x : Slot) (tone : Option Kind) → ((w : World) → Holds d map legs w → Holds d map' legs' (record w { holding = sounding w.holding x tone }))
-      → Makes d map' legs' sends moved (performed d m (Sound x tone))
-  makes_sound x tone holds = record { holds = holds m.world makes.holds; sent = makes.sent; moves = makes.moves }
+  pub makes_sound : (x : Slot) (kind : Option Kind) → ((w : World) → Holds d map legs w → Holds d map' legs' (record w { holding = sounding w.holding x kind }))
+      → Makes d map' legs' sends moved (performed d m (Sound x kind))
+  makes_sound x kind holds = record { holds = holds m.world makes.holds; sent = makes.sent; moves = makes.moves }
 
   pub makes_seat : (x : Slot) (room : ℕ) → ((w : World) → Holds d map legs w → Holds d map' legs' (obey d w (Take_seat x room))) → ((w : World) → Holds d map legs w → moved' ≡ moves_of_seat d w x)
       → Makes d map' legs' sends moved' (performed d m (Seat x room))

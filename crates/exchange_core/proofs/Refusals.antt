@@ -97,7 +97,7 @@ same_performed : (d : Dimensions) (a b : Making) (o : Operation) → SameButPath
 same_performed d a b (Clear x) same = record { holding = rw same.holding refl; legs = same.legs; sends = same.sends }
 same_performed d a b (Pair x y) same = record { holding = rw same.holding refl; legs = same.legs; sends = same.sends }
 same_performed d a b (Seat x room) same = record { holding = rw same.holding refl; legs = same.legs; sends = same.sends }
-same_performed d a b (Sound x tone) same = record { holding = ap (λ (h : Holding). sounding h x tone) same.holding; legs = same.legs; sends = same.sends }
+same_performed d a b (Sound x kind) same = record { holding = ap (λ (h : Holding). sounding h x kind) same.holding; legs = same.legs; sends = same.sends }
 same_performed d a b (Put x leg) same = record { holding = same.holding; legs = rw same.legs refl; sends = same.sends }
 same_performed d a b (Remove x) same = record { holding = same.holding; legs = rw same.legs refl; sends = same.sends }
 same_performed d a b (Send line message) same = record { holding = same.holding; legs = same.legs; sends = rw same.sends refl }

@@ -107,7 +107,7 @@ performed_next : (d : Dimensions) (m : Making) (o : Operation) → (performed d 
 performed_next d m (op.Clear x) = refl
 performed_next d m (op.Pair x y) = refl
 performed_next d m (op.Seat x room) = refl
-performed_next d m (op.Sound x tone) = sounding_next m.world.holding x tone
+performed_next d m (op.Sound x kind) = sounding_next m.world.holding x kind
 performed_next d m (op.Put x leg) = refl
 performed_next d m (op.Remove x) = refl
 performed_next d m (op.Send line message) = refl

@@ -20,7 +20,7 @@ pub data Operation : Type 0 where
   -- the slot takes a seat in a room
   Seat : (x : Slot) (room : ℕ) → Operation
   -- the slot gets this tone, if there is one
-  Sound : (x : Slot) (tone : Option Kind) → Operation
+  Sound : (x : Slot) (kind : Option Kind) → Operation
   -- the slot is held by this leg, in place of any other
   Put : (x : Slot) (leg : Leg) → Operation
   -- the slot is held by no leg
@@ -53,7 +53,7 @@ abbrev pub performed : Dimensions → Making → Operation → Making
 performed d m (Clear x) = record m { world = obey d m.world (Clear_slot x) }
 performed d m (Pair x y) = record m { world = obey d m.world (Connect x y); moves = Some (moves_for d m.world.layout x y) }
 performed d m (Seat x room) = record m { world = obey d m.world (Take_seat x room); moves = moves_of_seat d m.world x }
-performed d m (Sound x tone) = record m { world = record m.world { holding = sounding m.world.holding x tone } }
+performed d m (Sound x kind) = record m { world = record m.world { holding = sounding m.world.holding x kind } }
 performed d m (Put x leg) = record m { world = record m.world { legs = with_leg m.world.legs x leg } }
 performed d m (Remove x) = record m { world = record m.world { legs = without_leg m.world.legs x } }
 performed d m (Send line message) = record m { sends = m.sends ++ record { line = line; octets = encoding message } ∷ [] }

@@ -26,16 +26,16 @@ pub record CanSeat (d : Dimensions) (w : World) (x : Slot) : Type 0 where
   pub free : count_by is_member w.holding.circuits < 30 * d.bridges
 
 -- a slot that no circuit names, and a tone that has octets, where it is to get one
-pub record CanSound (d : Dimensions) (tones : Tones) (w : World) (x : Slot) (tone : Option Kind) : Type 0 where
+pub record CanSound (d : Dimensions) (tones : Tones) (w : World) (x : Slot) (kind : Option Kind) : Type 0 where
   pub within : IsExternal d.external x
   pub idle : is_idle w.holding.circuits x ≡ true
-  pub octets : IfSome tone (IsGiven tones)
+  pub octets : IfSome kind (IsGiven tones)
 
 abbrev pub IsPermitted : Dimensions → Tones → Making → Operation → Type 0
 IsPermitted d tones m (Clear x) = IsExternal d.external x
 IsPermitted d tones m (Pair x y) = CanPair d m.world x y
 IsPermitted d tones m (Seat x room) = CanSeat d m.world x
-IsPermitted d tones m (Sound x tone) = CanSound d tones m.world x tone
+IsPermitted d tones m (Sound x kind) = CanSound d tones m.world x kind
 IsPermitted d tones m (Put x leg) = IsExternal d.external x × IsTold leg
 IsPermitted d tones m (Remove x) = IsExternal d.external x
 IsPermitted d tones m (Send line message) = (line < d.external) × IsWritable message

@@ -305,7 +305,7 @@ fn tone_of(tones: &Tones, leg: Leg) -> Option<Kind>
 
 // A message with a progress indicator exactly where its user's slot gets a tone.
 fn announced(tone: Option<Kind>, message: Outgoing<'static>) -> Outgoing<'static>
-    ensures { outgoing_of result ≡ announced tone (outgoing_of message) }
+    ensures { outgoing_of result ≡ announced tone (outgoing_of message.entry) }
 {
     Outgoing {
         progress: tone.is_some(),

@@ -32,6 +32,7 @@ impl<P: PathMap> CallControl<P> {
         requires external { IsExternal self.old.map.external x }
         ensures holds { (d : Dimensions) (w : World) → Holds d self.old.map self.old.legs w → Holds d self.new.map self.new.legs (obey d w (Clear x)) }
         ensures hears { (z : Slot) → hears_at self.new.map z ≡ hears_after self.old.map (Clear x) z }
+        ensures silent { hears_at self.new.map x ≡ None }
         ensures legs { self.new.legs ≡ self.old.legs }
         ensures sizes { SameSizes self.old.map self.new.map }
     {
