@@ -3,6 +3,7 @@ pub mod Steps
 pub mod Obeying
 pub mod Taken
 pub mod EarlierFrames
+pub mod Given
 pub mod Below
 pub mod Refusals
 pub mod Named

@@ -1,5 +1,4 @@
 pub mod Reports
 pub mod Pending
 pub mod Endings
-pub mod Silence
 pub mod FrameSteps

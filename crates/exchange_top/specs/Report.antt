@@ -5,6 +5,8 @@ use Rattle.circuit_model.specs.declared.circuit.Circuit.{Circuit}
 use Rattle.circuit_model.specs.declared.circuit.Kind.{Kind}
 use Rattle.circuit_model.specs.FrameInput.{Input}
 use Rattle.circuit_model.specs.Ports.{Ports}
+use Rattle.tone_rules.specs.declared.tones.Tones.{Tones}
+use Rattle.tone_rules.specs.Tables.{table_of}
 use Rattle.exchange_core.specs.declared.trace.Event.{Event}
 use Rattle.exchange_core.specs.declared.trace.Trace.{Trace}
 use Rattle.exchange_core.specs.Kept.{kept}
@@ -22,17 +24,13 @@ Plays = (Kind → List ℕ) → List Input → List (List Circuit) → ℕ → S
 abbrev pub Carrying : Type 0 → Type 1
 Carrying E = E → List Input → List (List Circuit) → List Ports → Type 0
 
--- no tone has octets: a trace can't give any yet
-abbrev pub no_tones : Kind → List ℕ
-no_tones kind = []
-
--- the octet that the engine puts on a slot in frame f
-abbrev pub engine_octet : Plays → World → ℕ → Slot → ℕ
-engine_octet plays w f y = plays no_tones w.inputs w.held f y
+-- the octet that the engine puts on a slot in frame f, with these tones
+abbrev pub engine_octet : Plays → Tones → World → ℕ → Slot → ℕ
+engine_octet plays tones w f y = plays (table_of tones) w.inputs w.held f y
 
 -- what each line sends in the frame that an event is, if it is one
 abbrev pub sent_at : Plays → Setting → World → Event → List (List ℕ)
-sent_at plays s w e = lines_sent (engine_octet plays (next s w e) w.holding.next) s.dimensions.external
+sent_at plays s w e = lines_sent (engine_octet plays s.tones (next s w e) w.holding.next) s.dimensions.external
 
 -- the line of an event, and the lines of events that happen one after another
 abbrev pub event_line : Plays → Setting → World → ℕ → Event → List ℕ

@@ -26,7 +26,7 @@ use Rattle.trace_text.specs.declared.said.GivenTone.{GivenTone}
 use Rattle.trace_text.specs.declared.said.Said.{Said}
 use Rattle.trace_text.specs.declared.said.Said.TheVariants as said
 use Rattle.trace_text.specs.TraceWords.{words, two, one_or_two, three, cut_at, is_comment, is_blank, is_printable}
-use Rattle.trace_text.specs.TraceFields.{external_line, slot, room, octets_written, thirty, at_most, longest_message, not_empty, longest_tone, header}
+use Rattle.trace_text.specs.TraceFields.{external_line, slot, room, octets_written, thirty, at_most, longest_message, of_tone, header}
 
 -- the second step where the first passed its checks
 infixl 10 ◌>>=◌
@@ -128,8 +128,7 @@ tone tones others = do
   both ← ok_or (two others) reason.Word
   kind ← ok_or (tone_named both.0) reason.Word
   fresh ← if is_given tones kind then Err reason.Word else Ok kind
-  some ← at_most longest_tone (octets_written both.1)
-  octets ← not_empty some
+  octets ← of_tone (octets_written both.1)
   Ok (record { kind = kind; octets = octets })
 
 -- a tone is given

@@ -4,8 +4,8 @@
 // that many are read at once. Four more digits behind them fill whole vectors.
 ghost use Rattle.std.specs.Prelude.{◌≡◌, ◌++◌, ◌*◌, ◌<◌, ◌^◌, ◌∷◌, [], ℕ, List, length, take, true, Some, is_some, option_map, map, replicate, ok_or, IfOk, IfErr, Ok};
 ghost use Rattle.std.specs.List.{list_all};
-ghost use Rattle.trace_text.specs.TraceFields.{digit_value, is_digit, octets_written, thirty, at_most, longest_message, not_empty, longest_tone};
-ghost use Rattle.trace_text.specs.TraceLines.{◌>>=◌, Fails, Gives};
+ghost use Rattle.trace_text.specs.TraceFields.{digit_value, is_digit, octets_written, thirty, at_most, longest_message, of_tone};
+ghost use Rattle.trace_text.specs.TraceLines.{Fails, Gives};
 
 use crate::fault::{LineFault, Reason};
 use exchange_core::Octets;
@@ -165,7 +165,7 @@ pub(crate) fn message_octets(alloc: Global, digits: &[u8]) -> Result<Octets, Lin
 
 /// The octets of a tone, 1 to 8000, which hexadecimal digits write.
 pub(crate) fn tone_octets(alloc: Global, digits: &[u8]) -> Result<ToneOctets, LineFault>
-    ensures { Gives result (at_most longest_tone (octets_written digits.now) >>= λ octets. not_empty octets) }
+    ensures { Gives result (of_tone (octets_written digits.now)) }
 {
     let octets = octets_up_to(alloc, LONGEST_TONE, digits)?;
     if octets.is_empty() {
