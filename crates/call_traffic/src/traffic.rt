@@ -4,9 +4,7 @@ use crate::counts::Counts;
 use crate::random::Random;
 use crate::users::draw_message;
 use circuit_model::{Slot, channel_of};
-use plain_calls::{
-    Number, PlainEvent, PlainExchange, PlainRun, PlainTones, Target, append_octets,
-};
+use plain_calls::{Number, PlainEvent, PlainExchange, PlainRun, PlainTones, Target, append_octets};
 use std::alloc::{AllocError, Global};
 
 /// A trace of calls, and what the plain exchange makes of it.

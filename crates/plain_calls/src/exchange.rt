@@ -148,8 +148,7 @@ impl PlainExchange {
     /// The octet that is heard on a slot in a frame.
     pub fn heard(&self, frame: u32, at: Slot) -> u8 {
         let tones = &self.tones;
-        self.circuits
-            .heard(tones.ringback.as_slice(), tones.busy.as_slice(), frame, at)
+        self.circuits.heard(tones.ringback.as_slice(), tones.busy.as_slice(), frame, at)
     }
 
     /// How often ringing tone and busy tone were put on a slot.
