@@ -46,7 +46,7 @@ impl<P: PathMap> CallControl<P> {
             Event::Free(x) => self.free(*x),
             Event::Message(line, octets) => {
                 self.message(plan, tones, *line, octets.as_slice(), out)
-            },
+            }
             Event::Frame(_) => Response::Frame(self.frame(tool)),
         }
     }
