@@ -10,6 +10,7 @@ use Rattle.circuit_model.specs.FrameInput.{Input}
 use Rattle.circuit_model.specs.Ports.{Ports}
 use Rattle.control_memory.specs.Image.{Control, SameSizes}
 use Rattle.control_memory.specs.Shown.{Shows}
+use Rattle.tone_rules.specs.declared.tones.Tones.{Tones}
 use Rattle.frame_engine.specs.Frames.{Boundary, Come, IsNext, PlaysOut}
 use Rattle.exchange_core.specs.declared.trace.Event.{Event}
 use Rattle.exchange_core.specs.declared.trace.Event.TheVariants.{Nail, Seat, Free, Message, Frame}
@@ -128,13 +129,13 @@ fits_each trace (n ∷ order) all =
     (λ e is. subst (Fits trace.external) (get_or_from_slice_get trace.events (n - 1) e e is) (all (n - 1) e (slice_get_within trace.events (n - 1) e is)))
     (fits_each trace order all)
 
-pub made_at : (board : Board) (history : List Entry) → IsSound board.trace → IsMade (setting_at board).dimensions (world_at board history)
+pub made_at : (board : Board) (history : List Entry) → IsSound board.trace → IsMade (setting_at board).dimensions (setting_at board).tones (world_at board history)
 made_at board history sound =
     made (setting_at board) (events_of board.trace.events (order_of history)) sound.planned (fits_each board.trace (order_of history) sound.events)
 
 -- the circuits and ports of the frames so far, and of the one that begins, come of one list of commands
-come : (d : Dimensions) (w : World) → IsMade d w → Come d.external d.bridges (w.held ++ w.holding.circuits ∷ []) (w.seated ++ w.ports ∷ [])
-come d w is = let m = made_pass d w is [] in record { commands = m.commands; within = m.within; allowed = m.allowed; circuits = m.held; seats = m.seated }
+come : (d : Dimensions) (tones : Tones) (w : World) → IsMade d tones w → Come d.external d.bridges (w.held ++ w.holding.circuits ∷ []) (w.seated ++ w.ports ∷ [])
+come d tones w is = let m = made_pass d tones w is [] in record { commands = m.commands; within = m.within; allowed = m.allowed; circuits = m.held; seats = m.seated }
 
 -- the boundary of the frame that begins
 abbrev pub boundary : World → Boundary
@@ -155,7 +156,7 @@ asked board history n input tool image sound number is shows sized =
     record {
       size = size;
       shows = subst (λ (t : Tool). ShowsWorld w (Frame input) t) is (shows (Frame input) number);
-      came = rw (size.external, size.bridges) (come d w (made_at board history sound));
+      came = rw (size.external, size.bridges) (come d (setting_at board).tones w (made_at board history sound));
     }
 
 pub next_frame : (carried : List Input → List (List Circuit) → List Ports → Type 0) (image : Control) (d : Dimensions) (w : World) → Asked image d w

@@ -1,4 +1,3 @@
 pub mod Segments
 pub mod Done
-pub mod Silence
 pub mod FrameSteps

@@ -41,6 +41,7 @@ fn do_frame<B: Switchboard, G: Gate, C: Carrier, R: Wait>(
     requires turn { 0 < (B.known seat.old).left }
     requires baton { IsTrue (B.known seat.old).baton }
     requires ready { IsReady C.carries C.next (engine_dimensions C.external_lines C.bridge_lines C.depth) (B.board board.now) (B.known seat.old).seen engine.old tool.old }
+    requires tones { tones.now ≡ (B.board board.now).trace.tones }
     requires lines { length octets.old.items ≡ (B.board board.now).trace.external }
     ensures seated { B.seated board.now seat.new }
     ensures handled { Handled (B.known seat.old) event (B.known seat.new) }
@@ -75,7 +76,6 @@ fn do_frames<B: Switchboard, G: Gate, C: Carrier, R: Wait>(
     segment: u32,
     engine: &mut C,
     tool: &mut Tool,
-    tones: &Tones,
     gate: &G,
     answers: &mut Vec<Placed>,
 ) -> Result<(), AllocError>
@@ -90,7 +90,7 @@ fn do_frames<B: Switchboard, G: Gate, C: Carrier, R: Wait>(
     ensures seated { B.seated board.now seat.new }
     ensures works { Works (B.board board.now) (part_of trace.now segment Frame_worker) (B.known seat.old) answers.new.items (is_ok result) (B.known seat.new) }
     ensures ready { IsReady C.carries C.next (engine_dimensions C.external_lines C.bridge_lines C.depth) (B.board board.now) (B.known seat.new).seen engine.new tool.new }
-    ensures octets { All (HasFrame C.plays (table_of tones.now) (B.board board.now) (B.known seat.new)) answers.new.items }
+    ensures octets { All (HasFrame C.plays (table_of trace.now.tones) (B.board board.now) (B.known seat.new)) answers.new.items }
 {
     let worker = u32::from(trace.processors);
     let mut octets = vec![in alloc; [IDLE; 30]; usize::from(trace.external)]?;
@@ -111,7 +111,7 @@ fn do_frames<B: Switchboard, G: Gate, C: Carrier, R: Wait>(
             engine,
             tool,
             &mut octets,
-            tones,
+            &trace.tones,
             gate,
         )?;
         answers.push_reserved(placed);
@@ -124,7 +124,8 @@ fn do_frames<B: Switchboard, G: Gate, C: Carrier, R: Wait>(
 /// turn was given on, beside the call processors. At the gate the frame worker has the number of the
 /// call processors.
 ///
-/// The octets of an answer are those that the engine plays in its frame, for each external line.
+/// The octets of an answer are those that the engine plays in its frame, with the tones of the trace, for
+/// each external line.
 ///
 /// The memory for an answer is taken before its frame is done, but for what the answer itself holds.
 /// Where memory runs out, the work ends there, and only the last frame done may lack its answer.
@@ -137,7 +138,6 @@ pub fn run_frames<B: Switchboard, G: Gate, C: Carrier, R: Wait>(
     segment: u32,
     engine: C,
     tool: Tool,
-    tones: &Tones,
     gate: &G,
 ) -> Framed<B::Seat, C>
     requires seated { B.seated board.now seat }
@@ -151,7 +151,7 @@ pub fn run_frames<B: Switchboard, G: Gate, C: Carrier, R: Wait>(
     ensures seated { B.seated board.now result.worked.seat }
     ensures works { Works (B.board board.now) (part_of trace.now segment Frame_worker) (B.known seat) result.worked.answers.items result.worked.whole (B.known result.worked.seat) }
     ensures ready { IsReady C.carries C.next (engine_dimensions C.external_lines C.bridge_lines C.depth) (B.board board.now) (B.known result.worked.seat).seen result.engine result.tool }
-    ensures octets { All (HasFrame C.plays (table_of tones.now) (B.board board.now) (B.known result.worked.seat)) result.worked.answers.items }
+    ensures octets { All (HasFrame C.plays (table_of trace.now.tones) (B.board board.now) (B.known result.worked.seat)) result.worked.answers.items }
 {
     let mut seat = seat;
     let mut engine = engine;
@@ -166,7 +166,6 @@ pub fn run_frames<B: Switchboard, G: Gate, C: Carrier, R: Wait>(
         segment,
         &mut engine,
         &mut tool,
-        tones,
         gate,
         &mut answers,
     );

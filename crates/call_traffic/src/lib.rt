@@ -16,7 +16,7 @@ mod users;
 
 pub use counts::Counts;
 pub use random::Random;
-pub use traffic::{Drawn, draw_traffic};
+pub use traffic::{Drawn, LONGEST_TONE, draw_traffic};
 
 #[cfg(test)]
 mod tests;

@@ -4,7 +4,7 @@ use crate::counts::Counts;
 use crate::random::Random;
 use crate::users::draw_message;
 use circuit_model::{Slot, channel_of};
-use plain_calls::{Number, PlainEvent, PlainExchange, PlainRun, Target, append_octets};
+use plain_calls::{Number, PlainEvent, PlainExchange, PlainRun, PlainTones, Target, append_octets};
 use std::alloc::{AllocError, Global};
 
 /// A trace of calls, and what the plain exchange makes of it.
@@ -20,6 +20,10 @@ pub struct Drawn {
     pub events: u32,
     /// How many paths were moved.
     pub moved: u32,
+    /// How many octets ringing tone and busy tone have; 0 where the tone isn't given.
+    pub tones: (usize, usize),
+    /// How often ringing tone and busy tone were put on a slot.
+    pub sounded: (u32, u32),
 }
 
 // A trace that is being written. Wherever the worker of the events changes, a segment ends, so that
@@ -139,9 +143,36 @@ fn append_numbers(text: &mut String, numbers: &[Number]) -> Result<(), AllocErro
     Ok(())
 }
 
+/// How many octets a tone has at most.
+pub const LONGEST_TONE: usize = 8000;
+
+// A tone of no octet, of one, of two, or of the most there can be.
+fn draw_tone(alloc: Global, random: &mut Random) -> Result<Vec<u8>, AllocError> {
+    let length = match random.below(4) {
+        0 => 0,
+        1 => 1,
+        2 => 2,
+        _ => LONGEST_TONE,
+    };
+    let mut octets = Vec::new(alloc);
+    for _ in 0..length {
+        octets.push(random.octet())?;
+    }
+    Ok(octets)
+}
+
+fn append_tone(text: &mut String, name: &str, octets: &[u8]) -> Result<(), AllocError> {
+    if octets.is_empty() {
+        return Ok(());
+    }
+    write!(text, "tone {name} ")?;
+    append_octets(text, octets)?;
+    text.push_str("\n")
+}
+
 /// Draws a trace of so many events: calls on several lines with the replies of both sides, beside nails,
-/// seats, frees and frames. Some traces begin
-/// with a line that is all but full, or with many nails.
+/// seats, frees and frames. Some traces begin with a line that is all but full, or with many nails; some
+/// give tones.
 pub fn draw_traffic(alloc: Global, random: &mut Random, events: u32) -> Result<Drawn, AllocError> {
     let external = 1 + random.below(4);
     let bridges = random.below(3);
@@ -149,12 +180,18 @@ pub fn draw_traffic(alloc: Global, random: &mut Random, events: u32) -> Result<D
     let numbers = draw_numbers(alloc, external)?;
     let mut text = format!(in alloc; "exchange 1 {external} {bridges} {processors}\n")?;
     append_numbers(&mut text, numbers.as_slice())?;
+    let ringback = draw_tone(alloc, random)?;
+    let busy = draw_tone(alloc, random)?;
+    let tones = (ringback.len(), busy.len());
+    append_tone(&mut text, "ringback", ringback.as_slice())?;
+    append_tone(&mut text, "busy", busy.as_slice())?;
     let mut script = Script {
         text,
         processors,
         worker: 0,
     };
-    let exchange = PlainExchange::new(alloc, external, bridges, numbers);
+    let given = PlainTones { ringback, busy };
+    let exchange = PlainExchange::new(alloc, external, bridges, numbers, given);
     let mut run = PlainRun::new(alloc, exchange);
     let mut counts = Counts::new();
     let crowd = Crowd::draw(random);
@@ -170,12 +207,15 @@ pub fn draw_traffic(alloc: Global, random: &mut Random, events: u32) -> Result<D
         }
     }
     let moved = run.moved();
+    let sounded = run.exchange().sounded();
     Ok(Drawn {
         trace: script.text,
         report: run.into_report(),
         counts,
         events,
         moved,
+        tones,
+        sounded,
     })
 }
 

@@ -1,6 +1,6 @@
 -- An answered call always finds both slots silent, and is connected.
 use Rattle.std.proofs.Common.{◌≡◌, ℕ, ◌<◌, Bool, true, false, List, [], ◌∷◌, ◌++◌, Option, Some, None, refl, sym, ◌∙◌, ap, arith, if◌then◌else◌}
-use Rattle.std.specs.Prelude.{Contains}
+use Rattle.std.specs.Prelude.{Contains, ◌==◌}
 use Rattle.std.proofs.lemmas.Grind.{common_steps}
 use Rattle.std.proofs.lemmas.List.Elements.{Contains-append_right}
 use Rattle.circuit_model.specs.declared.channel.Slot.{Slot}
@@ -15,7 +15,7 @@ use Rattle.circuit_model.proofs.Validity.{valid-clear, deaf_is_idle, heard_by-cl
 use Rattle.q931_codec.specs.declared.kind.MessageKind.{MessageKind}
 use Rattle.q931_codec.specs.declared.kind.MessageKind.TheVariants as kind
 use Rattle.q931_codec.specs.declared.message.Message.{Message}
-use Rattle.q931_codec.specs.CallStates.{call_present, call_received, incoming_call_proceeding}
+use Rattle.q931_codec.specs.CallStates.{call_delivered, call_present, call_received, disconnect_indication, incoming_call_proceeding}
 use Rattle.call_states.specs.Acts.{act_of, act_on, is_among}
 use Rattle.call_states.specs.declared.act.Act.{Act}
 use Rattle.call_states.specs.declared.act.Act.TheVariants as act
@@ -24,6 +24,7 @@ use Rattle.call_states.specs.declared.leg.Peer.{Peer}
 use Rattle.call_states.specs.declared.leg.Peer.TheVariants as peer
 use Rattle.call_states.specs.declared.leg.Side.{Side}
 use Rattle.call_states.specs.declared.leg.Side.TheVariants.{Caller, Called}
+use Rattle.tone_rules.specs.declared.tones.Tones.{Tones}
 use Rattle.exchange_core.specs.LegStanding.{LegsStand, HasPeer, MayHear, IsInCall, AreOneCall}
 use Rattle.exchange_core.specs.declared.leg_table.Held.{Held}
 use Rattle.exchange_core.specs.Acts.{course_of, answer}
@@ -33,6 +34,7 @@ use Rattle.exchange_core.specs.Legs.{Legs, leg_at, held_at}
 use Rattle.exchange_core.specs.Operations.{Operation, begun, performed_all}
 use Rattle.exchange_core.specs.Setup.{Setting}
 use Rattle.exchange_core.specs.World.{World}
+use Rattle.exchange_core.proofs.Sounding.{no_tone}
 use Rattle.exchange_core.proofs.Named.{received_stands}
 
 -- ---- in which states a user answers
@@ -81,11 +83,16 @@ answers_among state (kind.Unknown octet) cause b e = absurd cc
 
 -- ---- a leg that may be answered
 
-module _ (external : ℕ) (w : World) (x : Slot) (leg : Leg) (ringing_state : is_among ringing leg.state ≡ true) where
+module _ (external : ℕ) (tones : Tones) (w : World) (x : Slot) (leg : Leg) (ringing_state : is_among ringing leg.state ≡ true) where
   -- it hears nothing
-  pub silent_by : (o : Option Circuit) → MayHear leg o → o ≡ None
+  pub silent_by : (o : Option Circuit) → MayHear tones leg o → o ≡ None
   silent_by None may = refl
-  silent_by (Some (Tone k to since)) may = absurd (grind (arith, common_steps, ringing_state, may))
+  silent_by (Some (Tone k to since)) may =
+      let not_four : (leg.state == call_delivered) ≡ false = grind (arith, common_steps, ringing_state) in
+      let not_twelve : (leg.state == disconnect_indication) ≡ false = grind (arith, common_steps, ringing_state) in
+      let none = no_tone tones leg not_four not_twelve in
+      let wrong : None ≡ Some k = sym none ∙ may in
+      absurd cc
   silent_by (Some (Pair from to since)) may = absurd (grind (arith, common_steps, ringing_state, may.0))
   silent_by (Some (Member room to since)) may = absurd (grind (arith, common_steps, ringing_state, may.0))
 
@@ -121,9 +128,9 @@ silent_idle bridges h x y valid silent =
 held_there : (legs : Legs) (y : Slot) (other : Leg) → leg_at legs y ≡ Some other → held_at legs y ≡ Some (record { slot = y; leg = other })
 held_there legs y other e = rw e refl
 
-answer_operations : (legs : Legs) (h : Held) (k : MessageKind) (y : Slot) (other : Leg) → h.leg.peer ≡ peer.Leg y → leg_at legs y ≡ Some other
-    → (course_of legs h k act.Answer).operations ≡ answer h (record { slot = y; leg = other })
-answer_operations legs h k y other is at = rw (is, held_there legs y other at) refl
+answer_operations : (tones : Tones) (legs : Legs) (h : Held) (k : MessageKind) (y : Slot) (other : Leg) → h.leg.peer ≡ peer.Leg y → leg_at legs y ≡ Some other
+    → (course_of tones legs h k act.Answer).operations ≡ answer h (record { slot = y; leg = other })
+answer_operations tones legs h k y other is at = rw (is, held_there legs y other at) refl
 
 pair_there : (circuits : List Circuit) (a b : Circuit) → Contains (circuits ++ a ∷ b ∷ []) a × Contains (circuits ++ a ∷ b ∷ []) b
 pair_there circuits a b = (
@@ -139,7 +146,7 @@ apart legs x y leg other at_x at_y one same =
     let sides : Caller ≡ Called = sym one.calls ∙ ap (λ (l : Leg). l.side) legs_same ∙ one.is_called in
     cc
 
-answered_by : (s : Setting) (w : World) (line : ℕ) (r : Received) (h : Held) (m : Message) → Valid s.dimensions.bridges w.holding → LegsStand s.dimensions.external w
+answered_by : (s : Setting) (w : World) (line : ℕ) (r : Received) (h : Held) (m : Message) → Valid s.dimensions.bridges w.holding → LegsStand s.dimensions.external s.tones w
     → r ≡ For_leg h m → leg_at w.legs h.slot ≡ Some h.leg → IsExternal s.dimensions.external h.slot → act_on h.leg.state m ≡ act.Answer
     → (y : Slot) × (h.leg.peer ≡ peer.Leg y) × AreConnected s.dimensions.bridges w (done_for s w line r).making.world y h.slot
 answered_by s w line r h m valid stand e at within answers =
@@ -147,12 +154,12 @@ answered_by s w line r h m valid stand e at within answers =
     let bridges = s.dimensions.bridges in
     let ringing_state = answers_among h.leg.state m.kind _ _ answers in
     let stands = stand.each h.slot h.leg within at in
-    let c = caller_of external w h.slot h.leg ringing_state h.leg.peer stands.peer in
+    let c = caller_of external s.tones w h.slot h.leg ringing_state h.leg.peer stands.peer in
     let y = c.0 in
     let other = c.3.0 in
-    let silent = silent_by external w h.slot h.leg ringing_state (heard_by w.holding.circuits h.slot) stands.hears in
+    let silent = silent_by external s.tones w h.slot h.leg ringing_state (heard_by w.holding.circuits h.slot) stands.hears in
     let done : (done_for s w line r).making.world ≡ (performed_all s.dimensions (begun w) (answer h (record { slot = y; leg = other }))).world =
-    rw (e, answers) (ap (λ (os : List Operation). (performed_all s.dimensions (begun w) os).world) (answer_operations w.legs h m.kind y other c.1 c.3.1)) in
+    rw (e, answers) (ap (λ (os : List Operation). (performed_all s.dimensions (begun w) os).world) (answer_operations s.tones w.legs h m.kind y other c.1 c.3.1)) in
     let two = pair_there (after w.holding (Clear y)).circuits (Pair y h.slot w.holding.next) (Pair h.slot y w.holding.next) in (
       y,
       c.1,
@@ -163,7 +170,7 @@ answered_by s w line r h m valid stand e at within answers =
       },
     )
 
-pub answered : (s : Setting) (w : World) (line : ℕ) (octets : List ℕ) (h : Held) (m : Message) → Valid s.dimensions.bridges w.holding → LegsStand s.dimensions.external w
+pub answered : (s : Setting) (w : World) (line : ℕ) (octets : List ℕ) (h : Held) (m : Message) → Valid s.dimensions.bridges w.holding → LegsStand s.dimensions.external s.tones w
     → line < s.dimensions.external → received w.legs line octets ≡ For_leg h m → act_on h.leg.state m ≡ act.Answer
     → (y : Slot) × (h.leg.peer ≡ peer.Leg y) × AreConnected s.dimensions.bridges w (after_message s w line octets) y h.slot
 answered s w line octets h m valid stand below e answers =

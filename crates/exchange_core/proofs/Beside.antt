@@ -11,6 +11,7 @@ use Rattle.call_states.specs.declared.leg.Peer.{Peer}
 use Rattle.call_states.specs.declared.leg.Peer.TheVariants as peer
 use Rattle.call_states.specs.declared.leg.Side.{Side}
 use Rattle.call_states.specs.declared.leg.Side.TheVariants.{Caller, Called}
+use Rattle.tone_rules.specs.declared.tones.Tones.{Tones}
 use Rattle.exchange_core.specs.LegStanding.{LegStands, LegsStand, HasPeer, MayHear, IsInCall}
 use Rattle.exchange_core.specs.Legs.{Legs, leg_at}
 use Rattle.exchange_core.specs.World.{World}
@@ -55,7 +56,7 @@ pub record Beside (external : ℕ) (w v : World) (x y : Slot) : Type 0 where
   pub heard : (z : Slot) (leg : Leg) → IsExternal external z → leg_at w.legs z ≡ Some leg → (z ≡ x → ⊥) → (z ≡ y → ⊥) → heard_by v.holding.circuits z ≡ heard_by w.holding.circuits z
   pub strange : (z : Slot) (leg : Leg) (p : Slot) → IsExternal external z → leg_at w.legs z ≡ Some leg → (z ≡ x → ⊥) → (z ≡ y → ⊥) → leg.peer ≡ peer.Leg p → (p ≡ x → ⊥) × (p ≡ y → ⊥)
 
-module _ (external : ℕ) (w v : World) (x y : Slot) (beside : Beside external w v x y) where
+module _ (external : ℕ) (tones : Tones) (w v : World) (x y : Slot) (beside : Beside external w v x y) where
   peer_beside : (z : Slot) (leg : Leg) (p : Peer) → leg.peer ≡ p → IsExternal external z → leg_at w.legs z ≡ Some leg → (z ≡ x → ⊥) → (z ≡ y → ⊥) → HasPeer external w.legs z leg p → HasPeer external v.legs z leg p
   peer_beside z leg peer.Alone is within at not_x not_y has = has
   peer_beside z leg (peer.Leg p) is within at not_x not_y has =
@@ -63,22 +64,22 @@ module _ (external : ℕ) (w v : World) (x y : Slot) (beside : Beside external w
       (has.0, (has.1.0, beside.legs p has.0 s.0 s.1 ∙ has.1.1, has.1.2))
   peer_beside z leg (peer.Room room) is within at not_x not_y has = has
 
-  pub stands_beside : (z : Slot) (leg : Leg) → IsExternal external z → leg_at w.legs z ≡ Some leg → (z ≡ x → ⊥) → (z ≡ y → ⊥) → LegStands external w z leg → LegStands external v z leg
+  pub stands_beside : (z : Slot) (leg : Leg) → IsExternal external z → leg_at w.legs z ≡ Some leg → (z ≡ x → ⊥) → (z ≡ y → ⊥) → LegStands external tones w z leg → LegStands external tones v z leg
   stands_beside z leg within at not_x not_y stands = record {
     state = stands.state;
     reference = stands.reference;
     cause = stands.cause;
     peer = peer_beside z leg leg.peer refl within at not_x not_y stands.peer;
-    hears = subst (MayHear leg) (sym (beside.heard z leg within at not_x not_y)) stands.hears;
+    hears = subst (MayHear tones leg) (sym (beside.heard z leg within at not_x not_y)) stands.hears;
   }
 
   -- each leg stands where those of the two slots do
-  pub each_stands : LegsStand external w → ((leg : Leg) → leg_at v.legs x ≡ Some leg → LegStands external v x leg) → ((leg : Leg) → leg_at v.legs y ≡ Some leg → LegStands external v y leg)
-      → (z : Slot) (leg : Leg) → IsExternal external z → leg_at v.legs z ≡ Some leg → LegStands external v z leg
+  pub each_stands : LegsStand external tones w → ((leg : Leg) → leg_at v.legs x ≡ Some leg → LegStands external tones v x leg) → ((leg : Leg) → leg_at v.legs y ≡ Some leg → LegStands external tones v y leg)
+      → (z : Slot) (leg : Leg) → IsExternal external z → leg_at v.legs z ≡ Some leg → LegStands external tones v z leg
   each_stands stand at_x at_y z leg within at = elim (same_or_apart z x) [
-    | inl is_x ↦ subst (λ s. LegStands external v s leg) (sym is_x) (at_x leg (sym (ap (leg_at v.legs) is_x) ∙ at))
+    | inl is_x ↦ subst (λ s. LegStands external tones v s leg) (sym is_x) (at_x leg (sym (ap (leg_at v.legs) is_x) ∙ at))
     | inr not_x ↦ elim (same_or_apart z y) [
-      | inl is_y ↦ subst (λ s. LegStands external v s leg) (sym is_y) (at_y leg (sym (ap (leg_at v.legs) is_y) ∙ at))
+      | inl is_y ↦ subst (λ s. LegStands external tones v s leg) (sym is_y) (at_y leg (sym (ap (leg_at v.legs) is_y) ∙ at))
       | inr not_y ↦ let before = sym (beside.legs z within not_x not_y) ∙ at in stands_beside z leg within before not_x not_y (stand.each z leg within before)
     ]
   ]
@@ -89,10 +90,10 @@ module _ (external : ℕ) (w v : World) (x y : Slot) (beside : Beside external w
 abbrev pub SameReferences : ℕ → World → World → Type 0
 SameReferences external w v = (z : Slot) (b : Leg) → IsExternal external z → leg_at v.legs z ≡ Some b → (a : Leg) × (leg_at w.legs z ≡ Some a) × (a.side ≡ b.side) × (a.reference ≡ b.reference)
 
-pub still_one : (external : ℕ) (w v : World) → SameReferences external w v → LegsStand external w
+pub still_one : (external : ℕ) (tones : Tones) (w v : World) → SameReferences external w v → LegsStand external tones w
     → (x y : Slot) (a b : Leg) → IsExternal external x → IsExternal external y → leg_at v.legs x ≡ Some a → leg_at v.legs y ≡ Some b
     → x.line ≡ y.line → a.side ≡ b.side → a.reference ≡ b.reference → x ≡ y
-still_one external w v same stand x y a b in_x in_y at_x at_y line side reference =
+still_one external tones w v same stand x y a b in_x in_y at_x at_y line side reference =
     let p = same x a in_x at_x in
     let q = same y b in_y at_y in
     stand.one x y p.0 q.0 in_x in_y p.1 q.1 line (p.2 ∙ side ∙ sym q.2) (p.3 ∙ reference ∙ sym q.3)

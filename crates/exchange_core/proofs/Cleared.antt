@@ -8,6 +8,7 @@ use Rattle.circuit_model.proofs.Validity.{heard_by-clear}
 use Rattle.control_memory.specs.Layout.{number_of}
 use Rattle.call_states.specs.declared.leg.Leg.{Leg}
 use Rattle.call_states.specs.declared.leg.Peer.TheVariants as peer
+use Rattle.tone_rules.specs.declared.tones.Tones.{Tones}
 use Rattle.exchange_core.specs.Acts.{released, disconnected}
 use Rattle.exchange_core.specs.LegStanding.{LegStands, LegsStand, MayHear}
 use Rattle.exchange_core.specs.Legs.{leg_at}
@@ -25,23 +26,24 @@ deaf_once bridges h x valid = heard_by-clear h.circuits x x (valid.standing x) �
 pub deaf_still : (bridges : ℕ) (h : Holding) (x y : Slot) → Valid bridges h → heard_by h.circuits x ≡ None → heard_by (after h (Clear y)).circuits x ≡ None
 deaf_still bridges h x y valid deaf = heard_by-clear h.circuits y x (valid.standing x) ∙ ap (unless_naming y) deaf
 
--- a leg that was released, or disconnected with a cause, stands alone in silence
-pub released_stands : (external : ℕ) (w v : World) (x : Slot) (leg : Leg) → LegStands external w x leg → heard_by v.holding.circuits x ≡ None → LegStands external v x (released leg)
-released_stands external w v x leg stands deaf = record {
+-- a leg that was released stands alone in silence, and one that was disconnected with a cause where it hears what it may
+pub released_stands : (external : ℕ) (tones : Tones) (w v : World) (x : Slot) (leg : Leg) → LegStands external tones w x leg → heard_by v.holding.circuits x ≡ None → LegStands external tones v x (released leg)
+released_stands external tones w v x leg stands deaf = record {
   state = refl;
   reference = stands.reference;
   cause = stands.cause;
   peer = refl;
-  hears = subst (MayHear (released leg)) (sym deaf) (λ e. absurd cc);
+  hears = subst (MayHear tones (released leg)) (sym deaf) (λ e. absurd cc, refl);
 }
 
-pub disconnected_stands : (external : ℕ) (w v : World) (x : Slot) (leg : Leg) (cause : ℕ) → cause < 128 → LegStands external w x leg → heard_by v.holding.circuits x ≡ None → LegStands external v x (disconnected cause leg)
-disconnected_stands external w v x leg cause small stands deaf = record {
+pub disconnected_stands : (external : ℕ) (tones : Tones) (w v : World) (x : Slot) (leg : Leg) (cause : ℕ) → cause < 128 → LegStands external tones w x leg → MayHear tones (disconnected cause leg) (heard_by v.holding.circuits x)
+    → LegStands external tones v x (disconnected cause leg)
+disconnected_stands external tones w v x leg cause small stands may = record {
   state = refl;
   reference = stands.reference;
   cause = small;
   peer = refl;
-  hears = subst (MayHear (disconnected cause leg)) (sym deaf) (λ e. absurd cc);
+  hears = may;
 }
 
 -- ---- one leg without another
@@ -50,12 +52,12 @@ disconnected_stands external w v x leg cause small stands deaf = record {
 abbrev pub IsLeft : Leg → Option Leg → Type 0
 IsLeft leg o = (o ≡ None) ⊎ (o ≡ Some (released leg))
 
-pub left_stands : (external : ℕ) (w v : World) (x : Slot) (leg : Leg) (o : Option Leg) → IsLeft leg o → LegStands external w x leg → heard_by v.holding.circuits x ≡ None → (l : Leg) → o ≡ Some l → LegStands external v x l
-left_stands external w v x leg o (inl gone) stands deaf l is = let e : None ≡ Some l = sym gone ∙ is in absurd cc
-left_stands external w v x leg o (inr waits) stands deaf l is =
+pub left_stands : (external : ℕ) (tones : Tones) (w v : World) (x : Slot) (leg : Leg) (o : Option Leg) → IsLeft leg o → LegStands external tones w x leg → heard_by v.holding.circuits x ≡ None → (l : Leg) → o ≡ Some l → LegStands external tones v x l
+left_stands external tones w v x leg o (inl gone) stands deaf l is = let e : None ≡ Some l = sym gone ∙ is in absurd cc
+left_stands external tones w v x leg o (inr waits) stands deaf l is =
     let e : Some (released leg) ≡ Some l = sym waits ∙ is in
     let same : released leg ≡ l = cc in
-    subst (LegStands external v x) same (released_stands external w v x leg stands deaf)
+    subst (LegStands external tones v x) same (released_stands external tones w v x leg stands deaf)
 
 pub left_reference : (leg : Leg) (o : Option Leg) → IsLeft leg o → (b : Leg) → o ≡ Some b → (leg.side ≡ b.side) × (leg.reference ≡ b.reference)
 left_reference leg o (inl gone) b is = let e : None ≡ Some b = sym gone ∙ is in absurd cc
@@ -64,7 +66,7 @@ left_reference leg o (inr waits) b is =
     let same : released leg ≡ b = cc in
     (ap (λ (l : Leg). l.side) same, ap (λ (l : Leg). l.reference) same)
 
-module _ (external bridges : ℕ) (w v : World) (x : Slot) (leg : Leg) (o : Option Leg) (valid : Valid bridges w.holding) (stand : LegsStand external w)
+module _ (external : ℕ) (tones : Tones) (bridges : ℕ) (w v : World) (x : Slot) (leg : Leg) (o : Option Leg) (valid : Valid bridges w.holding) (stand : LegsStand external tones w)
     (within : IsExternal external x) (at : leg_at w.legs x ≡ Some leg) (left : IsLeft leg o)
     (legs : v.legs ≡ set w.legs (number_of x) o) (holding : v.holding ≡ after w.holding (Clear x)) (no_peer : (p : Slot) → leg.peer ≡ peer.Leg p → ⊥) where
   legs_alone : (z : Slot) → IsExternal external z → (z ≡ x → ⊥) → leg_at v.legs z ≡ leg_at w.legs z
@@ -82,7 +84,7 @@ module _ (external bridges : ℕ) (w v : World) (x : Slot) (leg : Leg) (o : Opti
   heard_alone : (z : Slot) (l : Leg) → IsExternal external z → leg_at w.legs z ≡ Some l → (z ≡ x → ⊥) → heard_by v.holding.circuits z ≡ heard_by w.holding.circuits z
   heard_alone z l in_z at_z apart =
       ap (λ (h : Holding). heard_by h.circuits z) holding
-      ∙ clear_keeps bridges w.holding l z x valid (stand.each z l in_z at_z).hears apart (strange_alone z l in_z at_z)
+      ∙ clear_keeps bridges tones w.holding l z x valid (stand.each z l in_z at_z).hears apart (strange_alone z l in_z at_z)
 
   beside_alone : Beside external w v x x
   beside_alone = record {
@@ -91,8 +93,8 @@ module _ (external bridges : ℕ) (w v : World) (x : Slot) (leg : Leg) (o : Opti
     strange = λ z l p in_z at_z not_x same is. (strange_alone z l in_z at_z p is, strange_alone z l in_z at_z p is);
   }
 
-  new_alone : (l : Leg) → leg_at v.legs x ≡ Some l → LegStands external v x l
-  new_alone l is = left_stands external w v x leg o left (stand.each x leg within at) (ap (λ (h : Holding). heard_by h.circuits x) holding ∙ deaf_once bridges w.holding x valid) l (sym here_alone ∙ is)
+  new_alone : (l : Leg) → leg_at v.legs x ≡ Some l → LegStands external tones v x l
+  new_alone l is = left_stands external tones w v x leg o left (stand.each x leg within at) (ap (λ (h : Holding). heard_by h.circuits x) holding ∙ deaf_once bridges w.holding x valid) l (sym here_alone ∙ is)
 
   references_alone : SameReferences external w v
   references_alone z b in_z at_z = elim (same_or_apart z x) [
@@ -102,9 +104,9 @@ module _ (external bridges : ℕ) (w v : World) (x : Slot) (leg : Leg) (o : Opti
     | inr not_x ↦ (b, sym (legs_alone z in_z not_x) ∙ at_z, refl, refl)
   ]
 
-  pub alone_left : LegsStand external v
+  pub alone_left : LegsStand external tones v
   alone_left = record {
     count = ap length legs ∙ length-set w.legs (number_of x) o ∙ stand.count;
-    each = each_stands external w v x x beside_alone stand new_alone new_alone;
-    one = still_one external w v references_alone stand;
+    each = each_stands external tones w v x x beside_alone stand new_alone new_alone;
+    one = still_one external tones w v references_alone stand;
   }

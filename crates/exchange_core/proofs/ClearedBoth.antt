@@ -1,20 +1,24 @@
 -- The legs stand after one leg of a call is released and the other is disconnected.
-use Rattle.std.proofs.Common.{◌≡◌, ℕ, ◌<◌, inl, inr, length, set, Option, Some, None, refl, sym, ◌∙◌, ap, subst, length-set}
+use Rattle.std.proofs.Common.{◌≡◌, ℕ, ◌<◌, true, inl, inr, length, set, Option, Some, None, refl, sym, ◌∙◌, ap, subst, length-set}
 use Rattle.circuit_model.specs.declared.channel.Slot.{Slot}
-use Rattle.circuit_model.specs.Circuits.{heard_by}
+use Rattle.circuit_model.specs.declared.circuit.Kind.{Kind}
+use Rattle.circuit_model.specs.Circuits.{heard_by, is_idle}
 use Rattle.circuit_model.specs.Extent.{IsExternal}
 use Rattle.circuit_model.specs.Holding.{Holding, Clear, after, Valid}
 use Rattle.circuit_model.proofs.Validity.{valid-clear}
 use Rattle.control_memory.specs.Layout.{number_of}
 use Rattle.call_states.specs.declared.leg.Leg.{Leg}
 use Rattle.call_states.specs.declared.leg.Peer.TheVariants as peer
-use Rattle.exchange_core.specs.Acts.{disconnected}
-use Rattle.exchange_core.specs.LegStanding.{LegStands, LegsStand}
+use Rattle.tone_rules.specs.declared.tones.Tones.{Tones}
+use Rattle.exchange_core.specs.Acts.{disconnected, tone_of}
+use Rattle.exchange_core.specs.LegStanding.{LegStands, LegsStand, MayHear}
 use Rattle.exchange_core.specs.Legs.{leg_at}
+use Rattle.exchange_core.specs.Operations.{sounding}
 use Rattle.exchange_core.specs.World.{World}
 use Rattle.exchange_core.proofs.Beside.{entry_here, entry_else, same_or_apart, named_back, Beside, each_stands, SameReferences, still_one}
 use Rattle.exchange_core.proofs.Clearing.{IsStrange, clear_both_keeps}
 use Rattle.exchange_core.proofs.Cleared.{IsLeft, left_stands, left_reference, disconnected_stands, deaf_once, deaf_still}
+use Rattle.exchange_core.proofs.Sounding.{cleared_is_idle, sounding_keeps, sounds}
 
 -- two legs that name each other, and no others
 pub record ArePeers (external : ℕ) (w : World) (x y : Slot) (leg other : Leg) : Type 0 where
@@ -27,9 +31,9 @@ pub record ArePeers (external : ℕ) (w : World) (x y : Slot) (leg other : Leg) 
   pub back : other.peer ≡ peer.Leg x
 
 -- a third leg names neither of them
-pub strange_both : (external : ℕ) (w : World) (x y : Slot) (leg other : Leg) → LegsStand external w → ArePeers external w x y leg other
+pub strange_both : (external : ℕ) (tones : Tones) (w : World) (x y : Slot) (leg other : Leg) → LegsStand external tones w → ArePeers external w x y leg other
     → (z : Slot) (l : Leg) → IsExternal external z → leg_at w.legs z ≡ Some l → (z ≡ x → ⊥) → (z ≡ y → ⊥) → IsStrange l x × IsStrange l y
-strange_both external w x y leg other stand peers z l in_z at_z not_x not_y =
+strange_both external tones w x y leg other stand peers z l in_z at_z not_x not_y =
     let has = (stand.each z l in_z at_z).peer in (
       λ p is same.
           let e : peer.Leg y ≡ peer.Leg z = sym peers.there ∙ named_back external w.legs z p l leg is has (ap (leg_at w.legs) same ∙ peers.at_x) in
@@ -41,10 +45,20 @@ strange_both external w x y leg other stand peers z l in_z at_z not_x not_y =
           not_x (sym slots),
     )
 
-module _ (external bridges : ℕ) (w v : World) (x y : Slot) (leg other : Leg) (o : Option Leg) (cause : ℕ) (small : cause < 128) (valid : Valid bridges w.holding) (stand : LegsStand external w)
+module _ (external : ℕ) (tones : Tones) (bridges : ℕ) (w v : World) (x y : Slot) (leg other : Leg) (o : Option Leg) (cause : ℕ) (small : cause < 128) (valid : Valid bridges w.holding) (stand : LegsStand external tones w)
     (peers : ArePeers external w x y leg other) (left : IsLeft leg o)
     (legs : v.legs ≡ set (set w.legs (number_of x) o) (number_of y) (Some (disconnected cause other)))
-    (holding : v.holding ≡ after (after w.holding (Clear x)) (Clear y)) where
+    (holding : v.holding ≡ sounding (after (after w.holding (Clear x)) (Clear y)) y (tone_of tones (disconnected cause other))) where
+  -- once both slots are cleared, and before the one gets its tone
+  abbrev cleared : Holding
+  cleared = after (after w.holding (Clear x)) (Clear y)
+
+  abbrev tone : Option Kind
+  tone = tone_of tones (disconnected cause other)
+
+  idle_y : is_idle cleared.circuits y ≡ true
+  idle_y = cleared_is_idle (after w.holding (Clear x)) y
+
   legs_both : (z : Slot) → IsExternal external z → (z ≡ x → ⊥) → (z ≡ y → ⊥) → leg_at v.legs z ≡ leg_at w.legs z
   legs_both z in_z not_x not_y =
       ap (λ ls. leg_at ls z) legs
@@ -66,28 +80,32 @@ module _ (external bridges : ℕ) (w v : World) (x y : Slot) (leg other : Leg) (
   beside_both = record {
     legs = legs_both;
     heard = λ z l in_z at_z not_x not_y.
-        let strange = strange_both external w x y leg other stand peers z l in_z at_z not_x not_y in
+        let strange = strange_both external tones w x y leg other stand peers z l in_z at_z not_x not_y in
         ap (λ (h : Holding). heard_by h.circuits z) holding
-        ∙ clear_both_keeps bridges w.holding l z x y valid (stand.each z l in_z at_z).hears not_x strange.0 not_y strange.1;
+        ∙ sounding_keeps cleared y idle_y z not_y tone
+        ∙ clear_both_keeps bridges tones w.holding l z x y valid (stand.each z l in_z at_z).hears not_x strange.0 not_y strange.1;
     strange = λ z l p in_z at_z not_x not_y is.
-        let strange = strange_both external w x y leg other stand peers z l in_z at_z not_x not_y in
+        let strange = strange_both external tones w x y leg other stand peers z l in_z at_z not_x not_y in
         (strange.0 p is, strange.1 p is);
   }
 
   deaf_x : heard_by v.holding.circuits x ≡ None
-  deaf_x = ap (λ (h : Holding). heard_by h.circuits x) holding ∙ deaf_still bridges (after w.holding (Clear x)) x y (valid-clear bridges w.holding x valid) (deaf_once bridges w.holding x valid)
+  deaf_x =
+      ap (λ (h : Holding). heard_by h.circuits x) holding
+      ∙ sounding_keeps cleared y idle_y x (λ e. peers.apart (sym e)) tone
+      ∙ deaf_still bridges (after w.holding (Clear x)) x y (valid-clear bridges w.holding x valid) (deaf_once bridges w.holding x valid)
 
-  deaf_y : heard_by v.holding.circuits y ≡ None
-  deaf_y = ap (λ (h : Holding). heard_by h.circuits y) holding ∙ deaf_once bridges (after w.holding (Clear x)) y (valid-clear bridges w.holding x valid)
+  hears_y : MayHear tones (disconnected cause other) (heard_by v.holding.circuits y)
+  hears_y = subst (λ (h : Holding). MayHear tones (disconnected cause other) (heard_by h.circuits y)) (sym holding) (sounds cleared y idle_y tones (disconnected cause other) (λ e. absurd cc))
 
-  new_x : (l : Leg) → leg_at v.legs x ≡ Some l → LegStands external v x l
-  new_x l is = left_stands external w v x leg o left (stand.each x leg peers.in_x peers.at_x) deaf_x l (sym here_x ∙ is)
+  new_x : (l : Leg) → leg_at v.legs x ≡ Some l → LegStands external tones v x l
+  new_x l is = left_stands external tones w v x leg o left (stand.each x leg peers.in_x peers.at_x) deaf_x l (sym here_x ∙ is)
 
-  new_y : (l : Leg) → leg_at v.legs y ≡ Some l → LegStands external v y l
+  new_y : (l : Leg) → leg_at v.legs y ≡ Some l → LegStands external tones v y l
   new_y l is =
       let e : Some (disconnected cause other) ≡ Some l = sym here_y ∙ is in
       let same : disconnected cause other ≡ l = cc in
-      subst (LegStands external v y) same (disconnected_stands external w v y other cause small (stand.each y other peers.in_y peers.at_y) deaf_y)
+      subst (LegStands external tones v y) same (disconnected_stands external tones w v y other cause small (stand.each y other peers.in_y peers.at_y) hears_y)
 
   references_both : SameReferences external w v
   references_both z b in_z at_z = elim (same_or_apart z x) [
@@ -103,9 +121,9 @@ module _ (external bridges : ℕ) (w v : World) (x y : Slot) (leg other : Leg) (
     ]
   ]
 
-  pub both_cleared : LegsStand external v
+  pub both_cleared : LegsStand external tones v
   both_cleared = record {
     count = ap length legs ∙ length-set (set w.legs (number_of x) o) (number_of y) (Some (disconnected cause other)) ∙ length-set w.legs (number_of x) o ∙ stand.count;
-    each = each_stands external w v x y beside_both stand new_x new_y;
-    one = still_one external w v references_both stand;
+    each = each_stands external tones w v x y beside_both stand new_x new_y;
+    one = still_one external tones w v references_both stand;
   }

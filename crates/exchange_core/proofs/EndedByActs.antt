@@ -18,6 +18,7 @@ use Rattle.call_states.specs.declared.leg.Peer.TheVariants as peer
 use Rattle.call_states.specs.declared.leg.Side.{Side}
 use Rattle.call_states.specs.declared.leg.Side.TheVariants.{Caller, Called}
 use Rattle.call_states.proofs.Causes.{cause_fits}
+use Rattle.tone_rules.specs.declared.tones.Tones.{Tones}
 use Rattle.exchange_core.specs.declared.leg_table.Held.{Held}
 use Rattle.exchange_core.specs.declared.record.CallRecord.{CallRecord}
 use Rattle.exchange_core.specs.Acts.{course_of, released, disconnected, in_state, peer_of, with_peer, clear_with, disconnecting, releasing, removing, alerting, answer}
@@ -67,7 +68,7 @@ same_goes_on before after x same calls = ap is_calling same ∙ calls
 
 -- ---- once the leg's slot is cleared, and the leg waits for its release or is gone
 
-module _ (d : Dimensions) (w : World) (x : Slot) (leg : Leg) (o : Option Leg) (cause : ℕ) (stand : LegsStand d.external w)
+module _ (d : Dimensions) (tones : Tones) (w : World) (x : Slot) (leg : Leg) (o : Option Leg) (cause : ℕ) (stand : LegsStand d.external tones w)
     (within : IsExternal d.external x) (at : leg_at w.legs x ≡ Some leg) (left : IsLeft leg o)
     (m : Making) (legs : m.world.legs ≡ set w.legs (number_of x) o) where
   abbrev one : Leg → Slot → List CallRecord
@@ -135,16 +136,16 @@ module _ (d : Dimensions) (w : World) (x : Slot) (leg : Leg) (o : Option Leg) (c
     both_records Called is call = both_called is
 
   peer_records : (p : Peer) → leg.peer ≡ p → HasPeer d.external w.legs x leg p
-      → records w (performed_all d m (with_peer (peer_of w.legs p) (clear_with cause))).world cause
+      → records w (performed_all d m (with_peer (peer_of w.legs p) (clear_with tones cause))).world cause
       ≡ cons_option (option_and_then (record_calling w cause) (caller_in leg.side (record { slot = x; leg = leg }) (peer_of w.legs p))) []
   peer_records peer.Alone is has = alone_records leg.side refl
   peer_records (peer.Leg y) is has =
       rw (held_there w.legs y has.1.0 has.1.1)
-      (both_records (performed_all d m (clear_with cause (record { slot = y; leg = has.1.0 }))).world y has.1.0 (Some (disconnected cause has.1.0)) has.0 has.1.1
+      (both_records (performed_all d m (clear_with tones cause (record { slot = y; leg = has.1.0 }))).world y has.1.0 (Some (disconnected cause has.1.0)) has.0 has.1.1
       (peers_apart w.legs x y leg has.1.0 at has.1.1 has.1.2) (disconnected_silent cause has.1.0) refl leg.side refl has.1.2)
   peer_records (peer.Room room) is has = alone_records leg.side refl
 
-  pub clearing_records : records w (performed_all d m (with_peer (peer_of w.legs leg.peer) (clear_with cause))).world cause
+  pub clearing_records : records w (performed_all d m (with_peer (peer_of w.legs leg.peer) (clear_with tones cause))).world cause
       ≡ cons_option (record_ended w (record { slot = x; leg = leg }) cause) []
   clearing_records = peer_records leg.peer refl (stand.each x leg within at).peer
 
@@ -178,13 +179,13 @@ active_calls leg is = rw is refl
 
 -- ---- the acts
 
-module _ (s : Setting) (w : World) (h : Held) (k : MessageKind) (stand : LegsStand s.dimensions.external w)
+module _ (s : Setting) (w : World) (h : Held) (k : MessageKind) (stand : LegsStand s.dimensions.external s.tones w)
     (within : IsExternal s.dimensions.external h.slot) (at : leg_at w.legs h.slot ≡ Some h.leg) where
   abbrev caller_there : Type 0
   caller_there = (y : Slot) × (h.leg.peer ≡ peer.Leg y) × IsExternal s.dimensions.external y × ((other : Leg) × (leg_at w.legs y ≡ Some other) × AreOneCall y other h.slot h.leg)
 
   has_caller : is_among ringing h.leg.state ≡ true → caller_there
-  has_caller rings = caller_of s.dimensions.external w h.slot h.leg rings h.leg.peer (stand.each h.slot h.leg within at).peer
+  has_caller rings = caller_of s.dimensions.external s.tones w h.slot h.leg rings h.leg.peer (stand.each h.slot h.leg within at).peer
 
   apart_from : (c : caller_there) → c.0 ≡ h.slot → ⊥
   apart_from c = peers_apart w.legs h.slot c.0 h.leg c.3.0 at c.3.1 (subst (λ (side : Side). IsInCall side h.slot h.leg c.0 c.3.0) (sym c.3.2.is_called) c.3.2)
@@ -195,20 +196,20 @@ module _ (s : Setting) (w : World) (h : Held) (k : MessageKind) (stand : LegsSta
   progress_records os c none =
       ap (λ (list : List Operation). records w (performed_all s.dimensions (begun w) list).world 0) (with_caller w.legs h.leg.peer c.0 c.3.0 os c.1 c.3.1) ∙ none
 
-  act_records : (a : Act) → Asked h.leg.state a → records w (made_by s w (course_of w.legs h k a)).world (course_of w.legs h k a).cause ≡ records_of_act w h a
+  act_records : (a : Act) → Asked h.leg.state a → records w (made_by s w (course_of s.tones w.legs h k a)).world (course_of s.tones w.legs h k a).cause ≡ records_of_act w h a
   act_records act.Nothing asks = no_records w 0
   act_records act.Unexpected asks = no_records w 0
   act_records act.Enquiry asks = no_records w 0
   act_records act.Proceeding asks =
       let c = has_caller (one_rings h.leg.state asks) in
-      called_alone s.dimensions.external w (made_by s w (course_of w.legs h k act.Proceeding)).world h.slot c.0 h.leg c.3.0 0 stand.count within at c.3.2.is_called
+      called_alone s.dimensions.external w (made_by s w (course_of s.tones w.legs h k act.Proceeding)).world h.slot c.0 h.leg c.3.0 0 stand.count within at c.3.2.is_called
       (Some (in_state incoming_call_proceeding h.leg)) refl
   act_records act.Alerting asks =
       let c = has_caller (two_ring h.leg.state asks) in
       let y = c.0 in
       let other = c.3.0 in
-      progress_records (alerting h) c
-      (caller_too s.dimensions.external w (performed_all s.dimensions (begun w) (alerting h (record { slot = y; leg = other }))).world h.slot y h.leg other 0 stand.count within at c.3.2.is_called
+      progress_records (alerting s.tones h) c
+      (caller_too s.dimensions.external w (performed_all s.dimensions (begun w) (alerting s.tones h (record { slot = y; leg = other }))).world h.slot y h.leg other 0 stand.count within at c.3.2.is_called
       (Some (in_state call_received h.leg)) (in_state call_delivered other) c.2 (apart_from c) (delivered_calls other c.3.2.calls) refl)
   act_records act.Answer asks =
       let c = has_caller asks in
@@ -218,13 +219,13 @@ module _ (s : Setting) (w : World) (h : Held) (k : MessageKind) (stand : LegsSta
       (caller_too s.dimensions.external w (performed_all s.dimensions (begun w) (answer h (record { slot = y; leg = other }))).world h.slot y h.leg other 0 stand.count within at c.3.2.is_called
       (Some (in_state active h.leg)) (in_state active other) c.2 (apart_from c) (active_calls other c.3.2.calls) refl)
   act_records (act.Disconnect cause) asks =
-      clearing_records s.dimensions w h.slot h.leg (Some (released h.leg)) cause stand within at (inr refl) (performed_all s.dimensions (begun w) (disconnecting h)) refl
+      clearing_records s.dimensions s.tones w h.slot h.leg (Some (released h.leg)) cause stand within at (inr refl) (performed_all s.dimensions (begun w) (disconnecting h)) refl
   act_records (act.Released cause) asks =
-      clearing_records s.dimensions w h.slot h.leg None cause stand within at (inl refl) (performed_all s.dimensions (begun w) (releasing h)) refl
+      clearing_records s.dimensions s.tones w h.slot h.leg None cause stand within at (inl refl) (performed_all s.dimensions (begun w) (releasing h)) refl
   act_records (act.Gone cause) asks =
-      clearing_records s.dimensions w h.slot h.leg None cause stand within at (inl refl) (performed_all s.dimensions (begun w) (removing h)) refl
+      clearing_records s.dimensions s.tones w h.slot h.leg None cause stand within at (inl refl) (performed_all s.dimensions (begun w) (removing h)) refl
 
   -- what a message to a leg ends is what its act ends
   pub leg_records : (m : Message)
-      → records w (made_by s w (course_of w.legs h k (act_on h.leg.state m))).world (course_of w.legs h k (act_on h.leg.state m)).cause ≡ records_of_act w h (act_on h.leg.state m)
+      → records w (made_by s w (course_of s.tones w.legs h k (act_on h.leg.state m))).world (course_of s.tones w.legs h k (act_on h.leg.state m)).cause ≡ records_of_act w h (act_on h.leg.state m)
   leg_records m = act_records (act_on h.leg.state m) (asked h.leg.state m.kind (clearing_cause m.elements) (is_null (call_state_in m.elements)) (cause_fits m.elements))

@@ -89,41 +89,41 @@ pub with_caller : (legs : Legs) (p : Peer) (y : Slot) (other : Leg) (does : Held
     → with_peer (peer_of legs p) does ≡ does (record { slot = y; leg = other })
 with_caller legs p y other does is at = rw (is, held_there legs y other at) refl
 
-module _ (s : Setting) (w : World) (h : Held) (valid : Valid s.dimensions.bridges w.holding) (stand : LegsStand s.dimensions.external w)
+module _ (s : Setting) (w : World) (h : Held) (valid : Valid s.dimensions.bridges w.holding) (stand : LegsStand s.dimensions.external s.tones w)
     (within : IsExternal s.dimensions.external h.slot) (at : leg_at w.legs h.slot ≡ Some h.leg) where
   ringing_kept : is_among ringing h.leg.state ≡ true
       → (os : Held → List Operation)
-      → ((y : Slot) (other : Leg) → ArePeers s.dimensions.external w h.slot y h.leg other → AreOneCall y other h.slot h.leg → Kept s.dimensions (performed_all s.dimensions (begun w) (os (record { slot = y; leg = other }))).world)
-      → Kept s.dimensions (performed_all s.dimensions (begun w) (with_peer (peer_of w.legs h.leg.peer) os)).world
+      → ((y : Slot) (other : Leg) → ArePeers s.dimensions.external w h.slot y h.leg other → AreOneCall y other h.slot h.leg → Kept s.dimensions s.tones (performed_all s.dimensions (begun w) (os (record { slot = y; leg = other }))).world)
+      → Kept s.dimensions s.tones (performed_all s.dimensions (begun w) (with_peer (peer_of w.legs h.leg.peer) os)).world
   ringing_kept rings os kept =
       let external = s.dimensions.external in
-      let c = caller_of external w h.slot h.leg rings h.leg.peer (stand.each h.slot h.leg within at).peer in
+      let c = caller_of external s.tones w h.slot h.leg rings h.leg.peer (stand.each h.slot h.leg within at).peer in
       let in_call : IsInCall h.leg.side h.slot h.leg c.0 c.3.0 = subst (λ (side : Side). IsInCall side h.slot h.leg c.0 c.3.0) (sym c.3.2.is_called) c.3.2 in
       let peers = peers_of external w h.slot c.0 h.leg c.3.0 within c.2 at c.3.1 in_call in
-      subst (λ (list : List Operation). Kept s.dimensions (performed_all s.dimensions (begun w) list).world) (sym (with_caller w.legs h.leg.peer c.0 c.3.0 os c.1 c.3.1)) (kept c.0 c.3.0 peers c.3.2)
+      subst (λ (list : List Operation). Kept s.dimensions s.tones (performed_all s.dimensions (begun w) list).world) (sym (with_caller w.legs h.leg.peer c.0 c.3.0 os c.1 c.3.1)) (kept c.0 c.3.0 peers c.3.2)
 
   silent : is_among ringing h.leg.state ≡ true → heard_by w.holding.circuits h.slot ≡ None
-  silent rings = silent_by s.dimensions.external w h.slot h.leg rings (heard_by w.holding.circuits h.slot) (stand.each h.slot h.leg within at).hears
+  silent rings = silent_by s.dimensions.external s.tones w h.slot h.leg rings (heard_by w.holding.circuits h.slot) (stand.each h.slot h.leg within at).hears
 
   -- what an act that was asked makes
-  act_kept : (k : MessageKind) (a : Act) → Asked h.leg.state a → Kept s.dimensions (made_by s w (course_of w.legs h k a)).world
+  act_kept : (k : MessageKind) (a : Act) → Asked h.leg.state a → Kept s.dimensions s.tones (made_by s w (course_of s.tones w.legs h k a)).world
   act_kept k act.Nothing asks = (valid, stand)
   act_kept k act.Unexpected asks = (valid, stand)
   act_kept k act.Enquiry asks = (valid, stand)
   act_kept k act.Proceeding asks =
       let external = s.dimensions.external in
       let rings = one_rings h.leg.state asks in
-      let c = caller_of external w h.slot h.leg rings h.leg.peer (stand.each h.slot h.leg within at).peer in
+      let c = caller_of external s.tones w h.slot h.leg rings h.leg.peer (stand.each h.slot h.leg within at).peer in
       let in_call : IsInCall h.leg.side h.slot h.leg c.0 c.3.0 = subst (λ (side : Side). IsInCall side h.slot h.leg c.0 c.3.0) (sym c.3.2.is_called) c.3.2 in
       let peers = peers_of external w h.slot c.0 h.leg c.3.0 within c.2 at c.3.1 in_call in
-      proceeding_kept s.dimensions w h.slot c.0 h.leg c.3.0 valid stand peers c.3.2 (silent rings) asks
+      proceeding_kept s.dimensions s.tones w h.slot c.0 h.leg c.3.0 valid stand peers c.3.2 (silent rings) asks
   act_kept k act.Alerting asks =
       let rings = two_ring h.leg.state asks in
-      ringing_kept rings (alerting h) (λ y other peers call. alerting_kept s.dimensions w h.slot y h.leg other valid stand peers call (silent rings) asks)
-  act_kept k act.Answer asks = ringing_kept asks (answer h) (λ y other peers call. answer_kept s.dimensions w h.slot y h.leg other valid stand peers call (silent asks))
+      ringing_kept rings (alerting s.tones h) (λ y other peers call. alerting_kept s.dimensions s.tones w h.slot y h.leg other valid stand peers call (silent rings) asks)
+  act_kept k act.Answer asks = ringing_kept asks (answer h) (λ y other peers call. answer_kept s.dimensions s.tones w h.slot y h.leg other valid stand peers call (silent asks))
   act_kept k (act.Disconnect cause) asks = disconnect_kept s w h k cause asks valid stand within at
   act_kept k (act.Released cause) asks = released_kept s w h k cause asks valid stand within at
   act_kept k (act.Gone cause) asks = gone_kept s w h k cause asks valid stand within at
 
-  pub leg_kept : (m : Message) → Kept s.dimensions (made_by s w (course_of w.legs h m.kind (act_on h.leg.state m))).world
+  pub leg_kept : (m : Message) → Kept s.dimensions s.tones (made_by s w (course_of s.tones w.legs h m.kind (act_on h.leg.state m))).world
   leg_kept m = act_kept m.kind (act_on h.leg.state m) (asked h.leg.state m.kind (clearing_cause m.elements) (is_null (call_state_in m.elements)) (cause_fits m.elements))

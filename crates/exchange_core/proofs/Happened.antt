@@ -37,16 +37,16 @@ octets_small octets all i = elim (cases_lt i (length octets)) [
 ]
 
 -- a message that is sent changes nothing else
-kept_without : (s : Setting) (w : World) (line : ℕ) (o : Option OutgoingMessage) → Kept s.dimensions w → Kept s.dimensions (made_by s w (only (answer_back line o))).world
+kept_without : (s : Setting) (w : World) (line : ℕ) (o : Option OutgoingMessage) → Kept s.dimensions s.tones w → Kept s.dimensions s.tones (made_by s w (only (answer_back line o))).world
 kept_without s w line None kept = kept
 kept_without s w line (Some message) kept = kept
 
-kept_stands : (s : Setting) (v : World) → Kept s.dimensions v → CallsStand s v
+kept_stands : (s : Setting) (v : World) → Kept s.dimensions s.tones v → CallsStand s v
 kept_stands s v kept = record { circuits = kept.0; legs = kept.1 }
 
 module _ (s : Setting) (w : World) (line : ℕ) (octets : List ℕ) (planned : IsPlanned s) (can : Fits s.dimensions.external (Message line octets)) (valid : Valid s.dimensions.bridges w.holding)
-    (stand : LegsStand s.dimensions.external w) where
-  received_kept : (r : Received) → received w.legs line octets ≡ r → Kept s.dimensions (done_for s w line r).making.world
+    (stand : LegsStand s.dimensions.external s.tones w) where
+  received_kept : (r : Received) → received w.legs line octets ≡ r → Kept s.dimensions s.tones (done_for s w line r).making.world
   received_kept (For_leg h m) is =
       let named = received_stands w.legs line octets h m is in
       let on = named.among in
@@ -56,7 +56,7 @@ module _ (s : Setting) (w : World) (line : ℕ) (octets : List ℕ) (planned : I
       let message = read_message octets m (octets_small octets can.1) new.0 in
       setup_kept s w line m (record { planned = planned; valid = valid; stand = stand; below = can.0; own = (new.1, message.value); unused = new.2 })
   received_kept (On_no_call m) is = kept_without s w line (answer_without_call m) (valid, stand)
-  received_kept (Restarts r) is = below_kept s.dimensions r line w can.0 (valid, stand) 30 (omega arith)
+  received_kept (Restarts r) is = below_kept s.dimensions s.tones r line w can.0 (valid, stand) 30 (omega arith)
   received_kept Unanswered is = (valid, stand)
 
 pub happened_kept : (s : Setting) (w : World) (e : Event) → IsPlanned s → Fits s.dimensions.external e → CallsStand s w → CallsStand s (next s w e)

@@ -3,9 +3,11 @@ pub mod Steps
 pub mod Obeying
 pub mod Taken
 pub mod EarlierFrames
+pub mod Given
 pub mod Below
 pub mod Refusals
 pub mod Named
+pub mod Sounding
 pub mod Answering
 pub mod Looking
 pub mod Beside

@@ -1,13 +1,14 @@
 -- What each operation makes of a world in the making, told by what it makes of map and legs.
 use Rattle.std.proofs.Common.{◌≡◌, ℕ, List, [], ◌∷◌, ◌++◌, Option, refl, sym, ◌∙◌, ap, subst}
 use Rattle.circuit_model.specs.declared.channel.Slot.{Slot}
-use Rattle.circuit_model.specs.Holding.{Seat as Take_seat}
+use Rattle.circuit_model.specs.declared.circuit.Kind.{Kind}
+use Rattle.circuit_model.specs.Holding.{Seat as Take_seat, Clear as Clear_slot}
 use Rattle.circuit_map.specs.Connections.{Connections}
 use Rattle.q931_codec.specs.Outgoing.{OutgoingMessage, encoding}
 use Rattle.call_states.specs.declared.leg.Leg.{Leg}
 use Rattle.exchange_core.specs.declared.signal.Signal.{Signal}
 use Rattle.exchange_core.specs.Legs.{Legs, with_leg}
-use Rattle.exchange_core.specs.Operations.{Seat, Put, Send, Making, moves_of_seat, performed}
+use Rattle.exchange_core.specs.Operations.{Clear, Seat, Sound, Put, Send, Making, moves_of_seat, performed, sounding}
 use Rattle.exchange_core.specs.Permitted.{CanSeat}
 use Rattle.exchange_core.specs.Standing.{Holds, Makes}
 use Rattle.exchange_core.specs.World.{Dimensions, World, obey}
@@ -26,6 +27,13 @@ module _ (d : Dimensions) (map map' : Connections) (legs legs' : Legs) (sends se
         sent = makes.sent;
         moves = makes.moves;
       }
+
+  pub makes_clear : (x : Slot) → ((w : World) → Holds d map legs w → Holds d map' legs' (obey d w (Clear_slot x))) → Makes d map' legs' sends moved (performed d m (Clear x))
+  makes_clear x holds = record { holds = holds m.world makes.holds; sent = makes.sent; moves = makes.moves }
+
+  pub makes_sound : (x : Slot) (kind : Option Kind) → ((w : World) → Holds d map legs w → Holds d map' legs' (record w { holding = sounding w.holding x kind }))
+      → Makes d map' legs' sends moved (performed d m (Sound x kind))
+  makes_sound x kind holds = record { holds = holds m.world makes.holds; sent = makes.sent; moves = makes.moves }
 
   pub makes_seat : (x : Slot) (room : ℕ) → ((w : World) → Holds d map legs w → Holds d map' legs' (obey d w (Take_seat x room))) → ((w : World) → Holds d map legs w → moved' ≡ moves_of_seat d w x)
       → Makes d map' legs' sends moved' (performed d m (Seat x room))

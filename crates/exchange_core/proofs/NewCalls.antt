@@ -15,6 +15,7 @@ use Rattle.q931_codec.specs.CallStates.{outgoing_call_proceeding, active}
 use Rattle.call_states.specs.declared.leg.Leg.{Leg}
 use Rattle.call_states.specs.declared.leg.Peer.TheVariants as peer
 use Rattle.call_states.specs.declared.leg.Side.TheVariants.{Caller, Called}
+use Rattle.tone_rules.specs.declared.tones.Tones.{Tones}
 use Rattle.exchange_core.specs.IdleSlots.{idle}
 use Rattle.exchange_core.specs.LegStanding.{LegStands, LegsStand, MayHear, AreOneCall}
 use Rattle.exchange_core.specs.Legs.{Legs, leg_at, leg_named}
@@ -73,9 +74,9 @@ module _ (external : ℕ) (legs : Legs) (x : Slot) (new : Leg) (size : length le
 -- ---- a call to a line
 
 -- what was seen to before the call was accepted: its caller's slot is idle, and nobody has its reference
-pub record MayCall (d : Dimensions) (w : World) (m : Message) (x : Slot) : Type 0 where
+pub record MayCall (d : Dimensions) (tones : Tones) (w : World) (m : Message) (x : Slot) : Type 0 where
   pub valid : Valid d.bridges w.holding
-  pub stand : LegsStand d.external w
+  pub stand : LegsStand d.external tones w
   pub in_x : IsExternal d.external x
   pub idle_x : idle w x ≡ true
   pub own : (1 ≤ m.reference) × (m.reference < 2 ^ 15)
@@ -96,7 +97,7 @@ module _ (w : World) (x : Slot) (idle_x : idle w x ≡ true) where
   pub empty_slot : leg_at w.legs x ≡ None
   empty_slot = is_empty (leg_at w.legs x) (both_true (is_idle w.holding.circuits x) (is_none (leg_at w.legs x)) idle_x).1
 
-module _ (d : Dimensions) (w : World) (m : Message) (x y : Slot) (reference : ℕ) (may : MayCall d w m x) (offer : MayOffer d w x y reference) where
+module _ (d : Dimensions) (tones : Tones) (w : World) (m : Message) (x y : Slot) (reference : ℕ) (may : MayCall d tones w m x) (offer : MayOffer d w x y reference) where
   abbrev caller : Leg
   caller = caller_leg outgoing_call_proceeding m.reference (peer.Leg y)
 
@@ -115,22 +116,22 @@ module _ (d : Dimensions) (w : World) (m : Message) (x y : Slot) (reference : �
   one_call : AreOneCall x caller y called
   one_call = record { calls = refl; is_called = refl; there = refl; back = refl; matched = refl }
 
-  caller_stands : LegStands d.external after_call x caller
+  caller_stands : LegStands d.external tones after_call x caller
   caller_stands = record {
     state = refl;
     reference = may.own;
     cause = omega arith;
     peer = (offer.in_y, (called, at_called, one_call));
-    hears = subst (MayHear caller) (sym (silent_slot w x may.idle_x)) (λ e. absurd cc);
+    hears = subst (MayHear tones caller) (sym (silent_slot w x may.idle_x)) (λ e. absurd cc, refl);
   }
 
-  called_stands : LegStands d.external after_call y called
+  called_stands : LegStands d.external tones after_call y called
   called_stands = record {
     state = refl;
     reference = offer.small;
     cause = omega arith;
     peer = (may.in_x, (caller, at_caller, one_call));
-    hears = subst (MayHear called) (sym (silent_slot w y offer.idle_y)) (λ e. absurd cc);
+    hears = subst (MayHear tones called) (sym (silent_slot w y offer.idle_y)) (λ e. absurd cc, refl);
   }
 
   beside_call : Beside d.external w after_call x y
@@ -138,16 +139,16 @@ module _ (d : Dimensions) (w : World) (m : Message) (x y : Slot) (reference : �
     legs = both_else d.external w.legs x y (Some caller) (Some called) may.stand.count may.in_x offer.in_y offer.apart;
     heard = λ z l in_z at_z not_x not_y. refl;
     strange = λ z l p in_z at_z not_x not_y is. (
-      strange_to_empty d.external w x may.stand (empty_slot w x may.idle_x) z l in_z at_z p is,
-      strange_to_empty d.external w y may.stand (empty_slot w y offer.idle_y) z l in_z at_z p is,
+      strange_to_empty d.external tones w x may.stand (empty_slot w x may.idle_x) z l in_z at_z p is,
+      strange_to_empty d.external tones w y may.stand (empty_slot w y offer.idle_y) z l in_z at_z p is,
     );
   }
 
-  at_x : (l : Leg) → leg_at after_call.legs x ≡ Some l → LegStands d.external after_call x l
-  at_x l is = let e : Some caller ≡ Some l = sym at_caller ∙ is in let same : caller ≡ l = cc in subst (LegStands d.external after_call x) same caller_stands
+  at_x : (l : Leg) → leg_at after_call.legs x ≡ Some l → LegStands d.external tones after_call x l
+  at_x l is = let e : Some caller ≡ Some l = sym at_caller ∙ is in let same : caller ≡ l = cc in subst (LegStands d.external tones after_call x) same caller_stands
 
-  at_y : (l : Leg) → leg_at after_call.legs y ≡ Some l → LegStands d.external after_call y l
-  at_y l is = let e : Some called ≡ Some l = sym at_called ∙ is in let same : called ≡ l = cc in subst (LegStands d.external after_call y) same called_stands
+  at_y : (l : Leg) → leg_at after_call.legs y ≡ Some l → LegStands d.external tones after_call y l
+  at_y l is = let e : Some called ≡ Some l = sym at_called ∙ is in let same : called ≡ l = cc in subst (LegStands d.external tones after_call y) same called_stands
 
   none_caller : HasNone d.external w.legs x caller
   none_caller z l in_z apart at line side same = none_named w.legs x.line false m.reference may.unused z l (line, in_z.1) at side same
@@ -162,12 +163,12 @@ module _ (d : Dimensions) (w : World) (m : Message) (x y : Slot) (reference : �
     | inr other ↦ none_named w.legs y.line true reference offer.free z l (line, in_z.1) (else_is d.external w.legs x caller may.stand.count may.in_x z l in_z other at) side same
   ]
 
-  pub line_call_kept : Kept d (performed_all d (begun w) (call_line m x y reference)).world
+  pub line_call_kept : Kept d tones (performed_all d (begun w) (call_line m x y reference)).world
   line_call_kept = (
     may.valid,
     record {
       count = both_size d.external w.legs x y (Some caller) (Some called) may.stand.count may.in_x offer.in_y offer.apart;
-      each = each_stands d.external w after_call x y beside_call may.stand at_x at_y;
+      each = each_stands d.external tones w after_call x y beside_call may.stand at_x at_y;
       one = distinct_with d.external (set w.legs (number_of x) (Some caller)) y called (length-set w.legs (number_of x) (Some caller) ∙ may.stand.count) offer.in_y
           (distinct_with d.external w.legs x caller may.stand.count may.in_x may.stand.one none_caller) none_called;
     },
@@ -175,7 +176,7 @@ module _ (d : Dimensions) (w : World) (m : Message) (x y : Slot) (reference : �
 
 -- ---- a call to a room
 
-module _ (d : Dimensions) (w : World) (m : Message) (x : Slot) (room : ℕ) (may : MayCall d w m x) (free : is_full d w ≡ false) where
+module _ (d : Dimensions) (tones : Tones) (w : World) (m : Message) (x : Slot) (room : ℕ) (may : MayCall d tones w m x) (free : is_full d w ≡ false) where
   abbrev member : Leg
   member = caller_leg active m.reference (peer.Room room)
 
@@ -191,13 +192,13 @@ module _ (d : Dimensions) (w : World) (m : Message) (x : Slot) (room : ℕ) (may
   heard_member : heard_by after_seat.holding.circuits x ≡ Some (Member room x w.holding.next)
   heard_member = heard_by-one w.holding.circuits (Member room x w.holding.next) x idle_member ∙ rw (same_slot-refl x) refl
 
-  member_stands : LegStands d.external after_seat x member
+  member_stands : LegStands d.external tones after_seat x member
   member_stands = record {
     state = refl;
     reference = may.own;
     cause = omega arith;
     peer = (refl, refl);
-    hears = subst (MayHear member) (sym heard_member) (refl, refl);
+    hears = subst (MayHear tones member) (sym heard_member) (refl, refl);
   }
 
   beside_seat : Beside d.external w after_seat x x
@@ -205,22 +206,22 @@ module _ (d : Dimensions) (w : World) (m : Message) (x : Slot) (room : ℕ) (may
     legs = λ z in_z not_x same. entry_else d.external w.legs x z (Some member) may.in_x in_z not_x;
     heard = λ z l in_z at_z not_x same. seat_keeps w.holding x z room idle_member not_x;
     strange = λ z l p in_z at_z not_x same is.
-        let strange = strange_to_empty d.external w x may.stand (empty_slot w x may.idle_x) z l in_z at_z p is in
+        let strange = strange_to_empty d.external tones w x may.stand (empty_slot w x may.idle_x) z l in_z at_z p is in
         (strange, strange);
   }
 
-  seated_leg : (l : Leg) → leg_at after_seat.legs x ≡ Some l → LegStands d.external after_seat x l
-  seated_leg l is = let e : Some member ≡ Some l = sym at_member ∙ is in let same : member ≡ l = cc in subst (LegStands d.external after_seat x) same member_stands
+  seated_leg : (l : Leg) → leg_at after_seat.legs x ≡ Some l → LegStands d.external tones after_seat x l
+  seated_leg l is = let e : Some member ≡ Some l = sym at_member ∙ is in let same : member ≡ l = cc in subst (LegStands d.external tones after_seat x) same member_stands
 
   none_member : HasNone d.external w.legs x member
   none_member z l in_z apart at line side same = none_named w.legs x.line false m.reference may.unused z l (line, in_z.1) at side same
 
-  pub room_call_kept : Kept d (performed_all d (begun w) (call_room m x room)).world
+  pub room_call_kept : Kept d tones (performed_all d (begun w) (call_room m x room)).world
   room_call_kept = (
     valid-seat d.bridges w.holding x room may.valid idle_member (not_full d.bridges w.holding may.valid free),
     record {
       count = length-set w.legs (number_of x) (Some member) ∙ may.stand.count;
-      each = each_stands d.external w after_seat x x beside_seat may.stand seated_leg seated_leg;
+      each = each_stands d.external tones w after_seat x x beside_seat may.stand seated_leg seated_leg;
       one = distinct_with d.external w.legs x member may.stand.count may.in_x may.stand.one none_member;
     },
   )

@@ -2,8 +2,9 @@
 use Rattle.std.proofs.Common.{◌≡◌, ℕ, ◌*◌, ◌==◌, Bool, true, Option, Some, None, refl, ◌∙◌, ap, subst, arith}
 use Rattle.std.specs.Prelude.{count_by, option_map, IfSome}
 use Rattle.circuit_model.specs.declared.channel.Slot.{Slot}
+use Rattle.circuit_model.specs.declared.circuit.Kind.{Kind}
 use Rattle.circuit_model.specs.Circuits.{is_idle, is_member}
-use Rattle.circuit_model.specs.Holding.{Connect, Seat, Clear}
+use Rattle.circuit_model.specs.Holding.{Connect, Seat, Give_tone, Clear, after}
 use Rattle.circuit_model.specs.Ports.{port_of, given}
 use Rattle.circuit_model.proofs.Slots.{idle_is_deaf}
 use Rattle.circuit_map.specs.Connections.{Connections, SameSizes, Obeys, AreMoves, joined_both, parted, hears_at}
@@ -14,7 +15,7 @@ use Rattle.exchange_core.specs.Standing.{StandsFor, Holds, dimensions_of}
 use Rattle.exchange_core.specs.declared.reply.Reply.TheVariants.{Seated}
 use Rattle.exchange_core.specs.World.{Dimensions, World, obey, is_full, seated}
 use Rattle.exchange_core.proofs.Steps as Steps
-use Rattle.exchange_core.proofs.Steps.{nail_stands, clear_stands, seat_stands, has_port}
+use Rattle.exchange_core.proofs.Steps.{nail_stands, tone_stands, clear_stands, seat_stands, has_port}
 
 pub same_dimensions : (m n : Connections) → SameSizes m n → dimensions_of n ≡ dimensions_of m
 same_dimensions m n same = λ i. record { external = same.external i; bridges = same.bridges i; slots = same.slots i }
@@ -31,6 +32,14 @@ module _ (d : Dimensions) (m : Connections) (legs : Legs) (w : World) (h : Holds
   clear_holds n x obeys layout same = record {
     sizes = same_dimensions m n same ∙ h.sizes;
     circuits = subst (λ (e : Dimensions). StandsFor n (obey e w (Clear x))) h.sizes (clear_stands m w h.circuits n x (obeys w.holding w.ports h.circuits.holds) layout);
+    legs_are = h.legs_are;
+  }
+
+  pub tone_holds : (n : Connections) (x : Slot) (kind : Kind) → Obeys m n (Give_tone x kind) → n.layout ≡ m.layout → SameSizes m n
+      → Holds d n legs (record w { holding = after w.holding (Give_tone x kind) })
+  tone_holds n x kind obeys layout same = record {
+    sizes = same_dimensions m n same ∙ h.sizes;
+    circuits = tone_stands m w h.circuits n x kind (obeys w.holding w.ports h.circuits.holds) layout;
     legs_are = h.legs_are;
   }
 

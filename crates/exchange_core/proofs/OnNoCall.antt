@@ -9,6 +9,7 @@ use Rattle.q931_codec.specs.declared.message.Message.{Message}
 use Rattle.q931_codec.specs.Outgoing.{OutgoingMessage, IsWritable}
 use Rattle.clearing_rules.specs.Restarting.{restart_asked}
 use Rattle.clearing_rules.specs.UnknownReference.{answer_to_type}
+use Rattle.tone_rules.specs.declared.tones.Tones.{Tones}
 use Rattle.exchange_core.specs.Calls.{New_call, On_no_call, answer_back, asks_for_call, on_global_reference, without_leg}
 use Rattle.exchange_core.specs.Operations.{Making}
 use Rattle.exchange_core.specs.Permitted.{ArePermitted}
@@ -50,9 +51,9 @@ answer_writable m small _ = record {
   high = omega arith;
 }
 
-pub back_permitted : (d : Dimensions) (m : Making) (line : ℕ) → line < d.external → (o : Option OutgoingMessage) → IfSome o IsWritable → ArePermitted d m (answer_back line o)
-back_permitted d m line below None writable = tt
-back_permitted d m line below (Some message) writable = ((below, writable), tt)
+pub back_permitted : (d : Dimensions) (tones : Tones) (m : Making) (line : ℕ) → line < d.external → (o : Option OutgoingMessage) → IfSome o IsWritable → ArePermitted d tones m (answer_back line o)
+back_permitted d tones m line below None writable = tt
+back_permitted d tones m line below (Some message) writable = ((below, writable), tt)
 
 -- ---- what a message that names no leg asks for
 

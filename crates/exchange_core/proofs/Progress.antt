@@ -6,6 +6,7 @@ use Rattle.circuit_model.specs.Extent.{IsExternal}
 use Rattle.call_states.specs.Acts.{is_among, every_state}
 use Rattle.call_states.specs.declared.leg.Leg.{Leg}
 use Rattle.call_states.specs.declared.leg.Side.{Side}
+use Rattle.tone_rules.specs.declared.tones.Tones.{Tones}
 use Rattle.exchange_core.specs.Acts.{in_state}
 use Rattle.exchange_core.specs.LegStanding.{LegStands, LegsStand, HasPeer, MayHear, IsInCall, AreOneCall, are_matched}
 use Rattle.exchange_core.specs.Legs.{leg_at}
@@ -13,8 +14,8 @@ use Rattle.exchange_core.specs.World.{World}
 use Rattle.exchange_core.proofs.Beside.{same_or_apart, Beside, each_stands, SameReferences, still_one}
 
 -- what is known once the called leg at x is in state s and the caller's at y in state t
-pub record HasGone (external : ℕ) (w v : World) (x y : Slot) (leg other : Leg) (s t : ℕ) : Type 0 where
-  pub stand : LegsStand external w
+pub record HasGone (external : ℕ) (tones : Tones) (w v : World) (x y : Slot) (leg other : Leg) (s t : ℕ) : Type 0 where
+  pub stand : LegsStand external tones w
   pub in_x : IsExternal external x
   pub in_y : IsExternal external y
   pub at_x : leg_at w.legs x ≡ Some leg
@@ -26,15 +27,15 @@ pub record HasGone (external : ℕ) (w v : World) (x y : Slot) (leg other : Leg)
   pub size : length v.legs ≡ 30 * external
   pub here_x : leg_at v.legs x ≡ Some (in_state s leg)
   pub here_y : leg_at v.legs y ≡ Some (in_state t other)
-  pub hears_x : MayHear (in_state s leg) (heard_by v.holding.circuits x)
-  pub hears_y : MayHear (in_state t other) (heard_by v.holding.circuits y)
+  pub hears_x : MayHear tones (in_state s leg) (heard_by v.holding.circuits x)
+  pub hears_y : MayHear tones (in_state t other) (heard_by v.holding.circuits y)
   pub beside : Beside external w v x y
 
-module _ (external : ℕ) (w v : World) (x y : Slot) (leg other : Leg) (s t : ℕ) (g : HasGone external w v x y leg other s t) where
+module _ (external : ℕ) (tones : Tones) (w v : World) (x y : Slot) (leg other : Leg) (s t : ℕ) (g : HasGone external tones w v x y leg other s t) where
   gone_call : AreOneCall y (in_state t other) x (in_state s leg)
   gone_call = let c = g.call in record { calls = c.calls; is_called = c.is_called; there = c.there; back = c.back; matched = g.matched }
 
-  called_stands : LegStands external v x (in_state s leg)
+  called_stands : LegStands external tones v x (in_state s leg)
   called_stands =
       let old = g.stand.each x leg g.in_x g.at_x in
       let in_call : IsInCall leg.side x (in_state s leg) y (in_state t other) = subst (λ (side : Side). IsInCall side x (in_state s leg) y (in_state t other)) (sym g.call.is_called) gone_call in
@@ -46,7 +47,7 @@ module _ (external : ℕ) (w v : World) (x y : Slot) (leg other : Leg) (s t : �
         hears = g.hears_x;
       }
 
-  caller_stands : LegStands external v y (in_state t other)
+  caller_stands : LegStands external tones v y (in_state t other)
   caller_stands =
       let old = g.stand.each y other g.in_y g.at_y in
       let in_call : IsInCall other.side y (in_state t other) x (in_state s leg) = subst (λ (side : Side). IsInCall side y (in_state t other) x (in_state s leg)) (sym g.call.calls) gone_call in
@@ -58,11 +59,11 @@ module _ (external : ℕ) (w v : World) (x y : Slot) (leg other : Leg) (s t : �
         hears = g.hears_y;
       }
 
-  gone_x : (l : Leg) → leg_at v.legs x ≡ Some l → LegStands external v x l
-  gone_x l is = let e : Some (in_state s leg) ≡ Some l = sym g.here_x ∙ is in let same : in_state s leg ≡ l = cc in subst (LegStands external v x) same called_stands
+  gone_x : (l : Leg) → leg_at v.legs x ≡ Some l → LegStands external tones v x l
+  gone_x l is = let e : Some (in_state s leg) ≡ Some l = sym g.here_x ∙ is in let same : in_state s leg ≡ l = cc in subst (LegStands external tones v x) same called_stands
 
-  gone_y : (l : Leg) → leg_at v.legs y ≡ Some l → LegStands external v y l
-  gone_y l is = let e : Some (in_state t other) ≡ Some l = sym g.here_y ∙ is in let same : in_state t other ≡ l = cc in subst (LegStands external v y) same caller_stands
+  gone_y : (l : Leg) → leg_at v.legs y ≡ Some l → LegStands external tones v y l
+  gone_y l is = let e : Some (in_state t other) ≡ Some l = sym g.here_y ∙ is in let same : in_state t other ≡ l = cc in subst (LegStands external tones v y) same caller_stands
 
   references_gone : SameReferences external w v
   references_gone z b in_z at_z = elim (same_or_apart z x) [
@@ -79,9 +80,9 @@ module _ (external : ℕ) (w v : World) (x y : Slot) (leg other : Leg) (s t : �
     ]
   ]
 
-  pub both_gone : LegsStand external v
+  pub both_gone : LegsStand external tones v
   both_gone = record {
     count = g.size;
-    each = each_stands external w v x y g.beside g.stand gone_x gone_y;
-    one = still_one external w v references_gone g.stand;
+    each = each_stands external tones w v x y g.beside g.stand gone_x gone_y;
+    one = still_one external tones w v references_gone g.stand;
   }

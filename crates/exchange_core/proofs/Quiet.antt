@@ -16,6 +16,7 @@ use Rattle.exchange_core.specs.Setup.{Setting, course_of_setup}
 use Rattle.exchange_core.specs.Step.{next, may_nail, may_seat}
 use Rattle.exchange_core.specs.World.{Dimensions, World, obey}
 use Rattle.exchange_core.proofs.Below.{each_below}
+use Rattle.exchange_core.proofs.Sounding.{sounding_next}
 
 -- two worlds with the same frames behind them
 pub record SameFrames (w v : World) : Type 0 where
@@ -28,6 +29,7 @@ performed_same : (d : Dimensions) (m : Making) (o : Operation) → SameFrames m.
 performed_same d m (op.Clear x) = record { inputs = refl; held = refl; seated = refl; next = refl }
 performed_same d m (op.Pair x y) = record { inputs = refl; held = refl; seated = refl; next = refl }
 performed_same d m (op.Seat x room) = record { inputs = refl; held = refl; seated = refl; next = refl }
+performed_same d m (op.Sound x kind) = record { inputs = refl; held = refl; seated = refl; next = sounding_next m.world.holding x kind }
 performed_same d m (op.Put x leg) = record { inputs = refl; held = refl; seated = refl; next = refl }
 performed_same d m (op.Remove x) = record { inputs = refl; held = refl; seated = refl; next = refl }
 performed_same d m (op.Send line message) = record { inputs = refl; held = refl; seated = refl; next = refl }
@@ -50,12 +52,12 @@ pub then_same : (u v w : World) → SameFrames u v → SameFrames v w → SameFr
 then_same u v w one rest = record { inputs = rest.inputs ∙ one.inputs; held = rest.held ∙ one.held; seated = rest.seated ∙ one.seated; next = rest.next ∙ one.next }
 
 received_same : (s : Setting) (w : World) (line : ℕ) (r : Received) → SameFrames w (done_for s w line r).making.world
-received_same s w line (For_leg h m) = performed_all_same s.dimensions (begun w) (course_of w.legs h m.kind (act_on h.leg.state m)).operations
+received_same s w line (For_leg h m) = performed_all_same s.dimensions (begun w) (course_of s.tones w.legs h m.kind (act_on h.leg.state m)).operations
 received_same s w line (New_call m) = performed_all_same s.dimensions (begun w) (course_of_setup s w line m).operations
 received_same s w line (On_no_call m) = performed_all_same s.dimensions (begun w) (answer_back line (answer_without_call m))
 received_same s w line (Restarts r) =
-    each_below s.dimensions r line w (λ a. SameFrames w a.making.world) (record { inputs = refl; held = refl; seated = refl; next = refl })
-    (λ a place small same. then_same w a.making.world _ same (performed_all_same s.dimensions a.making (restart_slot r a.making.world.legs (record { line = line; place = place })))) 30 (omega arith)
+    each_below s.dimensions s.tones r line w (λ a. SameFrames w a.making.world) (record { inputs = refl; held = refl; seated = refl; next = refl })
+    (λ a place small same. then_same w a.making.world _ same (performed_all_same s.dimensions a.making (restart_slot s.tones r a.making.world.legs (record { line = line; place = place })))) 30 (omega arith)
 received_same s w line Unanswered = record { inputs = refl; held = refl; seated = refl; next = refl }
 
 pub quiet : (s : Setting) (w : World) (e : Event) → ((input : Input) → ¬ (e ≡ Frame input)) → SameFrames w (next s w e)

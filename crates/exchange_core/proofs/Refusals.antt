@@ -3,6 +3,7 @@ use Rattle.std.proofs.Common.{◌≡◌, ℕ, zero, suc, Bool, true, false, not,
 use Rattle.std.specs.Prelude.{filter_map, is_some}
 use Rattle.std.specs.List.{range_with_len}
 use Rattle.circuit_model.specs.declared.channel.Slot.{Slot}
+use Rattle.circuit_model.specs.Holding.{Holding}
 use Rattle.control_memory.specs.Layout.{Layout, slot_numbered}
 use Rattle.q931_codec.specs.Causes.{temporary_failure}
 use Rattle.call_states.specs.Acts.{act_on}
@@ -14,7 +15,7 @@ use Rattle.exchange_core.specs.Acts.{course_of}
 use Rattle.exchange_core.specs.CallRecords.{record_at, records, is_ended, is_calling}
 use Rattle.exchange_core.specs.Calls.{Received, For_leg, New_call, On_no_call, Restarts, Unanswered, received, answer_back, done_for, done, refusal_for, after_message, answer_to, refused_with}
 use Rattle.exchange_core.specs.Legs.{leg_at}
-use Rattle.exchange_core.specs.Operations.{Operation, Clear, Pair, Seat, Put, Remove, Send, Making, begun, performed, performed_all}
+use Rattle.exchange_core.specs.Operations.{Operation, Clear, Pair, Seat, Sound, Put, Remove, Send, Making, begun, performed, performed_all, sounding}
 use Rattle.exchange_core.specs.Restarts.{Done, slot_done, restart_slot, restarted_below, restarted}
 use Rattle.exchange_core.specs.declared.trace.Event.{Event}
 use Rattle.exchange_core.specs.declared.trace.Event.TheVariants.{Nail, Seat as Seat_event, Free, Message, Frame}
@@ -96,6 +97,7 @@ same_performed : (d : Dimensions) (a b : Making) (o : Operation) → SameButPath
 same_performed d a b (Clear x) same = record { holding = rw same.holding refl; legs = same.legs; sends = same.sends }
 same_performed d a b (Pair x y) same = record { holding = rw same.holding refl; legs = same.legs; sends = same.sends }
 same_performed d a b (Seat x room) same = record { holding = rw same.holding refl; legs = same.legs; sends = same.sends }
+same_performed d a b (Sound x kind) same = record { holding = ap (λ (h : Holding). sounding h x kind) same.holding; legs = same.legs; sends = same.sends }
 same_performed d a b (Put x leg) same = record { holding = same.holding; legs = rw same.legs refl; sends = same.sends }
 same_performed d a b (Remove x) same = record { holding = same.holding; legs = rw same.legs refl; sends = same.sends }
 same_performed d a b (Send line message) same = record { holding = same.holding; legs = same.legs; sends = rw same.sends refl }
@@ -135,35 +137,35 @@ module _ (s : Setting) (w : World) (layout : Layout) where
       let same = same_performed_all s.dimensions (begun other) (begun w) os begun_alike in
       record { making = same; told = same_records other w (performed_all s.dimensions (begun other) os).world (performed_all s.dimensions (begun w) os).world cause refl refl same.legs }
 
-  slot_alike : (r : Restart) (x : Slot) (a b : Done) → DoneAlike a b → DoneAlike (slot_done s.dimensions r x a) (slot_done s.dimensions r x b)
+  slot_alike : (r : Restart) (x : Slot) (a b : Done) → DoneAlike a b → DoneAlike (slot_done s.dimensions s.tones r x a) (slot_done s.dimensions s.tones r x b)
   slot_alike r x a b alike =
-      let operations : restart_slot r a.making.world.legs x ≡ restart_slot r b.making.world.legs x = ap (λ ls. restart_slot r ls x) alike.making.legs in
+      let operations : restart_slot s.tones r a.making.world.legs x ≡ restart_slot s.tones r b.making.world.legs x = ap (λ ls. restart_slot s.tones r ls x) alike.making.legs in
       let step : List Operation → Making = performed_all s.dimensions b.making in
-      let same : SameButPaths (performed_all s.dimensions a.making (restart_slot r a.making.world.legs x)) (step (restart_slot r b.making.world.legs x)) =
-      subst (λ os. SameButPaths (performed_all s.dimensions a.making (restart_slot r a.making.world.legs x)) (step os)) operations
-      (same_performed_all s.dimensions a.making b.making (restart_slot r a.making.world.legs x) alike.making) in
+      let same : SameButPaths (performed_all s.dimensions a.making (restart_slot s.tones r a.making.world.legs x)) (step (restart_slot s.tones r b.making.world.legs x)) =
+      subst (λ os. SameButPaths (performed_all s.dimensions a.making (restart_slot s.tones r a.making.world.legs x)) (step os)) operations
+      (same_performed_all s.dimensions a.making b.making (restart_slot s.tones r a.making.world.legs x) alike.making) in
       record {
         making = same;
-        told = append_both _ _ _ _ alike.told (same_records a.making.world b.making.world (performed_all s.dimensions a.making (restart_slot r a.making.world.legs x)).world
-            (step (restart_slot r b.making.world.legs x)).world temporary_failure alike.making.holding alike.making.legs same.legs);
+        told = append_both _ _ _ _ alike.told (same_records a.making.world b.making.world (performed_all s.dimensions a.making (restart_slot s.tones r a.making.world.legs x)).world
+            (step (restart_slot s.tones r b.making.world.legs x)).world temporary_failure alike.making.holding alike.making.legs same.legs);
       }
 
-  below_alike : (r : Restart) (line place : ℕ) → DoneAlike (restarted_below s.dimensions r line other place) (restarted_below s.dimensions r line w place)
-  below_alike r line zero = alike_at _ _ _ _ (below_none s.dimensions r line other) (below_none s.dimensions r line w) (record { making = begun_alike; told = refl })
+  below_alike : (r : Restart) (line place : ℕ) → DoneAlike (restarted_below s.dimensions s.tones r line other place) (restarted_below s.dimensions s.tones r line w place)
+  below_alike r line zero = alike_at _ _ _ _ (below_none s.dimensions s.tones r line other) (below_none s.dimensions s.tones r line w) (record { making = begun_alike; told = refl })
   below_alike r line (suc place) =
-      alike_at _ _ _ _ (below_more s.dimensions r line other place) (below_more s.dimensions r line w place)
-      (slot_alike r (record { line = line; place = place }) (restarted_below s.dimensions r line other place) (restarted_below s.dimensions r line w place) (below_alike r line place))
+      alike_at _ _ _ _ (below_more s.dimensions s.tones r line other place) (below_more s.dimensions s.tones r line w place)
+      (slot_alike r (record { line = line; place = place }) (restarted_below s.dimensions s.tones r line other place) (restarted_below s.dimensions s.tones r line w place) (below_alike r line place))
 
-  restarted_alike : (r : Restart) (line : ℕ) → DoneAlike (restarted s.dimensions r line other) (restarted s.dimensions r line w)
+  restarted_alike : (r : Restart) (line : ℕ) → DoneAlike (restarted s.dimensions s.tones r line other) (restarted s.dimensions s.tones r line w)
   restarted_alike r line =
       let alike = below_alike r line 30 in
       record {
-        making = same_performed s.dimensions (restarted_below s.dimensions r line other 30).making (restarted_below s.dimensions r line w 30).making (Send line (acknowledgement r)) alike.making;
+        making = same_performed s.dimensions (restarted_below s.dimensions s.tones r line other 30).making (restarted_below s.dimensions s.tones r line w 30).making (Send line (acknowledgement r)) alike.making;
         told = alike.told;
       }
 
   received_alike : (line : ℕ) (r : Received) → DoneAlike (done_for s other line r) (done_for s w line r)
-  received_alike line (For_leg h m) = operations_alike (course_of w.legs h m.kind (act_on h.leg.state m)).cause (course_of w.legs h m.kind (act_on h.leg.state m)).operations
+  received_alike line (For_leg h m) = operations_alike (course_of s.tones w.legs h m.kind (act_on h.leg.state m)).cause (course_of s.tones w.legs h m.kind (act_on h.leg.state m)).operations
   received_alike line (New_call m) = operations_alike 0 (course_of_setup s w line m).operations
   received_alike line (On_no_call m) = operations_alike 0 (answer_back line (answer_without_call m))
   received_alike line (Restarts r) = restarted_alike r line

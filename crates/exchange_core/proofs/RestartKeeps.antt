@@ -18,6 +18,7 @@ use Rattle.call_states.specs.declared.leg.Peer.TheVariants as peer
 use Rattle.clearing_rules.specs.declared.scope.Restart.{Restart}
 use Rattle.clearing_rules.specs.Restarting.{is_restarted, acknowledgement, IsOnLine}
 use Rattle.clearing_rules.specs.declared.scope.Restart.TheVariants.{Channel, Interface}
+use Rattle.tone_rules.specs.declared.tones.Tones.{Tones}
 use Rattle.exchange_core.specs.declared.leg_table.Held.{Held}
 use Rattle.exchange_core.specs.declared.record.CallRecord.{CallRecord}
 use Rattle.exchange_core.specs.declared.signal.Signal.{Signal}
@@ -55,7 +56,7 @@ cleared_twice h y = ap (λ (circuits : List Circuit). let cleared : Holding = re
 
 -- ---- a leg whose slot is restarted
 
-module _ (d : Dimensions) (r : Restart) (m : Making) (x : Slot) (leg : Leg) (kept : Kept d m.world) (within : IsExternal d.external x) (at : leg_at m.world.legs x ≡ Some leg) where
+module _ (d : Dimensions) (tones : Tones) (r : Restart) (m : Making) (x : Slot) (leg : Leg) (kept : Kept d tones m.world) (within : IsExternal d.external x) (at : leg_at m.world.legs x ≡ Some leg) where
   abbrev held : Held
   held = record { slot = x; leg = leg }
 
@@ -66,90 +67,90 @@ module _ (d : Dimensions) (r : Restart) (m : Making) (x : Slot) (leg : Leg) (kep
   abbrev both_gone : Slot → Leg → World
   both_gone y other = (performed_all d gone (removing (record { slot = y; leg = other }))).world
 
-  gone_kept : (y : Slot) (other : Leg) → IsExternal d.external y → leg_at m.world.legs y ≡ Some other → IsInCall leg.side x leg y other → Kept d (both_gone y other)
+  gone_kept : (y : Slot) (other : Leg) → IsExternal d.external y → leg_at m.world.legs y ≡ Some other → IsInCall leg.side x leg y other → Kept d tones (both_gone y other)
   gone_kept y other in_y at_y call =
-      let waits : World = (performed_all d gone (clear_with temporary_failure (record { slot = y; leg = other }))).world in
-      let stands = both_kept d m.world x leg None temporary_failure (omega arith) kept.0 kept.1 within at (inl refl) gone refl refl y other in_y at_y call in
+      let waits : World = (performed_all d gone (clear_with tones temporary_failure (record { slot = y; leg = other }))).world in
+      let stands = both_kept d tones m.world x leg None temporary_failure (omega arith) kept.0 kept.1 within at (inl refl) gone refl refl y other in_y at_y call in
       let size : length gone.world.legs ≡ 30 * d.external = length-set m.world.legs (number_of x) None ∙ kept.1.count in
       let there : leg_at waits.legs y ≡ Some (disconnected temporary_failure other) = entry_here d.external gone.world.legs y (Some (disconnected temporary_failure other)) size in_y in (
         stands.0,
-        alone_left d.external d.bridges waits (both_gone y other) y (disconnected temporary_failure other) None stands.0 stands.1 in_y there (inl refl)
+        alone_left d.external tones d.bridges waits (both_gone y other) y (disconnected temporary_failure other) None stands.0 stands.1 in_y there (inl refl)
             (sym (set-set gone.world.legs (number_of y) (Some (disconnected temporary_failure other)) None))
             (sym (cleared_twice gone.world.holding y))
             (λ p is. cc),
       )
 
-  peer_kept : (p : Peer) → leg.peer ≡ p → HasPeer d.external m.world.legs x leg p → Kept d (performed_all d gone (with_peer (peer_of m.world.legs p) (restart_peer r x.line))).world
-  peer_kept peer.Alone is has = alone_kept d m.world x leg None temporary_failure (omega arith) kept.0 kept.1 within at (inl refl) gone refl refl (λ p same. let e : peer.Alone ≡ peer.Leg p = sym is ∙ same in cc)
+  peer_kept : (p : Peer) → leg.peer ≡ p → HasPeer d.external m.world.legs x leg p → Kept d tones (performed_all d gone (with_peer (peer_of m.world.legs p) (restart_peer tones r x.line))).world
+  peer_kept peer.Alone is has = alone_kept d tones m.world x leg None temporary_failure (omega arith) kept.0 kept.1 within at (inl refl) gone refl refl (λ p same. let e : peer.Alone ≡ peer.Leg p = sym is ∙ same in cc)
   peer_kept (peer.Leg y) is has = rw (held_there m.world.legs y has.1.0 has.1.1) (elim (true_or_false (restarts_slot r x.line y)) [
     | inl too ↦ rw too (gone_kept y has.1.0 has.0 has.1.1 has.1.2)
-    | inr not_so ↦ rw not_so (both_kept d m.world x leg None temporary_failure (omega arith) kept.0 kept.1 within at (inl refl) gone refl refl y has.1.0 has.0 has.1.1 has.1.2)
+    | inr not_so ↦ rw not_so (both_kept d tones m.world x leg None temporary_failure (omega arith) kept.0 kept.1 within at (inl refl) gone refl refl y has.1.0 has.0 has.1.1 has.1.2)
   ])
-  peer_kept (peer.Room room) is has = alone_kept d m.world x leg None temporary_failure (omega arith) kept.0 kept.1 within at (inl refl) gone refl refl (λ p same. let e : peer.Room room ≡ peer.Leg p = sym is ∙ same in cc)
+  peer_kept (peer.Room room) is has = alone_kept d tones m.world x leg None temporary_failure (omega arith) kept.0 kept.1 within at (inl refl) gone refl refl (λ p same. let e : peer.Room room ≡ peer.Leg p = sym is ∙ same in cc)
 
-  pub leg_kept : Kept d (performed_all d m (restart_leg r m.world.legs (Some held))).world
+  pub leg_kept : Kept d tones (performed_all d m (restart_leg tones r m.world.legs (Some held))).world
   leg_kept = peer_kept leg.peer refl (kept.1.each x leg within at).peer
 
   -- the record of its call is told, where its clearing hadn't begun
   told_by : (p : Peer) → leg.peer ≡ p → HasPeer d.external m.world.legs x leg p
-      → records m.world (performed_all d gone (with_peer (peer_of m.world.legs p) (restart_peer r x.line))).world temporary_failure
+      → records m.world (performed_all d gone (with_peer (peer_of m.world.legs p) (restart_peer tones r x.line))).world temporary_failure
       ≡ cons_option (option_and_then (record_calling m.world temporary_failure) (caller_in leg.side held (peer_of m.world.legs p))) []
-  told_by peer.Alone is has = alone_records d m.world x leg None temporary_failure kept.1 within at (inl refl) gone refl leg.side refl
+  told_by peer.Alone is has = alone_records d tones m.world x leg None temporary_failure kept.1 within at (inl refl) gone refl leg.side refl
   told_by (peer.Leg y) is has =
       let other = has.1.0 in
       let apart = peers_apart m.world.legs x y leg other at has.1.1 has.1.2 in
       rw (held_there m.world.legs y other has.1.1) (elim (true_or_false (restarts_slot r x.line y)) [
-        | inl too ↦ rw too (both_records d m.world x leg None temporary_failure kept.1 within at (inl refl) gone refl
+        | inl too ↦ rw too (both_records d tones m.world x leg None temporary_failure kept.1 within at (inl refl) gone refl
             (both_gone y other) y other None has.0 has.1.1 apart refl refl leg.side refl has.1.2)
-        | inr not_so ↦ rw not_so (both_records d m.world x leg None temporary_failure kept.1 within at (inl refl) gone refl
-            (performed_all d gone (clear_with temporary_failure (record { slot = y; leg = other }))).world y other (Some (disconnected temporary_failure other)) has.0 has.1.1 apart
+        | inr not_so ↦ rw not_so (both_records d tones m.world x leg None temporary_failure kept.1 within at (inl refl) gone refl
+            (performed_all d gone (clear_with tones temporary_failure (record { slot = y; leg = other }))).world y other (Some (disconnected temporary_failure other)) has.0 has.1.1 apart
             (disconnected_silent temporary_failure other) refl leg.side refl has.1.2)
       ])
-  told_by (peer.Room room) is has = alone_records d m.world x leg None temporary_failure kept.1 within at (inl refl) gone refl leg.side refl
+  told_by (peer.Room room) is has = alone_records d tones m.world x leg None temporary_failure kept.1 within at (inl refl) gone refl leg.side refl
 
-  pub leg_told : records m.world (performed_all d m (restart_leg r m.world.legs (Some held))).world temporary_failure ≡ cons_option (record_ended m.world held temporary_failure) []
+  pub leg_told : records m.world (performed_all d m (restart_leg tones r m.world.legs (Some held))).world temporary_failure ≡ cons_option (record_ended m.world held temporary_failure) []
   leg_told = told_by leg.peer refl (kept.1.each x leg within at).peer
 
   -- and each operation is permitted
-  permitted_by : (o : Option Held) → PeerIsThere d.external held o → ArePermitted d gone (with_peer o (restart_peer r x.line))
+  permitted_by : (o : Option Held) → PeerIsThere d.external held o → ArePermitted d tones gone (with_peer o (restart_peer tones r x.line))
   permitted_by None there = tt
   permitted_by (Some other) there = elim (true_or_false (restarts_slot r x.line other.slot)) [
     | inl too ↦ rw too (there.0.within, (there.0.within, tt))
-    | inr not_so ↦ rw not_so (clear_permitted d gone temporary_failure other there.0 (omega arith))
+    | inr not_so ↦ rw not_so (clear_permitted d tones gone temporary_failure other there.0 (omega arith))
   ]
 
-  pub leg_permitted : ArePermitted d m (restart_leg r m.world.legs (Some held))
-  leg_permitted = (within, (within, permitted_by (peer_of m.world.legs leg.peer) (peer_there_too d.external m.world held kept.1 within at)))
+  pub leg_permitted : ArePermitted d tones m (restart_leg tones r m.world.legs (Some held))
+  leg_permitted = (within, (within, permitted_by (peer_of m.world.legs leg.peer) (peer_there_too d.external tones m.world held kept.1 within at)))
 
 -- ---- a slot
 
 -- what holds where nothing is done, and where a leg that holds the slot is gone, holds of what is done at the slot
-module _ (r : Restart) (legs : Legs) (x : Slot) (P : List Operation → Type 0) (none : P [])
-    (some : (leg : Leg) → leg_at legs x ≡ Some leg → P (restart_leg r legs (Some (record { slot = x; leg = leg })))) where
-  held_by : (o : Option Leg) → leg_at legs x ≡ o → P (restart_leg r legs (option_map (λ (leg : Leg). let h : Held = record { slot = x; leg = leg } in h) o))
+module _ (tones : Tones) (r : Restart) (legs : Legs) (x : Slot) (P : List Operation → Type 0) (none : P [])
+    (some : (leg : Leg) → leg_at legs x ≡ Some leg → P (restart_leg tones r legs (Some (record { slot = x; leg = leg })))) where
+  held_by : (o : Option Leg) → leg_at legs x ≡ o → P (restart_leg tones r legs (option_map (λ (leg : Leg). let h : Held = record { slot = x; leg = leg } in h) o))
   held_by None at = none
   held_by (Some leg) at = some leg at
 
-  pub at_slot : P (restart_slot r legs x)
+  pub at_slot : P (restart_slot tones r legs x)
   at_slot = elim (true_or_false (is_restarted r x.place)) [
     | inl restarted ↦ rw restarted (held_by (leg_at legs x) refl)
     | inr not_so ↦ rw not_so none
   ]
 
-module _ (d : Dimensions) (r : Restart) (m : Making) (x : Slot) (kept : Kept d m.world) (within : IsExternal d.external x) where
-  pub slot_kept : Kept d (performed_all d m (restart_slot r m.world.legs x)).world
-  slot_kept = at_slot r m.world.legs x (λ os. Kept d (performed_all d m os).world) kept (λ leg at. leg_kept d r m x leg kept within at)
+module _ (d : Dimensions) (tones : Tones) (r : Restart) (m : Making) (x : Slot) (kept : Kept d tones m.world) (within : IsExternal d.external x) where
+  pub slot_kept : Kept d tones (performed_all d m (restart_slot tones r m.world.legs x)).world
+  slot_kept = at_slot tones r m.world.legs x (λ os. Kept d tones (performed_all d m os).world) kept (λ leg at. leg_kept d tones r m x leg kept within at)
 
-  pub slot_permitted : ArePermitted d m (restart_slot r m.world.legs x)
-  slot_permitted = at_slot r m.world.legs x (ArePermitted d m) tt (λ leg at. leg_permitted d r m x leg kept within at)
+  pub slot_permitted : ArePermitted d tones m (restart_slot tones r m.world.legs x)
+  slot_permitted = at_slot tones r m.world.legs x (ArePermitted d tones m) tt (λ leg at. leg_permitted d tones r m x leg kept within at)
 
   told_of : (o : Option Leg) → leg_at m.world.legs x ≡ o
-      → records m.world (performed_all d m (restart_leg r m.world.legs (option_map (λ (leg : Leg). let h : Held = record { slot = x; leg = leg } in h) o))).world temporary_failure
+      → records m.world (performed_all d m (restart_leg tones r m.world.legs (option_map (λ (leg : Leg). let h : Held = record { slot = x; leg = leg } in h) o))).world temporary_failure
       ≡ cons_option (option_and_then (λ h. record_ended m.world h temporary_failure) (option_map (λ (leg : Leg). let h : Held = record { slot = x; leg = leg } in h) o)) []
   told_of None at = no_records m.world temporary_failure
-  told_of (Some leg) at = leg_told d r m x leg kept within at
+  told_of (Some leg) at = leg_told d tones r m x leg kept within at
 
-  pub slot_told : records m.world (performed_all d m (restart_slot r m.world.legs x)).world temporary_failure ≡ slot_records r m.world x
+  pub slot_told : records m.world (performed_all d m (restart_slot tones r m.world.legs x)).world temporary_failure ≡ slot_records r m.world x
   slot_told = elim (true_or_false (is_restarted r x.place)) [
     | inl restarted ↦ rw restarted (told_of (leg_at m.world.legs x) refl)
     | inr not_so ↦ rw not_so (no_records m.world temporary_failure)
@@ -157,9 +158,9 @@ module _ (d : Dimensions) (r : Restart) (m : Making) (x : Slot) (kept : Kept d m
 
 -- ---- the slots of a line
 
-pub below_kept : (d : Dimensions) (r : Restart) (line : ℕ) (w : World) → line < d.external → Kept d w → (place : ℕ) → place ≤ 30 → Kept d (restarted_below d r line w place).making.world
-below_kept d r line w below kept =
-    each_below d r line w (λ a. Kept d a.making.world) kept (λ a place small k. slot_kept d r a.making (record { line = line; place = place }) k (below, small))
+pub below_kept : (d : Dimensions) (tones : Tones) (r : Restart) (line : ℕ) (w : World) → line < d.external → Kept d tones w → (place : ℕ) → place ≤ 30 → Kept d tones (restarted_below d tones r line w place).making.world
+below_kept d tones r line w below kept =
+    each_below d tones r line w (λ a. Kept d tones a.making.world) kept (λ a place small k. slot_kept d tones r a.making (record { line = line; place = place }) k (below, small))
 
 -- ---- what the code knows of a slot
 
@@ -168,13 +169,13 @@ there_of : (external : ℕ) (h : Held) (o : Option Held) → PeerIsThere externa
 there_of external h None is = tt
 there_of external h (Some other) is = is.0
 
-pub peer_there : (d : Dimensions) (map : Connections) (legs : Legs) (w : World) → Holds d map legs w → LegsStand d.external w → (h : Held) → IsExternal map.external h.slot
+pub peer_there : (d : Dimensions) (tones : Tones) (map : Connections) (legs : Legs) (w : World) → Holds d map legs w → LegsStand d.external tones w → (h : Held) → IsExternal map.external h.slot
     → leg_at legs h.slot ≡ Some h.leg → (o : Option Held) → o ≡ peer_of legs h.leg.peer → IfSome o (λ other. IsThere map.external other)
-peer_there d map legs w holds stand h within at o is =
+peer_there d tones map legs w holds stand h within at o is =
     let size : map.external ≡ d.external = ap (λ (e : Dimensions). e.external) holds.sizes in
     let in_world : IsExternal d.external h.slot = subst (λ n. IsExternal n h.slot) size within in
     let at_world : leg_at w.legs h.slot ≡ Some h.leg = ap (λ ls. leg_at ls h.slot) (sym holds.legs_are) ∙ at in
-    let there = subst (λ n. PeerIsThere n h (peer_of w.legs h.leg.peer)) (sym size) (peer_there_too d.external w h stand in_world at_world) in
+    let there = subst (λ n. PeerIsThere n h (peer_of w.legs h.leg.peer)) (sym size) (peer_there_too d.external tones w h stand in_world at_world) in
     there_of map.external h o (subst (PeerIsThere map.external h) (sym (is ∙ ap (λ ls. peer_of ls h.leg.peer) holds.legs_are)) there)
 
 pub external_of : (external : ℕ) (o : Option Held) → IfSome o (λ other. IsThere external other) → IfSome o (λ other. IsExternal external other.slot)
@@ -224,25 +225,25 @@ acknowledgement_writable (Interface class) within = record {
 }
 
 -- no slot yet
-pub none_done : (d : Dimensions) (r : Restart) (line : ℕ) (w : World) (map : Connections) (legs : Legs) (sends : List Signal) (moved : Option (ℕ × ℕ)) (told : List CallRecord)
+pub none_done : (d : Dimensions) (tones : Tones) (r : Restart) (line : ℕ) (w : World) (map : Connections) (legs : Legs) (sends : List Signal) (moved : Option (ℕ × ℕ)) (told : List CallRecord)
     → Holds d map legs w → sends ≡ [] → moved ≡ None → told ≡ []
-    → Makes d map legs sends moved (restarted_below d r line w 0).making × (told ≡ (restarted_below d r line w 0).told)
-none_done d r line w map legs sends moved told holds no_sends no_moves no_told =
-    subst (λ (b : Done). Makes d map legs sends moved b.making × (told ≡ b.told)) (sym (below_none d r line w)) (record { holds = holds; sent = no_sends; moves = no_moves }, no_told)
+    → Makes d map legs sends moved (restarted_below d tones r line w 0).making × (told ≡ (restarted_below d tones r line w 0).told)
+none_done d tones r line w map legs sends moved told holds no_sends no_moves no_told =
+    subst (λ (b : Done). Makes d map legs sends moved b.making × (told ≡ b.told)) (sym (below_none d tones r line w)) (record { holds = holds; sent = no_sends; moves = no_moves }, no_told)
 
 -- one slot more
-pub step_done : (d : Dimensions) (r : Restart) (line : ℕ) (w : World) (place : ℕ) (map : Connections) (legs : Legs) (sends : List Signal) (moved : Option (ℕ × ℕ)) (before told : List CallRecord)
-    → line < d.external → Kept d w → place < 30
-    → before ≡ (restarted_below d r line w place).told
-    → Makes d map legs sends moved (performed_all d (restarted_below d r line w place).making (restart_slot r (restarted_below d r line w place).making.world.legs (record { line = line; place = place })))
-    → told ≡ before ++ slot_records r (restarted_below d r line w place).making.world (record { line = line; place = place })
-    → Makes d map legs sends moved (restarted_below d r line w (place + 1)).making × (told ≡ (restarted_below d r line w (place + 1)).told)
-step_done d r line w place map legs sends moved before told below kept small first makes more =
-    let a = restarted_below d r line w place in
+pub step_done : (d : Dimensions) (tones : Tones) (r : Restart) (line : ℕ) (w : World) (place : ℕ) (map : Connections) (legs : Legs) (sends : List Signal) (moved : Option (ℕ × ℕ)) (before told : List CallRecord)
+    → line < d.external → Kept d tones w → place < 30
+    → before ≡ (restarted_below d tones r line w place).told
+    → Makes d map legs sends moved (performed_all d (restarted_below d tones r line w place).making (restart_slot tones r (restarted_below d tones r line w place).making.world.legs (record { line = line; place = place })))
+    → told ≡ before ++ slot_records r (restarted_below d tones r line w place).making.world (record { line = line; place = place })
+    → Makes d map legs sends moved (restarted_below d tones r line w (place + 1)).making × (told ≡ (restarted_below d tones r line w (place + 1)).told)
+step_done d tones r line w place map legs sends moved before told below kept small first makes more =
+    let a = restarted_below d tones r line w place in
     let x : Slot = record { line = line; place = place } in
-    let still = below_kept d r line w below kept place (omega (arith, small)) in
-    let is : told ≡ a.told ++ records a.making.world (performed_all d a.making (restart_slot r a.making.world.legs x)).world temporary_failure =
-    more ∙ ap (λ list. list ++ slot_records r a.making.world x) first ∙ ap (λ list. a.told ++ list) (sym (slot_told d r a.making x still (below, small))) in
+    let still = below_kept d tones r line w below kept place (omega (arith, small)) in
+    let is : told ≡ a.told ++ records a.making.world (performed_all d a.making (restart_slot tones r a.making.world.legs x)).world temporary_failure =
+    more ∙ ap (λ list. list ++ slot_records r a.making.world x) first ∙ ap (λ list. a.told ++ list) (sym (slot_told d tones r a.making x still (below, small))) in
     let one : place + 1 ≡ suc place = omega arith in
-    let next : restarted_below d r line w (place + 1) ≡ slot_done d r x a = ap (restarted_below d r line w) one ∙ below_more d r line w place in
+    let next : restarted_below d tones r line w (place + 1) ≡ slot_done d tones r x a = ap (restarted_below d tones r line w) one ∙ below_more d tones r line w place in
     subst (λ (b : Done). Makes d map legs sends moved b.making × (told ≡ b.told)) (sym next) (makes, is)

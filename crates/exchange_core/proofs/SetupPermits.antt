@@ -102,7 +102,7 @@ offer_writable m y leg within told readable = record {
 
 module _ (s : Setting) (w : World) (line : ℕ) (m : Message) (planned : IsPlanned s) (stands : CallsStand s w) (below : line < s.dimensions.external) (own : (1 ≤ m.reference) × (m.reference < 2 ^ 15)) where
   line_permitted : (x y : Slot) (reference : ℕ) → IsExternal s.dimensions.external x → IsExternal s.dimensions.external y → reference < 2 ^ 15 → is_unreadable (option_map bearer_of (bearer_in m.elements)) ≡ false
-      → ArePermitted s.dimensions (begun w) (call_line m x y reference)
+      → ArePermitted s.dimensions s.tones (begun w) (call_line m x y reference)
   line_permitted x y reference in_x in_y small readable =
       let caller : IsTold _ = record { state = omega arith; reference = own.1 } in
       let called : IsTold _ = record { state = omega arith; reference = small } in (
@@ -116,7 +116,7 @@ module _ (s : Setting) (w : World) (line : ℕ) (m : Message) (planned : IsPlann
         ),
       )
 
-  room_permitted : (x : Slot) (room : ℕ) → IsExternal s.dimensions.external x → CanSeat s.dimensions w x → ArePermitted s.dimensions (begun w) (call_room m x room)
+  room_permitted : (x : Slot) (room : ℕ) → IsExternal s.dimensions.external x → CanSeat s.dimensions w x → ArePermitted s.dimensions s.tones (begun w) (call_room m x room)
   room_permitted x room in_x can =
       let told : IsTold _ = record { state = omega arith; reference = own.1 } in (
         (in_x, told),
@@ -130,7 +130,7 @@ module _ (s : Setting) (w : World) (line : ℕ) (m : Message) (planned : IsPlann
       )
 
   call_permitted : (x : Slot) → refusal s w line m ≡ None → caller_slot w line (channel_in m.elements) ≡ Some x → IsExternal s.dimensions.external x → (t : Found) (o : Option Slot) → target_of s m ≡ t → called_slot w x t ≡ o
-      → ArePermitted s.dimensions (begun w) (call w m x t o)
+      → ArePermitted s.dimensions s.tones (begun w) (call w m x t o)
   call_permitted x accepted at in_x (Line l) (Some y) is chosen =
       let may = offered s w x l y (reached s m l planned is) chosen in
       line_permitted x y (new_reference w.legs l) in_x may.in_y may.small.1 (all_pass (checks s w line m) accepted).1.0
@@ -139,16 +139,16 @@ module _ (s : Setting) (w : World) (line : ℕ) (m : Message) (planned : IsPlann
   call_permitted x accepted at in_x More o is chosen = tt
   call_permitted x accepted at in_x Nothing o is chosen = tt
 
-  accept_permitted : (o : Option Slot) → refusal s w line m ≡ None → caller_slot w line (channel_in m.elements) ≡ o → ArePermitted s.dimensions (begun w) (accept s w m o)
+  accept_permitted : (o : Option Slot) → refusal s w line m ≡ None → caller_slot w line (channel_in m.elements) ≡ o → ArePermitted s.dimensions s.tones (begun w) (accept s w m o)
   accept_permitted None accepted at = tt
   accept_permitted (Some x) accepted at =
       let on = caller_is w line (channel_in m.elements) x at in
       call_permitted x accepted at (subst (λ n. n < s.dimensions.external) (sym on.1.0) below, on.1.1) (target_of s m) (called_slot w x (target_of s m)) refl refl
 
-  setup_by : (o : Option ℕ) → refusal s w line m ≡ o → ArePermitted s.dimensions (begun w) (setup s w line m o)
+  setup_by : (o : Option ℕ) → refusal s w line m ≡ o → ArePermitted s.dimensions s.tones (begun w) (setup s w line m o)
   setup_by (Some cause) is = ((below, refusal_writable m.reference cause own.1 (refusal_small s w line m cause is)), tt)
   setup_by None is = accept_permitted (caller_slot w line (channel_in m.elements)) is refl
 
 pub setup_permitted : (s : Setting) (w : World) (line : ℕ) (m : Message) → IsPlanned s → CallsStand s w → line < s.dimensions.external → (1 ≤ m.reference) × (m.reference < 2 ^ 15) → leg_named w.legs line false m.reference ≡ None
-    → ArePermitted s.dimensions (begun w) (course_of_setup s w line m).operations
+    → ArePermitted s.dimensions s.tones (begun w) (course_of_setup s w line m).operations
 setup_permitted s w line m planned stands below own unused = setup_by s w line m planned stands below own (refusal s w line m) refl

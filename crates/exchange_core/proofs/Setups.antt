@@ -138,12 +138,12 @@ reached s m line planned is =
 
 -- ---- what is done
 
-module _ (s : Setting) (w : World) (m : Message) (x : Slot) (planned : IsPlanned s) (may : MayCall s.dimensions w m x) where
+module _ (s : Setting) (w : World) (m : Message) (x : Slot) (planned : IsPlanned s) (may : MayCall s.dimensions s.tones w m x) where
   call_kept : (t : Found) (called : Option Slot) → target_of s m ≡ t → called_slot w x t ≡ called → ((room : ℕ) → t ≡ Room room → is_full s.dimensions w ≡ false)
-      → Kept s.dimensions (performed_all s.dimensions (begun w) (call w m x t called)).world
-  call_kept (Line line) (Some y) is chosen free = line_call_kept s.dimensions w m x y (new_reference w.legs line) may (offered s w x line y (reached s m line planned is) chosen)
+      → Kept s.dimensions s.tones (performed_all s.dimensions (begun w) (call w m x t called)).world
+  call_kept (Line line) (Some y) is chosen free = line_call_kept s.dimensions s.tones w m x y (new_reference w.legs line) may (offered s w x line y (reached s m line planned is) chosen)
   call_kept (Line line) None is chosen free = (may.valid, may.stand)
-  call_kept (Room room) called is chosen free = room_call_kept s.dimensions w m x room may (free room refl)
+  call_kept (Room room) called is chosen free = room_call_kept s.dimensions s.tones w m x room may (free room refl)
   call_kept More called is chosen free = (may.valid, may.stand)
   call_kept Nothing called is chosen free = (may.valid, may.stand)
 
@@ -151,17 +151,17 @@ module _ (s : Setting) (w : World) (m : Message) (x : Slot) (planned : IsPlanned
 pub record IsNew (s : Setting) (w : World) (line : ℕ) (m : Message) : Type 0 where
   pub planned : IsPlanned s
   pub valid : Valid s.dimensions.bridges w.holding
-  pub stand : LegsStand s.dimensions.external w
+  pub stand : LegsStand s.dimensions.external s.tones w
   pub below : line < s.dimensions.external
   pub own : (1 ≤ m.reference) × (m.reference < 2 ^ 15)
   pub unused : leg_named w.legs line false m.reference ≡ None
 
 module _ (s : Setting) (w : World) (line : ℕ) (m : Message) (new : IsNew s w line m) where
-  accept_kept : (o : Option Slot) → caller_slot w line (channel_in m.elements) ≡ o → refusal s w line m ≡ None → Kept s.dimensions (performed_all s.dimensions (begun w) (accept s w m o)).world
+  accept_kept : (o : Option Slot) → caller_slot w line (channel_in m.elements) ≡ o → refusal s w line m ≡ None → Kept s.dimensions s.tones (performed_all s.dimensions (begun w) (accept s w m o)).world
   accept_kept None is accepted = (new.valid, new.stand)
   accept_kept (Some x) is accepted =
       let at = caller_is w line (channel_in m.elements) x is in
-      let may : MayCall s.dimensions w m x = record {
+      let may : MayCall s.dimensions s.tones w m x = record {
         valid = new.valid;
         stand = new.stand;
         in_x = (subst (λ n. n < s.dimensions.external) (sym at.1.0) new.below, at.1.1);
@@ -172,11 +172,11 @@ module _ (s : Setting) (w : World) (line : ℕ) (m : Message) (new : IsNew s w l
       let passed = all_pass (checks s w line m) accepted in
       call_kept s w m x new.planned may (target_of s m) (called_slot w x (target_of s m)) refl refl (λ room is_room. sym (ap (is_room_full s.dimensions w) is_room) ∙ (all_from 11 (checks s w line m) passed).0)
 
-  setup_by : (o : Option ℕ) → refusal s w line m ≡ o → Kept s.dimensions (performed_all s.dimensions (begun w) (setup s w line m o)).world
+  setup_by : (o : Option ℕ) → refusal s w line m ≡ o → Kept s.dimensions s.tones (performed_all s.dimensions (begun w) (setup s w line m o)).world
   setup_by (Some cause) is = (new.valid, new.stand)
   setup_by None is = accept_kept (caller_slot w line (channel_in m.elements)) refl is
 
-  pub setup_kept : Kept s.dimensions (made_by s w (course_of_setup s w line m)).world
+  pub setup_kept : Kept s.dimensions s.tones (made_by s w (course_of_setup s w line m)).world
   setup_kept = setup_by (refusal s w line m) refl
 
 -- ---- what is received as a new call

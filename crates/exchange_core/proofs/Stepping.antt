@@ -30,6 +30,7 @@ use Rattle.exchange_core.specs.Working.{Entry, Working, IsWorking, IsNumbered, o
 use Rattle.exchange_core.specs.World.{Dimensions, World, start}
 use Rattle.exchange_core.proofs.Happened.{start_stands, run_stands}
 use Rattle.exchange_core.proofs.Below.{each_below}
+use Rattle.exchange_core.proofs.Sounding.{sounding_next}
 
 -- ---- one event more
 
@@ -106,6 +107,7 @@ performed_next : (d : Dimensions) (m : Making) (o : Operation) → (performed d 
 performed_next d m (op.Clear x) = refl
 performed_next d m (op.Pair x y) = refl
 performed_next d m (op.Seat x room) = refl
+performed_next d m (op.Sound x kind) = sounding_next m.world.holding x kind
 performed_next d m (op.Put x leg) = refl
 performed_next d m (op.Remove x) = refl
 performed_next d m (op.Send line message) = refl
@@ -115,12 +117,12 @@ performed_all_next d m [] = refl
 performed_all_next d m (o ∷ os) = performed_all_next d (performed d m o) os ∙ performed_next d m o
 
 received_next : (s : Setting) (w : World) (line : ℕ) (r : Received) → (done_for s w line r).making.world.holding.next ≡ w.holding.next
-received_next s w line (For_leg h m) = performed_all_next s.dimensions (begun w) (course_of w.legs h m.kind (act_on h.leg.state m)).operations
+received_next s w line (For_leg h m) = performed_all_next s.dimensions (begun w) (course_of s.tones w.legs h m.kind (act_on h.leg.state m)).operations
 received_next s w line (New_call m) = performed_all_next s.dimensions (begun w) (course_of_setup s w line m).operations
 received_next s w line (On_no_call m) = performed_all_next s.dimensions (begun w) (answer_back line (answer_without_call m))
 received_next s w line (Restarts r) =
-    each_below s.dimensions r line w (λ a. a.making.world.holding.next ≡ w.holding.next) refl
-    (λ a place small same. performed_all_next s.dimensions a.making (restart_slot r a.making.world.legs (record { line = line; place = place })) ∙ same) 30 (omega arith)
+    each_below s.dimensions s.tones r line w (λ a. a.making.world.holding.next ≡ w.holding.next) refl
+    (λ a place small same. performed_all_next s.dimensions a.making (restart_slot s.tones r a.making.world.legs (record { line = line; place = place })) ∙ same) 30 (omega arith)
 received_next s w line Unanswered = refl
 
 either_next : (b : Bool) (v w : World) → v.holding.next ≡ w.holding.next → (if b then v else w).holding.next ≤ w.holding.next + 1

@@ -3,8 +3,9 @@ use Rattle.std.proofs.Common.{◌≡◌, ℕ, [], ◌∷◌, Option, Some, None,
 use Rattle.std.specs.Prelude.{count_by, IfSome}
 use Rattle.circuit_model.specs.declared.channel.Slot.{Slot}
 use Rattle.circuit_model.specs.declared.circuit.Circuit.TheVariants.{Member}
+use Rattle.circuit_model.specs.declared.circuit.Kind.{Kind}
 use Rattle.circuit_model.specs.Circuits.{heard_by}
-use Rattle.circuit_model.specs.Holding.{Connect, Seat, Clear, after}
+use Rattle.circuit_model.specs.Holding.{Connect, Seat, Give_tone, Clear, after}
 use Rattle.circuit_model.specs.Ports.{given, returned, port_of}
 use Rattle.circuit_model.proofs.Slots.{same_slot-refl}
 use Rattle.circuit_model.proofs.Validity.{count_by-append}
@@ -24,6 +25,11 @@ module _ (m : Connections) (w : World) (s : StandsFor m w) where
   pub nail_stands : (n : Connections) (x y : Slot) → Represents n (after w.holding (Connect x y)) w.ports → n.layout ≡ joined_both m x y
       → StandsFor n (obey (dimensions_of m) w (Connect x y))
   nail_stands n x y holds layout = record { holds = holds; layout = layout ∙ ap (λ l. both_ways (dimensions_of m) l x y) s.layout }
+
+  -- a tone has no path
+  pub tone_stands : (n : Connections) (x : Slot) (kind : Kind) → Represents n (after w.holding (Give_tone x kind)) w.ports → n.layout ≡ m.layout
+      → StandsFor n (record w { holding = after w.holding (Give_tone x kind) })
+  tone_stands n x kind holds layout = record { holds = holds; layout = layout ∙ s.layout }
 
   -- what is cleared takes its paths along
   pub clear_stands : (n : Connections) (x : Slot) → Represents n (after w.holding (Clear x)) (returned x w.ports) → n.layout ≡ parted m x

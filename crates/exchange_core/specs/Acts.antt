@@ -1,6 +1,7 @@
 -- What each act does with the leg that a message is for, and with its peer. Which message is sent when is this exchange's own profile of
 -- basic call control (ITU-T Q.931 (05/98), 5.1 to 5.3).
-use Rattle.std.specs.Prelude.{ℕ, List, [], ◌∷◌, ◌++◌, Option, Some, None}
+use Rattle.std.specs.Prelude.{ℕ, List, [], ◌∷◌, ◌++◌, Option, Some, None, is_some}
+use Rattle.circuit_model.specs.declared.circuit.Kind.{Kind}
 use Rattle.q931_codec.specs.declared.kind.MessageKind.{MessageKind}
 use Rattle.q931_codec.specs.declared.kind.MessageKind.TheVariants as kind
 use Rattle.q931_codec.specs.CallStates.{call_delivered, call_received, incoming_call_proceeding, active, disconnect_indication, release_request}
@@ -12,10 +13,12 @@ use Rattle.call_states.specs.declared.leg.Leg.{Leg}
 use Rattle.call_states.specs.declared.leg.Peer.{Peer}
 use Rattle.call_states.specs.declared.leg.Peer.TheVariants as peer
 use Rattle.call_states.specs.Status.{flag_to, status, unexpected_cause}
+use Rattle.tone_rules.specs.declared.tones.Tones.{Tones}
+use Rattle.tone_rules.specs.CallTones.{tone_given}
 use Rattle.exchange_core.specs.declared.leg_table.Held.{Held}
 use Rattle.exchange_core.specs.Course.{Course, only, nothing}
 use Rattle.exchange_core.specs.Legs.{Legs, held_at}
-use Rattle.exchange_core.specs.Operations.{Operation, Clear, Pair, Put, Remove, Send}
+use Rattle.exchange_core.specs.Operations.{Operation, Clear, Pair, Sound, Put, Remove, Send}
 
 -- ---- messages to the user of a leg
 
@@ -29,6 +32,10 @@ disconnect leg cause = record (message_to leg kind.Disconnect) { cause = Some ca
 abbrev pub send : Held → OutgoingMessage → Operation
 send h message = Send h.slot.line message
 
+-- the same message, with a progress indicator exactly where the slot of its user gets a tone: there is something to be heard
+abbrev pub announced : Option Kind → OutgoingMessage → OutgoingMessage
+announced tone message = record message { progress = is_some tone }
+
 -- ---- legs in another state
 
 abbrev pub in_state : ℕ → Leg → Leg
@@ -40,6 +47,10 @@ released leg = record leg { state = release_request; peer = peer.Alone }
 
 abbrev pub disconnected : ℕ → Leg → Leg
 disconnected cause leg = record leg { state = disconnect_indication; peer = peer.Alone; cause = cause }
+
+-- the tone that the slot of a leg gets, by its state and the cause that it was cleared with, where the trace gives it
+abbrev pub tone_of : Tones → Leg → Option Kind
+tone_of tones leg = tone_given tones leg.state leg.cause
 
 -- ---- the peer
 
@@ -53,22 +64,26 @@ abbrev pub with_peer : Option Held → (Held → List Operation) → List Operat
 with_peer None does = []
 with_peer (Some h) does = does h
 
--- the other leg of the call is cleared with a cause
-abbrev pub clear_with : ℕ → Held → List Operation
-clear_with cause h =
+-- the other leg of the call is cleared with a cause, and its user may hear why
+abbrev pub clear_with : Tones → ℕ → Held → List Operation
+clear_with tones cause h =
+    let tone = tone_of tones (disconnected cause h.leg) in
     Clear h.slot
     ∷ Put h.slot (disconnected cause h.leg)
-    ∷ send h (disconnect h.leg cause)
+    ∷ Sound h.slot tone
+    ∷ send h (announced tone (disconnect h.leg cause))
     ∷ []
 
 -- ---- the acts
 
--- the called user is being alerted, and the caller is told so
-abbrev pub alerting : Held → Held → List Operation
-alerting h caller =
+-- the called user is being alerted; the caller is told so, and may hear it
+abbrev pub alerting : Tones → Held → Held → List Operation
+alerting tones h caller =
+    let tone = tone_of tones (in_state call_delivered caller.leg) in
     Put h.slot (in_state call_received h.leg)
     ∷ Put caller.slot (in_state call_delivered caller.leg)
-    ∷ send caller (message_to caller.leg kind.Alerting)
+    ∷ Sound caller.slot tone
+    ∷ send caller (announced tone (message_to caller.leg kind.Alerting))
     ∷ []
 
 -- the called user has answered: the two slots are connected, and whatever the caller heard until now stops
@@ -105,13 +120,13 @@ removing h =
     ∷ []
 
 -- what an act does for a message of this type
-abbrev pub course_of : Legs → Held → MessageKind → Act → Course
-course_of legs h type act.Nothing = nothing
-course_of legs h type act.Unexpected = only (send h (status h.leg (unexpected_cause type)) ∷ [])
-course_of legs h type act.Enquiry = only (send h (status h.leg response_to_status_enquiry) ∷ [])
-course_of legs h type act.Proceeding = only (Put h.slot (in_state incoming_call_proceeding h.leg) ∷ [])
-course_of legs h type act.Alerting = only (with_peer (peer_of legs h.leg.peer) (alerting h))
-course_of legs h type act.Answer = only (with_peer (peer_of legs h.leg.peer) (answer h))
-course_of legs h type (act.Disconnect cause) = record { operations = disconnecting h ++ with_peer (peer_of legs h.leg.peer) (clear_with cause); cause = cause }
-course_of legs h type (act.Released cause) = record { operations = releasing h ++ with_peer (peer_of legs h.leg.peer) (clear_with cause); cause = cause }
-course_of legs h type (act.Gone cause) = record { operations = removing h ++ with_peer (peer_of legs h.leg.peer) (clear_with cause); cause = cause }
+abbrev pub course_of : Tones → Legs → Held → MessageKind → Act → Course
+course_of tones legs h type act.Nothing = nothing
+course_of tones legs h type act.Unexpected = only (send h (status h.leg (unexpected_cause type)) ∷ [])
+course_of tones legs h type act.Enquiry = only (send h (status h.leg response_to_status_enquiry) ∷ [])
+course_of tones legs h type act.Proceeding = only (Put h.slot (in_state incoming_call_proceeding h.leg) ∷ [])
+course_of tones legs h type act.Alerting = only (with_peer (peer_of legs h.leg.peer) (alerting tones h))
+course_of tones legs h type act.Answer = only (with_peer (peer_of legs h.leg.peer) (answer h))
+course_of tones legs h type (act.Disconnect cause) = record { operations = disconnecting h ++ with_peer (peer_of legs h.leg.peer) (clear_with tones cause); cause = cause }
+course_of tones legs h type (act.Released cause) = record { operations = releasing h ++ with_peer (peer_of legs h.leg.peer) (clear_with tones cause); cause = cause }
+course_of tones legs h type (act.Gone cause) = record { operations = removing h ++ with_peer (peer_of legs h.leg.peer) (clear_with tones cause); cause = cause }

@@ -23,7 +23,7 @@ pub record AreConnected (bridges : ℕ) (before afterwards : World) (caller call
 -- a message answers the call of a leg: circuits and legs stand as they must, and the leg is asked for that act
 pub record IsAnswered (s : Setting) (w : World) (line : ℕ) (octets : List ℕ) (h : Held) : Type 0 where
   pub valid : Valid s.dimensions.bridges w.holding
-  pub legs_stand : LegsStand s.dimensions.external w
+  pub legs_stand : LegsStand s.dimensions.external s.tones w
   pub line_exists : line < s.dimensions.external
   pub message : Message
   pub for_leg : received w.legs line octets ≡ For_leg h message

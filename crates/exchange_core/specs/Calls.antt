@@ -90,10 +90,10 @@ answer_back line None = []
 answer_back line (Some message) = Send line message ∷ []
 
 abbrev pub done_for : Setting → World → ℕ → Received → Done
-done_for s w line (For_leg h m) = done_by s w (course_of w.legs h m.kind (act_on h.leg.state m))
+done_for s w line (For_leg h m) = done_by s w (course_of s.tones w.legs h m.kind (act_on h.leg.state m))
 done_for s w line (New_call m) = done_by s w (course_of_setup s w line m)
 done_for s w line (On_no_call m) = done_by s w (only (answer_back line (answer_without_call m)))
-done_for s w line (Restarts r) = restarted s.dimensions r line w
+done_for s w line (Restarts r) = restarted s.dimensions s.tones r line w
 done_for s w line Unanswered = done_by s w nothing
 
 abbrev pub done : Setting → World → ℕ → List ℕ → Done

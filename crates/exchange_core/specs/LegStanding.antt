@@ -13,6 +13,8 @@ use Rattle.call_states.specs.declared.leg.Peer.{Peer}
 use Rattle.call_states.specs.declared.leg.Peer.TheVariants as peer
 use Rattle.call_states.specs.declared.leg.Side.{Side}
 use Rattle.call_states.specs.declared.leg.Side.TheVariants.{Caller, Called}
+use Rattle.tone_rules.specs.declared.tones.Tones.{Tones}
+use Rattle.exchange_core.specs.Acts.{tone_of}
 use Rattle.exchange_core.specs.Legs.{Legs, leg_at}
 use Rattle.exchange_core.specs.Setup.{Setting}
 use Rattle.exchange_core.specs.World.{World}
@@ -46,29 +48,29 @@ HasPeer external legs x leg peer.Alone = IsTrue (is_among alone leg.state)
 HasPeer external legs x leg (peer.Leg y) = IsExternal external y × ((other : Leg) × (leg_at legs y ≡ Some other) × IsInCall leg.side x leg y other)
 HasPeer external legs x leg (peer.Room room) = (leg.side ≡ Caller) × (leg.state ≡ active)
 
--- by what a leg's slot hears: in state active by the connection with its peer or by its seat, else by nothing; by a tone where a called user
--- is being alerted, or where the leg stands alone
-abbrev pub MayHear : Leg → Option Circuit → Type 0
-MayHear leg None = leg.state ≢ active
-MayHear leg (Some (Tone kind to since)) = IsTrue (is_among (call_delivered ∷ alone) leg.state)
-MayHear leg (Some (Pair from to since)) = (leg.state ≡ active) × (leg.peer ≡ peer.Leg from)
-MayHear leg (Some (Member room at since)) = (leg.state ≡ active) × (leg.peer ≡ peer.Room room)
+-- by what a leg's slot hears: in state active by the connection with its peer or by its seat; else by the tone of its state and cause exactly
+-- where the trace gives that tone, and by nothing where there is none
+abbrev pub MayHear : Tones → Leg → Option Circuit → Type 0
+MayHear tones leg None = (leg.state ≢ active) × (tone_of tones leg ≡ None)
+MayHear tones leg (Some (Tone kind to since)) = tone_of tones leg ≡ Some kind
+MayHear tones leg (Some (Pair from to since)) = (leg.state ≡ active) × (leg.peer ≡ peer.Leg from)
+MayHear tones leg (Some (Member room at since)) = (leg.state ≡ active) × (leg.peer ≡ peer.Room room)
 
-pub record LegStands (external : ℕ) (w : World) (x : Slot) (leg : Leg) : Type 0 where
+pub record LegStands (external : ℕ) (tones : Tones) (w : World) (x : Slot) (leg : Leg) : Type 0 where
   pub state : IsTrue (is_among every_state leg.state)
   pub reference : (1 ≤ leg.reference) × (leg.reference < 2 ^ 15)
   pub cause : leg.cause < 128
   pub peer : HasPeer external w.legs x leg leg.peer
-  pub hears : MayHear leg (heard_by w.holding.circuits x)
+  pub hears : MayHear tones leg (heard_by w.holding.circuits x)
 
 -- each leg stands rightly, and no two called legs of a line, and no two callers' legs of a line, have one call reference
-pub record LegsStand (external : ℕ) (w : World) : Type 0 where
+pub record LegsStand (external : ℕ) (tones : Tones) (w : World) : Type 0 where
   pub count : length w.legs ≡ 30 * external
-  pub each : (x : Slot) (leg : Leg) → IsExternal external x → leg_at w.legs x ≡ Some leg → LegStands external w x leg
+  pub each : (x : Slot) (leg : Leg) → IsExternal external x → leg_at w.legs x ≡ Some leg → LegStands external tones w x leg
   pub one : (x y : Slot) (a b : Leg) → IsExternal external x → IsExternal external y → leg_at w.legs x ≡ Some a → leg_at w.legs y ≡ Some b
       → x.line ≡ y.line → a.side ≡ b.side → a.reference ≡ b.reference → x ≡ y
 
 -- each slot stands in one way, and the legs stand
 pub record CallsStand (s : Setting) (w : World) : Type 0 where
   pub circuits : Valid s.dimensions.bridges w.holding
-  pub legs : LegsStand s.dimensions.external w
+  pub legs : LegsStand s.dimensions.external s.tones w

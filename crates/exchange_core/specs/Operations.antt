@@ -1,7 +1,8 @@
 -- What the exchange does with calls, one operation after another. Source: this exchange's own.
 use Rattle.std.specs.Prelude.{ℕ, List, [], ◌∷◌, ◌++◌, Option, Some, None, option_map}
 use Rattle.circuit_model.specs.declared.channel.Slot.{Slot}
-use Rattle.circuit_model.specs.Holding.{Connect, Seat as Take_seat, Clear as Clear_slot}
+use Rattle.circuit_model.specs.declared.circuit.Kind.{Kind}
+use Rattle.circuit_model.specs.Holding.{Holding, Connect, Seat as Take_seat, Give_tone, Clear as Clear_slot, after}
 use Rattle.circuit_model.specs.Ports.{port_of, given}
 use Rattle.control_memory.specs.Layout.{Layout}
 use Rattle.control_memory.specs.Connecting.{moved}
@@ -18,6 +19,8 @@ pub data Operation : Type 0 where
   Pair : (x y : Slot) → Operation
   -- the slot takes a seat in a room
   Seat : (x : Slot) (room : ℕ) → Operation
+  -- the slot gets this tone, if there is one
+  Sound : (x : Slot) (kind : Option Kind) → Operation
   -- the slot is held by this leg, in place of any other
   Put : (x : Slot) (leg : Leg) → Operation
   -- the slot is held by no leg
@@ -41,10 +44,16 @@ moves_for d layout x y = (moved layout (one_way d layout x y), moved (one_way d 
 abbrev pub moves_of_seat : Dimensions → World → Slot → Option (ℕ × ℕ)
 moves_of_seat d w x = option_map (moves_for d w.layout x) (port_of d.external (given x w.ports) x)
 
+-- the circuits once a slot got a tone, if there is one: it sounds from the next frame on
+abbrev pub sounding : Holding → Slot → Option Kind → Holding
+sounding h x None = h
+sounding h x (Some kind) = after h (Give_tone x kind)
+
 abbrev pub performed : Dimensions → Making → Operation → Making
 performed d m (Clear x) = record m { world = obey d m.world (Clear_slot x) }
 performed d m (Pair x y) = record m { world = obey d m.world (Connect x y); moves = Some (moves_for d m.world.layout x y) }
 performed d m (Seat x room) = record m { world = obey d m.world (Take_seat x room); moves = moves_of_seat d m.world x }
+performed d m (Sound x kind) = record m { world = record m.world { holding = sounding m.world.holding x kind } }
 performed d m (Put x leg) = record m { world = record m.world { legs = with_leg m.world.legs x leg } }
 performed d m (Remove x) = record m { world = record m.world { legs = without_leg m.world.legs x } }
 performed d m (Send line message) = record m { sends = m.sends ++ record { line = line; octets = encoding message } ∷ [] }

@@ -1,11 +1,14 @@
 -- What an operation asks of the world in the making. Source: this exchange's own.
-use Rattle.std.specs.Prelude.{◌≡◌, ◌≢◌, ◌*◌, ◌<◌, true, List, [], ◌∷◌, count_by}
+use Rattle.std.specs.Prelude.{◌≡◌, ◌≢◌, ◌*◌, ◌<◌, true, List, [], ◌∷◌, count_by, Option, IfSome}
 use Rattle.circuit_model.specs.declared.channel.Slot.{Slot}
+use Rattle.circuit_model.specs.declared.circuit.Kind.{Kind}
 use Rattle.circuit_model.specs.Circuits.{is_idle, is_member}
 use Rattle.circuit_model.specs.Extent.{IsExternal}
 use Rattle.q931_codec.specs.Outgoing.{IsWritable}
 use Rattle.call_states.specs.Status.{IsTold}
-use Rattle.exchange_core.specs.Operations.{Operation, Clear, Pair, Seat, Put, Remove, Send, Making, performed}
+use Rattle.tone_rules.specs.declared.tones.Tones.{Tones}
+use Rattle.tone_rules.specs.Tables.{IsGiven}
+use Rattle.exchange_core.specs.Operations.{Operation, Clear, Pair, Seat, Sound, Put, Remove, Send, Making, performed}
 use Rattle.exchange_core.specs.World.{Dimensions, World}
 
 -- two different slots that no circuit names
@@ -22,15 +25,22 @@ pub record CanSeat (d : Dimensions) (w : World) (x : Slot) : Type 0 where
   pub idle : is_idle w.holding.circuits x ≡ true
   pub free : count_by is_member w.holding.circuits < 30 * d.bridges
 
-abbrev pub IsPermitted : Dimensions → Making → Operation → Type 0
-IsPermitted d m (Clear x) = IsExternal d.external x
-IsPermitted d m (Pair x y) = CanPair d m.world x y
-IsPermitted d m (Seat x room) = CanSeat d m.world x
-IsPermitted d m (Put x leg) = IsExternal d.external x × IsTold leg
-IsPermitted d m (Remove x) = IsExternal d.external x
-IsPermitted d m (Send line message) = (line < d.external) × IsWritable message
+-- a slot that no circuit names, and a tone that has octets, where it is to get one
+pub record CanSound (d : Dimensions) (tones : Tones) (w : World) (x : Slot) (kind : Option Kind) : Type 0 where
+  pub within : IsExternal d.external x
+  pub idle : is_idle w.holding.circuits x ≡ true
+  pub octets : IfSome kind (IsGiven tones)
+
+abbrev pub IsPermitted : Dimensions → Tones → Making → Operation → Type 0
+IsPermitted d tones m (Clear x) = IsExternal d.external x
+IsPermitted d tones m (Pair x y) = CanPair d m.world x y
+IsPermitted d tones m (Seat x room) = CanSeat d m.world x
+IsPermitted d tones m (Sound x kind) = CanSound d tones m.world x kind
+IsPermitted d tones m (Put x leg) = IsExternal d.external x × IsTold leg
+IsPermitted d tones m (Remove x) = IsExternal d.external x
+IsPermitted d tones m (Send line message) = (line < d.external) × IsWritable message
 
 -- each operation, when its turn comes
-abbrev pub ArePermitted : Dimensions → Making → List Operation → Type 0
-ArePermitted d m [] = Unit {0}
-ArePermitted d m (o ∷ os) = IsPermitted d m o × ArePermitted d (performed d m o) os
+abbrev pub ArePermitted : Dimensions → Tones → Making → List Operation → Type 0
+ArePermitted d tones m [] = Unit {0}
+ArePermitted d tones m (o ∷ os) = IsPermitted d tones m o × ArePermitted d tones (performed d m o) os

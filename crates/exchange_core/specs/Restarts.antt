@@ -4,6 +4,7 @@ use Rattle.circuit_model.specs.declared.channel.Slot.{Slot}
 use Rattle.q931_codec.specs.Causes.{temporary_failure}
 use Rattle.clearing_rules.specs.declared.scope.Restart.{Restart}
 use Rattle.clearing_rules.specs.Restarting.{is_restarted, acknowledgement}
+use Rattle.tone_rules.specs.declared.tones.Tones.{Tones}
 use Rattle.exchange_core.specs.declared.leg_table.Held.{Held}
 use Rattle.exchange_core.specs.declared.record.CallRecord.{CallRecord}
 use Rattle.exchange_core.specs.Acts.{peer_of, with_peer, clear_with, removing}
@@ -19,16 +20,16 @@ abbrev pub restarts_slot : Restart → ℕ → Slot → Bool
 restarts_slot r line x = (x.line == line) && is_restarted r x.place
 
 -- the other leg of a call is gone too where its slot is restarted as well, and its user is sent nothing; else it is cleared
-abbrev pub restart_peer : Restart → ℕ → Held → List Operation
-restart_peer r line other = if restarts_slot r line other.slot then removing other else clear_with temporary_failure other
+abbrev pub restart_peer : Tones → Restart → ℕ → Held → List Operation
+restart_peer tones r line other = if restarts_slot r line other.slot then removing other else clear_with tones temporary_failure other
 
 -- the leg that holds a restarted slot is gone
-abbrev pub restart_leg : Restart → Legs → Option Held → List Operation
-restart_leg r legs None = []
-restart_leg r legs (Some h) = removing h ++ with_peer (peer_of legs h.leg.peer) (restart_peer r h.slot.line)
+abbrev pub restart_leg : Tones → Restart → Legs → Option Held → List Operation
+restart_leg tones r legs None = []
+restart_leg tones r legs (Some h) = removing h ++ with_peer (peer_of legs h.leg.peer) (restart_peer tones r h.slot.line)
 
-abbrev pub restart_slot : Restart → Legs → Slot → List Operation
-restart_slot r legs x = if is_restarted r x.place then restart_leg r legs (held_at legs x) else []
+abbrev pub restart_slot : Tones → Restart → Legs → Slot → List Operation
+restart_slot tones r legs x = if is_restarted r x.place then restart_leg tones r legs (held_at legs x) else []
 
 -- ---- the slots of the line, one after another
 
@@ -43,16 +44,16 @@ then_done d cause a operations =
     let m = performed_all d a.making operations in
     record { making = m; told = a.told ++ records a.making.world m.world cause }
 
-abbrev pub slot_done : Dimensions → Restart → Slot → Done → Done
-slot_done d r x a = then_done d temporary_failure a (restart_slot r a.making.world.legs x)
+abbrev pub slot_done : Dimensions → Tones → Restart → Slot → Done → Done
+slot_done d tones r x a = then_done d temporary_failure a (restart_slot tones r a.making.world.legs x)
 
 -- the places of the line below n, lowest first, each in the world that those before it left
-unfoldable pub restarted_below : Dimensions → Restart → ℕ → World → ℕ → Done
-restarted_below d r line w zero = record { making = begun w; told = [] }
-restarted_below d r line w (suc place) = slot_done d r (record { line = line; place = place }) (restarted_below d r line w place)
+unfoldable pub restarted_below : Dimensions → Tones → Restart → ℕ → World → ℕ → Done
+restarted_below d tones r line w zero = record { making = begun w; told = [] }
+restarted_below d tones r line w (suc place) = slot_done d tones r (record { line = line; place = place }) (restarted_below d tones r line w place)
 
 -- all of them, and last the acknowledgement
-abbrev pub restarted : Dimensions → Restart → ℕ → World → Done
-restarted d r line w =
-    let a = restarted_below d r line w 30 in
+abbrev pub restarted : Dimensions → Tones → Restart → ℕ → World → Done
+restarted d tones r line w =
+    let a = restarted_below d tones r line w 30 in
     record a { making = performed d a.making (Send line (acknowledgement r)) }

@@ -2,7 +2,11 @@
 use Rattle.std.specs.Prelude.{ℕ, ◌+◌, ◌*◌, true, false, List, [], ◌∷◌, ◌++◌, map, replicate, Some, None}
 use Rattle.std.specs.List.{range_with_len}
 use Rattle.circuit_model.specs.declared.channel.Slot.{Slot}
+use Rattle.circuit_model.specs.declared.circuit.Circuit.{Circuit}
+use Rattle.circuit_model.specs.declared.circuit.Circuit.TheVariants.{Pair, Tone}
+use Rattle.circuit_model.specs.declared.circuit.Kind.TheVariants.{Ringback, Busy}
 use Rattle.number_plan.specs.declared.target.Target.TheVariants as target
+use Rattle.tone_rules.specs.declared.tones.Tones.{Tones}
 use Rattle.exchange_core.specs.declared.record.CallRecord.{CallRecord}
 use Rattle.exchange_core.specs.declared.record.Party.TheVariants as party
 use Rattle.exchange_core.specs.declared.reply.Reply.{Reply}
@@ -10,21 +14,27 @@ use Rattle.exchange_core.specs.declared.reply.Reply.TheVariants.{Granted, Sent a
 use Rattle.exchange_core.specs.declared.signal.Signal.{Signal}
 use Rattle.exchange_core.specs.declared.trace.Event.{Event}
 use Rattle.exchange_core.specs.declared.trace.Event.TheVariants.{Nail, Message, Frame}
-use Rattle.exchange_core.specs.Step.{run}
+use Rattle.exchange_core.specs.Step.{run, world}
 use Rattle.exchange_core.specs.Setup.{Setting}
 use Rattle.exchange_core.specs.World.{start}
+
+-- no tone is given
+abbrev pub silent : Tones
+silent = record { ringback = []; busy = [] }
 
 -- an exchange of two lines, where number 101 is line 1's, and one of a single line, where number 30 is room 0's
 abbrev pub two_lines : Setting
 two_lines = record {
   dimensions = record { external = 2; bridges = 0; slots = 30 };
   plan = record { digits = 0x31 ∷ 0x30 ∷ 0x31 ∷ []; target = target.Line 1 } ∷ [];
+  tones = silent;
 }
 
 abbrev pub one_line : ℕ → Setting
 one_line bridges = record {
   dimensions = record { external = 1; bridges = bridges; slots = 30 };
   plan = record { digits = 0x33 ∷ 0x30 ∷ []; target = target.Room 0 } ∷ [];
+  tones = silent;
 }
 
 -- what the events of a run are answered, from the first on
@@ -224,6 +234,7 @@ abbrev pub own_line : Setting
 own_line = record {
   dimensions = record { external = 1; bridges = 0; slots = 30 };
   plan = record { digits = 0x31 ∷ 0x30 ∷ []; target = target.Line 0 } ∷ [];
+  tones = silent;
 }
 
 -- the interface is restarted, and with it both legs of the call: nobody is told
@@ -254,3 +265,61 @@ restart_of_one_answered =
     own_call_offered
     ∷ recorded (to 0 (0x08 ∷ 0x02 ∷ 0x00 ∷ 0x01 ∷ 0x45 ∷ 0x08 ∷ 0x02 ∷ 0x82 ∷ 0xA9 ∷ []) ∷ to 0 (0x08 ∷ 0x02 ∷ 0x80 ∷ 0x00 ∷ 0x4E ∷ 0x18 ∷ 0x03 ∷ 0xA9 ∷ 0x83 ∷ 0x81 ∷ 0x79 ∷ 0x01 ∷ 0x80 ∷ []) ∷ []) (record { caller = at 0 0; called = party.Line (at 0 1); answered = false; from = 0; to = 0; cause = 41 })
     ∷ []
+
+-- ---- tones
+
+-- the two lines again, with both tones
+abbrev pub sounding_lines : Setting
+sounding_lines = record two_lines { tones = record { ringback = 0x11 ∷ 0x22 ∷ 0x33 ∷ []; busy = 0x44 ∷ [] } }
+
+-- the circuits that stand once these events have happened
+abbrev pub standing : Setting → List Event → List Circuit
+standing s events = (world s (start s.dimensions) events).holding.circuits
+
+-- line 0 calls number 101, and the called user is alerted
+abbrev pub rings : List Event
+rings =
+    Message 0 (0x08 ∷ 0x02 ∷ 0x00 ∷ 0x01 ∷ 0x05 ∷ 0x04 ∷ 0x03 ∷ 0x80 ∷ 0x90 ∷ 0xA3 ∷ 0x18 ∷ 0x03 ∷ 0xA9 ∷ 0x83 ∷ 0x81 ∷ 0x70 ∷ 0x04 ∷ 0x80 ∷ 0x31 ∷ 0x30 ∷ 0x31 ∷ [])
+    ∷ Message 1 (0x08 ∷ 0x02 ∷ 0x80 ∷ 0x01 ∷ 0x01 ∷ [])
+    ∷ []
+
+abbrev pub call_offered : Reply
+call_offered = sent (to 0 (0x08 ∷ 0x02 ∷ 0x80 ∷ 0x01 ∷ 0x02 ∷ 0x18 ∷ 0x03 ∷ 0xA9 ∷ 0x83 ∷ 0x81 ∷ []) ∷ to 1 (0x08 ∷ 0x02 ∷ 0x00 ∷ 0x01 ∷ 0x05 ∷ 0xA1 ∷ 0x04 ∷ 0x03 ∷ 0x80 ∷ 0x90 ∷ 0xA3 ∷ 0x18 ∷ 0x03 ∷ 0xA9 ∷ 0x83 ∷ 0x81 ∷ 0x70 ∷ 0x04 ∷ 0x80 ∷ 0x31 ∷ 0x30 ∷ 0x31 ∷ []) ∷ [])
+
+abbrev pub rings_answered : List Reply
+rings_answered = call_offered ∷ sent (to 0 (0x08 ∷ 0x02 ∷ 0x80 ∷ 0x01 ∷ 0x01 ∷ 0x1E ∷ 0x02 ∷ 0x82 ∷ 0x88 ∷ []) ∷ []) ∷ []
+
+-- after a frame the called user is found busy
+abbrev pub found_busy : List Event
+found_busy = rings ++ Frame [] ∷ Message 1 (0x08 ∷ 0x02 ∷ 0x80 ∷ 0x01 ∷ 0x5A ∷ 0x08 ∷ 0x02 ∷ 0x80 ∷ 0x91 ∷ []) ∷ []
+
+abbrev pub found_busy_answered : List Reply
+found_busy_answered =
+    rings_answered
+    ++ Frame_reply 0 [] []
+    ∷ recorded (to 0 (0x08 ∷ 0x02 ∷ 0x80 ∷ 0x01 ∷ 0x45 ∷ 0x08 ∷ 0x02 ∷ 0x82 ∷ 0x91 ∷ 0x1E ∷ 0x02 ∷ 0x82 ∷ 0x88 ∷ []) ∷ []) (record { caller = at 0 0; called = party.Line (at 1 0); answered = false; from = 1; to = 1; cause = 17 })
+    ∷ []
+
+-- or is gone for another cause, which has no tone
+abbrev pub found_gone : List Event
+found_gone = rings ++ Message 1 (0x08 ∷ 0x02 ∷ 0x80 ∷ 0x01 ∷ 0x5A ∷ 0x08 ∷ 0x02 ∷ 0x80 ∷ 0x92 ∷ []) ∷ []
+
+abbrev pub found_gone_answered : List Reply
+found_gone_answered =
+    rings_answered
+    ++ recorded (to 0 (0x08 ∷ 0x02 ∷ 0x80 ∷ 0x01 ∷ 0x45 ∷ 0x08 ∷ 0x02 ∷ 0x82 ∷ 0x92 ∷ []) ∷ []) (record { caller = at 0 0; called = party.Line (at 1 0); answered = false; from = 0; to = 0; cause = 18 })
+    ∷ []
+
+-- or answers
+abbrev pub found_there : List Event
+found_there = rings ++ Message 1 (0x08 ∷ 0x02 ∷ 0x80 ∷ 0x01 ∷ 0x07 ∷ []) ∷ []
+
+-- what stands in each case: a tone since the next frame, or the connection alone
+abbrev pub ringing_tone : List Circuit
+ringing_tone = Tone Ringback (at 0 0) 0 ∷ []
+
+abbrev pub busy_tone : List Circuit
+busy_tone = Tone Busy (at 0 0) 1 ∷ []
+
+abbrev pub conversation : List Circuit
+conversation = Pair (at 0 0) (at 1 0) 0 ∷ Pair (at 1 0) (at 0 0) 0 ∷ []

@@ -6,13 +6,13 @@ ghost use Rattle.q931_codec.specs.Outgoing.{encoding, outgoing_of};
 ghost use Rattle.call_states.specs.Acts.{act_on, cause_of_act};
 ghost use Rattle.call_states.specs.Status.{IsTold};
 ghost use Rattle.call_states.specs.declared.act.Act.TheVariants as asked;
-ghost use Rattle.exchange_core.specs.Acts.{course_of, peer_of, with_peer, message_to, disconnect, in_state, alerting, answer, disconnecting, releasing, removing, clear_with};
+ghost use Rattle.exchange_core.specs.Acts.{announced, course_of, peer_of, with_peer, message_to, disconnect, disconnected, in_state, tone_of, alerting, answer, disconnecting, releasing, removing, clear_with};
 ghost use Rattle.exchange_core.specs.AtWork.{IsAtWork};
 ghost use Rattle.exchange_core.specs.Calls.{made_by, done_by};
 ghost use Rattle.exchange_core.specs.Legs.{leg_at};
 ghost use Rattle.exchange_core.specs.Limits.{most_sends};
 ghost use Rattle.exchange_core.specs.Operations.{Clear, Pair, Making, performed_all};
-ghost use Rattle.exchange_core.specs.Peers.{IsThere, PeerIsThere};
+ghost use Rattle.exchange_core.specs.Peers.{IsThere, PeerIsThere, IsSilent};
 ghost use Rattle.exchange_core.specs.Setup.{Setting};
 ghost use Rattle.exchange_core.specs.Standing.{Holds, Makes};
 ghost use Rattle.exchange_core.specs.World.{Dimensions, World};
@@ -22,7 +22,7 @@ use crate::leg_table::Held;
 use crate::outbox::Outbox;
 use crate::record::Records;
 use call_states::{Act, Leg, Peer, on_message, status, unexpected};
-use circuit_model::Slot;
+use circuit_model::{Kind, Slot};
 use control_memory::PathMap;
 use q931_codec::causes::RESPONSE_TO_STATUS_ENQUIRY;
 use q931_codec::states::{
@@ -30,26 +30,33 @@ use q931_codec::states::{
     RELEASE_REQUEST,
 };
 use q931_codec::{Message, MessageKind, Outgoing};
+use tone_rules::{Tones, tone_given};
 
 impl<P: PathMap> CallControl<P> {
     /// Does with a leg what a message to it asks for, and answers the records of the calls that this
     /// begins to clear.
-    pub(crate) fn act(&mut self, out: &mut Outbox, held: Held, message: &Message) -> Records
+    pub(crate) fn act(
+        &mut self,
+        out: &mut Outbox,
+        tones: &Tones,
+        held: Held,
+        message: &Message,
+    ) -> Records
         requires work { (s : Setting) × (w : World) × IsAtWork s self.old.map self.old.legs w }
         requires external { IsExternal self.old.map.external held.slot }
         requires held { leg_at self.old.legs held.slot ≡ Some held.leg }
         requires fresh { (out.old.sends ≡ []) × (out.old.moved ≡ None) }
-        ensures makes { (s : Setting) (w : World) → IsAtWork s self.old.map self.old.legs w
-            → Makes s.dimensions self.new.map self.new.legs out.new.sends out.new.moved (made_by s w (course_of w.legs held message.now.kind (act_on held.leg.state message.now))) }
+        ensures makes { (s : Setting) (w : World) → s.tones ≡ tones.now → IsAtWork s self.old.map self.old.legs w
+            → Makes s.dimensions self.new.map self.new.legs out.new.sends out.new.moved (made_by s w (course_of s.tones w.legs held message.now.kind (act_on held.leg.state message.now))) }
         ensures records { (s : Setting) (w : World) → IsAtWork s self.old.map self.old.legs w
-            → result ≡ (done_by s w (course_of w.legs held message.now.kind (act_on held.leg.state message.now))).told }
+            → result ≡ (done_by s w (course_of s.tones w.legs held message.now.kind (act_on held.leg.state message.now))).told }
         ensures few { IfSome out.new.moved (λ moves. (moves.0 ≤ self.old.map.bound) × (moves.1 ≤ self.old.map.bound)) }
         ensures sizes { SameSizes self.old.map self.new.map }
     {
         let act = on_message(&held.leg, message);
         let peer = self.peer_of(held.leg.peer);
         let records = self.records_of_act(held, peer, act);
-        self.perform(out, held, peer, act, message);
+        self.perform(out, tones, held, peer, act, message);
         records
     }
 
@@ -70,6 +77,7 @@ impl<P: PathMap> CallControl<P> {
     fn perform(
         &mut self,
         out: &mut Outbox,
+        tones: &Tones,
         held: Held,
         peer: Option<Held>,
         act: Act,
@@ -82,10 +90,11 @@ impl<P: PathMap> CallControl<P> {
         requires peer_there { PeerIsThere self.old.map.external held peer }
         requires cause { IfSome (cause_of_act act) (λ cause. cause < 128) }
         requires silent { act ≡ asked.Answer → hears_at self.old.map held.slot ≡ None }
+        requires waiting { act ≡ asked.Alerting → IsSilent self.old.map peer }
         requires fresh { (out.old.sends ≡ []) × (out.old.moved ≡ None) }
         ensures makes { (d : Dimensions) (m : Making) → Makes d self.old.map self.old.legs out.old.sends out.old.moved m
             → Makes d self.new.map self.new.legs out.new.sends out.new.moved
-            (performed_all d m (course_of self.old.legs held message.now.kind act).operations) }
+            (performed_all d m (course_of tones.now self.old.legs held message.now.kind act).operations) }
         ensures few { IfSome out.new.moved (λ moves. (moves.0 ≤ self.old.map.bound) × (moves.1 ≤ self.old.map.bound)) }
         ensures sizes { SameSizes self.old.map self.new.map }
     {
@@ -99,40 +108,46 @@ impl<P: PathMap> CallControl<P> {
                 )
             }
             Act::Proceeding => self.put(held.slot, in_state(INCOMING_CALL_PROCEEDING, held.leg)),
-            Act::Alerting => self.alert(out, held, peer),
+            Act::Alerting => self.alert(out, tones, held, peer),
             Act::Answer => self.answer(out, held, peer),
             Act::Disconnect(cause) => {
                 self.disconnect(out, held);
-                self.clear_peer(out, peer, cause);
+                self.clear_peer(out, tones, peer, cause);
             }
             Act::Released(cause) => {
                 self.release(out, held);
-                self.clear_peer(out, peer, cause);
+                self.clear_peer(out, tones, peer, cause);
             }
             Act::Gone(cause) => {
                 self.forget(held);
-                self.clear_peer(out, peer, cause);
+                self.clear_peer(out, tones, peer, cause);
             }
         }
     }
 
-    // The called user is being alerted, and the caller is told so.
-    fn alert(&mut self, out: &mut Outbox, held: Held, peer: Option<Held>)
+    // The called user is being alerted; the caller is told so, and hears it where the trace gives that
+    // tone.
+    fn alert(&mut self, out: &mut Outbox, tones: &Tones, held: Held, peer: Option<Held>)
         requires there { IsThere self.old.map.external held }
         requires count { length self.old.legs ≡ 30 * self.old.map.external }
         requires peer_there { PeerIsThere self.old.map.external held peer }
+        requires waiting { IsSilent self.old.map peer }
         requires room { length out.old.sends < most_sends }
         ensures makes { (d : Dimensions) (m : Making) → Makes d self.old.map self.old.legs out.old.sends out.old.moved m
-            → Makes d self.new.map self.new.legs out.new.sends out.new.moved (performed_all d m (with_peer peer (alerting held))) }
+            → Makes d self.new.map self.new.legs out.new.sends out.new.moved (performed_all d m (with_peer peer (alerting tones.now held))) }
         ensures moved { out.new.moved ≡ out.old.moved }
         ensures sizes { SameSizes self.old.map self.new.map }
     {
         let Some(caller) = peer else {
             return;
         };
+        let waits = in_state(CALL_DELIVERED, caller.leg);
+        let tone = tone_of(tones, waits);
         self.put(held.slot, in_state(CALL_RECEIVED, held.leg));
-        self.put(caller.slot, in_state(CALL_DELIVERED, caller.leg));
-        tell(out, caller, MessageKind::Alerting);
+        self.put(caller.slot, waits);
+        self.sound(caller.slot, tone);
+        let alerting = message_to(&caller.leg, MessageKind::Alerting);
+        out.send(caller.slot.line, &announced(tone, alerting));
     }
 
     // The called user has answered: the two slots are connected.
@@ -230,14 +245,21 @@ impl<P: PathMap> CallControl<P> {
         self.remove(held.slot);
     }
 
-    /// The other leg of a call is cleared with a cause.
-    pub(crate) fn clear_peer(&mut self, out: &mut Outbox, peer: Option<Held>, cause: u8)
+    /// The other leg of a call is cleared with a cause, and its user hears why where the trace gives that
+    /// tone.
+    pub(crate) fn clear_peer(
+        &mut self,
+        out: &mut Outbox,
+        tones: &Tones,
+        peer: Option<Held>,
+        cause: u8,
+    )
         requires there { IfSome peer (λ other. IsThere self.old.map.external other) }
         requires count { length self.old.legs ≡ 30 * self.old.map.external }
         requires room { length out.old.sends < most_sends }
         requires cause { cause < 128 }
         ensures makes { (d : Dimensions) (m : Making) → Makes d self.old.map self.old.legs out.old.sends out.old.moved m
-            → Makes d self.new.map self.new.legs out.new.sends out.new.moved (performed_all d m (with_peer peer (clear_with cause))) }
+            → Makes d self.new.map self.new.legs out.new.sends out.new.moved (performed_all d m (with_peer peer (clear_with tones.now cause))) }
         ensures few { length out.new.sends ≤ length out.old.sends + 1 }
         ensures moved { out.new.moved ≡ out.old.moved }
         ensures sizes { SameSizes self.old.map self.new.map }
@@ -245,17 +267,13 @@ impl<P: PathMap> CallControl<P> {
         let Some(other) = peer else {
             return;
         };
+        let alone = disconnected(cause, other.leg);
+        let tone = tone_of(tones, alone);
         self.clear(other.slot);
-        self.put(
-            other.slot,
-            Leg {
-                state: DISCONNECT_INDICATION,
-                peer: Peer::Alone,
-                cause,
-                ..other.leg
-            },
-        );
-        out.send(other.slot.line, &disconnect_message(&other.leg, cause));
+        self.put(other.slot, alone);
+        self.sound(other.slot, tone);
+        let disconnect = disconnect_message(&other.leg, cause);
+        out.send(other.slot.line, &announced(tone, disconnect));
     }
 }
 
@@ -264,6 +282,35 @@ fn in_state(state: u8, leg: Leg) -> Leg
     ensures { result ≡ in_state state leg }
 {
     Leg { state, ..leg }
+}
+
+// The leg alone, cleared with a cause.
+fn disconnected(cause: u8, leg: Leg) -> Leg
+    ensures { result ≡ disconnected cause leg }
+{
+    Leg {
+        state: DISCONNECT_INDICATION,
+        peer: Peer::Alone,
+        cause,
+        ..leg
+    }
+}
+
+// The tone that the slot of a leg gets, where the trace gives it.
+fn tone_of(tones: &Tones, leg: Leg) -> Option<Kind>
+    ensures { result ≡ tone_of tones.now leg }
+{
+    tone_given(tones, leg.state, leg.cause)
+}
+
+// A message with a progress indicator exactly where its user's slot gets a tone.
+fn announced(tone: Option<Kind>, message: Outgoing<'static>) -> Outgoing<'static>
+    ensures { outgoing_of result ≡ announced tone (outgoing_of message.entry) }
+{
+    Outgoing {
+        progress: tone.is_some(),
+        ..message
+    }
 }
 
 // A message of a type, without elements, to the user of a leg.

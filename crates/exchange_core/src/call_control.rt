@@ -7,7 +7,7 @@ ghost use Rattle.q931_codec.specs.Outgoing.{IsWritable, encoding, outgoing_of};
 ghost use Rattle.call_states.specs.Status.{IsTold};
 ghost use Rattle.exchange_core.specs.Limits.{most_sends};
 ghost use Rattle.exchange_core.specs.Legs.{with_leg, without_leg};
-ghost use Rattle.exchange_core.specs.Operations.{moves_for, moves_of_seat};
+ghost use Rattle.exchange_core.specs.Operations.{moves_for, moves_of_seat, sounding};
 ghost use Rattle.exchange_core.specs.Permitted.{CanSeat};
 ghost use Rattle.exchange_core.specs.Standing.{Holds};
 ghost use Rattle.exchange_core.specs.World.{Dimensions, World, obey};
@@ -15,7 +15,7 @@ ghost use Rattle.exchange_core.specs.World.{Dimensions, World, obey};
 use crate::leg_table::LegTable;
 use call_states::Leg;
 use circuit_map::CircuitMap;
-use circuit_model::Slot;
+use circuit_model::{Kind, Slot};
 use control_memory::PathMap;
 
 /// The circuits that stand, with their paths and conference ports, and the legs of the calls: what
@@ -32,6 +32,7 @@ impl<P: PathMap> CallControl<P> {
         requires external { IsExternal self.old.map.external x }
         ensures holds { (d : Dimensions) (w : World) → Holds d self.old.map self.old.legs w → Holds d self.new.map self.new.legs (obey d w (Clear x)) }
         ensures hears { (z : Slot) → hears_at self.new.map z ≡ hears_after self.old.map (Clear x) z }
+        ensures silent { hears_at self.new.map x ≡ None }
         ensures legs { self.new.legs ≡ self.old.legs }
         ensures sizes { SameSizes self.old.map self.new.map }
     {
@@ -69,6 +70,20 @@ impl<P: PathMap> CallControl<P> {
             unreachable!();
         };
         moves
+    }
+
+    /// Gives a slot that no circuit names a tone, if there is one.
+    pub(crate) fn sound(&mut self, x: Slot, tone: Option<Kind>)
+        requires external { IsExternal self.old.map.external x }
+        requires silent { hears_at self.old.map x ≡ None }
+        ensures holds { (d : Dimensions) (w : World) → Holds d self.old.map self.old.legs w
+            → Holds d self.new.map self.new.legs (record w { holding = sounding w.holding x tone }) }
+        ensures legs { self.new.legs ≡ self.old.legs }
+        ensures sizes { SameSizes self.old.map self.new.map }
+    {
+        if let Some(kind) = tone {
+            self.map.tone(x, kind);
+        }
     }
 
     /// Lets a leg hold a slot, in place of any other.

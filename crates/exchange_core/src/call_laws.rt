@@ -10,7 +10,7 @@ ghost use Rattle.exchange_core.specs.Setup.{Setting};
 ghost use Rattle.exchange_core.specs.Sound.{Fits, IsPlanned};
 ghost use Rattle.exchange_core.specs.Step.{is_refused, next, world};
 ghost use Rattle.exchange_core.specs.World.{World, start};
-ghost use Rattle.exchange_core.specs.WorkedCalls.{two_lines, one_line, answers, whole_call, whole_call_answered, refused_or_moved, refused_or_moved_answered, clear_collision, clear_collision_answered, on_no_call, on_no_call_answered, own_line, restart_of_called, restart_of_called_answered, restart_of_both, restart_of_both_answered, restart_of_one, restart_of_one_answered, lenient_reading, lenient_reading_answered, call_to_room, call_to_room_answered, no_port_answered, unexpected, unexpected_answered, line_full, line_full_answered};
+ghost use Rattle.exchange_core.specs.WorkedCalls.{two_lines, one_line, answers, whole_call, whole_call_answered, refused_or_moved, refused_or_moved_answered, clear_collision, clear_collision_answered, on_no_call, on_no_call_answered, own_line, restart_of_called, restart_of_called_answered, restart_of_both, restart_of_both_answered, restart_of_one, restart_of_one_answered, lenient_reading, lenient_reading_answered, call_to_room, call_to_room_answered, no_port_answered, unexpected, unexpected_answered, line_full, line_full_answered, sounding_lines, standing, rings, rings_answered, ringing_tone, found_busy, found_busy_answered, busy_tone, found_gone, found_gone_answered, found_there, conversation};
 
 /// The definitions of what is done for messages, evaluated on small exchanges.
 pub fn worked_calls()
@@ -26,6 +26,14 @@ pub fn worked_calls()
     ensures restart_both { answers own_line restart_of_both ≡ restart_of_both_answered }
     ensures restart_one { answers own_line restart_of_one ≡ restart_of_one_answered }
     ensures full { answers two_lines line_full ≡ line_full_answered }
+    ensures ringback { answers sounding_lines rings ≡ rings_answered }
+    ensures rings { standing sounding_lines rings ≡ ringing_tone }
+    ensures busy { answers sounding_lines found_busy ≡ found_busy_answered }
+    ensures sounds_busy { standing sounding_lines found_busy ≡ busy_tone }
+    ensures other_cause { answers sounding_lines found_gone ≡ found_gone_answered }
+    ensures no_tone { standing sounding_lines found_gone ≡ [] }
+    ensures answered { standing sounding_lines found_there ≡ conversation }
+    ensures not_given { standing two_lines rings ≡ [] }
 {}
 
 /// A call that is refused leaves everything as it was, ends no call and makes no connection.

@@ -18,6 +18,7 @@ use clearing_rules::{GLOBAL_CALL_REFERENCE, restart, unknown_reference};
 use control_memory::PathMap;
 use number_plan::Plan;
 use q931_codec::{Message, MessageKind, read};
+use tone_rules::Tones;
 
 impl<P: PathMap> CallControl<P> {
     /// Does what the octets that the user of a line has sent ask for. Octets that are no message have no
@@ -25,78 +26,100 @@ impl<P: PathMap> CallControl<P> {
     pub(crate) fn message(
         &mut self,
         plan: &Plan,
+        tones: &Tones,
         line: u8,
         octets: &[u8],
         out: &mut Outbox,
     ) -> Response
-        requires work { (s : Setting) × (w : World) × (s.plan ≡ plan.now) × IsAtWork s self.old.map self.old.legs w }
+        requires work { (s : Setting) × (w : World) × (s.plan ≡ plan.now) × (s.tones ≡ tones.now) × IsAtWork s self.old.map self.old.legs w }
         requires line { line < self.old.map.external }
         requires fresh { (out.old.sends ≡ []) × (out.old.moved ≡ None) }
-        ensures reply { (s : Setting) (w : World) → s.plan ≡ plan.now → IsAtWork s self.old.map self.old.legs w
+        ensures reply { (s : Setting) (w : World) → s.plan ≡ plan.now → s.tones ≡ tones.now → IsAtWork s self.old.map self.old.legs w
             → reply_of result out.new ≡ reply s w (event.Message line octets.now) }
-        ensures world { (s : Setting) (w : World) → s.plan ≡ plan.now → IsAtWork s self.old.map self.old.legs w
+        ensures world { (s : Setting) (w : World) → s.plan ≡ plan.now → s.tones ≡ tones.now → IsAtWork s self.old.map self.old.legs w
             → Holds s.dimensions self.new.map self.new.legs (next s w (event.Message line octets.now)) }
         ensures few { MovesAtMost self.old.map.bound (reply_of result out.new) }
         ensures sizes { SameSizes self.old.map self.new.map }
     {
-        out.records = self.take(out, plan, line, octets);
+        out.records = self.take(out, plan, tones, line, octets);
         Response::Sent
     }
 
     // Does what octets ask for, and answers the records of the calls that they begin to clear.
-    fn take(&mut self, out: &mut Outbox, plan: &Plan, line: u8, octets: &[u8]) -> Records
-        requires work { (s : Setting) × (w : World) × (s.plan ≡ plan.now) × IsAtWork s self.old.map self.old.legs w }
+    fn take(
+        &mut self,
+        out: &mut Outbox,
+        plan: &Plan,
+        tones: &Tones,
+        line: u8,
+        octets: &[u8],
+    ) -> Records
+        requires work { (s : Setting) × (w : World) × (s.plan ≡ plan.now) × (s.tones ≡ tones.now) × IsAtWork s self.old.map self.old.legs w }
         requires line { line < self.old.map.external }
         requires fresh { (out.old.sends ≡ []) × (out.old.moved ≡ None) }
-        ensures makes { (s : Setting) (w : World) → s.plan ≡ plan.now → IsAtWork s self.old.map self.old.legs w
+        ensures makes { (s : Setting) (w : World) → s.plan ≡ plan.now → s.tones ≡ tones.now → IsAtWork s self.old.map self.old.legs w
             → Makes s.dimensions self.new.map self.new.legs out.new.sends out.new.moved (done s w line octets.now).making }
-        ensures records { (s : Setting) (w : World) → s.plan ≡ plan.now → IsAtWork s self.old.map self.old.legs w → result ≡ (answer_to s w line octets.now).records }
+        ensures records { (s : Setting) (w : World) → s.plan ≡ plan.now → s.tones ≡ tones.now → IsAtWork s self.old.map self.old.legs w → result ≡ (answer_to s w line octets.now).records }
         ensures few { IfSome out.new.moved (λ moves. (moves.0 ≤ self.old.map.bound) × (moves.1 ≤ self.old.map.bound)) }
         ensures sizes { SameSizes self.old.map self.new.map }
     {
         match read(octets) {
-            Ok(message) => self.receive(out, plan, line, &message),
+            Ok(message) => self.receive(out, plan, tones, line, &message),
             Err(_) => Records::new(),
         }
     }
 
     // Does what a message asks for, and answers the records of the calls that it begins to clear: one to a
     // leg what the leg's state says, a SETUP from the side that chose the call reference a new call.
-    fn receive(&mut self, out: &mut Outbox, plan: &Plan, line: u8, message: &Message) -> Records
-        requires work { (s : Setting) × (w : World) × (s.plan ≡ plan.now) × IsAtWork s self.old.map self.old.legs w }
+    fn receive(
+        &mut self,
+        out: &mut Outbox,
+        plan: &Plan,
+        tones: &Tones,
+        line: u8,
+        message: &Message,
+    ) -> Records
+        requires work { (s : Setting) × (w : World) × (s.plan ≡ plan.now) × (s.tones ≡ tones.now) × IsAtWork s self.old.map self.old.legs w }
         requires line { line < self.old.map.external }
         requires reference { message.now.reference < 2 ^ 15 }
         requires fresh { (out.old.sends ≡ []) × (out.old.moved ≡ None) }
-        ensures makes { (s : Setting) (w : World) → s.plan ≡ plan.now → IsAtWork s self.old.map self.old.legs w → Makes s.dimensions self.new.map self.new.legs out.new.sends out.new.moved
+        ensures makes { (s : Setting) (w : World) → s.plan ≡ plan.now → s.tones ≡ tones.now → IsAtWork s self.old.map self.old.legs w → Makes s.dimensions self.new.map self.new.legs out.new.sends out.new.moved
             (done_for s w line (with_leg_named message.now (leg_named self.old.legs line message.now.flag message.now.reference))).making }
-        ensures records { (s : Setting) (w : World) → s.plan ≡ plan.now → IsAtWork s self.old.map self.old.legs w
+        ensures records { (s : Setting) (w : World) → s.plan ≡ plan.now → s.tones ≡ tones.now → IsAtWork s self.old.map self.old.legs w
             → result ≡ (done_for s w line (with_leg_named message.now (leg_named self.old.legs line message.now.flag message.now.reference))).told }
         ensures few { IfSome out.new.moved (λ moves. (moves.0 ≤ self.old.map.bound) × (moves.1 ≤ self.old.map.bound)) }
         ensures sizes { SameSizes self.old.map self.new.map }
     {
         match self.legs.named(line, message.flag, message.reference) {
-            Some(held) => self.act(out, held, message),
-            None => self.begin(out, plan, line, message),
+            Some(held) => self.act(out, tones, held, message),
+            None => self.begin(out, plan, tones, line, message),
         }
     }
 
     // Does what a message that names no leg asks for, and answers the records of the calls that it ends:
     // a RESTART on the global call reference, a SETUP from the side that chose the call reference, or one
     // that is answered there.
-    fn begin(&mut self, out: &mut Outbox, plan: &Plan, line: u8, message: &Message) -> Records
-        requires work { (s : Setting) × (w : World) × (s.plan ≡ plan.now) × IsAtWork s self.old.map self.old.legs w }
+    fn begin(
+        &mut self,
+        out: &mut Outbox,
+        plan: &Plan,
+        tones: &Tones,
+        line: u8,
+        message: &Message,
+    ) -> Records
+        requires work { (s : Setting) × (w : World) × (s.plan ≡ plan.now) × (s.tones ≡ tones.now) × IsAtWork s self.old.map self.old.legs w }
         requires line { line < self.old.map.external }
         requires reference { message.now.reference < 2 ^ 15 }
         requires nameless { leg_named self.old.legs line message.now.flag message.now.reference ≡ None }
         requires fresh { (out.old.sends ≡ []) × (out.old.moved ≡ None) }
-        ensures makes { (s : Setting) (w : World) → s.plan ≡ plan.now → IsAtWork s self.old.map self.old.legs w
+        ensures makes { (s : Setting) (w : World) → s.plan ≡ plan.now → s.tones ≡ tones.now → IsAtWork s self.old.map self.old.legs w
             → Makes s.dimensions self.new.map self.new.legs out.new.sends out.new.moved (done_for s w line (with_leg_named message.now None)).making }
-        ensures records { (s : Setting) (w : World) → s.plan ≡ plan.now → IsAtWork s self.old.map self.old.legs w → result ≡ (done_for s w line (with_leg_named message.now None)).told }
+        ensures records { (s : Setting) (w : World) → s.plan ≡ plan.now → s.tones ≡ tones.now → IsAtWork s self.old.map self.old.legs w → result ≡ (done_for s w line (with_leg_named message.now None)).told }
         ensures few { IfSome out.new.moved (λ moves. (moves.0 ≤ self.old.map.bound) × (moves.1 ≤ self.old.map.bound)) }
         ensures sizes { SameSizes self.old.map self.new.map }
     {
         if message.reference == GLOBAL_CALL_REFERENCE {
-            return self.restart_if_asked(out, line, message);
+            return self.restart_if_asked(out, tones, line, message);
         }
         if asks_for_call(message) {
             self.setup(out, plan, line, message);
@@ -107,18 +130,24 @@ impl<P: PathMap> CallControl<P> {
     }
 
     // Does what a message on the global call reference asks for, which a RESTART alone does.
-    fn restart_if_asked(&mut self, out: &mut Outbox, line: u8, message: &Message) -> Records
-        requires work { (s : Setting) × (w : World) × IsAtWork s self.old.map self.old.legs w }
+    fn restart_if_asked(
+        &mut self,
+        out: &mut Outbox,
+        tones: &Tones,
+        line: u8,
+        message: &Message,
+    ) -> Records
+        requires work { (s : Setting) × (w : World) × (s.tones ≡ tones.now) × IsAtWork s self.old.map self.old.legs w }
         requires line { line < self.old.map.external }
         requires fresh { (out.old.sends ≡ []) × (out.old.moved ≡ None) }
-        ensures makes { (s : Setting) (w : World) → IsAtWork s self.old.map self.old.legs w
+        ensures makes { (s : Setting) (w : World) → s.tones ≡ tones.now → IsAtWork s self.old.map self.old.legs w
             → Makes s.dimensions self.new.map self.new.legs out.new.sends out.new.moved (done_for s w line (on_global_reference (restart_asked message.now))).making }
-        ensures records { (s : Setting) (w : World) → IsAtWork s self.old.map self.old.legs w → result ≡ (done_for s w line (on_global_reference (restart_asked message.now))).told }
+        ensures records { (s : Setting) (w : World) → s.tones ≡ tones.now → IsAtWork s self.old.map self.old.legs w → result ≡ (done_for s w line (on_global_reference (restart_asked message.now))).told }
         ensures moved { out.new.moved ≡ None }
         ensures sizes { SameSizes self.old.map self.new.map }
     {
         match restart(message) {
-            Some(restarted) => self.restart_line(out, line, restarted),
+            Some(restarted) => self.restart_line(out, tones, line, restarted),
             None => Records::new(),
         }
     }

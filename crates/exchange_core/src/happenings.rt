@@ -17,22 +17,24 @@ use crate::tool::Tool;
 use crate::trace::Event;
 use control_memory::PathMap;
 use number_plan::Plan;
+use tone_rules::Tones;
 
 impl<P: PathMap> CallControl<P> {
     /// Does an event, whichever it is. A frame's boundary is written into the tool.
     pub(crate) fn happen(
         &mut self,
         plan: &Plan,
+        tones: &Tones,
         event: &Event,
         tool: &mut Tool,
         out: &mut Outbox,
     ) -> Response
-        requires work { (s : Setting) × (w : World) × (s.plan ≡ plan.now) × IsAtWork s self.old.map self.old.legs w × IsToolFor s.dimensions event.now tool.old }
+        requires work { (s : Setting) × (w : World) × (s.plan ≡ plan.now) × (s.tones ≡ tones.now) × IsAtWork s self.old.map self.old.legs w × IsToolFor s.dimensions event.now tool.old }
         requires fits { Fits self.old.map.external event.now }
         requires room { self.old.map.next < 65535 }
         requires fresh { (out.old.sends ≡ []) × (out.old.moved ≡ None) × (out.old.records ≡ []) }
-        ensures reply { (s : Setting) (w : World) → s.plan ≡ plan.now → IsAtWork s self.old.map self.old.legs w → reply_of result out.new ≡ reply s w event.now }
-        ensures world { (s : Setting) (w : World) → s.plan ≡ plan.now → IsAtWork s self.old.map self.old.legs w → Holds s.dimensions self.new.map self.new.legs (next s w event.now) }
+        ensures reply { (s : Setting) (w : World) → s.plan ≡ plan.now → s.tones ≡ tones.now → IsAtWork s self.old.map self.old.legs w → reply_of result out.new ≡ reply s w event.now }
+        ensures world { (s : Setting) (w : World) → s.plan ≡ plan.now → s.tones ≡ tones.now → IsAtWork s self.old.map self.old.legs w → Holds s.dimensions self.new.map self.new.legs (next s w event.now) }
         ensures few { MovesAtMost self.old.map.bound (reply_of result out.new) }
         ensures shows { (d : Dimensions) (w : World) → Holds d self.old.map self.old.legs w → ShowsWorld w event.now tool.new }
         ensures tool { (d : Dimensions) → IsToolFor d event.now tool.old → IsToolFor d event.now tool.new }
@@ -42,7 +44,9 @@ impl<P: PathMap> CallControl<P> {
             Event::Nail(x, y) => self.nail(*x, *y),
             Event::Seat(x, room) => self.take_seat(*x, *room),
             Event::Free(x) => self.free(*x),
-            Event::Message(line, octets) => self.message(plan, *line, octets.as_slice(), out),
+            Event::Message(line, octets) => {
+                self.message(plan, tones, *line, octets.as_slice(), out)
+            }
             Event::Frame(_) => Response::Frame(self.frame(tool)),
         }
     }

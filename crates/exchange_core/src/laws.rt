@@ -23,7 +23,7 @@ pub fn file_order_is_lawful()
 /// Whatever events happen, the circuits and ports of each frame come of one list of commands, each
 /// of which was allowed when its turn came.
 pub fn worlds_are_made()
-    ensures { (s : Setting) (events : List Event) → IsPlanned s → All (Fits s.dimensions.external) events → IsMade s.dimensions (world s (start s.dimensions) events) }
+    ensures { (s : Setting) (events : List Event) → IsPlanned s → All (Fits s.dimensions.external) events → IsMade s.dimensions s.tones (world s (start s.dimensions) events) }
 {}
 
 /// What a slot hears in a frame stays as it is, whatever frames come later.

@@ -115,7 +115,9 @@ impl<'t, P: PathMap> Core<'t, P> {
         out.clear();
         let trace = self.trace;
         let event_done = &trace.events.as_slice()[event as usize - 1];
-        let response = self.control.happen(&trace.plan, event_done, tool, out);
+        let response = self
+            .control
+            .happen(&trace.plan, &trace.tones, event_done, tool, out);
         self.journal.push_reserved((by, event));
         response
     }

@@ -4,6 +4,7 @@ ghost use Rattle.exchange_core.specs.declared.trace.Event.{Event};
 use circuit_model::Slot;
 use number_plan::Plan;
 use std::marker::Model;
+use tone_rules::Tones;
 
 /// What arrives in one frame: for each external line its thirty octets in order of place, or
 /// nothing where the line is idle. Contracts see it as that list.
@@ -142,7 +143,7 @@ impl Segments {
     }
 }
 
-/// A trace: the sizes of the exchange, its number plan, and what happens to it.
+/// A trace: the sizes of the exchange, its number plan and its tones, and what happens to it.
 #[derive(Drop)]
 pub struct Trace {
     /// How many external lines there are, 1 to 32.
@@ -153,6 +154,8 @@ pub struct Trace {
     pub processors: u8,
     /// Which numbers lead to which lines and conference rooms.
     pub plan: Plan,
+    /// The octets of the tones; one that isn't given has none.
+    pub tones: Tones,
     /// What happens, in file order.
     pub events: Events,
     /// Where the segments end.

@@ -14,6 +14,7 @@ use Rattle.exchange_core.specs.declared.tool.Tool.{Tool}
 use Rattle.exchange_core.specs.declared.tool.Tool.TheVariants.{Nothing, Image}
 use Rattle.exchange_core.specs.Setup.{Setting}
 use Rattle.exchange_core.specs.Sound.{Fits, IsSound}
+use Rattle.tone_rules.specs.declared.tones.Tones.{Tones}
 use Rattle.exchange_core.specs.Standing.{IsMade}
 use Rattle.exchange_core.specs.Step.{next, world, events_of}
 use Rattle.exchange_core.specs.Working.{Entry, Working, IsNumbered, IsOfSize, IsToolFor, ShowsWorld, order_of, setting, world_of}
@@ -102,12 +103,12 @@ frames_few x sound room =
 
 -- ---- a frame
 
-pub made_of : (x : Working) → IsSound x.trace → IsMade (setting x).dimensions (world_of x)
+pub made_of : (x : Working) → IsSound x.trace → IsMade (setting x).dimensions (setting x).tones (world_of x)
 made_of x sound = made (setting x) (events_of x.trace.events (order_of x.journal)) sound.planned (fits_all x.trace (order_of x.journal) sound.events)
 
 -- the circuits and ports of the frames so far, and of the one that begins, come of one list of commands
-come : (d : Dimensions) (w : World) → IsMade d w → Come d.external d.bridges (w.held ++ w.holding.circuits ∷ []) (w.seated ++ w.ports ∷ [])
-come d w is = let m = made_pass d w is [] in record { commands = m.commands; within = m.within; allowed = m.allowed; circuits = m.held; seats = m.seated }
+come : (d : Dimensions) (tones : Tones) (w : World) → IsMade d tones w → Come d.external d.bridges (w.held ++ w.holding.circuits ∷ []) (w.seated ++ w.ports ∷ [])
+come d tones w is = let m = made_pass d tones w is [] in record { commands = m.commands; within = m.within; allowed = m.allowed; circuits = m.held; seats = m.seated }
 
 -- the boundary of the frame that begins
 abbrev pub boundary : World → Boundary
@@ -128,7 +129,7 @@ asked x n e input tool image sound number frame is shows sized =
     record {
       size = size;
       shows = subst (λ t. ShowsWorld (world_of x) (Frame input) t) is (subst (λ f. ShowsWorld (world_of x) f tool) frame (shows e number));
-      came = rw (size.external, size.bridges) (come d (world_of x) (made_of x sound));
+      came = rw (size.external, size.bridges) (come d (setting x).tones (world_of x) (made_of x sound));
     }
 
 pub next_frame : (carried : List Input → List (List Circuit) → List Ports → Type 0) (image : Control) (d : Dimensions) (w : World) → Asked image d w

@@ -1,6 +1,5 @@
 pub mod Reports
 pub mod Pending
 pub mod Endings
-pub mod Silence
 pub mod FrameSteps
 pub mod Answered

@@ -30,7 +30,6 @@ reason_name reason.Length = codes "length"
 reason_name reason.Number = codes "number"
 reason_name reason.Prefix = codes "prefix"
 reason_name reason.Limit = codes "limit"
-reason_name reason.Later = codes "later"
 
 -- the line that refuses what is no trace, at its first line that fails
 abbrev pub refusal : ℕ → Reason → List ℕ

@@ -5,6 +5,7 @@ use Rattle.circuit_model.specs.declared.circuit.Circuit.{Circuit}
 use Rattle.circuit_model.specs.declared.circuit.Kind.{Kind}
 use Rattle.circuit_model.specs.FrameInput.{Input}
 use Rattle.circuit_model.specs.Ports.{Ports}
+use Rattle.tone_rules.specs.Tables.{table_of}
 use Rattle.exchange_core.specs.declared.answer.Answer.{Answer}
 use Rattle.exchange_core.specs.declared.trace.Event.{Event}
 use Rattle.exchange_core.specs.declared.trace.Trace.{Trace}
@@ -22,10 +23,6 @@ Plays = (Kind → List ℕ) → List Input → List (List Circuit) → ℕ → S
 -- which frames an engine of some type carries: their inputs, circuits and conference ports
 abbrev pub Carrying : Type 0 → Type 1
 Carrying E = E → List Input → List (List Circuit) → List Ports → Type 0
-
--- no tone has octets: a trace can't give any yet
-abbrev pub no_tones : Kind → List ℕ
-no_tones kind = []
 
 -- what an engine plays on a slot in a frame once the tones are known, given each frame's input and circuits
 abbrev pub Played : Type 0
@@ -54,7 +51,7 @@ report_with played slots trace order = let s = setting_of slots trace in event_l
 
 -- the report of a trace whose events happen in this order: a line for each, in that order
 abbrev pub report : Plays → ℕ → Trace → List ℕ → List ℕ
-report plays slots trace order = report_with (plays no_tones) slots trace order
+report plays slots trace order = report_with (plays (table_of trace.tones)) slots trace order
 
 -- the lines of answers, one after another
 abbrev pub lines_of : List Answer → List ℕ

@@ -67,7 +67,6 @@ fn name_of(reason: Reason) -> &'static [u8]
         Reason::Number => b"number",
         Reason::Prefix => b"prefix",
         Reason::Limit => b"limit",
-        Reason::Later => b"later",
     }
 }
 

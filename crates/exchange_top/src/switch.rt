@@ -11,7 +11,6 @@ use control_memory::{Image, PathMap};
 use exchange_core::{Core, Event, Outbox, Response, Tool, Trace};
 use frame_engine::Carrier;
 use std::alloc::{AllocError, Global};
-use tone_rules::Tones;
 
 // Who does the events, as the journal says.
 const BY: u32 = 0;
@@ -23,11 +22,8 @@ pub struct Switch<'t, P: PathMap, C: Carrier> {
     core: Core<'t, P>,
     engine: C,
     tool: Tool,
-    tones: Tones,
     ghost sizes: { engine_dimensions C.external_lines C.bridge_lines C.depth engine ≡ (setting core).dimensions },
     ghost next: { C.next engine ≡ (world_of core).holding.next },
-    ghost no_ringback: { tones.ringback ≡ [] },
-    ghost no_busy: { tones.busy ≡ [] },
 }
 
 impl<'t, P: PathMap + Drop, C: Carrier> Switch<'t, P, C> {
@@ -45,7 +41,6 @@ impl<'t, P: PathMap + Drop, C: Carrier> Switch<'t, P, C> {
             core: Core::new(alloc, trace, paths)?,
             engine: C::new(alloc, external, bridges, slots)?,
             tool: Tool::Image(Image::new(alloc, external, bridges, slots)?),
-            tones: Tones::none(alloc),
         })
     }
 
@@ -85,8 +80,8 @@ impl<'t, P: PathMap, C: Carrier> Switch<'t, P, C> {
                 let Tool::Image(image) = &mut self.tool else {
                     unreachable!()
                 };
-                self.engine
-                    .frame(image, &self.tones, input.as_slice(), octets);
+                let tones = &self.core.trace().tones;
+                self.engine.frame(image, tones, input.as_slice(), octets);
                 response
             }
             _ => self.core.work(BY, number, &mut Tool::Nothing, out),

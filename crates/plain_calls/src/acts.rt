@@ -5,9 +5,10 @@ use crate::sent::{Course, Sent};
 use crate::table::{Act, act_of, clearing_cause};
 use crate::types::{
     ALERTING, CONNECT, CONNECT_ACKNOWLEDGE, DISCONNECT, NAMED_TYPES, NOT_COMPATIBLE_WITH_STATE,
-    RELEASE, RELEASE_COMPLETE, RESPONSE_TO_STATUS_ENQUIRY, TYPE_NOT_IMPLEMENTED,
+    RELEASE, RELEASE_COMPLETE, RESPONSE_TO_STATUS_ENQUIRY, TYPE_NOT_IMPLEMENTED, USER_BUSY,
 };
-use crate::writing::{add_cause, bare_message};
+use crate::writing::{add_cause, add_progress, bare_message};
+use circuit_model::Kind;
 use std::alloc::{AllocError, Global};
 
 // What the table asks for a message to a leg.
@@ -56,12 +57,17 @@ impl PlainExchange {
         }
     }
 
-    // The called user is alerted, and the caller is told so.
+    // The called user is alerted; the caller is told so, and hears it where there is a tone for that.
     fn alert(&mut self, alloc: Global, leg: Leg, sent: &mut Sent) -> Result<(), AllocError> {
         self.set_state(leg, State::Alerted);
         if let Some(caller) = self.peer_of(leg) {
             self.set_state(caller, State::Delivered);
-            sent.tell(alloc, caller, ALERTING)?;
+            let sounds = self.sound(caller.at, Kind::Ringback)?;
+            let mut octets = bare_message(alloc, caller.side, caller.reference, ALERTING)?;
+            if sounds {
+                add_progress(&mut octets)?;
+            }
+            sent.send(caller.at.line, octets)?;
         }
         Ok(())
     }
@@ -111,7 +117,8 @@ impl PlainExchange {
         self.legs.retain(|held| held.at != leg.at);
     }
 
-    /// The leg that this one was in a call with is cleared.
+    /// The leg that this one was in a call with is cleared, and its user hears why where there is a tone
+    /// for that.
     pub(crate) fn clear_peer(
         &mut self,
         alloc: Global,
@@ -123,8 +130,12 @@ impl PlainExchange {
             return Ok(());
         };
         self.stand_alone(peer, State::Disconnected);
+        let sounds = cause == USER_BUSY && self.sound(peer.at, Kind::Busy)?;
         let mut octets = bare_message(alloc, peer.side, peer.reference, DISCONNECT)?;
         add_cause(&mut octets, cause)?;
+        if sounds {
+            add_progress(&mut octets)?;
+        }
         sent.send(peer.at.line, octets)
     }
 }

@@ -8,7 +8,7 @@ use crate::paths::Paths;
 use crate::ports::Ports;
 use crate::sent::{CallRecord, Course, Party, Sent};
 use crate::types::SETUP;
-use circuit_model::{Circuit, PLACES, Slot};
+use circuit_model::{Circuit, Kind, PLACES, Slot};
 use plain_model::{Exchange, find_heard};
 use std::alloc::{AllocError, Global};
 
@@ -23,11 +23,41 @@ pub struct PlainExchange {
     pub(crate) paths: Paths,
     pub(crate) legs: Vec<Leg>,
     pub(crate) numbers: Vec<Number>,
+    tones: PlainTones,
+    // How often the two tones were put on a slot.
+    rung: u32,
+    busy: u32,
+}
+
+/// The octets of the tones; one that isn't given has none.
+#[derive(Drop)]
+pub struct PlainTones {
+    /// Ringing tone.
+    pub ringback: Vec<u8>,
+    /// Busy tone.
+    pub busy: Vec<u8>,
+}
+
+impl PlainTones {
+    /// No tone is given.
+    pub fn none(alloc: Global) -> PlainTones {
+        PlainTones {
+            ringback: Vec::new(alloc),
+            busy: Vec::new(alloc),
+        }
+    }
 }
 
 impl PlainExchange {
-    /// An exchange with so many external and bridge lines and this number plan, before its first event.
-    pub fn new(alloc: Global, external: u8, bridges: u8, numbers: Vec<Number>) -> PlainExchange {
+    /// An exchange with so many external and bridge lines, this number plan and these tones, before its
+    /// first event.
+    pub fn new(
+        alloc: Global,
+        external: u8,
+        bridges: u8,
+        numbers: Vec<Number>,
+        tones: PlainTones,
+    ) -> PlainExchange {
         PlainExchange {
             external,
             circuits: Exchange::new(alloc),
@@ -35,6 +65,9 @@ impl PlainExchange {
             paths: Paths::new(alloc),
             legs: Vec::new(alloc),
             numbers,
+            tones,
+            rung: 0,
+            busy: 0,
         }
     }
 
@@ -112,9 +145,29 @@ impl PlainExchange {
         Ok(Some(frame))
     }
 
-    /// The octet that is heard on a slot in a frame, without tones.
+    /// The octet that is heard on a slot in a frame.
     pub fn heard(&self, frame: u32, at: Slot) -> u8 {
-        self.circuits.heard(&[], &[], frame, at)
+        let tones = &self.tones;
+        self.circuits.heard(tones.ringback.as_slice(), tones.busy.as_slice(), frame, at)
+    }
+
+    /// How often ringing tone and busy tone were put on a slot.
+    pub fn sounded(&self) -> (u32, u32) {
+        (self.rung, self.busy)
+    }
+
+    /// Puts a tone on an idle slot, where it is given. Whether it is.
+    pub(crate) fn sound(&mut self, x: Slot, kind: Kind) -> Result<bool, AllocError> {
+        let (octets, count) = match kind {
+            Kind::Ringback => (&self.tones.ringback, &mut self.rung),
+            Kind::Busy => (&self.tones.busy, &mut self.busy),
+        };
+        if octets.is_empty() {
+            return Ok(false);
+        }
+        *count = count.saturating_add(1);
+        self.circuits.give_tone(x, kind)?;
+        Ok(true)
     }
 
     /// Takes a message from the user of a line.

@@ -30,7 +30,7 @@ mod table;
 pub mod types;
 mod writing;
 
-pub use exchange::PlainExchange;
+pub use exchange::{PlainExchange, PlainTones};
 pub use legs::{Leg, Peer, Side, State};
 pub use numbers::{Number, Target};
 pub use report::{PlainEvent, PlainRun, append_octets, plain_report};

@@ -1,4 +1,4 @@
-use crate::exchange::PlainExchange;
+use crate::exchange::{PlainExchange, PlainTones};
 use crate::numbers::Number;
 use crate::sent::{CallRecord, Course, Sent};
 use circuit_model::{IDLE, PLACES, Slot};
@@ -185,15 +185,16 @@ pub fn append_octets(text: &mut String, octets: &[u8]) -> Result<(), AllocError>
 }
 
 /// The report of a run of these events, in their order, through an exchange with so many external and
-/// bridge lines and this number plan.
+/// bridge lines, this number plan and these tones.
 pub fn plain_report(
     alloc: Global,
     external: u8,
     bridges: u8,
     numbers: Vec<Number>,
+    tones: PlainTones,
     events: &[PlainEvent],
 ) -> Result<Vec<u8>, AllocError> {
-    let exchange = PlainExchange::new(alloc, external, bridges, numbers);
+    let exchange = PlainExchange::new(alloc, external, bridges, numbers, tones);
     let mut run = PlainRun::new(alloc, exchange);
     for event in events {
         run.step(alloc, event)?;

@@ -74,6 +74,17 @@ fn take(alloc: Global, run: &mut PlainRun, step: Step) -> Result<(), Fail> {
     Ok(())
 }
 
+// Ringing tone of three octets and busy tone of one, or none.
+fn tones(alloc: Global, given: bool) -> Result<PlainTones, AllocError> {
+    if !given {
+        return Ok(PlainTones::none(alloc));
+    }
+    Ok(PlainTones {
+        ringback: Vec::from_slice(alloc, &[0x11, 0x22, 0x33])?,
+        busy: Vec::from_slice(alloc, &[0x44])?,
+    })
+}
+
 // Takes the steps, and compares the report's last lines with these.
 fn check(
     rt: &impl Abort,
@@ -82,7 +93,19 @@ fn check(
     steps: &[Step],
     wanted: &str,
 ) -> Result<PlainRun, Fail> {
-    let exchange = PlainExchange::new(alloc, 2, bridges, numbers(alloc)?);
+    check_with(rt, alloc, bridges, false, steps, wanted)
+}
+
+// The same, with tones or without.
+fn check_with(
+    rt: &impl Abort,
+    alloc: Global,
+    bridges: u8,
+    given: bool,
+    steps: &[Step],
+    wanted: &str,
+) -> Result<PlainRun, Fail> {
+    let exchange = PlainExchange::new(alloc, 2, bridges, numbers(alloc)?, tones(alloc, given)?);
     let mut run = PlainRun::new(alloc, exchange);
     for step in steps {
         take(alloc, &mut run, *step)?;
@@ -260,5 +283,34 @@ fn restarts(rt: HostRuntime) -> Result<(), Fail> {
         cause: 41,
     };
     assert_eq!(rt; run.records(), [told].as_slice());
+    Ok(())
+}
+
+// What the first line hears: this octet on its first bearer channel, and nothing on the others.
+#[test]
+fn tones_are_heard(rt: HostRuntime) -> Result<(), Fail> {
+    let alloc = rt.alloc();
+    let steps = [
+        SETUP,
+        Message(1, "0802800101"),
+        Frame(&[]),
+        Frame(&[]),
+        Message(1, "080280015A08028091"),
+        Frame(&[]),
+        Message(0, "0802000046790186"),
+        Frame(&[]),
+    ];
+    let idle = "D5".repeat(alloc, 29)?;
+    let wanted = format!(in alloc;
+        "2 message 0:08028001011E028288\n\
+        3 frame 0 0:11{idle}\n\
+        4 frame 1 0:22{idle}\n\
+        5 message 0:0802800145080282911E028288\n\
+        6 frame 2 0:44{idle}\n\
+        7 message 0:080280004E790186\n\
+        8 frame 3\n"
+    )?;
+    let run = check_with(&rt, alloc, 0, true, &steps, wanted.as_str())?;
+    assert_eq!(rt; run.exchange().sounded(), (1, 1));
     Ok(())
 }

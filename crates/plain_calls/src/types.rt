@@ -68,6 +68,8 @@ pub const CAUSE: u8 = 0x08;
 pub const CALL_STATE: u8 = 0x14;
 /// Element: Channel identification.
 pub const CHANNEL_IDENTIFICATION: u8 = 0x18;
+/// Element: Progress indicator.
+pub const PROGRESS_INDICATOR: u8 = 0x1E;
 /// Element: Calling party number.
 pub const CALLING_PARTY_NUMBER: u8 = 0x6C;
 /// Element: Called party number.
@@ -83,6 +85,8 @@ pub const SENDING_COMPLETE: u8 = 0xA1;
 
 /// Cause: normal call clearing.
 pub const NORMAL_CLEARING: u8 = 16;
+/// Cause: user busy.
+pub const USER_BUSY: u8 = 17;
 /// Cause: response to STATUS ENQUIRY.
 pub const RESPONSE_TO_STATUS_ENQUIRY: u8 = 30;
 /// Cause: temporary failure.

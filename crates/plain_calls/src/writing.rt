@@ -2,7 +2,7 @@ ghost use Rattle.std.specs.Prelude.{◌<◌, length};
 
 use crate::channels::channel_at;
 use crate::legs::{Side, State};
-use crate::types::{CALL_STATE, CAUSE, CHANNEL_IDENTIFICATION};
+use crate::types::{CALL_STATE, CAUSE, CHANNEL_IDENTIFICATION, PROGRESS_INDICATOR};
 use std::alloc::{AllocError, Global};
 
 /// A message without elements to the user of a side. The flag is set towards the side that chose the
@@ -32,6 +32,11 @@ pub(crate) fn add_element(octets: &mut Vec<u8>, code: u8, contents: &[u8]) -> Re
 /// Adds a cause, located in the public network that serves the local user.
 pub(crate) fn add_cause(octets: &mut Vec<u8>, cause: u8) -> Result<(), AllocError> {
     add_element(octets, CAUSE, &[0x82, cause | 0x80])
+}
+
+/// Adds a progress indicator: there is something to be heard in band.
+pub(crate) fn add_progress(octets: &mut Vec<u8>) -> Result<(), AllocError> {
+    add_element(octets, PROGRESS_INDICATOR, &[0x82, 0x88])
 }
 
 /// Adds a call state.

@@ -13,7 +13,7 @@
 mod draw;
 mod yardstick;
 
-use call_traffic::{Counts as Courses, Random, draw_traffic};
+use call_traffic::{Counts as Courses, Drawn, LONGEST_TONE, Random, draw_traffic};
 use draw::{append_event, draw_event};
 use ex_io::{MemSink, MemSource};
 use exchange_top::{Outcome, exchange};
@@ -50,6 +50,37 @@ impl Counts {
         self.moved = self.moved.saturating_add(moved);
         self.frames = self.frames.saturating_add(yardstick.frames());
         self.octets = self.octets.saturating_add(yardstick.octets());
+    }
+}
+
+/// How many of the traces gave tones of a length, and how often each tone was put on a slot.
+#[derive(Clone, Copy, Default)]
+struct Tones {
+    one: u32,
+    two: u32,
+    longest: u32,
+    ringback: u32,
+    busy: u32,
+}
+
+impl Tones {
+    fn add(&mut self, drawn: &Drawn) {
+        for length in [drawn.tones.0, drawn.tones.1] {
+            match length {
+                1 => self.one = self.one.saturating_add(1),
+                2 => self.two = self.two.saturating_add(1),
+                LONGEST_TONE => self.longest = self.longest.saturating_add(1),
+                _ => {}
+            }
+        }
+        self.ringback = self.ringback.saturating_add(drawn.sounded.0);
+        self.busy = self.busy.saturating_add(drawn.sounded.1);
+    }
+
+    /// Whether tones of each length were given, and both were put on slots.
+    fn is_whole(&self) -> bool {
+        let counts = [self.one, self.two, self.longest, self.ringback, self.busy];
+        counts.iter().all(|count| *count > 0)
     }
 }
 
@@ -163,13 +194,15 @@ fn run(rt: &impl Print, alloc: Global, kind: Kind, traces: u32) -> io::Result<bo
 }
 
 /// Runs so many traces of calls and prints what they came to. Whether all reports were those of the
-/// plain program, and each act and each cause of a refusal came.
+/// plain program, and each act, each cause of a refusal and each tone came.
 fn run_calls(rt: &impl Print, alloc: Global, traces: u32) -> io::Result<bool> {
     let mut random = Random::new(SEED);
     let mut counts = Courses::new();
+    let mut tones = Tones::default();
     let (mut agreed, mut events, mut moved) = (0u32, 0u32, 0u32);
     for number in 1..=traces {
         let drawn = draw_traffic(alloc, &mut random, EVENTS)?;
+        tones.add(&drawn);
         if report_of(alloc, drawn.trace)?.as_slice() != drawn.report.as_bytes() {
             println!(rt; "calls: trace {number} differs")?;
             continue;
@@ -186,7 +219,17 @@ fn run_calls(rt: &impl Print, alloc: Global, traces: u32) -> io::Result<bool> {
         "calls: {traces} traces, {events} events, {moved} paths moved: exchange and plain program agree"
     )?;
     println!(rt; "calls: {counts}")?;
-    Ok(counts.is_whole())
+    let Tones {
+        one,
+        two,
+        longest,
+        ringback,
+        busy,
+    } = tones;
+    println!(rt;
+        "calls: {one} tones of 1 octet, {two} of 2, {longest} of {LONGEST_TONE}; {ringback} times ringing tone, {busy} times busy tone"
+    )?;
+    Ok(counts.is_whole() && tones.is_whole())
 }
 
 /// The name of a kind, and of what the engine is compared with.

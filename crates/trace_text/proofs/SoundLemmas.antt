@@ -16,8 +16,9 @@ use Rattle.circuit_model.proofs.Slots.{true_or_false, same_slot-refl}
 use Rattle.trace_text.specs.declared.fault.Reason.{Reason}
 use Rattle.trace_text.specs.declared.fault.Reason.TheVariants as reason
 use Rattle.trace_text.specs.declared.said.Sizes.{Sizes}
+use Rattle.trace_text.specs.declared.said.GivenTone.{GivenTone}
 use Rattle.trace_text.specs.declared.said.Said.{Said}
-use Rattle.trace_text.specs.declared.said.Said.TheVariants.{Nothing, Header, Numbered, Happens, Sync}
+use Rattle.trace_text.specs.declared.said.Said.TheVariants.{Nothing, Header, Numbered, Toned, Happens, Sync}
 use Rattle.trace_text.specs.declared.said.Kind.{Kind}
 use Rattle.trace_text.specs.declared.said.Kind.TheVariants as kind
 use Rattle.exchange_core.specs.declared.trace.Event.{Event}
@@ -28,9 +29,9 @@ use Rattle.number_plan.specs.declared.target.Target.TheVariants as goal
 use Rattle.number_plan.specs.Plan.{is_number, is_taken, all_targets}
 use Rattle.number_plan.proofs.Ordered.{all_with}
 use Rattle.exchange_core.specs.declared.trace.Trace.{Trace}
-use Rattle.trace_text.specs.TraceFields.{slash, numeral_in, external_line, slot, room, octets_written, thirty, at_most_260, header}
+use Rattle.trace_text.specs.TraceFields.{slash, numeral_in, external_line, slot, room, octets_written, thirty, at_most, longest_message, header}
 use Rattle.trace_text.specs.TraceWords.{cut_at, numeral, lines, words, two, one_or_two, three, is_comment, is_blank, is_printable}
-use Rattle.trace_text.specs.TraceLines.{◌>>=◌, colon, with_part, with_parts, frame, message, nail, seat, free, target, number, numbered, happens, SoFar, before_events, by_kind, kind_of, by_words, by_place, reads, joins, says}
+use Rattle.trace_text.specs.TraceLines.{◌>>=◌, colon, with_part, with_parts, frame, message, nail, seat, free, target, number, numbered, tone, toned, happens, SoFar, before_events, by_kind, kind_of, by_words, by_place, reads, joins, says}
 use Rattle.trace_text.specs.TraceGrammar.{sizes_in, numbers_in, plan_of, events_in, so_far, EachSays, IsTrace}
 use Rattle.exchange_core.specs.Sound.{Fits, is_reached, IsSound}
 use Rattle.trace_text.proofs.TraceOctets.{in_range, are_octets}
@@ -184,7 +185,7 @@ abbrev message_on : ℕ → List ℕ → Result Event Reason
 message_on line octets = Ok (Message line octets)
 
 abbrev message_digits : List ℕ → ℕ → Result Event Reason
-message_digits digits line = at_most_260 (octets_written digits) >>= message_on line
+message_digits digits line = at_most longest_message (octets_written digits) >>= message_on line
 
 abbrev message_words : ℕ → List ℕ × List ℕ → Result Event Reason
 message_words external both = ok_or (external_line external both.0) reason.Slot >>= message_digits both.1
@@ -194,7 +195,7 @@ pub was_found : {A : Type 0} (o : Option A) (why : Reason) (v : A) → ok_or o w
 was_found None why v h = absurd (grind (arith, h))
 was_found (Some x) why v h = let same : x ≡ v = grind (arith, h) in rw same refl
 
-octets_are : (o : Option (List ℕ)) (octets : List ℕ) → IfSome o (λ os. All (λ v. v < 256) os) → at_most_260 o ≡ Ok octets → All (λ v. v < 256) octets
+octets_are : (o : Option (List ℕ)) (octets : List ℕ) → IfSome o (λ os. All (λ v. v < 256) os) → at_most longest_message o ≡ Ok octets → All (λ v. v < 256) octets
 octets_are None octets small h = absurd (grind (arith, h))
 octets_are (Some os) octets small h =
     elim (true_or_false (nat_le (length os) 260)) [
@@ -206,7 +207,7 @@ pub message_fits : (external : ℕ) (words : List (List ℕ)) (e : Event) → me
 message_fits external words e h =
     let both = passed_first (ok_or (one_or_two words) reason.Word) (message_words external) e h in
     let line = passed_first (ok_or (external_line external both.0.0) reason.Slot) (message_digits both.0.1) e both.2 in
-    let octets = passed_first (at_most_260 (octets_written both.0.1)) (message_on line.0) e line.2 in
+    let octets = passed_first (at_most longest_message (octets_written both.0.1)) (message_on line.0) e line.2 in
     let inside = line_inside external both.0.0 line.0 (was_found (external_line external both.0.0) reason.Slot line.0 line.1) in
     let small = octets_are (octets_written both.0.1) octets.0 (are_octets both.0.1) octets.1 in
     let is : Message line.0 octets.0 ≡ e = grind (arith, octets.2) in
@@ -314,6 +315,7 @@ abbrev pub IsFine : SoFar → Said → Type 0
 IsFine s Nothing = Unit {0}
 IsFine s (Header sizes) = AreSizes sizes
 IsFine s (Numbered n) = IsOfExchange s.sizes (λ sizes. is_reached sizes.external n.target ≡ true)
+IsFine s (Toned given) = Unit {0}
 IsFine s (Happens e) = IsOfExchange s.sizes (λ sizes. Fits sizes.external e)
 IsFine s Sync = Unit {0}
 
@@ -334,6 +336,16 @@ number_fine s sizes r said known reached h =
       number_given s sizes (Err why) said known reached h = absurd (grind (arith, h))
       number_given s sizes (Ok n) said known reached h = let is : Numbered n ≡ said = grind (arith, h) in subst (λ v. IsFine s v) is (sizes, known, reached n refl)
 
+tone_fine : (s : SoFar) (r : Result GivenTone Reason) (said : Said) → before_events s (toned r) ≡ Ok said → IsFine s said
+tone_fine s r said h =
+    elim (true_or_false (nat_eq s.events 0)) [
+      | inr late ↦ let failed = rw late at h in absurd (grind (arith, failed))
+      | inl early ↦ tone_given s r said (rw early at h)
+    ] where
+      tone_given : (s : SoFar) (r : Result GivenTone Reason) (said : Said) → toned r ≡ Ok said → IsFine s said
+      tone_given s (Err why) said h = absurd (grind (arith, h))
+      tone_given s (Ok t) said h = let is : Toned t ≡ said = grind (arith, h) in subst (λ v. IsFine s v) is tt
+
 kind_fine : (s : SoFar) (sizes : Sizes) (k : Kind) (others : List (List ℕ)) (said : Said) → s.sizes ≡ Some sizes → by_kind s sizes.external k others ≡ Ok said → IsFine s said
 kind_fine s sizes kind.Frame others said known h = event_fine s sizes (frame sizes.external others) said known (frame_fits sizes.external others) h
 kind_fine s sizes kind.Message others said known h = event_fine s sizes (message sizes.external others) said known (message_fits sizes.external others) h
@@ -341,9 +353,9 @@ kind_fine s sizes kind.Nail others said known h = event_fine s sizes (nail sizes
 kind_fine s sizes kind.Seat others said known h = event_fine s sizes (seat sizes.external others) said known (seat_fits sizes.external others) h
 kind_fine s sizes kind.Free others said known h = event_fine s sizes (free sizes.external others) said known (free_fits sizes.external others) h
 kind_fine s sizes kind.Number others said known h = number_fine s sizes (number sizes.external others) said known (number_reached sizes.external others) h
+kind_fine s sizes kind.Tone others said known h = tone_fine s (tone s.tones others) said h
 kind_fine s sizes kind.Sync [] said known h = let is : Sync ≡ said = grind (arith, h) in subst (λ v. IsFine s v) is tt
 kind_fine s sizes kind.Sync (word ∷ others) said known h = absurd (grind (arith, h))
-kind_fine s sizes kind.Later others said known h = absurd (grind (arith, h))
 kind_fine s sizes kind.Unknown others said known h = absurd (grind (arith, h))
 
 nothing_fine : (s : SoFar) (said : Said) → by_words s 0 [] ≡ Ok said → IsFine s said
@@ -377,12 +389,14 @@ abbrev pub IsCounted : SoFar → Said → Type 0
 IsCounted s Nothing = Unit {0}
 IsCounted s (Header sizes) = Unit {0}
 IsCounted s (Numbered n) = Unit {0}
+IsCounted s (Toned given) = Unit {0}
 IsCounted s (Happens e) = s.events < 65535
 IsCounted s Sync = Unit {0}
 
 joins_same : (s : SoFar) (said other : Said) → joins s said ≡ Ok other → (said ≡ other) × IsCounted s said
 joins_same s Nothing other h = (grind (arith, h), tt)
 joins_same s (Header sizes) other h = (grind (arith, h), tt)
+joins_same s (Toned given) other h = (grind (arith, h), tt)
 joins_same s Sync other h = (grind (arith, h), tt)
 joins_same s (Happens e) other h =
     elim (true_or_false (nat_lt s.events 65535)) [
@@ -426,6 +440,7 @@ one_more : (sizes : Sizes) (told : List Said) (said : Said) → ((first : Sizes)
     → IsSoundFront sizes.external told → IsSoundFront sizes.external (told ++ said ∷ [])
 one_more sizes told Nothing same fine counted front = stays sizes.external told Nothing refl refl front
 one_more sizes told (Header first) same fine counted front = stays sizes.external told (Header first) refl refl front
+one_more sizes told (Toned given) same fine counted front = stays sizes.external told (Toned given) refl refl front
 one_more sizes told Sync same fine counted front = stays sizes.external told Sync refl refl front
 one_more sizes told (Numbered n) same fine counted front =
     let kept : events_in (told ++ Numbered n ∷ []) ≡ events_in told = events-append told (Numbered n ∷ []) ∙ append-nil (events_in told) in
@@ -464,6 +479,7 @@ sizes_behind_all before [] (row ∷ rows) sizes meets known = absurd meets
 sizes_behind_all before (said ∷ told) [] sizes meets known = absurd meets
 sizes_behind_all before (Nothing ∷ told) (row ∷ rows) sizes meets known = sizes_behind_all (before ++ Nothing ∷ []) told rows sizes meets.1 known
 sizes_behind_all before (Numbered n ∷ told) (row ∷ rows) sizes meets known = sizes_behind_all (before ++ Numbered n ∷ []) told rows sizes meets.1 known
+sizes_behind_all before (Toned given ∷ told) (row ∷ rows) sizes meets known = sizes_behind_all (before ++ Toned given ∷ []) told rows sizes meets.1 known
 sizes_behind_all before (Sync ∷ told) (row ∷ rows) sizes meets known = sizes_behind_all (before ++ Sync ∷ []) told rows sizes meets.1 known
 sizes_behind_all before (Happens e ∷ told) (row ∷ rows) sizes meets known = sizes_behind_all (before ++ Happens e ∷ []) told rows sizes meets.1 known
 sizes_behind_all before (Header first ∷ told) (row ∷ rows) sizes meets known =

@@ -8,9 +8,11 @@ use Rattle.number_plan.specs.Plan.{with_number}
 use Rattle.exchange_core.specs.declared.trace.Event.{Event}
 use Rattle.trace_text.specs.declared.draft.Draft.{Draft}
 use Rattle.trace_text.specs.declared.said.Sizes.{Sizes}
+use Rattle.trace_text.specs.declared.said.GivenTone.{GivenTone}
 use Rattle.trace_text.specs.declared.said.Said.{Said}
-use Rattle.trace_text.specs.declared.said.Said.TheVariants.{Nothing, Header, Numbered, Happens, Sync}
-use Rattle.trace_text.specs.TraceGrammar.{sizes_in, numbers_in, plan_of, events_in, ended, ends_after, segment_ends}
+use Rattle.trace_text.specs.declared.said.Said.TheVariants.{Nothing, Header, Numbered, Toned, Happens, Sync}
+use Rattle.trace_text.specs.TraceGrammar.{sizes_in, numbers_in, plan_of, tones_in, no_tones, tones_of, events_in, ended, ends_after, segment_ends}
+use Rattle.trace_text.specs.TraceLines.{with_tone}
 use Rattle.trace_text.specs.TraceDraft.{Holds}
 
 -- the header is the first
@@ -19,6 +21,7 @@ sizes_first [] more sizes e = absurd cc
 sizes_first (Nothing ∷ told) more sizes e = sizes_first told more sizes e
 sizes_first (Header first ∷ told) more sizes e = e
 sizes_first (Numbered number ∷ told) more sizes e = sizes_first told more sizes e
+sizes_first (Toned given ∷ told) more sizes e = sizes_first told more sizes e
 sizes_first (Happens event ∷ told) more sizes e = sizes_first told more sizes e
 sizes_first (Sync ∷ told) more sizes e = sizes_first told more sizes e
 
@@ -27,6 +30,7 @@ sizes_behind [] more e = refl
 sizes_behind (Nothing ∷ told) more e = sizes_behind told more e
 sizes_behind (Header first ∷ told) more e = absurd cc
 sizes_behind (Numbered number ∷ told) more e = sizes_behind told more e
+sizes_behind (Toned given ∷ told) more e = sizes_behind told more e
 sizes_behind (Happens event ∷ told) more e = sizes_behind told more e
 sizes_behind (Sync ∷ told) more e = sizes_behind told more e
 
@@ -36,6 +40,7 @@ sizes_stay [] said e = e
 sizes_stay (Nothing ∷ told) said e = sizes_stay told said e
 sizes_stay (Header first ∷ told) said e = refl
 sizes_stay (Numbered number ∷ told) said e = sizes_stay told said e
+sizes_stay (Toned given ∷ told) said e = sizes_stay told said e
 sizes_stay (Happens event ∷ told) said e = sizes_stay told said e
 sizes_stay (Sync ∷ told) said e = sizes_stay told said e
 
@@ -44,6 +49,7 @@ events-append [] more = refl
 events-append (Nothing ∷ told) more = events-append told more
 events-append (Header first ∷ told) more = events-append told more
 events-append (Numbered number ∷ told) more = events-append told more
+events-append (Toned given ∷ told) more = events-append told more
 events-append (Happens event ∷ told) more = ap (λ (es : List Event). event ∷ es) (events-append told more)
 events-append (Sync ∷ told) more = events-append told more
 
@@ -52,6 +58,7 @@ numbers-append [] more = refl
 numbers-append (Nothing ∷ told) more = numbers-append told more
 numbers-append (Header first ∷ told) more = numbers-append told more
 numbers-append (Numbered number ∷ told) more = ap (λ (ns : List Number). number ∷ ns) (numbers-append told more)
+numbers-append (Toned given ∷ told) more = numbers-append told more
 numbers-append (Happens event ∷ told) more = numbers-append told more
 numbers-append (Sync ∷ told) more = numbers-append told more
 
@@ -63,49 +70,80 @@ plan_stays told said none = ap plan_of (sym (numbers-append told (said ∷ []) �
 pub plan_more : (told : List Said) (number : Number) → with_number (plan_of (numbers_in told)) number ≡ plan_of (numbers_in (told ++ Numbered number ∷ []))
 plan_more told number = sym (ap plan_of (numbers-append told (Numbered number ∷ [])) ∙ fold-append with_number [] (numbers_in told) (number ∷ []))
 
+pub tones-append : (told more : List Said) → tones_in (told ++ more) ≡ tones_in told ++ tones_in more
+tones-append [] more = refl
+tones-append (Nothing ∷ told) more = tones-append told more
+tones-append (Header first ∷ told) more = tones-append told more
+tones-append (Numbered number ∷ told) more = tones-append told more
+tones-append (Toned given ∷ told) more = ap (λ (ts : List GivenTone). given ∷ ts) (tones-append told more)
+tones-append (Happens event ∷ told) more = tones-append told more
+tones-append (Sync ∷ told) more = tones-append told more
+
+-- what gives no tone changes none
+pub tones_stay : (told : List Said) (said : Said) → tones_in (said ∷ []) ≡ [] → tones_of (tones_in told) ≡ tones_of (tones_in (told ++ said ∷ []))
+tones_stay told said none = ap tones_of (sym (tones-append told (said ∷ []) ∙ ap (λ (ts : List GivenTone). tones_in told ++ ts) none ∙ append-nil (tones_in told)))
+
+-- one more tone is put under its kind
+pub tones_more : (told : List Said) (given : GivenTone) → with_tone (tones_of (tones_in told)) given ≡ tones_of (tones_in (told ++ Toned given ∷ []))
+tones_more told given = sym (ap tones_of (tones-append told (Toned given ∷ [])) ∙ fold-append with_tone no_tones (tones_in told) (given ∷ []))
+
 -- the draft of no lines
-pub holds_none : (d : Draft) → d.sizes ≡ None → d.plan ≡ [] → d.events.items ≡ [] → d.ends.items ≡ [] → d.begun ≡ 0 → Holds d []
-holds_none d a p b c e = record { sizes = a; plan = p; events = b; ends = λ more. rw (b, c, e) refl }
+pub holds_none : (d : Draft) → d.sizes ≡ None → d.plan ≡ [] → d.tones ≡ no_tones → d.events.items ≡ [] → d.ends.items ≡ [] → d.begun ≡ 0 → Holds d []
+holds_none d a p t b c e = record { sizes = a; plan = p; tones = t; events = b; ends = λ more. rw (b, c, e) refl }
 
 module _ (d n : Draft) (told : List Said) where
   -- a line that says nothing
-  pub holds_nothing : n.sizes ≡ d.sizes → n.plan ≡ d.plan → n.events.items ≡ d.events.items → n.ends.items ≡ d.ends.items → n.begun ≡ d.begun → Holds d told → Holds n (told ++ Nothing ∷ [])
-  holds_nothing a p b c e h = record {
+  pub holds_nothing : n.sizes ≡ d.sizes → n.plan ≡ d.plan → n.tones ≡ d.tones → n.events.items ≡ d.events.items → n.ends.items ≡ d.ends.items → n.begun ≡ d.begun → Holds d told → Holds n (told ++ Nothing ∷ [])
+  holds_nothing a p t b c e h = record {
     sizes = a ∙ h.sizes ∙ sym (sizes_stay told Nothing refl);
     plan = p ∙ h.plan ∙ plan_stays told Nothing refl;
+    tones = t ∙ h.tones ∙ tones_stay told Nothing refl;
     events = b ∙ h.events ∙ sym (events-append told (Nothing ∷ []) ∙ append-nil (events_in told));
     ends = λ more. rw (b, c, e, append_assoc told (Nothing ∷ []) more) (h.ends (Nothing ∷ more));
   }
 
-  pub holds_header : (sizes : Sizes) → d.sizes ≡ None → n.sizes ≡ Some sizes → n.plan ≡ d.plan → n.events.items ≡ d.events.items → n.ends.items ≡ d.ends.items → n.begun ≡ d.begun → Holds d told → Holds n (told ++ Header sizes ∷ [])
-  holds_header sizes fresh a p b c e h = record {
+  pub holds_header : (sizes : Sizes) → d.sizes ≡ None → n.sizes ≡ Some sizes → n.plan ≡ d.plan → n.tones ≡ d.tones → n.events.items ≡ d.events.items → n.ends.items ≡ d.ends.items → n.begun ≡ d.begun → Holds d told → Holds n (told ++ Header sizes ∷ [])
+  holds_header sizes fresh a p t b c e h = record {
     sizes = a ∙ sym (sizes_behind told (Header sizes ∷ []) (sym h.sizes ∙ fresh));
     plan = p ∙ h.plan ∙ plan_stays told (Header sizes) refl;
+    tones = t ∙ h.tones ∙ tones_stay told (Header sizes) refl;
     events = b ∙ h.events ∙ sym (events-append told (Header sizes ∷ []) ∙ append-nil (events_in told));
     ends = λ more. rw (b, c, e, append_assoc told (Header sizes ∷ []) more) (h.ends (Header sizes ∷ more));
   }
 
-  pub holds_number : (number : Number) → n.sizes ≡ d.sizes → n.plan ≡ with_number d.plan number → n.events.items ≡ d.events.items → n.ends.items ≡ d.ends.items → n.begun ≡ d.begun → Holds d told → Holds n (told ++ Numbered number ∷ [])
-  holds_number number a p b c e h = record {
+  pub holds_number : (number : Number) → n.sizes ≡ d.sizes → n.plan ≡ with_number d.plan number → n.tones ≡ d.tones → n.events.items ≡ d.events.items → n.ends.items ≡ d.ends.items → n.begun ≡ d.begun → Holds d told → Holds n (told ++ Numbered number ∷ [])
+  holds_number number a p t b c e h = record {
     sizes = a ∙ h.sizes ∙ sym (sizes_stay told (Numbered number) refl);
     plan = p ∙ ap (λ plan. with_number plan number) h.plan ∙ plan_more told number;
+    tones = t ∙ h.tones ∙ tones_stay told (Numbered number) refl;
     events = b ∙ h.events ∙ sym (events-append told (Numbered number ∷ []) ∙ append-nil (events_in told));
     ends = λ more. rw (b, c, e, append_assoc told (Numbered number ∷ []) more) (h.ends (Numbered number ∷ more));
   }
 
-  pub holds_event : (event : Event) → n.sizes ≡ d.sizes → n.plan ≡ d.plan → n.events.items ≡ d.events.items ++ event ∷ [] → n.ends.items ≡ d.ends.items → n.begun ≡ d.begun → Holds d told → Holds n (told ++ Happens event ∷ [])
-  holds_event event a p b c e h = record {
+  pub holds_tone : (given : GivenTone) → n.sizes ≡ d.sizes → n.plan ≡ d.plan → n.tones ≡ with_tone d.tones given → n.events.items ≡ d.events.items → n.ends.items ≡ d.ends.items → n.begun ≡ d.begun → Holds d told → Holds n (told ++ Toned given ∷ [])
+  holds_tone given a p t b c e h = record {
+    sizes = a ∙ h.sizes ∙ sym (sizes_stay told (Toned given) refl);
+    plan = p ∙ h.plan ∙ plan_stays told (Toned given) refl;
+    tones = t ∙ ap (λ tones. with_tone tones given) h.tones ∙ tones_more told given;
+    events = b ∙ h.events ∙ sym (events-append told (Toned given ∷ []) ∙ append-nil (events_in told));
+    ends = λ more. rw (b, c, e, append_assoc told (Toned given ∷ []) more) (h.ends (Toned given ∷ more));
+  }
+
+  pub holds_event : (event : Event) → n.sizes ≡ d.sizes → n.plan ≡ d.plan → n.tones ≡ d.tones → n.events.items ≡ d.events.items ++ event ∷ [] → n.ends.items ≡ d.ends.items → n.begun ≡ d.begun → Holds d told → Holds n (told ++ Happens event ∷ [])
+  holds_event event a p t b c e h = record {
     sizes = a ∙ h.sizes ∙ sym (sizes_stay told (Happens event) refl);
     plan = p ∙ h.plan ∙ plan_stays told (Happens event) refl;
+    tones = t ∙ h.tones ∙ tones_stay told (Happens event) refl;
     events = b ∙ ap (λ es. es ++ event ∷ []) h.events ∙ sym (events-append told (Happens event ∷ []));
     ends = λ more. rw (b, c, e, append_assoc told (Happens event ∷ []) more, length_push d.events.items event) (h.ends (Happens event ∷ more));
   }
 
   -- the end of a segment that has events
-  pub holds_end : n.sizes ≡ d.sizes → n.plan ≡ d.plan → n.events.items ≡ d.events.items → n.ends.items ≡ d.ends.items ++ length d.events.items ∷ [] → n.begun ≡ length d.events.items → d.begun ≢ length d.events.items → Holds d told → Holds n (told ++ Sync ∷ [])
-  holds_end a p b c e other h = record {
+  pub holds_end : n.sizes ≡ d.sizes → n.plan ≡ d.plan → n.tones ≡ d.tones → n.events.items ≡ d.events.items → n.ends.items ≡ d.ends.items ++ length d.events.items ∷ [] → n.begun ≡ length d.events.items → d.begun ≢ length d.events.items → Holds d told → Holds n (told ++ Sync ∷ [])
+  holds_end a p t b c e other h = record {
     sizes = a ∙ h.sizes ∙ sym (sizes_stay told Sync refl);
     plan = p ∙ h.plan ∙ plan_stays told Sync refl;
+    tones = t ∙ h.tones ∙ tones_stay told Sync refl;
     events = b ∙ h.events ∙ sym (events-append told (Sync ∷ []) ∙ append-nil (events_in told));
     ends = λ more.
         let count = length d.events.items in
@@ -115,10 +153,11 @@ module _ (d n : Draft) (told : List Said) where
   }
 
   -- the end of a segment that has none
-  pub holds_empty_end : n.sizes ≡ d.sizes → n.plan ≡ d.plan → n.events.items ≡ d.events.items → n.ends.items ≡ d.ends.items → n.begun ≡ d.begun → d.begun ≡ length d.events.items → Holds d told → Holds n (told ++ Sync ∷ [])
-  holds_empty_end a p b c e same h = record {
+  pub holds_empty_end : n.sizes ≡ d.sizes → n.plan ≡ d.plan → n.tones ≡ d.tones → n.events.items ≡ d.events.items → n.ends.items ≡ d.ends.items → n.begun ≡ d.begun → d.begun ≡ length d.events.items → Holds d told → Holds n (told ++ Sync ∷ [])
+  holds_empty_end a p t b c e same h = record {
     sizes = a ∙ h.sizes ∙ sym (sizes_stay told Sync refl);
     plan = p ∙ h.plan ∙ plan_stays told Sync refl;
+    tones = t ∙ h.tones ∙ tones_stay told Sync refl;
     events = b ∙ h.events ∙ sym (events-append told (Sync ∷ []) ∙ append-nil (events_in told));
     ends = λ more.
         let count = length d.events.items in

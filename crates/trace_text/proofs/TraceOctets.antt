@@ -9,7 +9,7 @@ use Rattle.std.proofs.lemmas.List.Folds.{list_all-append, list_all_at}
 use Rattle.std.proofs.lemmas.Bool.Decides.{nat_tests}
 use Rattle.circuit_model.specs.Channels.{between}
 use Rattle.trace_text.specs.declared.fault.Reason.TheVariants.{Hex, Length}
-use Rattle.trace_text.specs.TraceFields.{digit_value, is_digit, octets_written, thirty, at_most_260}
+use Rattle.trace_text.specs.TraceFields.{digit_value, is_digit, octets_written, thirty, at_most}
 
 -- ---- one digit
 
@@ -234,29 +234,29 @@ digit_left octets [] written one so_far = absurd (omega arith)
 digit_left octets (x ∷ []) written one so_far = rw (← so_far) refl
 digit_left octets (x ∷ y ∷ rest) written one so_far = absurd (omega arith)
 
--- ---- the octets of a message
+-- ---- at most so many octets
 
-some_few : (digits : List ℕ) (o : Option (List ℕ)) → length digits ≤ 520 → IfSome o (λ octets. length digits ≡ 2 * length octets) → ok_or o Hex ≡ at_most_260 o
-some_few digits None few half = refl
-some_few digits (Some octets) few half = let fits : leb (length octets) 260 ≡ true = le-leb (length octets) 260 (omega arith) in rw fits refl
+some_few : (most : ℕ) (digits : List ℕ) (o : Option (List ℕ)) → length digits ≤ 2 * most → IfSome o (λ octets. length digits ≡ 2 * length octets) → ok_or o Hex ≡ at_most most o
+some_few most digits None few half = refl
+some_few most digits (Some octets) few half = let fits : leb (length octets) most ≡ true = le-leb (length octets) most (omega (arith, few, half)) in rw fits refl
 
 -- few digits write few octets
-pub few_written : (digits : List ℕ) → length digits ≤ 520 → ok_or (octets_written digits) Hex ≡ at_most_260 (octets_written digits)
-few_written digits few = some_few digits (octets_written digits) few (written_length digits)
+pub few_written : (most : ℕ) (digits : List ℕ) → length digits ≤ 2 * most → ok_or (octets_written digits) Hex ≡ at_most most (octets_written digits)
+few_written most digits few = some_few most digits (octets_written digits) few (written_length digits)
 
-some_many : (digits : List ℕ) (o : Option (List ℕ)) → is_some o ≡ true → 520 < length digits → IfSome o (λ octets. length digits ≡ 2 * length octets) → at_most_260 o ≡ Err Length
-some_many digits None some many half = absurd cc
-some_many digits (Some octets) some many half = let over : leb (length octets) 260 ≡ false = grind (arith, nat_tests) in rw over refl
+some_many : (most : ℕ) (digits : List ℕ) (o : Option (List ℕ)) → is_some o ≡ true → 2 * most < length digits → IfSome o (λ octets. length digits ≡ 2 * length octets) → at_most most o ≡ Err Length
+some_many most digits None some many half = absurd cc
+some_many most digits (Some octets) some many half = let over : leb (length octets) most ≡ false = grind (arith, nat_tests, many, half) in rw over refl
 
-pub many_written : (digits : List ℕ) → is_some (octets_written digits) ≡ true → 520 < length digits → at_most_260 (octets_written digits) ≡ Err Length
-many_written digits some many = some_many digits (octets_written digits) some many (written_length digits)
+pub many_written : (most : ℕ) (digits : List ℕ) → is_some (octets_written digits) ≡ true → 2 * most < length digits → at_most most (octets_written digits) ≡ Err Length
+many_written most digits some many = some_many most digits (octets_written digits) some many (written_length digits)
 
-none_at_most : (o : Option (List ℕ)) → is_some o ≡ false → at_most_260 o ≡ Err Hex
-none_at_most None h = refl
-none_at_most (Some octets) h = absurd cc
+none_at_most : (most : ℕ) (o : Option (List ℕ)) → is_some o ≡ false → at_most most o ≡ Err Hex
+none_at_most most None h = refl
+none_at_most most (Some octets) h = absurd cc
 
-pub none_written : (digits : List ℕ) → is_some (octets_written digits) ≡ false → at_most_260 (octets_written digits) ≡ Err Hex
-none_written digits h = none_at_most (octets_written digits) h
+pub none_written : (most : ℕ) (digits : List ℕ) → is_some (octets_written digits) ≡ false → at_most most (octets_written digits) ≡ Err Hex
+none_written most digits h = none_at_most most (octets_written digits) h
 
 -- what digits write are octets
 behind_octets : (h : ℕ) (o : Option (List ℕ)) → h < 256 → IfSome o (λ octets. All (λ v. v < 256) octets) → IfSome (behind (h ∷ []) o) (λ octets. All (λ v. v < 256) octets)

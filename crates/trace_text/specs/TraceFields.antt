@@ -70,10 +70,26 @@ abbrev pub thirty : Option (List ℕ) → Result (List ℕ) Reason
 thirty None = Err Hex
 thirty (Some octets) = if length octets == 30 then Ok octets else Err Length
 
--- the octets of a message: at most 260
-abbrev pub at_most_260 : Option (List ℕ) → Result (List ℕ) Reason
-at_most_260 None = Err Hex
-at_most_260 (Some octets) = if nat_le (length octets) 260 then Ok octets else Err Length
+-- at most so many octets: 260 of a message
+abbrev pub at_most : ℕ → Option (List ℕ) → Result (List ℕ) Reason
+at_most most None = Err Hex
+at_most most (Some octets) = if nat_le (length octets) most then Ok octets else Err Length
+
+abbrev pub longest_message : ℕ
+longest_message = 260
+
+-- at least one octet
+abbrev pub at_least_one : Result (List ℕ) Reason → Result (List ℕ) Reason
+at_least_one (Err why) = Err why
+at_least_one (Ok []) = Err Length
+at_least_one (Ok (octet ∷ octets)) = Ok (octet ∷ octets)
+
+-- the octets of a tone: 1 to 8000, a second of speech
+abbrev pub longest_tone : ℕ
+longest_tone = 8000
+
+abbrev pub of_tone : Option (List ℕ) → Result (List ℕ) Reason
+of_tone written = at_least_one (at_most longest_tone written)
 
 -- the sizes that the words of a header give: `exchange`, `1`, and the numbers of external lines, bridge lines and processors
 abbrev pub header : List (List ℕ) → Option Sizes

@@ -2,15 +2,17 @@
 use Rattle.std.specs.Prelude.{◌≡◌, ℕ, ◌+◌, ◌≤◌, ◌<◌, ◌==◌, List, [], ◌∷◌, ◌++◌, length, fold, Option, Some, None, Ok, Err, if◌then◌else◌}
 use Rattle.number_plan.specs.declared.plan.Number.{Number}
 use Rattle.number_plan.specs.Plan.{with_number}
+use Rattle.tone_rules.specs.declared.tones.Tones.{Tones}
 use Rattle.exchange_core.specs.declared.trace.Trace.{Trace}
 use Rattle.exchange_core.specs.declared.trace.Event.{Event}
 use Rattle.trace_text.specs.declared.fault.Reason.{Reason}
 use Rattle.trace_text.specs.declared.fault.Reason.TheVariants as reason
 use Rattle.trace_text.specs.declared.said.Sizes.{Sizes}
+use Rattle.trace_text.specs.declared.said.GivenTone.{GivenTone}
 use Rattle.trace_text.specs.declared.said.Said.{Said}
-use Rattle.trace_text.specs.declared.said.Said.TheVariants.{Nothing, Header, Numbered, Happens, Sync}
+use Rattle.trace_text.specs.declared.said.Said.TheVariants.{Nothing, Header, Numbered, Toned, Happens, Sync}
 use Rattle.trace_text.specs.TraceWords.{lines}
-use Rattle.trace_text.specs.TraceLines.{SoFar, says}
+use Rattle.trace_text.specs.TraceLines.{SoFar, says, with_tone}
 
 -- how many bytes a trace has at most
 abbrev pub most_bytes : ℕ
@@ -22,6 +24,7 @@ sizes_in [] = None
 sizes_in (Nothing ∷ others) = sizes_in others
 sizes_in (Header sizes ∷ others) = Some sizes
 sizes_in (Numbered number ∷ others) = sizes_in others
+sizes_in (Toned given ∷ others) = sizes_in others
 sizes_in (Happens event ∷ others) = sizes_in others
 sizes_in (Sync ∷ others) = sizes_in others
 
@@ -31,6 +34,7 @@ events_in [] = []
 events_in (Nothing ∷ others) = events_in others
 events_in (Header sizes ∷ others) = events_in others
 events_in (Numbered number ∷ others) = events_in others
+events_in (Toned given ∷ others) = events_in others
 events_in (Happens event ∷ others) = event ∷ events_in others
 events_in (Sync ∷ others) = events_in others
 
@@ -40,6 +44,7 @@ numbers_in [] = []
 numbers_in (Nothing ∷ others) = numbers_in others
 numbers_in (Header sizes ∷ others) = numbers_in others
 numbers_in (Numbered number ∷ others) = number ∷ numbers_in others
+numbers_in (Toned given ∷ others) = numbers_in others
 numbers_in (Happens event ∷ others) = numbers_in others
 numbers_in (Sync ∷ others) = numbers_in others
 
@@ -47,9 +52,26 @@ numbers_in (Sync ∷ others) = numbers_in others
 abbrev pub plan_of : List Number → List Number
 plan_of numbers = fold with_number [] numbers
 
+-- the tones that are given, in file order
+abbrev pub tones_in : List Said → List GivenTone
+tones_in [] = []
+tones_in (Nothing ∷ others) = tones_in others
+tones_in (Header sizes ∷ others) = tones_in others
+tones_in (Numbered number ∷ others) = tones_in others
+tones_in (Toned given ∷ others) = given ∷ tones_in others
+tones_in (Happens event ∷ others) = tones_in others
+tones_in (Sync ∷ others) = tones_in others
+
+-- these tones, each under its kind; one that isn't given has no octets
+abbrev pub no_tones : Tones
+no_tones = record { ringback = []; busy = [] }
+
+abbrev pub tones_of : List GivenTone → Tones
+tones_of given = fold with_tone no_tones given
+
 -- what lines said, as far as the next line depends on it
 abbrev pub so_far : List Said → SoFar
-so_far told = record { sizes = sizes_in told; events = length (events_in told); plan = plan_of (numbers_in told) }
+so_far told = record { sizes = sizes_in told; events = length (events_in told); plan = plan_of (numbers_in told); tones = tones_of (tones_in told) }
 
 -- a segment ends with the last event so far, where it has any
 abbrev pub ended : ℕ → ℕ → List ℕ
@@ -61,6 +83,7 @@ ends_after begun count [] = ended begun count
 ends_after begun count (Nothing ∷ others) = ends_after begun count others
 ends_after begun count (Header sizes ∷ others) = ends_after begun count others
 ends_after begun count (Numbered number ∷ others) = ends_after begun count others
+ends_after begun count (Toned given ∷ others) = ends_after begun count others
 ends_after begun count (Happens event ∷ others) = ends_after begun (count + 1) others
 ends_after begun count (Sync ∷ others) = ended begun count ++ ends_after count count others
 
@@ -74,10 +97,11 @@ EachSays before [] (said ∷ told) = ⊥
 EachSays before (line ∷ others) [] = ⊥
 EachSays before (line ∷ others) (said ∷ told) = (says (so_far before) line ≡ Ok said) × EachSays (before ++ said ∷ []) others told
 
--- the trace is what the lines say: the sizes of the header, the plan of the numbers, the events, and the ends of the segments
+-- the trace is what the lines say: the sizes of the header, the plan of the numbers, the tones, the events, and the ends of the segments
 pub record IsTold (t : Trace) (told : List Said) : Type 0 where
   pub sizes : sizes_in told ≡ Some (record { external = t.external; bridges = t.bridges; processors = t.processors })
   pub plan : t.plan ≡ plan_of (numbers_in told)
+  pub tones : t.tones ≡ tones_of (tones_in told)
   pub events : t.events ≡ events_in told
   pub segments : t.segments ≡ segment_ends told
 

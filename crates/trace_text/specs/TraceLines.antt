@@ -2,12 +2,16 @@
 use Rattle.std.specs.Prelude.{◌≡◌, ℕ, nat_lt, ◌==◌, ◌||◌, List, [], ◌∷◌, length, codes, replicate, slice_index_or, slice_set, Option, Some, None, is_some, ok_or, Result, Ok, Err, if◌then◌else◌}
 use Rattle.std.specs.List.{list_all}
 use Rattle.std.specs.Str.{bytes_eq}
+use Rattle.circuit_model.specs.declared.circuit.Kind.{Kind as Tone}
+use Rattle.circuit_model.specs.declared.circuit.Kind.TheVariants.{Ringback, Busy}
 use Rattle.circuit_model.specs.FrameInput.{Input}
 use Rattle.circuit_model.specs.Circuits.{same_slot}
 use Rattle.number_plan.specs.declared.plan.Number.{Number}
 use Rattle.number_plan.specs.declared.target.Target.{Target}
 use Rattle.number_plan.specs.declared.target.Target.TheVariants as goal
 use Rattle.number_plan.specs.Plan.{is_number, is_taken}
+use Rattle.tone_rules.specs.declared.tones.Tones.{Tones}
+use Rattle.tone_rules.specs.CallTones.{is_given}
 use Rattle.exchange_core.specs.declared.trace.Event.{Event}
 use Rattle.exchange_core.specs.declared.trace.Event.TheVariants.{Nail, Seat, Free, Message, Frame}
 use Rattle.exchange_core.specs.Limits.{most_events}
@@ -18,10 +22,11 @@ use Rattle.trace_text.specs.declared.fault.LineFault.TheVariants as fault
 use Rattle.trace_text.specs.declared.said.Sizes.{Sizes}
 use Rattle.trace_text.specs.declared.said.Kind.{Kind}
 use Rattle.trace_text.specs.declared.said.Kind.TheVariants as kind
+use Rattle.trace_text.specs.declared.said.GivenTone.{GivenTone}
 use Rattle.trace_text.specs.declared.said.Said.{Said}
 use Rattle.trace_text.specs.declared.said.Said.TheVariants as said
 use Rattle.trace_text.specs.TraceWords.{words, two, one_or_two, three, cut_at, is_comment, is_blank, is_printable}
-use Rattle.trace_text.specs.TraceFields.{external_line, slot, room, octets_written, thirty, at_most_260, header}
+use Rattle.trace_text.specs.TraceFields.{external_line, slot, room, octets_written, thirty, at_most, longest_message, of_tone, header}
 
 -- the second step where the first passed its checks
 infixl 10 ◌>>=◌
@@ -80,7 +85,7 @@ abbrev pub message : ℕ → List (List ℕ) → Result Event Reason
 message external others = do
   both ← ok_or (one_or_two others) reason.Word
   line ← ok_or (external_line external both.0) reason.Slot
-  octets ← at_most_260 (octets_written both.1)
+  octets ← at_most longest_message (octets_written both.1)
   Ok (Message line octets)
 
 -- an event happens
@@ -110,6 +115,34 @@ number external others = do
 abbrev pub numbered : Result Number Reason → Result Said Reason
 numbered reading = reading >>= λ n. Ok (said.Numbered n)
 
+-- the tone that a word names
+abbrev pub tone_named : List ℕ → Option Tone
+tone_named name =
+    if bytes_eq name (codes "ringback") then Some Ringback
+    else if bytes_eq name (codes "busy") then Some Busy
+    else None
+
+-- a tone: `ringback` or `busy`, which isn't given yet, and its octets
+abbrev pub tone : Tones → List (List ℕ) → Result GivenTone Reason
+tone tones others = do
+  both ← ok_or (two others) reason.Word
+  kind ← ok_or (tone_named both.0) reason.Word
+  fresh ← if is_given tones kind then Err reason.Word else Ok kind
+  octets ← of_tone (octets_written both.1)
+  Ok (record { kind = kind; octets = octets })
+
+-- a tone is given
+abbrev pub toned : Result GivenTone Reason → Result Said Reason
+toned reading = reading >>= λ t. Ok (said.Toned t)
+
+-- the tones once one more is given
+abbrev pub with_octets : Tones → Tone → List ℕ → Tones
+with_octets tones Ringback octets = record tones { ringback = octets }
+with_octets tones Busy octets = record tones { busy = octets }
+
+abbrev pub with_tone : Tones → GivenTone → Tones
+with_tone tones given = with_octets tones given.kind given.octets
+
 -- the end of a segment: one word
 abbrev pub sync : List (List ℕ) → Result Said Reason
 sync [] = Ok said.Sync
@@ -125,14 +158,16 @@ kind_of word =
     else if bytes_eq word (codes "seat") then kind.Seat
     else if bytes_eq word (codes "free") then kind.Free
     else if bytes_eq word (codes "number") then kind.Number
-    else if bytes_eq word (codes "tone") then kind.Later
+    else if bytes_eq word (codes "tone") then kind.Tone
     else kind.Unknown
 
--- what the lines so far said, as far as the next line depends on it: the sizes of the header, where there was one, how many events, and the numbers
+-- what the lines so far said, as far as the next line depends on it: the sizes of the header, where there was one, how many events, the
+-- numbers and the tones
 pub record SoFar : Type 0 where
   pub sizes : Option Sizes
   pub events : ℕ
   pub plan : List Number
+  pub tones : Tones
 
 -- a line that stands before the first event, or nowhere
 abbrev pub before_events : SoFar → Result Said Reason → Result Said Reason
@@ -146,8 +181,8 @@ by_kind so_far external kind.Nail others = happens (nail external others)
 by_kind so_far external kind.Seat others = happens (seat external others)
 by_kind so_far external kind.Free others = happens (free external others)
 by_kind so_far external kind.Number others = before_events so_far (numbered (number external others))
+by_kind so_far external kind.Tone others = before_events so_far (toned (tone so_far.tones others))
 by_kind so_far external kind.Sync others = sync others
-by_kind so_far external kind.Later others = Err reason.Later
 by_kind so_far external kind.Unknown others = Err reason.Word
 
 abbrev pub by_words : SoFar → ℕ → List (List ℕ) → Result Said Reason

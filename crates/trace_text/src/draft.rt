@@ -4,11 +4,15 @@ ghost use Rattle.std.specs.Prelude.{◌≤◌, vec_len};
 use crate::cut::{first_word, is_text};
 use crate::fault::{LineFault, Reason, TraceFault};
 use crate::fields::header_of;
-use crate::line::{frame_of, free_of, kind_of, message_of, nail_of, number_of, seat_of, sync_of};
-use crate::said::{Kind, Said, Sizes};
+use crate::line::{
+    frame_of, free_of, kind_of, message_of, nail_of, number_of, seat_of, sync_of, tone_of,
+};
+use crate::said::{GivenTone, Kind, Said, Sizes};
+use circuit_model::Kind as Tone;
 use exchange_core::{Event, Events, Segments, Trace};
 use number_plan::Plan;
 use std::alloc::{AllocError, Global};
+use tone_rules::Tones;
 
 /// How many events a trace has at most.
 const MOST_EVENTS: usize = 65_535;
@@ -18,6 +22,7 @@ const MOST_EVENTS: usize = 65_535;
 pub struct Draft {
     sizes: Option<Sizes>,
     plan: Plan,
+    tones: Tones,
     events: Vec<Event>,
     ends: Vec<u32>,
     // How many events came before the segment that is open.
@@ -25,10 +30,23 @@ pub struct Draft {
     ghost few: { vec_len events ≤ 65535 },
 }
 
+ghost use Rattle.std.specs.Prelude.{◌≡◌};
+ghost use Rattle.trace_text.specs.TraceLines.{with_tone};
+
+// Puts the octets of a tone under its kind.
+fn give(tones: &mut Tones, given: GivenTone)
+    ensures { tones.new ≡ with_tone tones.old given }
+{
+    match given.kind {
+        Tone::Ringback => tones.ringback = given.octets,
+        Tone::Busy => tones.busy = given.octets,
+    }
+}
+
 impl Draft {
     ghost use Rattle.std.specs.Prelude.{◌≡◌, ◌<◌, ◌++◌, ◌∷◌, [], List, length, Ok, OnOk, IfOk, IfErr, vec_len};
     ghost use Rattle.trace_text.specs.TraceWords.{words};
-    ghost use Rattle.trace_text.specs.TraceLines.{number, numbered, before_events, by_kind, reads, joins, says, Fails, Gives};
+    ghost use Rattle.trace_text.specs.TraceLines.{number, numbered, tone, toned, before_events, by_kind, reads, joins, says, Fails, Gives};
     ghost use Rattle.trace_text.specs.TraceGrammar.{ended, IsTold};
     ghost use Rattle.trace_text.specs.TraceDraft.{kept, Holds, Suits, FailsAtEnd};
 
@@ -39,6 +57,7 @@ impl Draft {
         Draft {
             sizes: None,
             plan: Plan::new(alloc),
+            tones: Tones::none(alloc),
             events: Vec::new(alloc),
             ends: Vec::new(alloc),
             begun: 0,
@@ -52,6 +71,7 @@ impl Draft {
         ensures ended { OnOk result (self.new.ends.items
             ≡ self.old.ends.items ++ ended self.old.begun (vec_len self.old.events)) }
         ensures plan { OnOk result (self.new.plan ≡ self.old.plan) }
+        ensures tones { OnOk result (self.new.tones ≡ self.old.tones) }
         ensures events { OnOk result (self.new.events.items ≡ self.old.events.items) }
     {
         let count = self.events.len() as u32;
@@ -74,6 +94,7 @@ impl Draft {
             Said::Nothing => {}
             Said::Header(sizes) => self.sizes = Some(sizes),
             Said::Numbered(number) => self.plan.add(number.digits.as_slice(), number.target)?,
+            Said::Toned(given) => give(&mut self.tones, given),
             Said::Happens(_) if self.events.len() == MOST_EVENTS => {
                 return Err(LineFault::Refused(Reason::Limit));
             }
@@ -94,6 +115,17 @@ impl Draft {
         Ok(Said::Numbered(number_of(external, line)?))
     }
 
+    // A tone's line, whose further words are given.
+    fn tone_line(&self, alloc: Global, line: &[u8]) -> Result<Said, LineFault>
+        ensures reads { Gives result (before_events (kept self.now) (toned (tone self.now.tones (words line.now)))) }
+        ensures suits { IfOk result (λ said. Suits self.now said) }
+    {
+        if !self.events.is_empty() {
+            return Err(LineFault::Refused(Reason::Word));
+        }
+        Ok(Said::Toned(tone_of(alloc, &self.tones, line)?))
+    }
+
     // A line of a kind, whose further words are given.
     fn line_of_kind(
         &self,
@@ -112,8 +144,8 @@ impl Draft {
             Kind::Seat => Ok(Said::Happens(seat_of(external, line)?)),
             Kind::Free => Ok(Said::Happens(free_of(external, line)?)),
             Kind::Number => Ok(self.number_line(external, line)?),
+            Kind::Tone => Ok(self.tone_line(alloc, line)?),
             Kind::Sync => Ok(sync_of(line)?),
-            Kind::Later => Err(LineFault::Refused(Reason::Later)),
             Kind::Unknown => Err(LineFault::Refused(Reason::Word)),
         }
     }
@@ -176,6 +208,7 @@ impl Draft {
             bridges: sizes.bridges,
             processors: sizes.processors,
             plan: self.plan,
+            tones: self.tones,
             events: Events::of(self.events),
             segments: Segments::of(self.ends),
         })

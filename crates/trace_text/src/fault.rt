@@ -11,8 +11,9 @@ use std::alloc::{AllocError, AllocFailed};
 pub enum Reason {
     /// The first line that is neither blank nor a comment is no header, or there is none.
     Header,
-    /// An octet that isn't printable, an unknown first word, a number behind an event, a wrong count of
-    /// words, or a number that stands for neither a line nor a room.
+    /// An octet that isn't printable, an unknown first word, a number or a tone behind an event, a wrong
+    /// count of words, a number that stands for neither a line nor a room, or a tone that is none or was
+    /// given before.
     Word,
     /// A word that writes no line or no slot of the exchange, a line given twice in one frame, or a
     /// slot nailed to itself.
@@ -27,8 +28,6 @@ pub enum Reason {
     Prefix,
     /// Too many events, numbers or bytes.
     Limit,
-    /// A kind of line that this exchange doesn't read yet.
-    Later,
 }
 
 /// Why bytes could not be read as a trace.

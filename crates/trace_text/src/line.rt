@@ -2,16 +2,18 @@
 ghost use Rattle.std.specs.Prelude.{◌≡◌, ◌<◌, IsTrue, length, MatchResult, IfOk, Ok, Err};
 ghost use Rattle.number_plan.specs.Plan.{is_number};
 ghost use Rattle.trace_text.specs.TraceWords.{words};
-ghost use Rattle.trace_text.specs.TraceLines.{with_part, frame, message, nail, seat, free, target, number, sync, kind_of, Gives};
+ghost use Rattle.trace_text.specs.TraceLines.{with_part, frame, message, nail, seat, free, target, number, tone, tone_named, sync, kind_of, Gives};
 
 use crate::cut::{first_word, halves_at, one_or_two_words, three_words, two_words};
 use crate::fault::{LineFault, Reason};
 use crate::fields::{line_of_word, room_of_word, slot_of_word};
-use crate::octets::{message_octets, thirty_octets};
-use crate::said::{Kind, Said};
+use crate::octets::{message_octets, thirty_octets, tone_octets};
+use crate::said::{GivenTone, Kind, Said};
+use circuit_model::Kind as Tone;
 use exchange_core::{Event, Input};
 use number_plan::{Digits, Number, Target, is_number};
 use std::alloc::Global;
+use tone_rules::Tones;
 
 // Puts the octets of one line into a frame.
 fn put_part(given: &mut [Option<[u8; 30]>], word: &[u8]) -> Result<(), Reason>
@@ -116,6 +118,32 @@ pub(crate) fn number_of(external: u8, line: &[u8]) -> Result<Number, Reason>
     Ok(Number { digits, target })
 }
 
+// The tone that a word names.
+fn tone_named(word: &[u8]) -> Option<Tone>
+    ensures { result ≡ tone_named word.now }
+{
+    if word == b"ringback".as_slice() {
+        Some(Tone::Ringback)
+    } else if word == b"busy".as_slice() {
+        Some(Tone::Busy)
+    } else {
+        None
+    }
+}
+
+/// The tone that the words of a line give, where it isn't among those that are given already.
+pub(crate) fn tone_of(alloc: Global, tones: &Tones, line: &[u8]) -> Result<GivenTone, LineFault>
+    ensures { Gives result (tone tones.now (words line.now)) }
+{
+    let (name, digits) = two_words(line).ok_or(Reason::Word)?;
+    let kind = tone_named(name).ok_or(Reason::Word)?;
+    if tones.is_given(kind) {
+        return Err(LineFault::Refused(Reason::Word));
+    }
+    let octets = tone_octets(alloc, digits)?;
+    Ok(GivenTone { kind, octets })
+}
+
 /// The end of a segment, where a line has no further word.
 pub(crate) fn sync_of(line: &[u8]) -> Result<Said, Reason>
     ensures says { result ≡ sync (words line.now) }
@@ -146,7 +174,7 @@ pub(crate) fn kind_of(word: &[u8]) -> Kind
     } else if word == b"number".as_slice() {
         Kind::Number
     } else if word == b"tone".as_slice() {
-        Kind::Later
+        Kind::Tone
     } else {
         Kind::Unknown
     }

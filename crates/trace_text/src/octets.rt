@@ -2,17 +2,21 @@
 //
 // Sixty digits are read by loops of fixed length, without a table and with one test at their end, so
 // that many are read at once. Four more digits behind them fill whole vectors.
-ghost use Rattle.std.specs.Prelude.{◌≡◌, ◌++◌, ◌∷◌, [], ℕ, List, length, take, true, Some, is_some, option_map, map, replicate, ok_or};
+ghost use Rattle.std.specs.Prelude.{◌≡◌, ◌++◌, ◌*◌, ◌<◌, ◌^◌, ◌∷◌, [], ℕ, List, length, take, true, Some, is_some, option_map, map, replicate, ok_or, IfOk, IfErr, Ok};
 ghost use Rattle.std.specs.List.{list_all};
-ghost use Rattle.trace_text.specs.TraceFields.{digit_value, is_digit, octets_written, thirty, at_most_260};
-ghost use Rattle.trace_text.specs.TraceLines.{Gives};
+ghost use Rattle.trace_text.specs.TraceFields.{digit_value, is_digit, octets_written, thirty, at_most, longest_message, of_tone};
+ghost use Rattle.trace_text.specs.TraceLines.{Fails, Gives};
 
 use crate::fault::{LineFault, Reason};
 use exchange_core::Octets;
 use std::alloc::Global;
+use tone_rules::ToneOctets;
 
-/// How many digits the octets of a message have at most.
-const MOST_DIGITS: usize = 520;
+/// How many octets a message has at most.
+const LONGEST_MESSAGE: usize = 260;
+
+/// How many octets a tone has at most: a second of speech.
+const LONGEST_TONE: usize = 8000;
 
 // Whether an octet is a hexadecimal digit of either case.
 fn is_digit(octet: u8) -> bool
@@ -121,8 +125,9 @@ fn octet_of(high: u8, low: u8) -> Option<u8>
 }
 
 // The octets that digits write.
-fn octets_read(alloc: Global, digits: &[u8]) -> Result<Octets, LineFault>
-    ensures { Gives result (ok_or (octets_written digits.now) Reason.Hex) }
+fn octets_read(alloc: Global, digits: &[u8]) -> Result<Vec<u8>, LineFault>
+    ensures read { IfOk result (λ octets. octets_written digits.now ≡ Some octets.items) }
+    ensures refused { IfErr result (λ e. Fails e (ok_or (octets_written digits.now) Reason.Hex)) }
 {
     let mut octets = Vec::with_capacity(alloc, digits.len() / 2)?;
     let mut rest = digits;
@@ -133,18 +138,38 @@ fn octets_read(alloc: Global, digits: &[u8]) -> Result<Octets, LineFault>
     if !rest.is_empty() {
         return Err(LineFault::Refused(Reason::Hex));
     }
-    Ok(Octets::of(octets))
+    Ok(octets)
 }
 
-/// The octets of a message, at most 260, which hexadecimal digits write.
-pub(crate) fn message_octets(alloc: Global, digits: &[u8]) -> Result<Octets, LineFault>
-    ensures { Gives result (at_most_260 (octets_written digits.now)) }
+// The octets, at most so many, which hexadecimal digits write.
+fn octets_up_to(alloc: Global, most: usize, digits: &[u8]) -> Result<Vec<u8>, LineFault>
+    requires { most < 2 ^ 32 }
+    ensures read { IfOk result (λ octets. at_most most (octets_written digits.now) ≡ Ok octets.items) }
+    ensures refused { IfErr result (λ e. Fails e (at_most most (octets_written digits.now))) }
 {
-    if digits.len() <= MOST_DIGITS {
+    if digits.len() <= 2 * most {
         octets_read(alloc, digits)
     } else if are_pairs(digits) {
         Err(LineFault::Refused(Reason::Length))
     } else {
         Err(LineFault::Refused(Reason::Hex))
     }
+}
+
+/// The octets of a message, at most 260, which hexadecimal digits write.
+pub(crate) fn message_octets(alloc: Global, digits: &[u8]) -> Result<Octets, LineFault>
+    ensures { Gives result (at_most longest_message (octets_written digits.now)) }
+{
+    Ok(Octets::of(octets_up_to(alloc, LONGEST_MESSAGE, digits)?))
+}
+
+/// The octets of a tone, 1 to 8000, which hexadecimal digits write.
+pub(crate) fn tone_octets(alloc: Global, digits: &[u8]) -> Result<ToneOctets, LineFault>
+    ensures { Gives result (of_tone (octets_written digits.now)) }
+{
+    let octets = octets_up_to(alloc, LONGEST_TONE, digits)?;
+    if octets.is_empty() {
+        return Err(LineFault::Refused(Reason::Length));
+    }
+    Ok(ToneOctets::of(octets))
 }

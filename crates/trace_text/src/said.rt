@@ -1,5 +1,7 @@
+use circuit_model::Kind as Tone;
 use exchange_core::Event;
 use number_plan::Number;
+use tone_rules::ToneOctets;
 
 /// The sizes that the header of a trace gives.
 #[derive(Clone, Copy, Debug, PartialEq, Eq)]
@@ -29,10 +31,19 @@ pub enum Kind {
     Free,
     /// A number leads to a line or a conference room.
     Number,
-    /// The line is one that this exchange doesn't read yet.
-    Later,
+    /// A tone is given its octets.
+    Tone,
     /// The line is none of a trace.
     Unknown,
+}
+
+/// A tone that a line gives.
+#[derive(Drop)]
+pub struct GivenTone {
+    /// Which tone it is.
+    pub kind: Tone,
+    /// Its octets.
+    pub octets: ToneOctets,
 }
 
 /// What one line of a trace says.
@@ -44,6 +55,8 @@ pub enum Said {
     Header(Sizes),
     /// A number leads somewhere.
     Numbered(Number),
+    /// A tone is given.
+    Toned(GivenTone),
     /// An event happens.
     Happens(Event),
     /// The segment ends.

@@ -60,7 +60,13 @@ fn refused_lines(rt: HostRuntime) -> Result<(), Fail> {
         ("timer T303 1", Reason::Word),
         ("change", Reason::Word),
         ("M \t", Reason::Word),
-        ("tone busy 00", Reason::Later),
+        ("tone", Reason::Word),
+        ("tone busy", Reason::Word),
+        ("tone busy 00 00", Reason::Word),
+        ("tone Busy 00", Reason::Word),
+        ("tone dial 0", Reason::Word),
+        ("tone busy 0", Reason::Hex),
+        ("tone busy 0g", Reason::Hex),
         ("sync x", Reason::Word),
         ("nail x", Reason::Word),
         ("nail 0/1 0/2 0/3", Reason::Word),
@@ -182,6 +188,53 @@ fn digits(rt: &HostRuntime, count: usize, last: u8) -> Result<Option<TraceFault>
     }
     bytes.push(last)?;
     Ok(read_trace(rt.alloc(), &bytes).err())
+}
+
+// A tone of so many digits, the last of which is given.
+fn tone_digits(rt: &HostRuntime, count: usize, last: u8) -> Result<Option<TraceFault>, Fail> {
+    let mut bytes = Vec::from_slice(rt.alloc(), HEADER.as_bytes())?;
+    bytes.extend_from_slice(b"tone busy ")?;
+    for _ in 1..count {
+        bytes.push(b'0')?;
+    }
+    bytes.push(last)?;
+    Ok(read_trace(rt.alloc(), &bytes).err())
+}
+
+#[test]
+fn longest_tone(rt: HostRuntime) -> Result<(), Fail> {
+    let number = 2;
+    let cases = [
+        (2, b'0', None),
+        (16_000, b'0', None),
+        (16_000, b'x', Some(Reason::Hex)),
+        (16_001, b'0', Some(Reason::Hex)),
+        (16_002, b'0', Some(Reason::Length)),
+        (16_002, b'x', Some(Reason::Hex)),
+    ];
+    for (count, last, reason) in cases {
+        let wanted = reason.map(|reason| TraceFault::Line { number, reason });
+        assert_eq!(rt; tone_digits(&rt, count, last)?, wanted, "{count}");
+    }
+    Ok(())
+}
+
+#[test]
+fn tones(rt: HostRuntime) -> Result<(), Fail> {
+    let text = format!(in rt.alloc(); "{HEADER}tone busy  44\nsync\ntone ringback 11fF\nF\n")?;
+    let trace = read_trace(rt.alloc(), text.as_bytes())
+        .ok()
+        .ok_or("it is a trace")?;
+    assert_eq!(rt; trace.tones.ringback.as_slice(), [0x11, 0xFF].as_slice());
+    assert_eq!(rt; trace.tones.busy.as_slice(), [0x44].as_slice());
+    for text in ["tone busy 44\ntone busy 44", "F\ntone busy 44"] {
+        let wanted = TraceFault::Line {
+            number: 3,
+            reason: Reason::Word,
+        };
+        assert_eq!(rt; fault(&rt, text)?, Some(wanted), "{text:?}");
+    }
+    Ok(())
 }
 
 #[test]

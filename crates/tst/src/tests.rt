@@ -104,6 +104,17 @@ fn traces_are_answered_by_their_reports(rt: HostRuntime) -> Result<(), Fail> {
             2,
             "1 noport\n2 notnailed\n",
         ),
+        // The caller hears ringing tone from the frame after ALERTING, busy tone after cause 17, and nothing once its
+        // line is restarted.
+        (
+            "exchange 1 2 0 1\nnumber 101 line 1\ntone ringback 112233\ntone busy 44\n\
+            M 0 080200010504038090A31803A98381700480313031\nsync\nM 1 0802800101\nsync\nF\nF\nF\nF\nsync\n\
+            M 1 080280015A08028091\nsync\nF\nsync\nM 0 0802000046790186\nsync\nF\n",
+            10,
+            "1 message 0:08028001021803A98381 1:0802000105A104038090A31803A98381700480313031\n\
+            2 message 0:08028001011E028288\n3 frame 0 0:11+\n4 frame 1 0:22+\n5 frame 2 0:33+\n6 frame 3 0:11+\n\
+            7 message 0:0802800145080282911E028288\n8 frame 4 0:44+\n9 message 0:080280004E790186\n10 frame 5\n",
+        ),
     ] {
         let ended = ran::<Engine>(alloc, spelled(alloc, trace)?)?;
         assert_eq!(rt; (ended.status, ended.has_engine), (0, true), "{trace}");
@@ -146,7 +157,10 @@ fn what_is_no_trace_is_refused_at_its_first_fault(rt: HostRuntime) -> Result<(),
         ),
         (b"exchange 1 1 0 1\nnail 0/1 0/16\n", "refused 2 slot\n"),
         (b"exchange 1 1 0 1\n\nhold\n", "refused 3 word\n"),
-        (b"exchange 1 1 1 1\ntone busy D5\n", "refused 2 later\n"),
+        (
+            b"exchange 1 1 1 1\ntone busy D5\ntone busy D5\n",
+            "refused 3 word\n",
+        ),
         (
             b"exchange 1 1 1 1\nnumber 12 line 0\nnumber 1 room 3\n",
             "refused 3 prefix\n",

@@ -6,6 +6,7 @@ use circuit_model::Slot;
 use exchange_core::{Event, Events, Input, Segments, Trace};
 use number_plan::Plan;
 use std::alloc::{AllocError, Global};
+use tone_rules::Tones;
 
 fn on(line: u8, place: u8) -> Slot
     ensures { result ≡ record { line = line; place = place } }
@@ -49,6 +50,7 @@ pub fn nails_and_frames(alloc: Global) -> Result<Trace, AllocError>
         bridges: 0,
         processors: 2,
         plan: Plan::new(alloc),
+        tones: Tones::none(alloc),
         events: Events::of(events),
         segments: Segments::of(ends),
     })

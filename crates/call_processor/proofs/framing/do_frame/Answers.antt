@@ -8,7 +8,7 @@ use Rattle.frame_engine.specs.Frames.{PlaysOut}
 use Rattle.tone_rules.specs.Tables.{table_of}
 use Rattle.call_processor.proofs.Done.{Next, answer_next}
 use Rattle.call_processor.proofs.FrameSteps.{asked, boundary, frames_few, input_whole, made_at, next_frame, one_input, played_here, ready_after, same_frames, still_carried, written_whole}
-use Rattle.call_processor.proofs.Silence.{sounds_none}
+use Rattle.exchange_core.proofs.Given.{sounds_given}
 use Rattle.call_processor.specs.Frames.{engine_dimensions}
 use Rattle.call_processor.specs.declared.worked.Placed.{Placed}
 use Rattle.call_processor.proofs.framing.do_frame.Goals as goal
@@ -45,7 +45,7 @@ frame-requires-clause-tones g c = λ at line place kind since sounds.
     let board = g.B.Switchboard.board c.args.board.now in
     let history = before c.handle-place.result.0 (K c.handle-place.new.seat).seen in
     let a = asked board history c.args.event c.args.input.now c.handle-place.new.tool c.in-Image.image c.requires.sound c.requires.frame c.in-Image.is c.handle-place.ensures.shows c.handle-place.ensures.tool in
-    absurd (sounds_none c.in-Image.image _ _ _ (made_at board history c.requires.sound).toneless a.shows at line place kind since sounds)
+    rw c.requires.tones (sounds_given _ c.in-Image.image _ _ _ (made_at board history c.requires.sound).sounding a.shows at line place kind since sounds)
 
 pub returns-in_err-answer-clause-ready : goal.returns-in_err-answer-clause-ready
 returns-in_err-answer-clause-ready g c =

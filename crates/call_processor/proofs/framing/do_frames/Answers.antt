@@ -46,7 +46,7 @@ returns-in_err-reserve-clause-works g c =
 
 pub returns-in_err-reserve-clause-octets : goal.returns-in_err-reserve-clause-octets
 returns-in_err-reserve-clause-octets g c =
-    subst (All (HasFrame g.C.Carrier.plays (table_of c.args.tones.now) (g.B.Switchboard.board c.args.board.now) (g.B.Switchboard.known c.loop-event.seat))) (sym c.reserve.ensures.items) c.loop-event.invariant.octets
+    subst (All (HasFrame g.C.Carrier.plays (table_of c.args.trace.now.tones) (g.B.Switchboard.board c.args.board.now) (g.B.Switchboard.known c.loop-event.seat))) (sym c.reserve.ensures.items) c.loop-event.invariant.octets
 
 pub do_frame-requires-clause-known : goal.do_frame-requires-clause-known
 do_frame-requires-clause-known g c κs within =
@@ -88,8 +88,8 @@ returns-in_err-placed-clause-octets g c =
     let w = g.B.Switchboard.known c.loop-event.seat in
     let x = g.B.Switchboard.known c.do_frame.new.seat in
     let h = c.do_frame.ensures.handled in
-    subst (All (HasFrame g.C.Carrier.plays (table_of c.args.tones.now) board x)) (sym c.reserve.ensures.items)
-    (frames_stay g.C.Carrier.plays (table_of c.args.tones.now) board w x c.loop-event.answers.items (begins_next (before h.place x.seen) c.loop-event.event h.place w x (next_of w x c.loop-event.event h))
+    subst (All (HasFrame g.C.Carrier.plays (table_of c.args.trace.now.tones) board x)) (sym c.reserve.ensures.items)
+    (frames_stay g.C.Carrier.plays (table_of c.args.trace.now.tones) board w x c.loop-event.answers.items (begins_next (before h.place x.seen) c.loop-event.event h.place w x (next_of w x c.loop-event.event h))
     c.loop-event.invariant.going.each c.loop-event.invariant.octets)
 
 pub loop-event-preserved : goal.loop-event-preserved
@@ -108,7 +108,7 @@ loop-event-preserved g c =
     let said = c.in_ok-placed.ensures in
     let going = going_said board (up_to c.args.trace.now W first event) v w x c.loop-event.answers.items p event c.loop-event.invariant.going h said.place said.event said.answer in
     let plays = g.C.Carrier.plays in
-    let tones = table_of c.args.tones.now in
+    let tones = table_of c.args.trace.now.tones in
     record {
       seated = c.do_frame.ensures.seated;
       going = subst (λ (l : List Placed). Going board (up_to c.args.trace.now W first (event + 1)) v l x) (sym items)

@@ -14,5 +14,5 @@ invariant-loop-event g l = record {
   from : l.first ≤ l.event;
   ready : IsReady g.C.Carrier.carries g.C.Carrier.next (engine_dimensions g.C.Carrier.external_lines g.C.Carrier.bridge_lines g.C.Carrier.depth) (g.B.Switchboard.board l.board) (g.B.Switchboard.known l.seat).seen l.engine l.tool;
   lines : length l.octets.items ≡ (g.B.Switchboard.board l.board).trace.external;
-  octets : All (HasFrame g.C.Carrier.plays (table_of l.tones) (g.B.Switchboard.board l.board) (g.B.Switchboard.known l.seat)) l.answers.items;
+  octets : All (HasFrame g.C.Carrier.plays (table_of l.trace.tones) (g.B.Switchboard.board l.board) (g.B.Switchboard.known l.seat)) l.answers.items;
 }

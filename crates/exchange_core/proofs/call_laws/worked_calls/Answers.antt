@@ -51,3 +51,35 @@ returns-clause-restart_both c = refl
 pub returns-clause-restart_one : goal.returns-clause-restart_one
 unfolding elements_of elements_within slots_of restarted_below
 returns-clause-restart_one c = refl
+
+pub returns-clause-ringback : goal.returns-clause-ringback
+unfolding elements_of elements_within slots_of
+returns-clause-ringback c = refl
+
+pub returns-clause-rings : goal.returns-clause-rings
+unfolding elements_of elements_within slots_of
+returns-clause-rings c = refl
+
+pub returns-clause-busy : goal.returns-clause-busy
+unfolding elements_of elements_within slots_of
+returns-clause-busy c = refl
+
+pub returns-clause-sounds_busy : goal.returns-clause-sounds_busy
+unfolding elements_of elements_within slots_of
+returns-clause-sounds_busy c = refl
+
+pub returns-clause-other_cause : goal.returns-clause-other_cause
+unfolding elements_of elements_within slots_of
+returns-clause-other_cause c = refl
+
+pub returns-clause-no_tone : goal.returns-clause-no_tone
+unfolding elements_of elements_within slots_of
+returns-clause-no_tone c = refl
+
+pub returns-clause-answered : goal.returns-clause-answered
+unfolding elements_of elements_within slots_of
+returns-clause-answered c = refl
+
+pub returns-clause-not_given : goal.returns-clause-not_given
+unfolding elements_of elements_within slots_of
+returns-clause-not_given c = refl

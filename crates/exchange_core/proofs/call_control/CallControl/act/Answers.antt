@@ -5,7 +5,7 @@ use Rattle.call_states.specs.declared.act.Act.{Act}
 use Rattle.call_states.proofs.Causes.{act_fits, cause_fits}
 use Rattle.q931_codec.specs.Contents.{call_state_in}
 use Rattle.exchange_core.specs.EndedCalls.{records_of_act}
-use Rattle.exchange_core.proofs.AtWorkActs.{peer_external, known_there, known_peer, known_silent, known_records}
+use Rattle.exchange_core.proofs.AtWorkActs.{peer_external, known_there, known_peer, known_silent, known_waiting, known_records}
 use Rattle.exchange_core.proofs.call_control.CallControl.act.Goals as goal
 
 pub records_of_act-records-requires-clause-peer_external :
@@ -39,6 +39,13 @@ perform-requires-clause-silent g c answers =
     let work = c.requires.work in
     let now = c.args.self.now in
     known_silent work.0 now.map now.legs work.1 work.2 c.args.held c.requires.external c.requires.held c.args.message.now (sym c.on_message-act.ensures ∙ answers)
+
+pub perform-requires-clause-waiting : goal.perform-requires-clause-waiting
+perform-requires-clause-waiting g c alerts =
+    let work = c.requires.work in
+    let now = c.args.self.now in
+    known_waiting work.0 now.map now.legs work.1 work.2 c.args.held c.requires.external c.requires.held c.args.message.now (sym c.on_message-act.ensures ∙ alerts)
+    c.peer_of-peer.result c.peer_of-peer.ensures
 
 pub returns-clause-records : goal.returns-clause-records
 returns-clause-records g c s w work =

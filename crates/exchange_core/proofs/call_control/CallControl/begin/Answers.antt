@@ -8,14 +8,14 @@ use Rattle.exchange_core.proofs.OnNoCall.{asks, asks_not}
 use Rattle.exchange_core.proofs.call_control.CallControl.begin.Goals as goal
 
 pub returns-then-asks_for_call-clause-makes : goal.returns-then-asks_for_call-clause-makes
-returns-then-asks_for_call-clause-makes g c s w plan work =
+returns-then-asks_for_call-clause-makes g c s w plan tones work =
     let m = c.args.message.now in
     let is : asks_for_call m ≡ true = sym c.asks_for_call.ensures ∙ c.if-asks_for_call.true in
     subst (λ (r : Received). Makes s.dimensions c.setup.new.self.map c.setup.new.self.legs c.setup.new.out.sends c.setup.new.out.moved (done_for s w c.args.line r).making)
     (sym (asks m c.if-message-eq-GLOBAL_CALL_REFERENCE.false is)) (c.setup.ensures.makes s w plan work)
 
 pub returns-then-asks_for_call-clause-records : goal.returns-then-asks_for_call-clause-records
-returns-then-asks_for_call-clause-records g c s w plan work =
+returns-then-asks_for_call-clause-records g c s w plan tones work =
     let m = c.args.message.now in
     let is : asks_for_call m ≡ true = sym c.asks_for_call.ensures ∙ c.if-asks_for_call.true in
     let below : c.args.line < s.dimensions.external = subst (λ (d : Dimensions). c.args.line < d.external) work.holds.sizes c.requires.line in
@@ -23,7 +23,7 @@ returns-then-asks_for_call-clause-records g c s w plan work =
     (c.new.ensures ∙ sym (call_ends_none s w c.args.line m work.planned work.stands below))
 
 pub returns-clause-makes : goal.returns-clause-makes
-returns-clause-makes g c s w plan work =
+returns-clause-makes g c s w plan tones work =
     let m = c.args.message.now in
     let is : asks_for_call m ≡ false = sym c.asks_for_call.ensures ∙ c.if-asks_for_call.false in
     subst (λ (r : Received). Makes s.dimensions c.args.self.now.map c.args.self.now.legs c.answer_on_no_call.new.self.sends c.answer_on_no_call.new.self.moved (done_for s w c.args.line r).making)
@@ -31,7 +31,7 @@ returns-clause-makes g c s w plan work =
     (c.answer_on_no_call.ensures.makes s.dimensions _ _ (begun w) (record { holds = work.holds; sent = c.requires.fresh.0; moves = c.requires.fresh.1 }))
 
 pub returns-clause-records : goal.returns-clause-records
-returns-clause-records g c s w plan work =
+returns-clause-records g c s w plan tones work =
     let m = c.args.message.now in
     let is : asks_for_call m ≡ false = sym c.asks_for_call.ensures ∙ c.if-asks_for_call.false in
     subst (λ (r : Received). c.new-2.result ≡ (done_for s w c.args.line r).told) (sym (asks_not m c.if-message-eq-GLOBAL_CALL_REFERENCE.false is))

@@ -9,9 +9,9 @@ use Rattle.exchange_core.proofs.call_control.CallControl.restart_line.Given as g
 
 abbrev pub invariant-loop-place : goal.invariant-loop-place
 invariant-loop-place g l =
-    ((s : Setting) (w : World) → IsAtWork s l.fn.self.map l.fn.self.legs w
-    → Makes s.dimensions l.self.map l.self.legs l.out.sends l.out.moved (restarted_below s.dimensions l.asked l.line w l.place).making
-    × (l.records ≡ (restarted_below s.dimensions l.asked l.line w l.place).told))
+    ((s : Setting) (w : World) → s.tones ≡ l.tones → IsAtWork s l.fn.self.map l.fn.self.legs w
+    → Makes s.dimensions l.self.map l.self.legs l.out.sends l.out.moved (restarted_below s.dimensions s.tones l.asked l.line w l.place).making
+    × (l.records ≡ (restarted_below s.dimensions s.tones l.asked l.line w l.place).told))
     × (length l.out.sends ≤ l.place)
     × (length l.records ≤ l.place)
     × (l.out.moved ≡ None)

@@ -14,7 +14,7 @@ record_ended-told-requires-clause-peer_external g c =
     let now = c.args.self.now in
     let at : leg_at now.legs c.args.x ≡ Some c.in-Some.leg = sym c.at.ensures.found ∙ c.in-Some.is in
     external_of now.map.external c.peer_of-peer.result
-    (peer_there work.0 now.map now.legs work.1 work.2 work.3 (record { slot = c.args.x; leg = c.in-Some.leg }) c.requires.external at c.peer_of-peer.result c.peer_of-peer.ensures)
+    (peer_there work.0 c.args.tones.now now.map now.legs work.1 work.2 work.3 (record { slot = c.args.x; leg = c.in-Some.leg }) c.requires.external at c.peer_of-peer.result c.peer_of-peer.ensures)
 
 pub restart_peer-requires-clause-there : goal.restart_peer-requires-clause-there
 restart_peer-requires-clause-there g c =
@@ -22,7 +22,7 @@ restart_peer-requires-clause-there g c =
     let now = c.args.self.now in
     let at : leg_at now.legs c.args.x ≡ Some c.in-Some.leg = sym c.at.ensures.found ∙ c.in-Some.is in
     subst (λ n. IfSome c.peer_of-peer.result (λ other. IsThere n other)) (sym c.forget.ensures.sizes.external)
-    (peer_there work.0 now.map now.legs work.1 work.2 work.3 (record { slot = c.args.x; leg = c.in-Some.leg }) c.requires.external at c.peer_of-peer.result c.peer_of-peer.ensures)
+    (peer_there work.0 c.args.tones.now now.map now.legs work.1 work.2 work.3 (record { slot = c.args.x; leg = c.in-Some.leg }) c.requires.external at c.peer_of-peer.result c.peer_of-peer.ensures)
 
 pub returns-clause-records : goal.returns-clause-records
 returns-clause-records g c d w holds =

@@ -6,19 +6,19 @@ use Rattle.exchange_core.proofs.Taken.{taken}
 use Rattle.exchange_core.proofs.call_control.CallControl.take.Goals as goal
 
 pub returns-in-Ok-clause-makes : goal.returns-in-Ok-clause-makes
-returns-in-Ok-clause-makes g c s w plan work =
+returns-in-Ok-clause-makes g c s w plan tones work =
     let e = c.receive.ensures in
     taken _ _ c.args.line c.args.octets.now _
     (λ (r : Received). Makes s.dimensions c.receive.new.self.map c.receive.new.self.legs c.receive.new.out.sends c.receive.new.out.moved (done_for s w c.args.line r).making)
-    work.holds.legs_are (sym c.in-Ok.is ∙ c.read.ensures.computed) (e.makes s w plan work)
+    work.holds.legs_are (sym c.in-Ok.is ∙ c.read.ensures.computed) (e.makes s w plan tones work)
 
 pub returns-in-Ok-clause-records : goal.returns-in-Ok-clause-records
-returns-in-Ok-clause-records g c s w plan work =
+returns-in-Ok-clause-records g c s w plan tones work =
     let e = c.receive.ensures in
     taken _ _ c.args.line c.args.octets.now _ (λ (r : Received). c.receive.result ≡ (done_for s w c.args.line r).told)
-    work.holds.legs_are (sym c.in-Ok.is ∙ c.read.ensures.computed) (e.records s w plan work)
+    work.holds.legs_are (sym c.in-Ok.is ∙ c.read.ensures.computed) (e.records s w plan tones work)
 
 pub returns-in-Err-clause-records : goal.returns-in-Err-clause-records
-returns-in-Err-clause-records g c s w plan work =
+returns-in-Err-clause-records g c s w plan tones work =
     taken _ _ c.args.line c.args.octets.now _ (λ (r : Received). c.new.result ≡ (done_for s w c.args.line r).told)
     work.holds.legs_are (sym c.in-Err.is ∙ c.read.ensures.computed) (c.new.ensures ∙ sym (no_records w 0))

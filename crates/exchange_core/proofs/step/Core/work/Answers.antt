@@ -12,7 +12,7 @@ happen-response-requires-clause-work g c =
     let e = c.index-as_slice-event.result in
     let f = facts _ c.args.self.now _ _ _ c.args.event _ e c.self.view_is c.self.invariant c.requires.known c.as_slice.ensures c.index-as_slice-event.is in
     let tools = subst (λ (x : Working). (e : Event) → IsNumbered x.trace c.args.event e → IsToolFor (setting x).dimensions e c.args.tool.now) (sym c.self.view_is) c.requires.tool in
-    (_, _, refl, f.at, tools e f.number)
+    (_, _, refl, refl, f.at, tools e f.number)
 
 pub happen-response-requires-clause-room : goal.happen-response-requires-clause-room
 happen-response-requires-clause-room g c =
@@ -32,14 +32,14 @@ invariant_of-self g c =
     let done = c.happen-response.ensures in
     subst (λ room. IsWorking grown c.happen-response.new.self.map c.happen-response.new.self.legs room) (sym c.push_reserved.ensures.capacity)
     (stepped own _ _ _ c.args.by c.args.event e c.happen-response.new.self.map c.happen-response.new.self.legs c.push_reserved.new.self.items
-    c.self.invariant f.known f.number c.push_reserved.ensures.items (done.world (setting own) (world_of own) refl f.at) done.sizes.bound done.sizes.slots refl)
+    c.self.invariant f.known f.number c.push_reserved.ensures.items (done.world (setting own) (world_of own) refl refl f.at) done.sizes.bound done.sizes.slots refl)
 
 pub returns-clause-reply : goal.returns-clause-reply
 returns-clause-reply g c =
     let e = c.index-as_slice-event.result in
     let f = facts _ c.args.self.now _ _ _ c.args.event _ e c.self.view_is c.self.invariant c.requires.known c.as_slice.ensures c.index-as_slice-event.is in
     of_each _ c.args.self.now c.args.event e (λ (x : Working) (e : Event). reply_of c.happen-response.result c.happen-response.new.out ≡ reply (setting x) (world_of x) e) c.self.view_is f.number
-    (c.happen-response.ensures.reply _ _ refl f.at)
+    (c.happen-response.ensures.reply _ _ refl refl f.at)
 
 pub returns-clause-world : goal.returns-clause-world
 returns-clause-world g c =

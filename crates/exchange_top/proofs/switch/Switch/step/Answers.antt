@@ -1,13 +1,15 @@
-use Rattle.std.proofs.Common.{◌≡◌, ◌+◌, length, arith, sym, ap, ◌∙◌}
+use Rattle.std.proofs.Common.{◌≡◌, ◌+◌, length, arith, sym, ap, subst, ◌∙◌}
 use Rattle.circuit_model.specs.FrameInput.{Input}
 use Rattle.exchange_core.specs.declared.trace.Event.TheVariants.{Frame}
 use Rattle.exchange_core.specs.Step.{next}
-use Rattle.exchange_core.specs.Working.{setting, world_of}
+use Rattle.exchange_core.specs.declared.trace.Trace.{Trace}
+use Rattle.exchange_core.specs.Working.{Working, setting, world_of}
 use Rattle.exchange_core.specs.World.{World, Dimensions}
+use Rattle.tone_rules.specs.Tables.{IsGiven}
+use Rattle.exchange_core.proofs.Given.{sounds_given}
 use Rattle.exchange_core.proofs.Quiet.{quiet}
 use Rattle.exchange_top.proofs.FrameSteps.{asked, boundary, frames_few, input_whole, made_of, next_frame, none_sent, same_dimensions, works_quiet, works_frame}
 use Rattle.exchange_top.proofs.Reports.{sent_played}
-use Rattle.exchange_top.proofs.Silence.{sounds_none, silent}
 use Rattle.exchange_top.proofs.switch.Switch.step.Goals as goal
 
 pub frame-requires-clause-frame : goal.frame-requires-clause-frame
@@ -30,7 +32,8 @@ pub frame-requires-clause-tones : goal.frame-requires-clause-tones
 frame-requires-clause-tones g c = λ at line place kind since sounds.
     let a = asked c.args.self.now.core c.args.number c.args.event.now c.in-Frame.input c.work-response.new.tool c.in-Image.image c.requires.works.sound c.requires.event c.in-Frame.is c.in-Image.is c.work-response.ensures.shows c.work-response.ensures.tool in
     let made = made_of c.args.self.now.core c.requires.works.sound in
-    absurd (sounds_none c.in-Image.image _ _ _ made.toneless a.shows at line place kind since sounds)
+    let same = c.trace.ensures.trace ∙ ap (λ (x : Working). x.trace) c.work-response.ensures.journal in
+    subst (λ (t : Trace). IsGiven t.tones kind) (sym same) (sounds_given _ c.in-Image.image _ _ _ made.sounding a.shows at line place kind since sounds)
 
 -- the engine has carried one frame more
 pub invariant_of-self : goal.invariant_of-self
@@ -43,8 +46,6 @@ invariant_of-self g c =
     record {
       sizes = (λ i. record { external = f.external i; bridges = f.bridges i; slots = f.slots i }) ∙ old.sizes ∙ sym same;
       next = f.next ∙ ap (λ n. n + 1) old.next ∙ sym (ap (λ (w : World). w.holding.next) world);
-      no_ringback = old.no_ringback;
-      no_busy = old.no_busy;
     }
 
 pub invariant_of-self-in_default : goal.invariant_of-self-in_default
@@ -56,8 +57,6 @@ invariant_of-self-in_default g c =
     record {
       sizes = old.sizes ∙ sym same;
       next = old.next ∙ sym (ap (λ (w : World). w.holding.next) (e.world c.args.event.now c.requires.event) ∙ still.next);
-      no_ringback = old.no_ringback;
-      no_busy = old.no_busy;
     }
 
 pub returns-in-Image-clause-works : goal.returns-in-Image-clause-works
@@ -75,7 +74,8 @@ returns-in-Image-clause-octets g c =
     let old = c.args.self.now in
     let a = asked c.args.self.now.core c.args.number c.args.event.now c.in-Frame.input c.work-response.new.tool c.in-Image.image c.requires.works.sound c.requires.event c.in-Frame.is c.in-Image.is c.work-response.ensures.shows c.work-response.ensures.tool in
     let plays = c.frame.ensures.plays (boundary (world_of old.core)) (next_frame (g.C.Carrier.carries old.engine) c.in-Image.image _ (world_of old.core) a c.requires.works.carried) in
-    let octets = rw (a.size.external, silent old.tones old.no_ringback old.no_busy, c.as_slice.ensures, a.shows.1.frame) at plays in
+    let same = c.trace.ensures.trace ∙ ap (λ (x : Working). x.trace) c.work-response.ensures.journal in
+    let octets = rw (a.size.external, same, c.as_slice.ensures, a.shows.1.frame) at plays in
     rw c.in-Frame.is (sent_played old.core.trace.external _ c.frame.new.out octets)
 
 pub returns-in_default : goal.returns-in_default

@@ -10,9 +10,11 @@ returns-clause-read c = λ told h.
     let closed : n.ends.items ≡ d.ends.items ++ ended d.begun (length d.events.items) = grind arith in
     let kept : n.events.items ≡ d.events.items = grind arith in
     let planned : n.plan ≡ d.plan = grind arith in
+    let toned : n.tones ≡ d.tones = grind arith in
     record {
       sizes = sym h.sizes ∙ c.in-Some.is;
       plan = planned ∙ h.plan;
+      tones = toned ∙ h.tones;
       events = c.of.ensures ∙ kept ∙ h.events;
       segments = c.of-2.ensures ∙ closed ∙ sym (segments_all d told h);
     }
