@@ -7,7 +7,7 @@ use Rattle.exchange_core.specs.declared.trace.Event.TheVariants.{Nail, Seat, Fre
 use Rattle.exchange_core.specs.declared.trace.Trace.{Trace}
 use Rattle.exchange_core.specs.Orders.{Processor, worker_of}
 use Rattle.exchange_core.specs.Seats.{Board, IsToolAt, setting_at}
-use Rattle.exchange_core.specs.Working.{IsNumbered, IsToolFor}
+use Rattle.exchange_core.specs.Working.{IsToolFor}
 use Rattle.exchange_core.specs.World.{Dimensions}
 use Rattle.call_processor.specs.Parts.{does, is_its, is_worker}
 
