@@ -1,3 +1,4 @@
 pub mod Segments
 pub mod Done
 pub mod FrameSteps
+pub mod Tools

@@ -1,7 +1,6 @@
 ghost use Rattle.std.specs.Prelude.{◌≡◌, ◌<◌, ◌≤◌, ◌+◌, [], IfOk, IsTrue, All, is_ok, length};
 ghost use Rattle.exchange_core.specs.declared.trace.Event.TheVariants.{Frame};
 ghost use Rattle.exchange_core.specs.Orders.{Frame_worker, IsEvent};
-ghost use Rattle.exchange_core.specs.Sound.{IsSound};
 ghost use Rattle.exchange_core.specs.Working.{IsNumbered};
 ghost use Rattle.tone_rules.specs.Tables.{table_of};
 ghost use Rattle.call_processor.specs.Frames.{IsReady, HasFrame, engine_dimensions};
@@ -11,7 +10,7 @@ ghost use Rattle.call_processor.specs.Work.{Handled, IsAnswer, Works};
 use crate::segment::{input_of, numbers_of};
 use crate::worked::{Framed, Placed, Worked};
 use circuit_model::IDLE;
-use exchange_core::{Answer, Input, Switchboard, Tool, Trace};
+use exchange_core::{Answer, Desk, Input, Switchboard, Tool, Trace};
 use frame_engine::Carrier;
 use gate::Gate;
 use std::alloc::{AllocError, Global};
@@ -29,23 +28,22 @@ fn do_frame<B: Switchboard, G: Gate, C: Carrier, R: Wait>(
     event: u32,
     input: &Input,
     engine: &mut C,
-    tool: &mut Tool,
+    desk: &mut Desk,
     octets: &mut Vec<[u8; 30]>,
     tones: &Tones,
     gate: &G,
 ) -> Result<Placed, AllocError>
     requires seated { B.seated board.now seat.old }
-    requires sound { IsSound (B.board board.now).trace }
     requires known { IsEvent (B.board board.now).trace event }
     requires frame { IsNumbered (B.board board.now).trace event (Frame input.now) }
     requires turn { 0 < (B.known seat.old).left }
     requires baton { IsTrue (B.known seat.old).baton }
-    requires ready { IsReady C.carries C.next (engine_dimensions C.external_lines C.bridge_lines C.depth) (B.board board.now) (B.known seat.old).seen engine.old tool.old }
+    requires ready { IsReady C.carries C.next (engine_dimensions C.external_lines C.bridge_lines C.depth) (B.board board.now) (B.known seat.old).seen engine.old desk.old.tool }
     requires tones { tones.now ≡ (B.board board.now).trace.tones }
     requires lines { length octets.old.items ≡ (B.board board.now).trace.external }
     ensures seated { B.seated board.now seat.new }
     ensures handled { Handled (B.known seat.old) event (B.known seat.new) }
-    ensures ready { IsReady C.carries C.next (engine_dimensions C.external_lines C.bridge_lines C.depth) (B.board board.now) (B.known seat.new).seen engine.new tool.new }
+    ensures ready { IsReady C.carries C.next (engine_dimensions C.external_lines C.bridge_lines C.depth) (B.board board.now) (B.known seat.new).seen engine.new desk.new.tool }
     ensures lines { length octets.new.items ≡ (B.board board.now).trace.external }
     ensures place { IfOk result (λ p. length (B.known seat.new).seen ≡ p.place + 1) }
     ensures event { IfOk result (λ p. p.answer.event ≡ event) }
@@ -53,16 +51,16 @@ fn do_frame<B: Switchboard, G: Gate, C: Carrier, R: Wait>(
     ensures octets { IfOk result (λ p. HasFrame C.plays (table_of tones.now) (B.board board.now) (B.known seat.new) p) }
 {
     gate.before_turn(worker, event);
-    let (place, reply) = board.handle(rt, seat, event, tool);
+    let (place, response) = board.work(rt, seat, event, desk);
     gate.after_turn(worker, event);
-    let Tool::Image(image) = tool else {
+    let Tool::Image(image) = &mut desk.tool else {
         unreachable!()
     };
     let frame = image.frame();
     gate.before_crossing(frame);
     engine.frame(image, tones, input.as_slice(), octets.as_mut_slice());
     gate.after_crossing(frame);
-    let answer = Answer::keep(alloc, event, &reply, octets.as_slice())?;
+    let answer = Answer::keep_response(alloc, event, response, &desk.out, octets.as_slice())?;
     Ok(Placed { place, answer })
 }
 
@@ -75,21 +73,20 @@ fn do_frames<B: Switchboard, G: Gate, C: Carrier, R: Wait>(
     trace: &Trace,
     segment: u32,
     engine: &mut C,
-    tool: &mut Tool,
+    desk: &mut Desk,
     gate: &G,
     answers: &mut Vec<Placed>,
 ) -> Result<(), AllocError>
     requires seated { B.seated board.now seat.old }
     requires trace { trace.now ≡ (B.board board.now).trace }
-    requires sound { IsSound trace.now }
     requires segment { segment < length trace.now.segments }
     requires turns { length (part_of trace.now segment Frame_worker) ≤ (B.known seat.old).left }
     requires baton { IsTrue (B.known seat.old).baton }
-    requires ready { IsReady C.carries C.next (engine_dimensions C.external_lines C.bridge_lines C.depth) (B.board board.now) (B.known seat.old).seen engine.old tool.old }
+    requires ready { IsReady C.carries C.next (engine_dimensions C.external_lines C.bridge_lines C.depth) (B.board board.now) (B.known seat.old).seen engine.old desk.old.tool }
     requires empty { answers.old.items ≡ [] }
     ensures seated { B.seated board.now seat.new }
     ensures works { Works (B.board board.now) (part_of trace.now segment Frame_worker) (B.known seat.old) answers.new.items (is_ok result) (B.known seat.new) }
-    ensures ready { IsReady C.carries C.next (engine_dimensions C.external_lines C.bridge_lines C.depth) (B.board board.now) (B.known seat.new).seen engine.new tool.new }
+    ensures ready { IsReady C.carries C.next (engine_dimensions C.external_lines C.bridge_lines C.depth) (B.board board.now) (B.known seat.new).seen engine.new desk.new.tool }
     ensures octets { All (HasFrame C.plays (table_of trace.now.tones) (B.board board.now) (B.known seat.new)) answers.new.items }
 {
     let worker = u32::from(trace.processors);
@@ -109,7 +106,7 @@ fn do_frames<B: Switchboard, G: Gate, C: Carrier, R: Wait>(
             event,
             input,
             engine,
-            tool,
+            desk,
             &mut octets,
             &trace.tones,
             gate,
@@ -142,7 +139,6 @@ pub fn run_frames<B: Switchboard, G: Gate, C: Carrier, R: Wait>(
 ) -> Framed<B::Seat, C>
     requires seated { B.seated board.now seat }
     requires trace { trace.now ≡ (B.board board.now).trace }
-    requires sound { IsSound trace.now }
     requires segment { segment < length trace.now.segments }
     requires turns { length (part_of trace.now segment Frame_worker) ≤ (B.known seat).left }
     requires baton { IsTrue (B.known seat).baton }
@@ -155,7 +151,7 @@ pub fn run_frames<B: Switchboard, G: Gate, C: Carrier, R: Wait>(
 {
     let mut seat = seat;
     let mut engine = engine;
-    let mut tool = tool;
+    let mut desk = Desk::new(tool);
     let mut answers = Vec::new(alloc);
     let done = do_frames(
         rt,
@@ -165,7 +161,7 @@ pub fn run_frames<B: Switchboard, G: Gate, C: Carrier, R: Wait>(
         trace,
         segment,
         &mut engine,
-        &mut tool,
+        &mut desk,
         gate,
         &mut answers,
     );
@@ -176,6 +172,6 @@ pub fn run_frames<B: Switchboard, G: Gate, C: Carrier, R: Wait>(
             whole: done.is_ok(),
         },
         engine,
-        tool,
+        tool: desk.tool,
     }
 }

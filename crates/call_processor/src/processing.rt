@@ -1,12 +1,11 @@
 ghost use Rattle.std.specs.Prelude.{◌≡◌, ◌<◌, ◌≤◌, [], All, length};
 ghost use Rattle.exchange_core.specs.Orders.{Processor};
-ghost use Rattle.exchange_core.specs.Sound.{IsSound};
 ghost use Rattle.call_processor.specs.Parts.{part_of};
 ghost use Rattle.call_processor.specs.Work.{Works};
 
 use crate::segment::{is_of_processor, numbers_of};
 use crate::worked::{Placed, Worked};
-use exchange_core::{Answer, Switchboard, Tool, Trace};
+use exchange_core::{Answer, Desk, Switchboard, Tool, Trace};
 use gate::Gate;
 use std::alloc::Global;
 use std::sync::Wait;
@@ -28,7 +27,6 @@ pub fn process<B: Switchboard, G: Gate, R: Wait>(
 ) -> Worked<B::Seat>
     requires seated { B.seated board.now seat }
     requires trace { trace.now ≡ (B.board board.now).trace }
-    requires sound { IsSound trace.now }
     requires segment { segment < length trace.now.segments }
     requires processor { processor < trace.now.processors }
     requires turns { length (part_of trace.now segment (Processor processor)) ≤ (B.known seat).left }
@@ -38,6 +36,7 @@ pub fn process<B: Switchboard, G: Gate, R: Wait>(
     ensures octets { All (λ p. p.answer.octets ≡ []) result.answers.items }
 {
     let mut seat = seat;
+    let mut desk = Desk::new(Tool::Nothing);
     let mut answers = Vec::new(alloc);
     let (first, end) = numbers_of(trace, segment);
     for event in first..end {
@@ -52,9 +51,9 @@ pub fn process<B: Switchboard, G: Gate, R: Wait>(
             };
         }
         gate.before_turn(processor, event);
-        let (place, reply) = board.handle(rt, &mut seat, event, &mut Tool::Nothing);
+        let (place, response) = board.work(rt, &mut seat, event, &mut desk);
         gate.after_turn(processor, event);
-        match Answer::keep(alloc, event, &reply, &[]) {
+        match Answer::keep_response(alloc, event, response, &desk.out, &[]) {
             Ok(answer) => answers.push_reserved(Placed { place, answer }),
             Err(_) => {
                 return Worked {

@@ -22,6 +22,7 @@ mod call_control;
 mod call_laws;
 mod calls;
 mod choices;
+mod desk;
 mod happenings;
 mod laws;
 mod leg_table;
@@ -44,6 +45,7 @@ pub use call_laws::{
     law_of_answered_calls, law_of_legs, law_of_paths, law_of_refusals, law_of_refused_calls,
     worked_calls,
 };
+pub use desk::Desk;
 pub use laws::{file_order_is_lawful, later_frames_change_nothing, worlds_are_made};
 pub use leg_table::{Held, LegTable};
 pub use outbox::{Outbox, Response};

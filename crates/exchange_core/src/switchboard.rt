@@ -1,9 +1,12 @@
 ghost use Rattle.std.specs.Prelude.{◌≡◌, ◌+◌, ◌<◌, ◌≤◌, ◌^◌, length, IsTrue};
 ghost use Rattle.exchange_core.specs.Orders.{IsEvent};
+ghost use Rattle.exchange_core.specs.Responses.{reply_of};
 ghost use Rattle.exchange_core.specs.Seats.{Board, Known, Settled, StartsWith, NoFrames, IsFrame, IsToolAt, AnswersAt, ShowsAt, before, unseen, entries_of, giving, getting, handling, joining, turns_of};
 ghost use Rattle.exchange_core.specs.Sound.{IsSound};
 ghost use Rattle.exchange_core.specs.Step.{MovesAtMost};
 
+use crate::desk::Desk;
+use crate::outbox::Response;
 use crate::reply::Reply;
 use crate::tool::Tool;
 use std::sync::Wait;
@@ -72,6 +75,33 @@ pub trait Switchboard: Sync {
         ensures shows { ShowsAt (board self.now) (before result.0 (known seat.new).seen) event tool.new }
         ensures tool { IsToolAt (board self.now) event tool.new };
 
+    /// The same as [`handle`](Switchboard::handle), with a desk in place of the tool: what is sent and
+    /// told is put into its outbox, in place of what it held, so that no event pays for that room.
+    fn work<R: Wait>(
+        &self,
+        rt: &R,
+        seat: &mut Self::Seat,
+        event: u32,
+        desk: &mut Desk,
+    ) -> (u32, Response)
+        requires seated { seated self.now seat.old }
+        requires known { IsEvent (board self.now).trace event }
+        requires turn { 0 < (known seat.old).left }
+        requires baton { IsFrame (board self.now).trace event → IsTrue (known seat.old).baton }
+        requires tool { IsToolAt (board self.now) event desk.old.tool }
+        ensures sound { IsSound (board self.now).trace }
+        ensures seated { seated self.now seat.new }
+        ensures seat { known seat.new ≡ handling (before result.0 (known seat.new).seen) event (known seat.old) }
+        ensures place { length (known seat.new).seen ≡ result.0 + 1 }
+        ensures below { result.0 < turns_of (board self.now) }
+        ensures begins { StartsWith (before result.0 (known seat.new).seen) (known seat.old).seen }
+        ensures own { (known seat.new).own ≡ entries_of (known seat.new).number (known seat.new).seen }
+        ensures frames { IsTrue (known seat.old).baton → NoFrames (board self.now).trace (unseen (known seat.old).seen (before result.0 (known seat.new).seen)) }
+        ensures reply { AnswersAt (board self.now) (before result.0 (known seat.new).seen) event (reply_of result.1 desk.new.out) }
+        ensures few { MovesAtMost (board self.now).bound (reply_of result.1 desk.new.out) }
+        ensures shows { ShowsAt (board self.now) (before result.0 (known seat.new).seen) event desk.new.tool }
+        ensures tool { IsToolAt (board self.now) event desk.new.tool };
+
     /// Seat 0 takes another seat in, with its turns, its baton and its entries.
     fn join(&self, seat: &mut Self::Seat, other: Self::Seat)
         requires seated { seated self.now seat.old × seated self.now other }
@@ -82,4 +112,7 @@ pub trait Switchboard: Sync {
         ensures first { StartsWith (known seat.new).seen (known seat.old).seen }
         ensures second { StartsWith (known seat.new).seen (known other).seen }
         ensures settled { Settled (turns_of (board self.now)) (known seat.new) };
+
+    /// A board that has a seat is one of a sound trace.
+    ghost sound_trace: { (x : Self) (s : Self.Seat) → seated x s → IsSound (board x).trace };
 }

@@ -9,7 +9,7 @@ use Rattle.exchange_core.specs.Working.{Working, Entry}
 use Rattle.turn_lock.specs.declared.history.Entry.{Entry as Turn}
 use Rattle.turn_lock.specs.declared.history.Kept.{Kept as Turns_kept}
 use Rattle.turn_lock.specs.History.{entry}
-use Rattle.turn_lock.specs.Seats.{Lock, Known as Holder}
+use Rattle.turn_lock.specs.Seats.{IsSeatOf, Lock, Known as Holder}
 
 -- the board that a core makes, whatever it has done
 abbrev pub board_of : Working → Board
@@ -54,3 +54,8 @@ pub record Answers (board : Board) (history : List Entry) (event : ℕ) (answer 
 pub record IsBoard (lock : Lock Board) : Type 0 where
   pub sound : IsSound lock.setting.trace
   pub turns : lock.budget ≡ turns_of lock.setting
+
+-- the seat is of this lock, which is over a sound trace
+pub record IsSeated (lock : Lock Board) (seat : Holder Board) : Type 0 where
+  pub sound : IsSound lock.setting.trace
+  pub seat_of : IsSeatOf lock seat

@@ -1,13 +1,14 @@
 ghost use Rattle.std.specs.Prelude.{◌≡◌, [], IfOk, length};
 ghost use Rattle.exchange_core.specs.Seats.{IsFrame, Settled, first_seat, turns_of};
-ghost use Rattle.shared_exchange.specs.Sharing.{board_of, known};
+ghost use Rattle.shared_exchange.specs.Sharing.{IsSeated, board_of, known};
 ghost use Rattle.turn_lock.specs.Seats.{IsSeatOf};
 
 use crate::stepper::Exchange;
 use control_memory::PathMap;
-use exchange_core::{Core, Reply, Switchboard, Tool};
+use exchange_core::{Core, Desk, Reply, Response, Switchboard, Tool};
 use std::alloc::{AllocError, Global};
 use std::marker::Model;
+use std::mem;
 use std::sync::Wait;
 use turn_lock::TurnLock;
 
@@ -53,7 +54,7 @@ impl<'t, P: PathMap + Drop> SharedExchange<'t, P> {
     ) -> Result<(SharedExchange<'t, P>, Seat<'t, P>), AllocError>
         requires empty { core.journal ≡ [] }
         ensures board { IfOk result (λ r. r.0.setting ≡ board_of core.entry) }
-        ensures of { IfOk result (λ r. IsSeatOf r.0 r.1) }
+        ensures of { IfOk result (λ r. IsSeated r.0 r.1) }
         ensures seat { IfOk result (λ r. known r.1 ≡ first_seat (length core.entry.trace.events)) }
     {
         let turns = core.trace().events.as_slice().len() as u32;
@@ -89,7 +90,9 @@ impl<'t, P: PathMap + Send> Switchboard for SharedExchange<'t, P> {
 
     ghost known = { λ s. known s };
 
-    ghost seated = { IsSeatOf };
+    ghost seated = { IsSeated };
+
+    ghost sound_trace = { λ x s seated. seated.sound };
 
     fn split(&self, seat: &mut Seat<'t, P>, budget: u32, baton: bool) -> Seat<'t, P> {
         Seat {
@@ -104,7 +107,21 @@ impl<'t, P: PathMap + Send> Switchboard for SharedExchange<'t, P> {
         event: u32,
         tool: &mut Tool,
     ) -> (u32, Reply) {
-        self.lock.step(rt, &mut seat.turns, event, tool)
+        let mut desk = Desk::new(mem::replace(tool, Tool::Nothing));
+        let (place, response) = self.work(rt, seat, event, &mut desk);
+        let Desk { tool: lent, out } = desk;
+        *tool = lent;
+        (place, response.with(out))
+    }
+
+    fn work<R: Wait>(
+        &self,
+        rt: &R,
+        seat: &mut Seat<'t, P>,
+        event: u32,
+        desk: &mut Desk,
+    ) -> (u32, Response) {
+        self.lock.step(rt, &mut seat.turns, event, desk)
     }
 
     fn join(&self, seat: &mut Seat<'t, P>, other: Seat<'t, P>) {

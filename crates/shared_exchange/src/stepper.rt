@@ -1,11 +1,12 @@
 //! The core as the lock steps it.
 ghost use Rattle.std.specs.Prelude.{◌-◌, length};
 ghost use Rattle.exchange_core.specs.Orders.{IsEvent};
+ghost use Rattle.exchange_core.specs.Responses.{reply_of};
 ghost use Rattle.exchange_core.specs.Seats.{IsFrame, IsToolAt};
 ghost use Rattle.shared_exchange.specs.Sharing.{Answers, board_of, history_of, turns_in};
 
 use control_memory::PathMap;
-use exchange_core::{Core, Reply, Tool, Trace};
+use exchange_core::{Core, Desk, Response, Trace};
 use std::marker::Model;
 use turn_lock::Stepper;
 
@@ -31,9 +32,9 @@ pub struct Exchange<'t, P: PathMap> {
 }
 
 impl<'t, P: PathMap> Stepper for Exchange<'t, P> {
-    type Tool = Tool;
+    type Tool = Desk;
 
-    type Reply = Reply;
+    type Reply = Response;
 
     type Setting = Setting;
 
@@ -45,11 +46,11 @@ impl<'t, P: PathMap> Stepper for Exchange<'t, P> {
 
     ghost reserved = { λ board event. IsFrame board.trace event };
 
-    ghost ready = { λ board event tool. IsEvent board.trace event × IsToolAt board event tool };
+    ghost ready = { λ board event desk. IsEvent board.trace event × IsToolAt board event desk.tool };
 
-    ghost answers = { λ board turns by event reply tool. Answers board (history_of turns) event reply tool };
+    ghost answers = { λ board turns by event response desk. Answers board (history_of turns) event (reply_of response desk.out) desk.tool };
 
-    fn step(&mut self, by: u32, event: u32, tool: &mut Tool) -> Reply {
-        self.core.step(by, event, tool)
+    fn step(&mut self, by: u32, event: u32, desk: &mut Desk) -> Response {
+        self.core.work(by, event, &mut desk.tool, &mut desk.out)
     }
 }

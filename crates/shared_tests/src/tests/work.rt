@@ -5,7 +5,7 @@ ghost use Rattle.exchange_core.specs.Seats.{IsToolAt};
 ghost use Rattle.control_memory.specs.Image.{Control};
 
 use control_memory::Image;
-use exchange_core::{Event, Reply, Switchboard, Tool, Trace};
+use exchange_core::{Desk, Event, Reply, Switchboard, Tool, Trace};
 use std::alloc::Global;
 use std::sync::Wait;
 use std::thread::{Threads, join};
@@ -53,6 +53,33 @@ fn nail<B: Switchboard, R: Wait>(
     let mut tool = Tool::Nothing;
     let (place, reply) = board.handle(rt, seat, event, &mut tool);
     Some((place, answer_of(&reply)))
+}
+
+// The same at a desk.
+fn nail_at_desk<B: Switchboard, R: Wait>(
+    rt: &R,
+    board: &B,
+    trace: &Trace,
+    seat: &mut B::Seat,
+    event: u32,
+) -> Option<(u32, Told)>
+    requires trace { trace.now ≡ (B.board board.now).trace }
+    requires seated { B.seated board.now seat.old }
+    requires turn { 0 < (B.known seat.old).left }
+    ensures seated { B.seated board.now seat.new }
+    ensures left { (B.known seat.old).left ≤ (B.known seat.new).left + 1 }
+    ensures baton { (B.known seat.new).baton ≡ (B.known seat.old).baton }
+    ensures number { (B.known seat.new).number ≡ (B.known seat.old).number }
+    ensures seats { ((B.known seat.new).made ≡ (B.known seat.old).made) × (length (B.known seat.new).kept ≡ length (B.known seat.old).kept) }
+{
+    let index = (event as usize).checked_sub(1)?;
+    match trace.events.as_slice().get(index)? {
+        Event::Nail(_, _) => {}
+        _ => return None,
+    }
+    let mut desk = Desk::new(Tool::Nothing);
+    let (place, response) = board.work(rt, seat, event, &mut desk);
+    Some((place, answer_of(&response.with(desk.out))))
 }
 
 // Does a frame, by the holder of the baton. `None` where the event is none.
@@ -112,7 +139,8 @@ fn nail_or_frame<B: Switchboard, R: Wait>(
     frame(rt, board, trace, seat, event, image)
 }
 
-/// Steps of two seats in this order, each a seat's number and an event; seat 0 holds the baton. The place and the answer of each.
+/// Steps of two seats in this order, each a seat's number and an event; seat 0 holds the baton, and the other one works at a desk. The place
+/// and the answer of each.
 pub fn do_all<B: Switchboard, R: Wait>(
     rt: &R,
     alloc: Global,
@@ -134,7 +162,7 @@ pub fn do_all<B: Switchboard, R: Wait>(
     for &(number, event) in steps {
         let answer = match number {
             0 => nail_or_frame(rt, alloc, board, trace, zero, event),
-            _ => nail(rt, board, trace, one, event),
+            _ => nail_at_desk(rt, board, trace, one, event),
         };
         answers.push(answer?).ok()?;
     }

@@ -1,5 +1,6 @@
 use Rattle.std.proofs.Common.{rules, ◌≡◌, ◌+◌, ℕ, [], ◌∷◌, ◌++◌, length, sym, ap, ◌∙◌, subst, arith, length-take-le}
 use Rattle.circuit_model.specs.FrameInput.{Input}
+use Rattle.exchange_core.specs.Responses.{reply_of}
 use Rattle.exchange_core.specs.Seats.{AnswersAt, before, world_at, setting_at}
 use Rattle.exchange_core.specs.Working.{IsNumbered}
 use Rattle.exchange_core.specs.World.{Dimensions}
@@ -17,50 +18,50 @@ pub frame-requires-clause-frame : goal.frame-requires-clause-frame
 frame-requires-clause-frame g c =
     let K = g.B.Switchboard.known in
     let board = g.B.Switchboard.board c.args.board.now in
-    let history = before c.handle-place.result.0 (K c.handle-place.new.seat).seen in
-    let same = same_frames board (K c.args.seat.now).seen history c.handle-place.ensures.begins (c.handle-place.ensures.frames c.requires.baton) in
-    let a = asked board history c.args.event c.args.input.now c.handle-place.new.tool c.in-Image.image c.requires.sound c.requires.frame c.in-Image.is c.handle-place.ensures.shows c.handle-place.ensures.tool in
+    let history = before c.work-place.result.0 (K c.work-place.new.seat).seen in
+    let same = same_frames board (K c.args.seat.now).seen history c.work-place.ensures.begins (c.work-place.ensures.frames c.requires.baton) in
+    let a = asked board history c.args.event c.args.input.now c.work-place.new.desk.tool c.in-Image.image c.work-place.ensures.sound c.requires.frame c.in-Image.is c.work-place.ensures.shows c.work-place.ensures.tool in
     a.shows.1.frame ∙ (same.next ∙ sym c.requires.ready.number)
 
 pub frame-requires-clause-last : goal.frame-requires-clause-last
 frame-requires-clause-last g c =
     let K = g.B.Switchboard.known in
     let board = g.B.Switchboard.board c.args.board.now in
-    let place = c.handle-place.result.0 in
-    let history = before place (K c.handle-place.new.seat).seen in
-    let same = same_frames board (K c.args.seat.now).seen history c.handle-place.ensures.begins (c.handle-place.ensures.frames c.requires.baton) in
-    let last = c.handle-place.ensures.place in
-    let below = c.handle-place.ensures.below in
-    let long = length-take-le place (K c.handle-place.new.seat).seen (omega (arith, last)) in
-    let few = frames_few board history c.requires.sound (omega (arith, long, below)) in
+    let place = c.work-place.result.0 in
+    let history = before place (K c.work-place.new.seat).seen in
+    let same = same_frames board (K c.args.seat.now).seen history c.work-place.ensures.begins (c.work-place.ensures.frames c.requires.baton) in
+    let last = c.work-place.ensures.place in
+    let below = c.work-place.ensures.below in
+    let long = length-take-le place (K c.work-place.new.seat).seen (omega (arith, last)) in
+    let few = frames_few board history c.work-place.ensures.sound (omega (arith, long, below)) in
     omega (arith, few, same.next, c.requires.ready.number)
 
 pub frame-requires-clause-input : goal.frame-requires-clause-input
 frame-requires-clause-input g c =
-    ap length c.as_slice.ensures ∙ (input_whole _ c.args.event c.args.input.now c.requires.sound c.requires.frame ∙ sym (ap (λ (d : Dimensions). d.external) c.requires.ready.sized))
+    ap length c.as_slice.ensures ∙ (input_whole _ c.args.event c.args.input.now c.work-place.ensures.sound c.requires.frame ∙ sym (ap (λ (d : Dimensions). d.external) c.requires.ready.sized))
 
 pub frame-requires-clause-tones : goal.frame-requires-clause-tones
 frame-requires-clause-tones g c = λ at line place kind since sounds.
     let K = g.B.Switchboard.known in
     let board = g.B.Switchboard.board c.args.board.now in
-    let history = before c.handle-place.result.0 (K c.handle-place.new.seat).seen in
-    let a = asked board history c.args.event c.args.input.now c.handle-place.new.tool c.in-Image.image c.requires.sound c.requires.frame c.in-Image.is c.handle-place.ensures.shows c.handle-place.ensures.tool in
-    rw c.requires.tones (sounds_given _ c.in-Image.image _ _ _ (made_at board history c.requires.sound).sounding a.shows at line place kind since sounds)
+    let history = before c.work-place.result.0 (K c.work-place.new.seat).seen in
+    let a = asked board history c.args.event c.args.input.now c.work-place.new.desk.tool c.in-Image.image c.work-place.ensures.sound c.requires.frame c.in-Image.is c.work-place.ensures.shows c.work-place.ensures.tool in
+    rw c.requires.tones (sounds_given _ c.in-Image.image _ _ _ (made_at board history c.work-place.ensures.sound).sounding a.shows at line place kind since sounds)
 
 pub returns-in_err-answer-clause-ready : goal.returns-in_err-answer-clause-ready
 returns-in_err-answer-clause-ready g c =
     let K = g.B.Switchboard.known in
     let board = g.B.Switchboard.board c.args.board.now in
-    let history = before c.handle-place.result.0 (K c.handle-place.new.seat).seen in
+    let history = before c.work-place.result.0 (K c.work-place.new.seat).seen in
     let w = world_at board history in
     let n = c.args.event in
     let input = c.args.input.now in
-    let same = same_frames board (K c.args.seat.now).seen history c.handle-place.ensures.begins (c.handle-place.ensures.frames c.requires.baton) in
-    let a = asked board history n input c.handle-place.new.tool c.in-Image.image c.requires.sound c.requires.frame c.in-Image.is c.handle-place.ensures.shows c.handle-place.ensures.tool in
+    let same = same_frames board (K c.args.seat.now).seen history c.work-place.ensures.begins (c.work-place.ensures.frames c.requires.baton) in
+    let a = asked board history n input c.work-place.new.desk.tool c.in-Image.image c.work-place.ensures.sound c.requires.frame c.in-Image.is c.work-place.ensures.shows c.work-place.ensures.tool in
     let carried = still_carried g.C.Carrier.carries g.C.Carrier.next (engine_dimensions g.C.Carrier.external_lines g.C.Carrier.bridge_lines g.C.Carrier.depth) board (world_at board (K c.args.seat.now).seen) w c.args.engine.now same c.requires.ready.carried in
     let more = c.frame.ensures.carries (boundary w) (next_frame (g.C.Carrier.carries c.args.engine.now) c.in-Image.image (setting_at board).dimensions w a carried) in
-    ready_after g.C.Carrier.carries g.C.Carrier.next (engine_dimensions g.C.Carrier.external_lines g.C.Carrier.bridge_lines g.C.Carrier.depth) board history (K c.handle-place.new.seat).seen (K c.args.seat.now).number n input c.frame.new.self c.in-Image.image c.frame.new.image
-    c.requires.frame (ap (λ k. k.seen) c.handle-place.ensures.seat) a.size c.frame.ensures.image
+    ready_after g.C.Carrier.carries g.C.Carrier.next (engine_dimensions g.C.Carrier.external_lines g.C.Carrier.bridge_lines g.C.Carrier.depth) board history (K c.work-place.new.seat).seen (K c.args.seat.now).number n input c.frame.new.self c.in-Image.image c.frame.new.image
+    c.requires.frame (ap (λ k. k.seen) c.work-place.ensures.seat) a.size c.frame.ensures.image
     (subst (λ (l : Input). g.C.Carrier.carries c.frame.new.self (w.inputs ++ l ∷ []) (w.held ++ w.holding.circuits ∷ []) (w.seated ++ w.ports ∷ [])) c.as_slice.ensures more)
     (c.frame.ensures.next ∙ ap (λ (k : ℕ). k + 1) (c.requires.ready.number ∙ sym same.next))
     ((λ i. record { external = c.frame.ensures.external i; bridges = c.frame.ensures.bridges i; slots = c.frame.ensures.slots i }) ∙ c.requires.ready.sized)
@@ -69,16 +70,16 @@ pub returns-clause-ready : goal.returns-clause-ready
 returns-clause-ready g c =
     let K = g.B.Switchboard.known in
     let board = g.B.Switchboard.board c.args.board.now in
-    let history = before c.handle-place.result.0 (K c.handle-place.new.seat).seen in
+    let history = before c.work-place.result.0 (K c.work-place.new.seat).seen in
     let w = world_at board history in
     let n = c.args.event in
     let input = c.args.input.now in
-    let same = same_frames board (K c.args.seat.now).seen history c.handle-place.ensures.begins (c.handle-place.ensures.frames c.requires.baton) in
-    let a = asked board history n input c.handle-place.new.tool c.in-Image.image c.requires.sound c.requires.frame c.in-Image.is c.handle-place.ensures.shows c.handle-place.ensures.tool in
+    let same = same_frames board (K c.args.seat.now).seen history c.work-place.ensures.begins (c.work-place.ensures.frames c.requires.baton) in
+    let a = asked board history n input c.work-place.new.desk.tool c.in-Image.image c.work-place.ensures.sound c.requires.frame c.in-Image.is c.work-place.ensures.shows c.work-place.ensures.tool in
     let carried = still_carried g.C.Carrier.carries g.C.Carrier.next (engine_dimensions g.C.Carrier.external_lines g.C.Carrier.bridge_lines g.C.Carrier.depth) board (world_at board (K c.args.seat.now).seen) w c.args.engine.now same c.requires.ready.carried in
     let more = c.frame.ensures.carries (boundary w) (next_frame (g.C.Carrier.carries c.args.engine.now) c.in-Image.image (setting_at board).dimensions w a carried) in
-    ready_after g.C.Carrier.carries g.C.Carrier.next (engine_dimensions g.C.Carrier.external_lines g.C.Carrier.bridge_lines g.C.Carrier.depth) board history (K c.handle-place.new.seat).seen (K c.args.seat.now).number n input c.frame.new.self c.in-Image.image c.frame.new.image
-    c.requires.frame (ap (λ k. k.seen) c.handle-place.ensures.seat) a.size c.frame.ensures.image
+    ready_after g.C.Carrier.carries g.C.Carrier.next (engine_dimensions g.C.Carrier.external_lines g.C.Carrier.bridge_lines g.C.Carrier.depth) board history (K c.work-place.new.seat).seen (K c.args.seat.now).number n input c.frame.new.self c.in-Image.image c.frame.new.image
+    c.requires.frame (ap (λ k. k.seen) c.work-place.ensures.seat) a.size c.frame.ensures.image
     (subst (λ (l : Input). g.C.Carrier.carries c.frame.new.self (w.inputs ++ l ∷ []) (w.held ++ w.holding.circuits ∷ []) (w.seated ++ w.ports ∷ [])) c.as_slice.ensures more)
     (c.frame.ensures.next ∙ ap (λ (k : ℕ). k + 1) (c.requires.ready.number ∙ sym same.next))
     ((λ i. record { external = c.frame.ensures.external i; bridges = c.frame.ensures.bridges i; slots = c.frame.ensures.slots i }) ∙ c.requires.ready.sized)
@@ -87,32 +88,32 @@ pub returns-clause-answer : goal.returns-clause-answer
 returns-clause-answer g c =
     let K = g.B.Switchboard.known in
     let board = g.B.Switchboard.board c.args.board.now in
-    let place = c.handle-place.result.0 in
-    let history = before place (K c.handle-place.new.seat).seen in
+    let place = c.work-place.result.0 in
+    let history = before place (K c.work-place.new.seat).seen in
     let p : Placed = record { place = place; answer = c.in_ok-answer.answer } in
-    let last = c.handle-place.ensures.place in
+    let last = c.work-place.ensures.place in
     let event = c.in_ok-answer.ensures.event in
-    let next : Next history c.args.event place (K c.args.seat.now) (K c.handle-place.new.seat) = record {
-      seat = c.handle-place.ensures.seat;
-      begins = c.handle-place.ensures.begins;
-      place_is = length-take-le place (K c.handle-place.new.seat).seen (omega (arith, last));
+    let next : Next history c.args.event place (K c.args.seat.now) (K c.work-place.new.seat) = record {
+      seat = c.work-place.ensures.seat;
+      begins = c.work-place.ensures.begins;
+      place_is = length-take-le place (K c.work-place.new.seat).seen (omega (arith, last));
       turn = c.requires.turn;
-      exact = c.handle-place.ensures.own;
+      exact = c.work-place.ensures.own;
     } in
-    answer_next board history (K c.args.seat.now) (K c.handle-place.new.seat) p c.handle-place.result.1
-    (subst (λ (n : ℕ). Next history n place (K c.args.seat.now) (K c.handle-place.new.seat)) (sym event) next)
-    (subst (λ (n : ℕ). AnswersAt board history n c.handle-place.result.1) (sym event) c.handle-place.ensures.reply) c.handle-place.ensures.few c.in_ok-answer.ensures.reply
+    answer_next board history (K c.args.seat.now) (K c.work-place.new.seat) p (reply_of c.work-place.result.1 c.work-place.new.desk.out)
+    (subst (λ (n : ℕ). Next history n place (K c.args.seat.now) (K c.work-place.new.seat)) (sym event) next)
+    (subst (λ (n : ℕ). AnswersAt board history n (reply_of c.work-place.result.1 c.work-place.new.desk.out)) (sym event) c.work-place.ensures.reply) c.work-place.ensures.few c.in_ok-answer.ensures.reply
 
 pub returns-clause-octets : goal.returns-clause-octets
 returns-clause-octets g c = λ other number.
     let K = g.B.Switchboard.known in
     let board = g.B.Switchboard.board c.args.board.now in
-    let history = before c.handle-place.result.0 (K c.handle-place.new.seat).seen in
+    let history = before c.work-place.result.0 (K c.work-place.new.seat).seen in
     let w = world_at board history in
     let n = c.args.event in
     let input = c.args.input.now in
-    let same = same_frames board (K c.args.seat.now).seen history c.handle-place.ensures.begins (c.handle-place.ensures.frames c.requires.baton) in
-    let a = asked board history n input c.handle-place.new.tool c.in-Image.image c.requires.sound c.requires.frame c.in-Image.is c.handle-place.ensures.shows c.handle-place.ensures.tool in
+    let same = same_frames board (K c.args.seat.now).seen history c.work-place.ensures.begins (c.work-place.ensures.frames c.requires.baton) in
+    let a = asked board history n input c.work-place.new.desk.tool c.in-Image.image c.work-place.ensures.sound c.requires.frame c.in-Image.is c.work-place.ensures.shows c.work-place.ensures.tool in
     let carried = still_carried g.C.Carrier.carries g.C.Carrier.next (engine_dimensions g.C.Carrier.external_lines g.C.Carrier.bridge_lines g.C.Carrier.depth) board (world_at board (K c.args.seat.now).seen) w c.args.engine.now same c.requires.ready.carried in
     let played = c.frame.ensures.plays (boundary w) (next_frame (g.C.Carrier.carries c.args.engine.now) c.in-Image.image (setting_at board).dimensions w a carried) in
     let arrived : c.as_slice.result.now ≡ other =

@@ -12,7 +12,7 @@ invariant-loop-event g l = record {
   seated : g.B.Switchboard.seated l.board l.seat;
   going : Going (g.B.Switchboard.board l.board) (up_to l.trace Frame_worker l.first l.event) (g.B.Switchboard.known l.fn.seat) l.answers.items (g.B.Switchboard.known l.seat);
   from : l.first ≤ l.event;
-  ready : IsReady g.C.Carrier.carries g.C.Carrier.next (engine_dimensions g.C.Carrier.external_lines g.C.Carrier.bridge_lines g.C.Carrier.depth) (g.B.Switchboard.board l.board) (g.B.Switchboard.known l.seat).seen l.engine l.tool;
+  ready : IsReady g.C.Carrier.carries g.C.Carrier.next (engine_dimensions g.C.Carrier.external_lines g.C.Carrier.bridge_lines g.C.Carrier.depth) (g.B.Switchboard.board l.board) (g.B.Switchboard.known l.seat).seen l.engine l.desk.tool;
   lines : length l.octets.items ≡ (g.B.Switchboard.board l.board).trace.external;
   octets : All (HasFrame g.C.Carrier.plays (table_of l.trace.tones) (g.B.Switchboard.board l.board) (g.B.Switchboard.known l.seat)) l.answers.items;
 }

@@ -3,12 +3,14 @@ use Rattle.std.specs.List.{All}
 use Rattle.std.proofs.lemmas.List.Elements.{All-push}
 use Rattle.exchange_core.specs.declared.trace.Trace.{Trace}
 use Rattle.exchange_core.specs.Orders.{Processor, IsEvent}
+use Rattle.exchange_core.specs.Responses.{reply_of}
 use Rattle.exchange_core.specs.Seats.{before}
 use Rattle.call_processor.specs.declared.worked.Placed.{Placed}
 use Rattle.call_processor.specs.Parts.{is_its, part_of}
 use Rattle.call_processor.specs.Work.{Works}
 use Rattle.call_processor.proofs.Done.{Going, Next, going_with, works_front, works_lacking}
 use Rattle.call_processor.proofs.Segments.{up_to, rest_from, next_not, next_its, front_here, front_next, turn_left}
+use Rattle.call_processor.proofs.Tools.{no_tool_asked, no_tool_left}
 use Rattle.call_processor.proofs.processing.process.Goals as goal
 
 pub is_of_processor-requires-clause-event : goal.is_of_processor-requires-clause-event
@@ -24,6 +26,7 @@ loop-event-preserved-then-not-is_of_processor g c =
       going = subst (λ (d : List ℕ). Going (g.B.Switchboard.board c.args.board.now) d (g.B.Switchboard.known c.args.seat) c.loop-event.answers.items (g.B.Switchboard.known c.loop-event.seat))
           (sym (next_not c.args.trace.now W c.numbers_of-first.result.0 c.loop-event.event c.loop-event.invariant.from off)) c.loop-event.invariant.going;
       from = search rules;
+      tool = c.loop-event.invariant.tool;
       octets = c.loop-event.invariant.octets;
     }
 
@@ -40,12 +43,12 @@ returns-then-is_err-clause-works g c =
     (works_front board part (up_to c.args.trace.now W first c.loop-event.event) (rest_from c.args.trace.now W c.loop-event.event end) v w c.loop-event.answers.items
     (front_here c.args.trace.now W part first c.loop-event.event end (c.numbers_of-first.ensures.parts W) c.loop-event.invariant.from c.loop-event-test.true) c.loop-event.invariant.going)
 
-pub handle-place-requires-clause-known : goal.handle-place-requires-clause-known
-handle-place-requires-clause-known g c =
+pub work-place-requires-clause-known : goal.work-place-requires-clause-known
+work-place-requires-clause-known g c =
     subst (λ (t : Trace). IsEvent t c.loop-event.event) c.requires.trace (c.numbers_of-first.ensures.events c.loop-event.event c.loop-event.invariant.from c.loop-event-test.true)
 
-pub handle-place-requires-clause-turn : goal.handle-place-requires-clause-turn
-handle-place-requires-clause-turn g c =
+pub work-place-requires-clause-turn : goal.work-place-requires-clause-turn
+work-place-requires-clause-turn g c =
     let W = Processor c.args.processor in
     let part = part_of c.args.trace.now c.args.segment W in
     let its : is_its c.args.trace.now W c.loop-event.event ≡ true = search rules in
@@ -54,6 +57,11 @@ handle-place-requires-clause-turn g c =
     turn_left part (up_to c.args.trace.now W first c.loop-event.event) (rest_from c.args.trace.now W (c.loop-event.event + 1) end) c.loop-event.event
     (g.B.Switchboard.known c.loop-event.seat).left (g.B.Switchboard.known c.args.seat).left
     (front_next c.args.trace.now W part first c.loop-event.event end (c.numbers_of-first.ensures.parts W) c.loop-event.invariant.from c.loop-event-test.true its) c.requires.turns c.loop-event.invariant.going.did.turns
+
+pub work-place-requires-clause-tool : goal.work-place-requires-clause-tool
+work-place-requires-clause-tool g c =
+    let its : is_its c.args.trace.now (Processor c.args.processor) c.loop-event.event ≡ true = search rules in
+    no_tool_asked (g.B.Switchboard.board c.args.board.now) c.args.trace.now c.requires.trace c.args.processor c.loop-event.event its c.loop-event.desk.tool c.loop-event.invariant.tool
 
 pub returns-in-Err-clause-works : goal.returns-in-Err-clause-works
 returns-in-Err-clause-works g c =
@@ -64,21 +72,21 @@ returns-in-Err-clause-works g c =
     let first = c.numbers_of-first.result.0 in
     let end = c.numbers_of-first.result.1 in
     let event = c.loop-event.event in
-    let place = c.handle-place.result.0 in
-    let history = before place (K c.handle-place.new.seat).seen in
+    let place = c.work-place.result.0 in
+    let history = before place (K c.work-place.new.seat).seen in
     let done = up_to c.args.trace.now W first event in
     let rest = rest_from c.args.trace.now W (event + 1) end in
     let front = front_next c.args.trace.now W part first event end (c.numbers_of-first.ensures.parts W) c.loop-event.invariant.from c.loop-event-test.true its in
-    let long = c.handle-place.ensures.place in
-    let next : Next history event place (K c.loop-event.seat) (K c.handle-place.new.seat) = record {
-      seat = c.handle-place.ensures.seat;
-      begins = c.handle-place.ensures.begins;
-      place_is = length-take-le place (K c.handle-place.new.seat).seen (omega (arith, long));
+    let long = c.work-place.ensures.place in
+    let next : Next history event place (K c.loop-event.seat) (K c.work-place.new.seat) = record {
+      seat = c.work-place.ensures.seat;
+      begins = c.work-place.ensures.begins;
+      place_is = length-take-le place (K c.work-place.new.seat).seen (omega (arith, long));
       turn = turn_left part done rest event (K c.loop-event.seat).left (K c.args.seat).left front c.requires.turns c.loop-event.invariant.going.did.turns;
-      exact = c.handle-place.ensures.own;
+      exact = c.work-place.ensures.own;
     } in
-    subst (λ (l : List Placed). Works (g.B.Switchboard.board c.args.board.now) part (K c.args.seat) l false (K c.handle-place.new.seat)) (sym c.reserve.ensures.items)
-    (works_lacking (g.B.Switchboard.board c.args.board.now) history part done rest event place (K c.args.seat) (K c.loop-event.seat) (K c.handle-place.new.seat) c.loop-event.answers.items
+    subst (λ (l : List Placed). Works (g.B.Switchboard.board c.args.board.now) part (K c.args.seat) l false (K c.work-place.new.seat)) (sym c.reserve.ensures.items)
+    (works_lacking (g.B.Switchboard.board c.args.board.now) history part done rest event place (K c.args.seat) (K c.loop-event.seat) (K c.work-place.new.seat) c.loop-event.answers.items
     front c.loop-event.invariant.going next)
 
 pub loop-event-preserved : goal.loop-event-preserved
@@ -91,28 +99,29 @@ loop-event-preserved g c =
     let first = c.numbers_of-first.result.0 in
     let end = c.numbers_of-first.result.1 in
     let event = c.loop-event.event in
-    let place = c.handle-place.result.0 in
-    let history = before place (K c.handle-place.new.seat).seen in
+    let place = c.work-place.result.0 in
+    let history = before place (K c.work-place.new.seat).seen in
     let done = up_to c.args.trace.now W first event in
     let rest = rest_from c.args.trace.now W (event + 1) end in
     let front = front_next c.args.trace.now W part first event end (c.numbers_of-first.ensures.parts W) c.loop-event.invariant.from c.loop-event-test.true its in
-    let long = c.handle-place.ensures.place in
+    let long = c.work-place.ensures.place in
     let p : Placed = record { place = place; answer = c.in-Ok.answer } in
-    let next : Next history event place (K c.loop-event.seat) (K c.handle-place.new.seat) = record {
-      seat = c.handle-place.ensures.seat;
-      begins = c.handle-place.ensures.begins;
-      place_is = length-take-le place (K c.handle-place.new.seat).seen (omega (arith, long));
+    let next : Next history event place (K c.loop-event.seat) (K c.work-place.new.seat) = record {
+      seat = c.work-place.ensures.seat;
+      begins = c.work-place.ensures.begins;
+      place_is = length-take-le place (K c.work-place.new.seat).seen (omega (arith, long));
       turn = turn_left part done rest event (K c.loop-event.seat).left (K c.args.seat).left front c.requires.turns c.loop-event.invariant.going.did.turns;
-      exact = c.handle-place.ensures.own;
+      exact = c.work-place.ensures.own;
     } in
     let items = c.push_reserved.ensures.items ∙ ap (λ (l : List Placed). l ++ p ∷ []) c.reserve.ensures.items in
-    let going = going_with board history done (K c.args.seat) (K c.loop-event.seat) (K c.handle-place.new.seat) c.loop-event.answers.items p c.handle-place.result.1 event place
-    c.in-Ok.ensures.event refl c.loop-event.invariant.going next c.handle-place.ensures.reply c.handle-place.ensures.few c.in-Ok.ensures.reply in
+    let going = going_with board history done (K c.args.seat) (K c.loop-event.seat) (K c.work-place.new.seat) c.loop-event.answers.items p (reply_of c.work-place.result.1 c.work-place.new.desk.out) event place
+    c.in-Ok.ensures.event refl c.loop-event.invariant.going next c.work-place.ensures.reply c.work-place.ensures.few c.in-Ok.ensures.reply in
     record {
-      seated = c.handle-place.ensures.seated;
-      going = subst (λ (l : List Placed). Going board (up_to c.args.trace.now W first (event + 1)) (K c.args.seat) l (K c.handle-place.new.seat)) (sym items)
-          (subst (λ (d : List ℕ). Going board d (K c.args.seat) (c.loop-event.answers.items ++ p ∷ []) (K c.handle-place.new.seat))
+      seated = c.work-place.ensures.seated;
+      going = subst (λ (l : List Placed). Going board (up_to c.args.trace.now W first (event + 1)) (K c.args.seat) l (K c.work-place.new.seat)) (sym items)
+          (subst (λ (d : List ℕ). Going board d (K c.args.seat) (c.loop-event.answers.items ++ p ∷ []) (K c.work-place.new.seat))
           (sym (next_its c.args.trace.now W first event c.loop-event.invariant.from its)) going);
       from = search rules;
+      tool = no_tool_left board c.args.trace.now c.requires.trace c.args.processor event its c.work-place.new.desk.tool c.work-place.ensures.tool;
       octets = subst (All (λ (q : Placed). q.answer.octets ≡ [])) (sym items) (All-push (λ (q : Placed). q.answer.octets ≡ []) c.loop-event.answers.items p c.loop-event.invariant.octets (search rules));
     }

@@ -1,4 +1,5 @@
 use Rattle.std.proofs.Common.{List, sym, subst}
+use Rattle.exchange_core.specs.Responses.{reply_of}
 use Rattle.exchange_core.specs.Working.{Entry}
 use Rattle.shared_exchange.specs.Sharing.{Answers, board_of}
 use Rattle.shared_exchange.proofs.Histories.{history_in}
@@ -7,6 +8,6 @@ use Rattle.shared_exchange.proofs.stepper.ExchangeStepper.step.Goals as goal
 pub returns-clause-answers : goal.returns-clause-answers
 returns-clause-answers g c =
     let core = c.args.self.now.core in
-    let done = c.step.ensures in
-    subst (λ (history : List Entry). Answers (board_of core) history c.args.event c.step.result c.step.new.tool) (sym (history_in core.journal))
+    let done = c.work.ensures in
+    subst (λ (history : List Entry). Answers (board_of core) history c.args.event (reply_of c.work.result c.work.new.out) c.work.new.tool) (sym (history_in core.journal))
     record { reply = done.reply; few = done.few; shows = done.shows; tool_is = done.tool }

@@ -3,7 +3,7 @@ use Rattle.exchange_core.specs.Seats.{Board, NoFrames, before, unseen}
 use Rattle.turn_lock.specs.Seats.{Lock, Known}
 use Rattle.shared_exchange.specs.Sharing.{history_of}
 use Rattle.shared_exchange.proofs.Histories.{entries_same, frames_same}
-use Rattle.shared_exchange.proofs.shared.SharedExchangeSwitchboard.handle.Goals as goal
+use Rattle.shared_exchange.proofs.shared.SharedExchangeSwitchboard.work.Goals as goal
 
 pub returns-clause-own : goal.returns-clause-own
 returns-clause-own g c = ap history_of c.step.ensures.own ∙ sym (entries_same c.step.new.seat.number c.step.new.seat.seen)
