@@ -10,6 +10,7 @@ use Rattle.control_memory.specs.Image.{Control, SameSizes}
 use Rattle.control_memory.specs.Layout.{Layout}
 use Rattle.control_memory.specs.Shown.{Shows}
 use Rattle.frame_engine.specs.Frames.{Boundary, Come, IsNext}
+use Rattle.exchange_core.specs.declared.answer.Answer.{Answer}
 use Rattle.exchange_core.specs.declared.trace.Event.{Event}
 use Rattle.exchange_core.specs.declared.trace.Event.TheVariants.{Nail, Seat, Free, Message, Frame}
 use Rattle.exchange_core.specs.declared.reply.Reply.{Reply}
@@ -27,8 +28,8 @@ use Rattle.exchange_core.specs.World.{Dimensions, World, start, is_full, seated}
 use Rattle.exchange_core.proofs.Histories.{made, made_pass}
 use Rattle.exchange_core.proofs.Quiet.{quiet}
 use Rattle.exchange_core.proofs.Stepping.{fits_all}
-use Rattle.report_text.specs.Report.{report_line}
-use Rattle.exchange_top.specs.Report.{Plays, Carrying, CarriesFrames}
+use Rattle.report_text.specs.Report.{answer_line, frame_line, lines_sent, octet_of, report_line}
+use Rattle.exchange_top.specs.Report.{Plays, Carrying, CarriesFrames, event_line, sent_at}
 use Rattle.exchange_top.specs.Switching.{IsFrameTool, Works, AreSent}
 
 -- ---- the event with a number
@@ -91,6 +92,32 @@ module _ (rows others : List (List ℕ)) (n : ℕ) where
   command_line s w (Free x) other = same_either (nailed w x) _ _ refl refl
   command_line s w (Message line octets) other = refl
   command_line s w (Frame input) other = absurd (other input refl)
+
+-- ---- the line of an answer
+
+-- what each line sends, as an answer keeps it
+abbrev kept_rows : Answer → List (List ℕ)
+kept_rows a = lines_sent (octet_of a.octets) (length a.octets)
+
+module _ (plays : Plays) (s : Setting) (w : World) (n : ℕ) (a : Answer) where
+  -- a frame's answer has the octets that each line sends, any other event's line has none
+  abbrev HasRows : Event → Type 0
+  HasRows e = report_line (kept_rows a) n (kept (reply s w e)) ≡ report_line (sent_at plays s w e) n (kept (reply s w e))
+
+  frame_rows : (input : Input) (octets : List (List ℕ)) → AreSent plays s w (Frame input) octets → a.octets ≡ octets → length octets ≡ s.dimensions.external → HasRows (Frame input)
+  frame_rows input octets sent same long =
+      ap (λ (rows : List (List ℕ)). frame_line rows n w.holding.next)
+      ((λ i. lines_sent (octet_of (same i)) (length (same i))) ∙ ap (lines_sent (octet_of octets)) long ∙ sent)
+
+  pub has_rows : (e : Event) (input : Input) (octets : List (List ℕ)) → e ≡ Frame input → AreSent plays s w e octets → a.octets ≡ octets → length octets ≡ s.dimensions.external → HasRows e
+  has_rows e input octets is sent same long =
+      subst HasRows (sym is) (frame_rows input octets (subst (λ (f : Event). AreSent plays s w f octets) is sent) same long)
+
+  pub rows_of_none : (e : Event) → ((input : Input) → ¬ (e ≡ Frame input)) → HasRows e
+  rows_of_none e other = command_line (kept_rows a) (sent_at plays s w e) n s w e other
+
+  pub line_is : (e : Event) → a.event ≡ n → a.reply ≡ kept (reply s w e) → HasRows e → answer_line a ≡ event_line plays s w n e
+  line_is e event keeps rows = (λ i. report_line (kept_rows a) (event i) (keeps i)) ∙ rows
 
 -- ---- how many frames there have been
 
