@@ -1,5 +1,5 @@
 -- What a row of calls makes of a world in the making, from what each of them does.
-use Rattle.std.proofs.Common.{◌≡◌, ℕ, ◌++◌, List, [], ◌∷◌, Option, Some, refl, sym, ◌∙◌, ap, subst}
+use Rattle.std.proofs.Common.{◌≡◌, ℕ, ◌++◌, List, [], ◌∷◌, Option, Some, refl, ◌∙◌, ap, subst}
 use Rattle.circuit_model.specs.declared.channel.Slot.{Slot}
 use Rattle.circuit_model.specs.declared.circuit.Kind.{Kind}
 use Rattle.circuit_model.specs.Holding.{Connect, Clear as Clear_slot}
@@ -14,7 +14,7 @@ use Rattle.exchange_core.specs.declared.leg_table.Held.{Held}
 use Rattle.exchange_core.specs.declared.signal.Signal.{Signal}
 use Rattle.exchange_core.specs.Acts.{announced, message_to, disconnect, in_state, disconnected, tone_of, with_peer, clear_with, alerting, answer}
 use Rattle.exchange_core.specs.Legs.{Legs, with_leg}
-use Rattle.exchange_core.specs.Operations.{Making, Clear, Pair, Sound, Put, Send, performed, performed_all, moves_for, sounding}
+use Rattle.exchange_core.specs.Operations.{Making, Clear, Pair, Sound, Put, performed, performed_all, moves_for, sounding}
 use Rattle.exchange_core.specs.Standing.{Holds, Makes}
 use Rattle.exchange_core.specs.World.{Dimensions, World, obey}
 use Rattle.exchange_core.proofs.Makings.{makes_clear, makes_put, makes_sound, makes_send}

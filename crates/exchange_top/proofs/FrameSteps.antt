@@ -1,28 +1,35 @@
 -- One event, and what the engine makes of it where it is a frame.
-use Rattle.std.proofs.Common.{◌≡◌, ℕ, ◌+◌, ◌-◌, ◌<◌, ◌≤◌, List, ◌++◌, Option, Some, None, [], ◌∷◌, length, slice_get, refl, sym, subst, arith, ◌∙◌, ap}
+use Rattle.std.proofs.Common.{◌≡◌, ℕ, ◌+◌, ◌-◌, ◌<◌, ◌≤◌, List, ◌++◌, Bool, true, false, not, Option, Some, None, [], ◌∷◌, length, slice_get, refl, sym, subst, arith, if◌then◌else◌, ◌∙◌, ap}
 use Rattle.std.specs.List.{cons_option}
 use Rattle.std.proofs.lemmas.Option.{slice_get_within, get_or_from_slice_get}
+use Rattle.circuit_model.specs.declared.channel.Slot.{Slot}
 use Rattle.circuit_model.specs.declared.circuit.Circuit.{Circuit}
 use Rattle.circuit_model.specs.FrameInput.{Input}
-use Rattle.circuit_model.specs.Ports.{Ports}
+use Rattle.circuit_model.specs.Ports.{Ports, given, port_of}
 use Rattle.control_memory.specs.Image.{Control, SameSizes}
+use Rattle.control_memory.specs.Layout.{Layout}
 use Rattle.control_memory.specs.Shown.{Shows}
 use Rattle.frame_engine.specs.Frames.{Boundary, Come, IsNext}
+use Rattle.exchange_core.specs.declared.answer.Answer.{Answer}
 use Rattle.exchange_core.specs.declared.trace.Event.{Event}
 use Rattle.exchange_core.specs.declared.trace.Event.TheVariants.{Nail, Seat, Free, Message, Frame}
+use Rattle.exchange_core.specs.declared.reply.Reply.{Reply}
 use Rattle.exchange_core.specs.declared.tool.Tool.{Tool}
 use Rattle.exchange_core.specs.declared.tool.Tool.TheVariants.{Nothing, Image}
+use Rattle.exchange_core.specs.IdleSlots.{idle, nailed}
+use Rattle.exchange_core.specs.Kept.{kept}
 use Rattle.exchange_core.specs.Setup.{Setting}
 use Rattle.exchange_core.specs.Sound.{Fits, IsSound}
 use Rattle.tone_rules.specs.declared.tones.Tones.{Tones}
 use Rattle.exchange_core.specs.Standing.{IsMade}
-use Rattle.exchange_core.specs.Step.{next, world, events_of}
+use Rattle.exchange_core.specs.Step.{next, reply, world, events_of, may_nail}
 use Rattle.exchange_core.specs.Working.{Entry, Working, IsNumbered, IsOfSize, IsToolFor, ShowsWorld, order_of, setting, world_of}
-use Rattle.exchange_core.specs.World.{Dimensions, World, start}
+use Rattle.exchange_core.specs.World.{Dimensions, World, start, is_full, seated}
 use Rattle.exchange_core.proofs.Histories.{made, made_pass}
 use Rattle.exchange_core.proofs.Quiet.{quiet}
 use Rattle.exchange_core.proofs.Stepping.{fits_all}
-use Rattle.exchange_top.specs.Report.{Plays, Carrying, CarriesFrames}
+use Rattle.report_text.specs.Report.{answer_line, frame_line, lines_sent, octet_of, report_line}
+use Rattle.exchange_top.specs.Report.{Plays, Carrying, CarriesFrames, event_line, sent_at}
 use Rattle.exchange_top.specs.Switching.{IsFrameTool, Works, AreSent}
 
 -- ---- the event with a number
@@ -63,6 +70,54 @@ none_sent plays s w (Seat x room) octets other = tt
 none_sent plays s w (Free x) octets other = tt
 none_sent plays s w (Message line sent) octets other = tt
 none_sent plays s w (Frame input) octets other = absurd (other input refl)
+
+-- what lines send matters to a frame's line alone
+module _ (rows others : List (List ℕ)) (n : ℕ) where
+  abbrev IsSame : Reply → Type 0
+  IsSame r = report_line rows n (kept r) ≡ report_line others n (kept r)
+
+  same_either : (b : Bool) (r q : Reply) → IsSame r → IsSame q → IsSame (if b then r else q)
+  same_either true r q one other = one
+  same_either false r q one other = other
+
+  same_seated : (d : Dimensions) (layout : Layout) (x : Slot) (port : Option Slot) → IsSame (seated d layout x port)
+  same_seated d layout x None = refl
+  same_seated d layout x (Some p) = refl
+
+  pub command_line : (s : Setting) (w : World) (e : Event) → ((input : Input) → ¬ (e ≡ Frame input)) → IsSame (reply s w e)
+  command_line s w (Nail x y) other = same_either (may_nail w x y) _ _ refl refl
+  command_line s w (Seat x room) other =
+      same_either (not (idle w x)) _ _ refl
+      (same_either (is_full s.dimensions w) _ _ refl (same_seated s.dimensions w.layout x (port_of s.dimensions.external (given x w.ports) x)))
+  command_line s w (Free x) other = same_either (nailed w x) _ _ refl refl
+  command_line s w (Message line octets) other = refl
+  command_line s w (Frame input) other = absurd (other input refl)
+
+-- ---- the line of an answer
+
+-- what each line sends, as an answer keeps it
+abbrev kept_rows : Answer → List (List ℕ)
+kept_rows a = lines_sent (octet_of a.octets) (length a.octets)
+
+module _ (plays : Plays) (s : Setting) (w : World) (n : ℕ) (a : Answer) where
+  -- a frame's answer has the octets that each line sends, any other event's line has none
+  abbrev HasRows : Event → Type 0
+  HasRows e = report_line (kept_rows a) n (kept (reply s w e)) ≡ report_line (sent_at plays s w e) n (kept (reply s w e))
+
+  frame_rows : (input : Input) (octets : List (List ℕ)) → AreSent plays s w (Frame input) octets → a.octets ≡ octets → length octets ≡ s.dimensions.external → HasRows (Frame input)
+  frame_rows input octets sent same long =
+      ap (λ (rows : List (List ℕ)). frame_line rows n w.holding.next)
+      ((λ i. lines_sent (octet_of (same i)) (length (same i))) ∙ ap (lines_sent (octet_of octets)) long ∙ sent)
+
+  pub has_rows : (e : Event) (input : Input) (octets : List (List ℕ)) → e ≡ Frame input → AreSent plays s w e octets → a.octets ≡ octets → length octets ≡ s.dimensions.external → HasRows e
+  has_rows e input octets is sent same long =
+      subst HasRows (sym is) (frame_rows input octets (subst (λ (f : Event). AreSent plays s w f octets) is sent) same long)
+
+  pub rows_of_none : (e : Event) → ((input : Input) → ¬ (e ≡ Frame input)) → HasRows e
+  rows_of_none e other = command_line (kept_rows a) (sent_at plays s w e) n s w e other
+
+  pub line_is : (e : Event) → a.event ≡ n → a.reply ≡ kept (reply s w e) → HasRows e → answer_line a ≡ event_line plays s w n e
+  line_is e event keeps rows = (λ i. report_line (kept_rows a) (event i) (keeps i)) ∙ rows
 
 -- ---- how many frames there have been
 

@@ -2,4 +2,3 @@ pub mod Reports
 pub mod Pending
 pub mod Endings
 pub mod FrameSteps
-pub mod Answered

@@ -18,7 +18,7 @@ use Rattle.exchange_core.specs.Step.{run, reply, MovesAtMost}
 use Rattle.exchange_core.specs.Working.{Entry, Working, IsNumbered, order_of, setting, world_of, world_after}
 use Rattle.exchange_core.specs.World.{World, start}
 use Rattle.exchange_top.specs.Outcomes.{Fabric, IsReported, IsBegun, IsPending}
-use Rattle.exchange_top.specs.Report.{Plays, no_tones, report, event_line}
+use Rattle.exchange_top.specs.Report.{Plays, report, event_line}
 use Rattle.exchange_top.specs.Streams.{AppendsFront}
 use Rattle.exchange_top.proofs.Reports.{range_more, take_snoc, run-snoc, report_more, events_of-file_order, world_at, world_after-file_order}
 
@@ -138,13 +138,13 @@ replies_more slots trace i n e found few one =
 
 -- the line of the event at place i
 abbrev pub line_at : Plays → ℕ → Trace → ℕ → Event → List ℕ
-line_at plays slots trace i e = event_line (plays no_tones) (setting_of slots trace) (world_at slots trace i) (i + 1) e
+line_at plays slots trace i e = event_line plays (setting_of slots trace) (world_at slots trace i) (i + 1) e
 
 text_more : (plays : Plays) (slots : ℕ) (trace : Trace) (i : ℕ) (e : Event) → slice_get trace.events i ≡ Some e → report plays slots trace (file_order (i + 1)) ≡ report plays slots trace (file_order i) ++ line_at plays slots trace i e
 text_more plays slots trace i e found =
     let number : 1 + i ≡ i + 1 = omega arith in
     ap (λ n. report plays slots trace (file_order n)) (add-one i) ∙ report_more plays slots trace i e found
-    ∙ ap (λ n. report plays slots trace (file_order i) ++ event_line (plays no_tones) (setting_of slots trace) (world_at slots trace i) n e) number
+    ∙ ap (λ n. report plays slots trace (file_order i) ++ event_line plays (setting_of slots trace) (world_at slots trace i) n e) number
 
 -- its line is pending
 pub pending_event : (plays : Plays) (slots : ℕ) (trace : Trace) (i : ℕ) (e : Event) (old now : Option (List ℕ)) (before after : List ℕ) → slice_get trace.events i ≡ Some e

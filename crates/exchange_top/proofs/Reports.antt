@@ -18,7 +18,7 @@ use Rattle.exchange_core.specs.World.{World, start}
 use Rattle.report_text.specs.Report.{lines_sent, octet_of}
 use Rattle.report_text.proofs.Rows.{sent_same}
 use Rattle.frame_engine.specs.Frames.{PlaysOut}
-use Rattle.exchange_top.specs.Report.{Plays, Played, no_tones, event_line, event_lines, report}
+use Rattle.exchange_top.specs.Report.{Plays, event_line, event_lines, report}
 
 -- ---- lists of numbers, and the events that have them
 
@@ -28,7 +28,7 @@ range_more a (suc n) =
     let same : a + 1 + n ≡ a + suc n = omega arith in
     ap (λ ms. a ∷ ms) (range_more (a + 1) n ∙ ap (λ m. range_with_len (a + 1) n ++ m ∷ []) same)
 
-pub within_get : {X : Type 0} (xs : List X) (i : ℕ) → i < length xs → (x : X) × (slice_get xs i ≡ Some x)
+within_get : {X : Type 0} (xs : List X) (i : ℕ) → i < length xs → (x : X) × (slice_get xs i ≡ Some x)
 within_get [] i within = absurd (omega arith)
 within_get (x ∷ xs) zero within = (x, refl)
 within_get (x ∷ xs) (suc i) within = within_get xs i (omega arith)
@@ -56,14 +56,14 @@ pub run-snoc : (s : Setting) (w : World) (es : List Event) (e : Event) → run s
 run-snoc s w [] e = refl
 run-snoc s w (x ∷ es) e = ap (λ replies. reply s w x ∷ replies) (run-snoc s (next s w x) es e)
 
-event_lines-snoc : (played : Played) (s : Setting) (w : World) (order : List ℕ) (es : List Event) (n : ℕ) (e : Event) → length order ≡ length es
-    → event_lines played s w (order ++ n ∷ []) (es ++ e ∷ []) ≡ event_lines played s w order es ++ event_line played s (world s w es) n e
-event_lines-snoc played s w [] [] n e same = append-nil (event_line played s w n e)
-event_lines-snoc played s w [] (x ∷ es) n e same = absurd (omega (arith, same))
-event_lines-snoc played s w (m ∷ order) [] n e same = absurd (omega (arith, same))
-event_lines-snoc played s w (m ∷ order) (x ∷ es) n e same =
-    rw (event_lines-snoc played s (next s w x) order es n e (omega (arith, same)))
-    (sym (append_assoc (event_line played s w m x) (event_lines played s (next s w x) order es) (event_line played s (world s (next s w x) es) n e)))
+event_lines-snoc : (plays : Plays) (s : Setting) (w : World) (order : List ℕ) (es : List Event) (n : ℕ) (e : Event) → length order ≡ length es
+    → event_lines plays s w (order ++ n ∷ []) (es ++ e ∷ []) ≡ event_lines plays s w order es ++ event_line plays s (world s w es) n e
+event_lines-snoc plays s w [] [] n e same = append-nil (event_line plays s w n e)
+event_lines-snoc plays s w [] (x ∷ es) n e same = absurd (omega (arith, same))
+event_lines-snoc plays s w (m ∷ order) [] n e same = absurd (omega (arith, same))
+event_lines-snoc plays s w (m ∷ order) (x ∷ es) n e same =
+    rw (event_lines-snoc plays s (next s w x) order es n e (omega (arith, same)))
+    (sym (append_assoc (event_line plays s w m x) (event_lines plays s (next s w x) order es) (event_line plays s (world s (next s w x) es) n e)))
 
 -- the world of the first events of the file
 abbrev pub world_at : ℕ → Trace → ℕ → World
@@ -74,7 +74,7 @@ world_after-file_order slots trace i within = let s = setting_of slots trace in 
 
 -- the report grows by the line of the next event
 pub report_more : (plays : Plays) (slots : ℕ) (trace : Trace) (i : ℕ) (e : Event) → slice_get trace.events i ≡ Some e
-    → report plays slots trace (file_order (suc i)) ≡ report plays slots trace (file_order i) ++ event_line (plays no_tones) (setting_of slots trace) (world_at slots trace i) (1 + i) e
+    → report plays slots trace (file_order (suc i)) ≡ report plays slots trace (file_order i) ++ event_line plays (setting_of slots trace) (world_at slots trace i) (1 + i) e
 report_more plays slots trace i e found =
     let within : i < length trace.events = slice_get_within trace.events i e found in
     let s = setting_of slots trace in
@@ -83,9 +83,9 @@ report_more plays slots trace i e found =
     let before = events_of-file_order trace.events i (omega (arith, within)) in
     let now : events_of trace.events (file_order (suc i)) ≡ es ++ e ∷ [] = events_of-file_order trace.events (suc i) (omega (arith, within)) ∙ take_snoc trace.events i e found in
     let lines : length (file_order i) ≡ length es = length-range_with_len 1 i ∙ sym (length-take-le i trace.events (omega (arith, within))) in
-    (λ j. event_lines (plays no_tones) s w (range_more 1 i j) (now j))
-    ∙ event_lines-snoc (plays no_tones) s w (file_order i) es (1 + i) e lines
-    ∙ ap (λ (front : List Event). event_lines (plays no_tones) s w (file_order i) front ++ event_line (plays no_tones) s (world s w es) (1 + i) e) (sym before)
+    (λ j. event_lines plays s w (range_more 1 i j) (now j))
+    ∙ event_lines-snoc plays s w (file_order i) es (1 + i) e lines
+    ∙ ap (λ (front : List Event). event_lines plays s w (file_order i) front ++ event_line plays s (world s w es) (1 + i) e) (sym before)
 
 -- ---- the octets of a frame
 

@@ -9,7 +9,7 @@ use Rattle.exchange_core.specs.Sound.{IsSound}
 use Rattle.exchange_core.specs.Working.{Working, IsToolFor, setting, world_of}
 use Rattle.exchange_core.specs.World.{Dimensions, World}
 use Rattle.report_text.specs.Report.{lines_sent, octet_of}
-use Rattle.exchange_top.specs.Report.{Plays, Carrying, CarriesFrames, event_line, no_tones, sent_at}
+use Rattle.exchange_top.specs.Report.{Plays, Carrying, CarriesFrames, sent_at}
 
 -- a map of paths that an exchange with so many lines can begin with: it has as many, 1 to 59 internal slots, and no path yet
 pub record IsReady (lines width depth : ℕ) (layout : Layout) : Type 0 where
@@ -30,9 +30,5 @@ pub record Works {E : Type 0} (carries : Carrying E) (core : Working) (engine : 
 
 -- where the event is a frame, the octets are what each line sends in it
 abbrev pub AreSent : Plays → Setting → World → Event → List (List ℕ) → Type 0
-AreSent plays s w (Frame input) octets = lines_sent (octet_of octets) s.dimensions.external ≡ sent_at (plays no_tones) s w (Frame input)
+AreSent plays s w (Frame input) octets = lines_sent (octet_of octets) s.dimensions.external ≡ sent_at plays s w (Frame input)
 AreSent plays s w _ octets = Unit {0}
-
--- the line of the event that a core does next
-abbrev pub next_line : Plays → Working → ℕ → Event → List ℕ
-next_line plays core n e = event_line (plays no_tones) (setting core) (world_of core) n e

@@ -8,9 +8,9 @@ ghost use Rattle.exchange_core.specs.Sound.{IsSound, setting_of};
 ghost use Rattle.exchange_core.specs.Step.{reply, MovesAtMost};
 ghost use Rattle.exchange_core.specs.Working.{IsNumbered, order_of, setting, world_of, world_after};
 ghost use Rattle.exchange_top.specs.Outcomes.{IsReported, IsBegun, IsPending};
-ghost use Rattle.exchange_top.specs.Report.{CarriesFrames, engine_dimensions};
+ghost use Rattle.exchange_top.specs.Report.{CarriesFrames, engine_dimensions, event_line};
 ghost use Rattle.exchange_top.specs.Streams.{AppendsFront};
-ghost use Rattle.exchange_top.specs.Switching.{IsReady, Works, next_line};
+ghost use Rattle.exchange_top.specs.Switching.{IsReady, Works};
 
 use crate::streams::write_all;
 use crate::switch::Switch;
@@ -149,7 +149,7 @@ fn report_event<P: PathMap, C: Carrier>(
     requires lines { length octets.old ≡ switch.old.core.trace.external }
     ensures works { Works C.carries switch.new.core switch.new.engine switch.new.tool }
     ensures journal { switch.new.core ≡ record switch.old.core { journal = switch.old.core.journal ++ (0, number) ∷ [] } }
-    ensures line { OnOk result (text.new.items ≡ text.old.items ++ next_line C.plays switch.old.core number event.now) }
+    ensures line { OnOk result (text.new.items ≡ text.old.items ++ event_line C.plays (setting switch.old.core) (world_of switch.old.core) number event.now) }
     ensures few { MovesAtMost switch.old.core.bound (reply (setting switch.old.core) (world_of switch.old.core) event.now) }
     ensures kept { OnErr result (text.new.items ≡ text.old.items) }
 {

@@ -158,16 +158,18 @@ impl PlainExchange {
 
     /// Puts a tone on an idle slot, where it is given. Whether it is.
     pub(crate) fn sound(&mut self, x: Slot, kind: Kind) -> Result<bool, AllocError> {
-        let (octets, count) = match kind {
-            Kind::Ringback => (&self.tones.ringback, &mut self.rung),
-            Kind::Busy => (&self.tones.busy, &mut self.busy),
+        let is_given = match kind {
+            Kind::Ringback => !self.tones.ringback.is_empty(),
+            Kind::Busy => !self.tones.busy.is_empty(),
         };
-        if octets.is_empty() {
-            return Ok(false);
+        if is_given {
+            match kind {
+                Kind::Ringback => self.rung = self.rung.saturating_add(1),
+                Kind::Busy => self.busy = self.busy.saturating_add(1),
+            }
+            self.circuits.give_tone(x, kind)?;
         }
-        *count = count.saturating_add(1);
-        self.circuits.give_tone(x, kind)?;
-        Ok(true)
+        Ok(is_given)
     }
 
     /// Takes a message from the user of a line.

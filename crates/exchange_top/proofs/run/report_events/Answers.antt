@@ -4,7 +4,7 @@ use Rattle.exchange_core.specs.declared.trace.Trace.{Trace}
 use Rattle.exchange_core.specs.Orders.{file_order}
 use Rattle.exchange_core.specs.Step.{reply, MovesAtMost}
 use Rattle.exchange_core.specs.Working.{Working, setting, world_of}
-use Rattle.exchange_top.specs.Report.{event_line, no_tones, report}
+use Rattle.exchange_top.specs.Report.{event_line, report}
 use Rattle.exchange_top.proofs.Pending.{on_err, begun_none, pending_none, done_none, done_more, trace_is, at_world, journal_long, numbered, replies_more, pending_event, begun_event, begun_flush, reported}
 use Rattle.exchange_top.proofs.run.report_events.Goals as goal
 
@@ -91,7 +91,7 @@ returns-in_err-flush_full-clause-begun g c =
     let found : slice_get trace.events i ≡ Some c.event-item.result =
     rw (← c.as_slice-event-items.ensures) (slice_get_read _ _ _ _ refl c.loop-index-test.true c.event-item.is) in
     let line = at_world trace first c.loop-index.switch.core i c.requires.trace inv.done
-    (λ s w. c.report_event.new.text.items ≡ c.loop-index.text.items ++ event_line (g.C.Carrier.plays no_tones) s w (i + 1) c.event-item.result) (omega (arith, inside)) c.in_ok-report_event.ensures.line in
+    (λ s w. c.report_event.new.text.items ≡ c.loop-index.text.items ++ event_line g.C.Carrier.plays s w (i + 1) c.event-item.result) (omega (arith, inside)) c.in_ok-report_event.ensures.line in
     let pending = pending_event g.C.Carrier.plays slots trace i c.event-item.result _ _ _ _ found inv.text line in
     let done = done_more _ _ c.report_event.new.switch.core 0 i inv.done c.report_event.ensures.journal in
     on_err c.from_residual-in_err-flush_full.result
@@ -108,7 +108,7 @@ loop-index-preserved g c =
     let found : slice_get trace.events i ≡ Some c.event-item.result =
     rw (← c.as_slice-event-items.ensures) (slice_get_read _ _ _ _ refl c.loop-index-test.true c.event-item.is) in
     let line = at_world trace first c.loop-index.switch.core i c.requires.trace inv.done
-    (λ s w. c.report_event.new.text.items ≡ c.loop-index.text.items ++ event_line (g.C.Carrier.plays no_tones) s w (i + 1) c.event-item.result) (omega (arith, inside)) c.in_ok-report_event.ensures.line in
+    (λ s w. c.report_event.new.text.items ≡ c.loop-index.text.items ++ event_line g.C.Carrier.plays s w (i + 1) c.event-item.result) (omega (arith, inside)) c.in_ok-report_event.ensures.line in
     let pending = pending_event g.C.Carrier.plays slots trace i c.event-item.result (g.K.Sink.written c.args.sink.now) (g.K.Sink.written c.loop-index.sink) c.loop-index.text.items c.report_event.new.text.items found inv.text line in
     let few = at_world trace first c.loop-index.switch.core i c.requires.trace inv.done (λ s w. MovesAtMost first.bound (reply s w c.event-item.result)) (omega (arith, inside))
     (subst (λ n. MovesAtMost n (reply (setting c.loop-index.switch.core) (world_of c.loop-index.switch.core) c.event-item.result)) (ap (λ (x : Working). x.bound) inv.done.same) c.in_ok-report_event.ensures.few) in

@@ -1,6 +1,4 @@
 use Rattle.std.proofs.Common.{◌∙◌, ap}
-use Rattle.call_states.specs.declared.leg.Leg.{Leg}
-use Rattle.q931_codec.specs.Outgoing.{OutgoingMessage}
 use Rattle.exchange_core.specs.Acts.{announced}
 use Rattle.exchange_core.proofs.Makes.{disconnected_makes}
 use Rattle.exchange_core.proofs.call_control.CallControl.clear_peer.Goals as goal
