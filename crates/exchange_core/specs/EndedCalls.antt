@@ -29,9 +29,13 @@ record_calling w cause h = if is_calling (Some h.leg) then record_of w cause h e
 abbrev pub record_ended : World → Held → ℕ → Option CallRecord
 record_ended w h cause = option_and_then (record_calling w cause) (caller_in h.leg.side h (peer_of w.legs h.leg.peer))
 
--- the records of what an act ends
+-- the record of what an act ends
+abbrev pub record_of_act : World → Held → Act → Option CallRecord
+record_of_act w h a = option_and_then (record_ended w h) (cause_of_act a)
+
+-- as a list
 abbrev pub records_of_act : World → Held → Act → List CallRecord
-records_of_act w h a = cons_option (option_and_then (record_ended w h) (cause_of_act a)) []
+records_of_act w h a = cons_option (record_of_act w h a) []
 
 -- the records of what the restart of a slot ends
 abbrev pub slot_records : Restart → World → Slot → List CallRecord

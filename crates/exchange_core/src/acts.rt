@@ -20,7 +20,6 @@ ghost use Rattle.exchange_core.specs.World.{Dimensions, World};
 use crate::call_control::CallControl;
 use crate::leg_table::Held;
 use crate::outbox::Outbox;
-use crate::record::Records;
 use call_states::{Act, Leg, Peer, on_message, status, unexpected};
 use circuit_model::{Kind, Slot};
 use control_memory::PathMap;
@@ -33,15 +32,9 @@ use q931_codec::{Message, MessageKind, Outgoing};
 use tone_rules::{Tones, tone_given};
 
 impl<P: PathMap> CallControl<P> {
-    /// Does with a leg what a message to it asks for, and answers the records of the calls that this
+    /// Does with a leg what a message to it asks for, and tells the records of the calls that this
     /// begins to clear.
-    pub(crate) fn act(
-        &mut self,
-        out: &mut Outbox,
-        tones: &Tones,
-        held: Held,
-        message: &Message,
-    ) -> Records
+    pub(crate) fn act(&mut self, out: &mut Outbox, tones: &Tones, held: Held, message: &Message)
         requires work { (s : Setting) × (w : World) × IsAtWork s self.old.map self.old.legs w }
         requires external { IsExternal self.old.map.external held.slot }
         requires held { leg_at self.old.legs held.slot ≡ Some held.leg }
@@ -49,15 +42,15 @@ impl<P: PathMap> CallControl<P> {
         ensures makes { (s : Setting) (w : World) → s.tones ≡ tones.now → IsAtWork s self.old.map self.old.legs w
             → Makes s.dimensions self.new.map self.new.legs out.new.sends out.new.moved (made_by s w (course_of s.tones w.legs held message.now.kind (act_on held.leg.state message.now))) }
         ensures records { (s : Setting) (w : World) → IsAtWork s self.old.map self.old.legs w
-            → result ≡ (done_by s w (course_of s.tones w.legs held message.now.kind (act_on held.leg.state message.now))).told }
+            → out.new.records ≡ (done_by s w (course_of s.tones w.legs held message.now.kind (act_on held.leg.state message.now))).told }
         ensures few { IfSome out.new.moved (λ moves. (moves.0 ≤ self.old.map.bound) × (moves.1 ≤ self.old.map.bound)) }
         ensures sizes { SameSizes self.old.map self.new.map }
     {
         let act = on_message(&held.leg, message);
         let peer = self.peer_of(held.leg.peer);
-        let records = self.records_of_act(held, peer, act);
+        let told = self.record_of_act(held, peer, act);
         self.perform(out, tones, held, peer, act, message);
-        records
+        out.records.keep(told);
     }
 
     /// The other leg of a call.

@@ -13,7 +13,6 @@ ghost use Rattle.exchange_core.specs.World.{World};
 
 use crate::call_control::CallControl;
 use crate::outbox::{Outbox, Response};
-use crate::record::Records;
 use clearing_rules::{GLOBAL_CALL_REFERENCE, restart, unknown_reference};
 use control_memory::PathMap;
 use number_plan::Plan;
@@ -41,44 +40,30 @@ impl<P: PathMap> CallControl<P> {
         ensures few { MovesAtMost self.old.map.bound (reply_of result out.new) }
         ensures sizes { SameSizes self.old.map self.new.map }
     {
-        out.records = self.take(out, plan, tones, line, octets);
+        self.take(out, plan, tones, line, octets);
         Response::Sent
     }
 
-    // Does what octets ask for, and answers the records of the calls that they begin to clear.
-    fn take(
-        &mut self,
-        out: &mut Outbox,
-        plan: &Plan,
-        tones: &Tones,
-        line: u8,
-        octets: &[u8],
-    ) -> Records
+    // Does what octets ask for, and tells the records of the calls that they begin to clear.
+    fn take(&mut self, out: &mut Outbox, plan: &Plan, tones: &Tones, line: u8, octets: &[u8])
         requires work { (s : Setting) × (w : World) × (s.plan ≡ plan.now) × (s.tones ≡ tones.now) × IsAtWork s self.old.map self.old.legs w }
         requires line { line < self.old.map.external }
         requires fresh { (out.old.sends ≡ []) × (out.old.moved ≡ None) }
         ensures makes { (s : Setting) (w : World) → s.plan ≡ plan.now → s.tones ≡ tones.now → IsAtWork s self.old.map self.old.legs w
             → Makes s.dimensions self.new.map self.new.legs out.new.sends out.new.moved (done s w line octets.now).making }
-        ensures records { (s : Setting) (w : World) → s.plan ≡ plan.now → s.tones ≡ tones.now → IsAtWork s self.old.map self.old.legs w → result ≡ (answer_to s w line octets.now).records }
+        ensures records { (s : Setting) (w : World) → s.plan ≡ plan.now → s.tones ≡ tones.now → IsAtWork s self.old.map self.old.legs w → out.new.records ≡ (answer_to s w line octets.now).records }
         ensures few { IfSome out.new.moved (λ moves. (moves.0 ≤ self.old.map.bound) × (moves.1 ≤ self.old.map.bound)) }
         ensures sizes { SameSizes self.old.map self.new.map }
     {
         match read(octets) {
             Ok(message) => self.receive(out, plan, tones, line, &message),
-            Err(_) => Records::new(),
+            Err(_) => out.records.clear(),
         }
     }
 
-    // Does what a message asks for, and answers the records of the calls that it begins to clear: one to a
+    // Does what a message asks for, and tells the records of the calls that it begins to clear: one to a
     // leg what the leg's state says, a SETUP from the side that chose the call reference a new call.
-    fn receive(
-        &mut self,
-        out: &mut Outbox,
-        plan: &Plan,
-        tones: &Tones,
-        line: u8,
-        message: &Message,
-    ) -> Records
+    fn receive(&mut self, out: &mut Outbox, plan: &Plan, tones: &Tones, line: u8, message: &Message)
         requires work { (s : Setting) × (w : World) × (s.plan ≡ plan.now) × (s.tones ≡ tones.now) × IsAtWork s self.old.map self.old.legs w }
         requires line { line < self.old.map.external }
         requires reference { message.now.reference < 2 ^ 15 }
@@ -86,7 +71,7 @@ impl<P: PathMap> CallControl<P> {
         ensures makes { (s : Setting) (w : World) → s.plan ≡ plan.now → s.tones ≡ tones.now → IsAtWork s self.old.map self.old.legs w → Makes s.dimensions self.new.map self.new.legs out.new.sends out.new.moved
             (done_for s w line (with_leg_named message.now (leg_named self.old.legs line message.now.flag message.now.reference))).making }
         ensures records { (s : Setting) (w : World) → s.plan ≡ plan.now → s.tones ≡ tones.now → IsAtWork s self.old.map self.old.legs w
-            → result ≡ (done_for s w line (with_leg_named message.now (leg_named self.old.legs line message.now.flag message.now.reference))).told }
+            → out.new.records ≡ (done_for s w line (with_leg_named message.now (leg_named self.old.legs line message.now.flag message.now.reference))).told }
         ensures few { IfSome out.new.moved (λ moves. (moves.0 ≤ self.old.map.bound) × (moves.1 ≤ self.old.map.bound)) }
         ensures sizes { SameSizes self.old.map self.new.map }
     {
@@ -96,17 +81,10 @@ impl<P: PathMap> CallControl<P> {
         }
     }
 
-    // Does what a message that names no leg asks for, and answers the records of the calls that it ends:
+    // Does what a message that names no leg asks for, and tells the records of the calls that it ends:
     // a RESTART on the global call reference, a SETUP from the side that chose the call reference, or one
     // that is answered there.
-    fn begin(
-        &mut self,
-        out: &mut Outbox,
-        plan: &Plan,
-        tones: &Tones,
-        line: u8,
-        message: &Message,
-    ) -> Records
+    fn begin(&mut self, out: &mut Outbox, plan: &Plan, tones: &Tones, line: u8, message: &Message)
         requires work { (s : Setting) × (w : World) × (s.plan ≡ plan.now) × (s.tones ≡ tones.now) × IsAtWork s self.old.map self.old.legs w }
         requires line { line < self.old.map.external }
         requires reference { message.now.reference < 2 ^ 15 }
@@ -114,7 +92,7 @@ impl<P: PathMap> CallControl<P> {
         requires fresh { (out.old.sends ≡ []) × (out.old.moved ≡ None) }
         ensures makes { (s : Setting) (w : World) → s.plan ≡ plan.now → s.tones ≡ tones.now → IsAtWork s self.old.map self.old.legs w
             → Makes s.dimensions self.new.map self.new.legs out.new.sends out.new.moved (done_for s w line (with_leg_named message.now None)).making }
-        ensures records { (s : Setting) (w : World) → s.plan ≡ plan.now → s.tones ≡ tones.now → IsAtWork s self.old.map self.old.legs w → result ≡ (done_for s w line (with_leg_named message.now None)).told }
+        ensures records { (s : Setting) (w : World) → s.plan ≡ plan.now → s.tones ≡ tones.now → IsAtWork s self.old.map self.old.legs w → out.new.records ≡ (done_for s w line (with_leg_named message.now None)).told }
         ensures few { IfSome out.new.moved (λ moves. (moves.0 ≤ self.old.map.bound) × (moves.1 ≤ self.old.map.bound)) }
         ensures sizes { SameSizes self.old.map self.new.map }
     {
@@ -123,32 +101,27 @@ impl<P: PathMap> CallControl<P> {
         }
         if asks_for_call(message) {
             self.setup(out, plan, line, message);
-            return Records::new();
+            out.records.clear();
+            return;
         }
         out.answer_on_no_call(line, message);
-        Records::new()
+        out.records.clear();
     }
 
     // Does what a message on the global call reference asks for, which a RESTART alone does.
-    fn restart_if_asked(
-        &mut self,
-        out: &mut Outbox,
-        tones: &Tones,
-        line: u8,
-        message: &Message,
-    ) -> Records
+    fn restart_if_asked(&mut self, out: &mut Outbox, tones: &Tones, line: u8, message: &Message)
         requires work { (s : Setting) × (w : World) × (s.tones ≡ tones.now) × IsAtWork s self.old.map self.old.legs w }
         requires line { line < self.old.map.external }
         requires fresh { (out.old.sends ≡ []) × (out.old.moved ≡ None) }
         ensures makes { (s : Setting) (w : World) → s.tones ≡ tones.now → IsAtWork s self.old.map self.old.legs w
             → Makes s.dimensions self.new.map self.new.legs out.new.sends out.new.moved (done_for s w line (on_global_reference (restart_asked message.now))).making }
-        ensures records { (s : Setting) (w : World) → s.tones ≡ tones.now → IsAtWork s self.old.map self.old.legs w → result ≡ (done_for s w line (on_global_reference (restart_asked message.now))).told }
+        ensures records { (s : Setting) (w : World) → s.tones ≡ tones.now → IsAtWork s self.old.map self.old.legs w → out.new.records ≡ (done_for s w line (on_global_reference (restart_asked message.now))).told }
         ensures moved { out.new.moved ≡ None }
         ensures sizes { SameSizes self.old.map self.new.map }
     {
         match restart(message) {
-            Some(restarted) => self.restart_line(out, tones, line, restarted),
-            None => Records::new(),
+            Some(restarted) => out.records = self.restart_line(out, tones, line, restarted),
+            None => out.records.clear(),
         }
     }
 }

@@ -104,6 +104,14 @@ impl Records {
     ghost use Rattle.std.specs.Prelude.{◌+◌, ◌≤◌};
     ghost use Rattle.std.specs.List.{cons_option};
 
+    /// This record where there is one, in place of all.
+    pub(crate) fn keep(&mut self, told: Option<CallRecord>)
+        ensures { self.new ≡ cons_option told [] }
+    {
+        self.clear();
+        self.extend(told);
+    }
+
     /// One record more, where there is one.
     pub(crate) fn extend(&mut self, told: Option<CallRecord>)
         requires { length self.old < most_records }

@@ -4,35 +4,32 @@ ghost use Rattle.circuit_model.specs.Extent.{IsExternal};
 ghost use Rattle.call_states.specs.Acts.{cause_of_act};
 ghost use Rattle.exchange_core.specs.Acts.{peer_of};
 ghost use Rattle.exchange_core.specs.CallRecords.{is_calling, party_of, began};
-ghost use Rattle.exchange_core.specs.EndedCalls.{record_calling, record_ended, records_of_act};
+ghost use Rattle.exchange_core.specs.EndedCalls.{record_calling, record_ended, record_of_act};
 ghost use Rattle.exchange_core.specs.Standing.{Holds};
 ghost use Rattle.exchange_core.specs.World.{Dimensions, World};
 
 use crate::call_control::CallControl;
 use crate::leg_table::Held;
-use crate::record::{CallRecord, Party, Records};
+use crate::record::{CallRecord, Party};
 use call_states::{Act, Leg, Peer, Side};
 use circuit_model::Circuit;
 use control_memory::PathMap;
 use q931_codec::states::{ACTIVE, CALL_DELIVERED, OUTGOING_CALL_PROCEEDING};
 
 impl<P: PathMap> CallControl<P> {
-    /// The records of the calls that an act on a leg begins to clear: one at the most, that of the
-    /// leg's call.
-    pub(crate) fn records_of_act(&self, held: Held, peer: Option<Held>, act: Act) -> Records
+    /// The record of the call that an act on a leg begins to clear, which is the leg's call.
+    pub(crate) fn record_of_act(
+        &self,
+        held: Held,
+        peer: Option<Held>,
+        act: Act,
+    ) -> Option<CallRecord>
         requires external { IsExternal self.now.map.external held.slot }
         requires peer_external { IfSome peer (λ other. IsExternal self.now.map.external other.slot) }
         requires peer { peer ≡ peer_of self.now.legs held.leg.peer }
-        ensures { (d : Dimensions) (w : World) → Holds d self.now.map self.now.legs w → result ≡ records_of_act w held act }
+        ensures { (d : Dimensions) (w : World) → Holds d self.now.map self.now.legs w → result ≡ record_of_act w held act }
     {
-        let mut records = Records::new();
-        let Some(cause) = cause_of_act(act) else {
-            return records;
-        };
-        if let Some(told) = self.record_ended(held, peer, cause) {
-            records.push(told);
-        }
-        records
+        self.record_ended(held, peer, cause_of_act(act)?)
     }
 
     /// The record of the call of a leg, where its clearing hasn't begun.

@@ -1,5 +1,6 @@
 use Rattle.std.proofs.Common.{◌<◌, sym, ◌∙◌, ap, subst}
-use Rattle.std.specs.Prelude.{IfSome}
+use Rattle.std.specs.Prelude.{[], IfSome}
+use Rattle.std.specs.List.{cons_option}
 use Rattle.call_states.specs.Acts.{cause_of_act, clearing_cause, is_null}
 use Rattle.call_states.specs.declared.act.Act.{Act}
 use Rattle.call_states.proofs.Causes.{act_fits, cause_fits}
@@ -8,9 +9,9 @@ use Rattle.exchange_core.specs.EndedCalls.{records_of_act}
 use Rattle.exchange_core.proofs.AtWorkActs.{peer_external, known_there, known_peer, known_silent, known_waiting, known_records}
 use Rattle.exchange_core.proofs.call_control.CallControl.act.Goals as goal
 
-pub records_of_act-records-requires-clause-peer_external :
-    goal.records_of_act-records-requires-clause-peer_external
-records_of_act-records-requires-clause-peer_external g c =
+pub record_of_act-told-requires-clause-peer_external :
+    goal.record_of_act-told-requires-clause-peer_external
+record_of_act-told-requires-clause-peer_external g c =
     let work = c.requires.work in
     let now = c.args.self.now in
     peer_external now.map.external c.args.held c.peer_of-peer.result
@@ -50,6 +51,7 @@ perform-requires-clause-waiting g c alerts =
 pub returns-clause-records : goal.returns-clause-records
 returns-clause-records g c s w work =
     let now = c.args.self.now in
-    c.records_of_act-records.ensures s.dimensions w work.holds
+    c.keep.ensures
+    ∙ ap (λ told. cons_option told []) (c.record_of_act-told.ensures s.dimensions w work.holds)
     ∙ ap (records_of_act w c.args.held) c.on_message-act.ensures
     ∙ known_records s now.map now.legs w work c.args.held c.requires.external c.requires.held c.args.message.now

@@ -19,8 +19,8 @@ returns-then-asks_for_call-clause-records g c s w plan tones work =
     let m = c.args.message.now in
     let is : asks_for_call m ≡ true = sym c.asks_for_call.ensures ∙ c.if-asks_for_call.true in
     let below : c.args.line < s.dimensions.external = subst (λ (d : Dimensions). c.args.line < d.external) work.holds.sizes c.requires.line in
-    subst (λ (r : Received). c.new.result ≡ (done_for s w c.args.line r).told) (sym (asks m c.if-message-eq-GLOBAL_CALL_REFERENCE.false is))
-    (c.new.ensures ∙ sym (call_ends_none s w c.args.line m work.planned work.stands below))
+    subst (λ (r : Received). c.clear.new.self ≡ (done_for s w c.args.line r).told) (sym (asks m c.if-message-eq-GLOBAL_CALL_REFERENCE.false is))
+    (c.clear.ensures ∙ sym (call_ends_none s w c.args.line m work.planned work.stands below))
 
 pub returns-clause-makes : goal.returns-clause-makes
 returns-clause-makes g c s w plan tones work =
@@ -34,5 +34,5 @@ pub returns-clause-records : goal.returns-clause-records
 returns-clause-records g c s w plan tones work =
     let m = c.args.message.now in
     let is : asks_for_call m ≡ false = sym c.asks_for_call.ensures ∙ c.if-asks_for_call.false in
-    subst (λ (r : Received). c.new-2.result ≡ (done_for s w c.args.line r).told) (sym (asks_not m c.if-message-eq-GLOBAL_CALL_REFERENCE.false is))
-    (c.new-2.ensures ∙ sym (answer_ends_none s w c.args.line m))
+    subst (λ (r : Received). c.clear-2.new.self ≡ (done_for s w c.args.line r).told) (sym (asks_not m c.if-message-eq-GLOBAL_CALL_REFERENCE.false is))
+    (c.clear-2.ensures ∙ sym (answer_ends_none s w c.args.line m))

@@ -8,4 +8,4 @@ use Rattle.exchange_core.proofs.call_control.CallControl.restart_if_asked.Goals 
 pub returns-in-None-clause-records : goal.returns-in-None-clause-records
 returns-in-None-clause-records g c s w tones work =
     let none : restart_asked c.args.message.now ≡ None = sym c.restart.ensures.asked ∙ c.in-None.is in
-    subst (λ (o : Option Restart). c.new.result ≡ (done_for s w c.args.line (on_global_reference o)).told) (sym none) (c.new.ensures ∙ sym (no_records w 0))
+    subst (λ (o : Option Restart). c.clear.new.self ≡ (done_for s w c.args.line (on_global_reference o)).told) (sym none) (c.clear.ensures ∙ sym (no_records w 0))

@@ -15,10 +15,10 @@ returns-in-Ok-clause-makes g c s w plan tones work =
 pub returns-in-Ok-clause-records : goal.returns-in-Ok-clause-records
 returns-in-Ok-clause-records g c s w plan tones work =
     let e = c.receive.ensures in
-    taken _ _ c.args.line c.args.octets.now _ (λ (r : Received). c.receive.result ≡ (done_for s w c.args.line r).told)
+    taken _ _ c.args.line c.args.octets.now _ (λ (r : Received). c.receive.new.out.records ≡ (done_for s w c.args.line r).told)
     work.holds.legs_are (sym c.in-Ok.is ∙ c.read.ensures.computed) (e.records s w plan tones work)
 
 pub returns-in-Err-clause-records : goal.returns-in-Err-clause-records
 returns-in-Err-clause-records g c s w plan tones work =
-    taken _ _ c.args.line c.args.octets.now _ (λ (r : Received). c.new.result ≡ (done_for s w c.args.line r).told)
-    work.holds.legs_are (sym c.in-Err.is ∙ c.read.ensures.computed) (c.new.ensures ∙ sym (no_records w 0))
+    taken _ _ c.args.line c.args.octets.now _ (λ (r : Received). c.clear.new.self ≡ (done_for s w c.args.line r).told)
+    work.holds.legs_are (sym c.in-Err.is ∙ c.read.ensures.computed) (c.clear.ensures ∙ sym (no_records w 0))
