@@ -11,12 +11,14 @@
 
 mod counts;
 mod random;
+mod script;
 mod traffic;
 mod users;
 
 pub use counts::Counts;
 pub use random::Random;
-pub use traffic::{Drawn, LONGEST_TONE, draw_traffic};
+pub use script::{Post, Script};
+pub use traffic::{Drawn, LONGEST_TONE, draw_pace, draw_traffic};
 
 #[cfg(test)]
 mod tests;

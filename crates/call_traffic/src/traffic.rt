@@ -2,107 +2,27 @@ ghost use Rattle.std.specs.Prelude.{◌<◌};
 
 use crate::counts::Counts;
 use crate::random::Random;
+use crate::script::Script;
 use crate::users::draw_message;
-use circuit_model::{Slot, channel_of};
+use circuit_model::Slot;
 use plain_calls::{Number, PlainEvent, PlainExchange, PlainRun, PlainTones, Target, append_octets};
 use std::alloc::{AllocError, Global};
 
-/// A trace of calls, and what the plain exchange makes of it.
+/// A trace of calls, and what the plain exchange makes of it in file order.
 #[derive(Drop)]
 pub struct Drawn {
-    /// The text of the trace.
-    pub trace: String,
-    /// The report of its events in file order.
-    pub report: String,
+    /// The trace.
+    pub script: Script,
+    /// A plain exchange of the trace's lines, numbers and tones, before its first event.
+    pub fresh: PlainExchange,
     /// What became of its messages.
     pub counts: Counts,
-    /// How many events it has.
-    pub events: u32,
     /// How many paths were moved.
     pub moved: u32,
     /// How many octets ringing tone and busy tone have; 0 where the tone isn't given.
     pub tones: (usize, usize),
     /// How often ringing tone and busy tone were put on a slot.
     pub sounded: (u32, u32),
-}
-
-// A trace that is being written. Wherever the worker of the events changes, a segment ends, so that
-// file order is the only order of the trace.
-#[derive(Drop)]
-struct Script {
-    text: String,
-    processors: u8,
-    worker: u8,
-}
-
-impl Script {
-    // The event's line, and before it the end of a segment where another worker did the last event.
-    fn append(&mut self, event: &PlainEvent, ends: bool) -> Result<(), AllocError> {
-        let worker = worker_of(event, self.processors);
-        if worker != self.worker || ends {
-            self.text.push_str("sync\n")?;
-        }
-        self.worker = worker;
-        append_event(&mut self.text, event)?;
-        self.text.push_str("\n")
-    }
-}
-
-// The processor that does an event, by its first line; frames have a worker of their own.
-fn worker_of(event: &PlainEvent, processors: u8) -> u8 {
-    let line = match event {
-        PlainEvent::Nail(x, _) | PlainEvent::Seat(x, _) | PlainEvent::Free(x) => x.line,
-        PlainEvent::Message(line, _) => *line,
-        PlainEvent::Frame(_) => return processors,
-    };
-    if processors == 0 {
-        0
-    } else {
-        line % processors
-    }
-}
-
-fn append_event(text: &mut String, event: &PlainEvent) -> Result<(), AllocError> {
-    match event {
-        PlainEvent::Nail(x, y) => {
-            text.push_str("nail")?;
-            append_slot(text, *x)?;
-            append_slot(text, *y)
-        }
-        PlainEvent::Seat(x, room) => {
-            text.push_str("seat")?;
-            append_slot(text, *x)?;
-            write!(text, " {room}")
-        }
-        PlainEvent::Free(x) => {
-            text.push_str("free")?;
-            append_slot(text, *x)
-        }
-        PlainEvent::Message(line, octets) => {
-            write!(text, "M {line}")?;
-            if !octets.is_empty() {
-                text.push_str(" ")?;
-            }
-            append_octets(text, octets.as_slice())
-        }
-        PlainEvent::Frame(input) => append_frame(text, input.as_slice()),
-    }
-}
-
-fn append_slot(text: &mut String, at: Slot) -> Result<(), AllocError> {
-    let channel = channel_of(at.place.min(29));
-    write!(text, " {}/{channel}", at.line)
-}
-
-fn append_frame(text: &mut String, input: &[Option<[u8; 30]>]) -> Result<(), AllocError> {
-    text.push_str("F")?;
-    for (line, octets) in input.iter().enumerate() {
-        if let Some(octets) = octets {
-            write!(text, " {line}:")?;
-            append_octets(text, octets)?;
-        }
-    }
-    Ok(())
 }
 
 // The numbers of a plan: one for each line, two rooms, and a longer one.
@@ -170,29 +90,85 @@ fn append_tone(text: &mut String, name: &str, octets: &[u8]) -> Result<(), Alloc
     text.push_str("\n")
 }
 
-/// Draws a trace of so many events: calls on several lines with the replies of both sides, beside nails,
-/// seats, frees and frames. Some traces begin with a line that is all but full, or with many nails; some
-/// give tones.
+/// How often segments end: after an event once in so many times. With 1 each event has a segment of
+/// its own, and with 255 most traces are one segment.
+pub fn draw_pace(random: &mut Random) -> u8
+    ensures { 0 < result }
+{
+    match random.below(6) {
+        0 => 1,
+        1 => 2,
+        2 => 4,
+        3 => 12,
+        4 => 60,
+        _ => 255,
+    }
+}
+
+// The lines, numbers and tones of a trace.
+#[derive(Drop)]
+struct Setting {
+    external: u8,
+    bridges: u8,
+    numbers: Vec<Number>,
+    tones: PlainTones,
+}
+
+impl Setting {
+    fn draw(alloc: Global, random: &mut Random) -> Result<Setting, AllocError> {
+        let external = match random.below(6) {
+            0 => 1,
+            1 => 2,
+            2 => 3,
+            3 => 8,
+            _ => 4,
+        };
+        Ok(Setting {
+            external,
+            bridges: random.below(3),
+            numbers: draw_numbers(alloc, external)?,
+            tones: PlainTones {
+                ringback: draw_tone(alloc, random)?,
+                busy: draw_tone(alloc, random)?,
+            },
+        })
+    }
+
+    // How many octets the tones have.
+    fn lengths(&self) -> (usize, usize) {
+        (self.tones.ringback.len(), self.tones.busy.len())
+    }
+
+    // The lines of the trace before its first event, for so many call processors.
+    fn header(&self, alloc: Global, processors: u8) -> Result<String, AllocError> {
+        let (external, bridges) = (self.external, self.bridges);
+        let mut text = format!(in alloc; "exchange 1 {external} {bridges} {processors}\n")?;
+        append_numbers(&mut text, self.numbers.as_slice())?;
+        append_tone(&mut text, "ringback", self.tones.ringback.as_slice())?;
+        append_tone(&mut text, "busy", self.tones.busy.as_slice())?;
+        Ok(text)
+    }
+
+    // A plain exchange of this setting, beside the setting.
+    fn exchange(&self, alloc: Global) -> Result<PlainExchange, AllocError> {
+        let numbers = draw_numbers(alloc, self.external)?;
+        let tones = PlainTones {
+            ringback: Vec::from_slice(alloc, self.tones.ringback.as_slice())?,
+            busy: Vec::from_slice(alloc, self.tones.busy.as_slice())?,
+        };
+        Ok(PlainExchange::new(alloc, self.external, self.bridges, numbers, tones))
+    }
+}
+
+/// Draws a trace of so many events, for one to eight call processors: calls on several lines with the
+/// replies of both sides, beside nails, seats, frees and frames. Some traces begin with a line that is all
+/// but full, or with many nails; some give tones. The users are those of file order.
 pub fn draw_traffic(alloc: Global, random: &mut Random, events: u32) -> Result<Drawn, AllocError> {
-    let external = 1 + random.below(4);
-    let bridges = random.below(3);
-    let processors = 1 + random.below(4);
-    let numbers = draw_numbers(alloc, external)?;
-    let mut text = format!(in alloc; "exchange 1 {external} {bridges} {processors}\n")?;
-    append_numbers(&mut text, numbers.as_slice())?;
-    let ringback = draw_tone(alloc, random)?;
-    let busy = draw_tone(alloc, random)?;
-    let tones = (ringback.len(), busy.len());
-    append_tone(&mut text, "ringback", ringback.as_slice())?;
-    append_tone(&mut text, "busy", busy.as_slice())?;
-    let mut script = Script {
-        text,
-        processors,
-        worker: 0,
-    };
-    let given = PlainTones { ringback, busy };
-    let exchange = PlainExchange::new(alloc, external, bridges, numbers, given);
-    let mut run = PlainRun::new(alloc, exchange);
+    let setting = Setting::draw(alloc, random)?;
+    let processors = 1 + random.below(8);
+    let pace = draw_pace(random);
+    let mut script = Script::new(alloc, setting.header(alloc, processors)?, processors);
+    let mut run = PlainRun::new(alloc, setting.exchange(alloc)?);
     let mut counts = Counts::new();
     let crowd = Crowd::draw(random);
     for number in 0..events {
@@ -201,21 +177,18 @@ pub fn draw_traffic(alloc: Global, random: &mut Random, events: u32) -> Result<D
             Ok(number) if number < crowd.circuits => draw_circuit(random, run.exchange()),
             _ => draw_event(alloc, random, run.exchange())?,
         };
-        script.append(&event, random.once_in(8))?;
         if let Some(course) = run.step(alloc, &event)? {
             counts.note(course);
         }
+        script.append(event, random.once_in(pace))?;
     }
-    let moved = run.moved();
-    let sounded = run.exchange().sounded();
     Ok(Drawn {
-        trace: script.text,
-        report: run.into_report(),
+        script,
+        fresh: setting.exchange(alloc)?,
         counts,
-        events,
-        moved,
-        tones,
-        sounded,
+        moved: run.moved(),
+        tones: setting.lengths(),
+        sounded: run.exchange().sounded(),
     })
 }
 

@@ -7,23 +7,17 @@ use Rattle.ex_io.specs.Ends.{Rose}
 use Rattle.trace_text.specs.declared.fault.Reason.{Reason}
 use Rattle.exchange_core.specs.declared.trace.Trace.{Trace}
 use Rattle.trace_text.specs.TraceGrammar.{IsTrace, IsRefused, most_bytes}
-use Rattle.exchange_core.specs.Orders.{IsLawfulPrefix}
-use Rattle.exchange_top.specs.Outcomes.{IsBegun}
-use Rattle.exchange_top.specs.Report.{Plays}
+use Rattle.call_processor.specs.Frames.{Plays}
 use Rattle.exchange_top.specs.Commands.{Handing, Refuses, Told_so, Untold, IsUnfinished, fabric_of, IsRun, IsInput, IsWholeInput, IsDone, IsTurnedDown, In_refusal, In_report, IsUndone, In_words, In_input, In_answer, Runs, Whole, Unwritten_from, No_memory_from, Answers, Done, Turned_down, Unwritten, No_memory, Told, Ends, Wrong_words, Words_unwritten, Unread, No_room, Answered, refusal, words_refusal}
-use Rattle.exchange_core.proofs.FileOrder.{lawful_whole, lawful_begun}
 use Rattle.trace_text.proofs.TraceReadings.{never_both}
 
 module _ (plays : Plays) (handed : Handing) where
-  begun_lawful : (t : Trace) (order : List ℕ) (old new : Option (List ℕ)) → IsBegun plays (fabric_of t).slots t order old new → IsLawfulPrefix t order
-  begun_lawful t order old new b = rw b.first (lawful_begun t b.count b.within)
-
   -- a run of the trace that the bytes are answers them
   pub answers_run : (bytes : List ℕ) (t : Trace) (status : ℕ) (order : List ℕ) (old new : Option (List ℕ)) (before after : ℕ) → IsTrace bytes t
       → Runs plays handed t status order old new before after → Answers plays handed bytes status order old new before after
-  answers_run bytes t status order old new before after is (Whole s r f) = Done s (record { trace = t; is_trace = is; lawful = rw r.whole (lawful_whole t); report = r; engine = f })
-  answers_run bytes t status order old new before after is (Unwritten_from s rose b) = Unwritten s rose (In_report t is (begun_lawful t order old new b) b)
-  answers_run bytes t status order old new before after is (No_memory_from s b) = No_memory s (In_report t is (begun_lawful t order old new b) b)
+  answers_run bytes t status order old new before after is (Whole s r f) = Done s (record { trace = t; is_trace = is; report = r; engine = f })
+  answers_run bytes t status order old new before after is (Unwritten_from s rose b) = Unwritten s rose (In_report t is b)
+  answers_run bytes t status order old new before after is (No_memory_from s b) = No_memory s (In_report t is b)
 
   pub answers_refused : (bytes : List ℕ) (number : ℕ) (why : Reason) (status : ℕ) (order line : List ℕ) (old new : Option (List ℕ)) (before after : ℕ) → IsRefused bytes number why → order ≡ []
       → line ≡ refusal number why → Refuses 1 line status old new before after → Answers plays handed bytes status order old new before after

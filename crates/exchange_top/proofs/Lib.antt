@@ -1,4 +1,5 @@
 pub mod Reports
 pub mod Pending
+pub mod Answered
+pub mod Underway
 pub mod Endings
-pub mod FrameSteps

@@ -8,12 +8,11 @@ use Rattle.trace_text.specs.declared.fault.Reason.TheVariants as reason
 use Rattle.exchange_core.specs.declared.trace.Trace.{Trace}
 use Rattle.fabric_map.specs.Map.{most_moves}
 use Rattle.trace_text.specs.TraceGrammar.{IsTrace, IsRefused, most_bytes}
-use Rattle.exchange_core.specs.Orders.{IsLawful, IsLawfulPrefix}
 use Rattle.exchange_top.specs.Outcomes.{Fabric, IsReported, IsBegun}
 use Rattle.exchange_core.specs.Sound.{setting_of}
 use Rattle.exchange_core.specs.Working.{world_after}
 use Rattle.exchange_core.specs.World.{Dimensions, World}
-use Rattle.exchange_top.specs.Report.{Plays}
+use Rattle.call_processor.specs.Frames.{Plays}
 use Rattle.exchange_top.specs.Streams.{AppendsFront}
 
 -- the one command: the word `run`, alone
@@ -70,7 +69,6 @@ Handing = Dimensions → World → Type 0
 pub record IsDone (plays : Plays) (handed : Handing) (bytes order : List ℕ) (old new : Option (List ℕ)) : Type 0 where
   pub trace : Trace
   pub is_trace : IsTrace bytes trace
-  pub lawful : IsLawful trace order
   pub report : IsReported plays (fabric_of trace) trace order old new
   pub engine : let slots = (fabric_of trace).slots in handed (setting_of slots trace).dimensions (world_after slots trace order)
 
@@ -86,7 +84,7 @@ pub record IsTurnedDown (bytes order : List ℕ) (old new : Option (List ℕ)) :
 pub data IsCutShort (plays : Plays) (bytes order : List ℕ) (old new : Option (List ℕ)) : Type 0 where
   At_once : order ≡ [] → Keeps old new → IsCutShort plays bytes order old new
   In_refusal : (number : ℕ) (why : Reason) → IsRefused bytes number why → order ≡ [] → AppendsFront old new (refusal number why) → IsCutShort plays bytes order old new
-  In_report : (trace : Trace) → IsTrace bytes trace → IsLawfulPrefix trace order → IsBegun plays (fabric_of trace).slots trace order old new → IsCutShort plays bytes order old new
+  In_report : (trace : Trace) → IsTrace bytes trace → IsBegun plays (fabric_of trace).slots trace order old new → IsCutShort plays bytes order old new
 
 -- the whole call was cut short: it could write no refusal of the words, or it could not read its input, or its answer to the input was cut short
 pub data IsUndone (plays : Plays) (words : List (List ℕ)) (left_old left_new : Option (List ℕ)) (order : List ℕ) (old new : Option (List ℕ)) : Type 0 where

@@ -1,13 +1,15 @@
 -- How far a run came, and what was written of its report. Source: this exchange's own.
-use Rattle.std.specs.Prelude.{◌≡◌, ℕ, ◌≤◌, List, ◌++◌, length, All}
+use Rattle.std.specs.Prelude.{◌≡◌, ℕ, List, ◌++◌, All}
 use Rattle.std.specs.Io.KnownBytes.{Appends}
 use Rattle.std.specs.declared.option.Option.{Option}
 use Rattle.exchange_core.specs.declared.trace.Trace.{Trace}
-use Rattle.exchange_core.specs.Orders.{file_order}
+use Rattle.exchange_core.specs.Orders.{IsLawful, IsLawfulPrefix}
 use Rattle.exchange_core.specs.Sound.{setting_of}
 use Rattle.exchange_core.specs.Step.{run, events_of, MovesAtMost}
 use Rattle.exchange_core.specs.World.{start}
-use Rattle.exchange_top.specs.Report.{Plays, report}
+use Rattle.segment_run.specs.Segments.{IsDoneBelow}
+use Rattle.call_processor.specs.Frames.{Plays}
+use Rattle.exchange_top.specs.Report.{report}
 use Rattle.exchange_top.specs.Streams.{AppendsFront}
 
 -- the fabric that a trace is run on: how many internal slots it has, and how many live paths a new path moves at the most
@@ -19,18 +21,22 @@ pub record Fabric : Type 0 where
 abbrev pub MovesFew : Fabric → Trace → List ℕ → Type 0
 MovesFew fabric trace order = let s = setting_of fabric.slots trace in All (MovesAtMost fabric.most_moves) (run s (start s.dimensions) (events_of trace.events order))
 
--- every event of the trace was done, in the order of the file, and their report was written
+-- every event of the trace was done, in a lawful order, and their report was written; no path that joined moved more others than the fabric allows
 pub record IsReported (plays : Plays) (fabric : Fabric) (trace : Trace) (order : List ℕ) (old new : Option (List ℕ)) : Type 0 where
-  pub whole : order ≡ file_order (length trace.events)
+  pub lawful : IsLawful trace order
   pub text : Appends old new (report plays fabric.slots trace order)
   pub few : MovesFew fabric trace order
 
--- the first events of the trace were done, in the order of the file, and a front of their report was written
+-- Some events of the trace were done, in an order that is lawful as far as it goes. The first of them are those of the first segments, and a front
+-- of the report of these was written; of the segment in which the run ended, nothing was.
 pub record IsBegun (plays : Plays) (slots : ℕ) (trace : Trace) (order : List ℕ) (old new : Option (List ℕ)) : Type 0 where
-  pub count : ℕ
-  pub within : count ≤ length trace.events
-  pub first : order ≡ file_order count
-  pub text : AppendsFront old new (report plays slots trace order)
+  pub lawful : IsLawfulPrefix trace order
+  pub segments : ℕ
+  pub whole : List ℕ
+  pub rest : List ℕ
+  pub parts : order ≡ whole ++ rest
+  pub done : IsDoneBelow trace segments whole
+  pub text : AppendsFront old new (report plays slots trace whole)
 
 -- the text was written up to what is pending
 pub record IsPending (old new : Option (List ℕ)) (pending text : List ℕ) : Type 0 where

@@ -5,8 +5,8 @@ use Rattle.circuit_model.specs.declared.circuit.Circuit.{Circuit}
 use Rattle.circuit_model.specs.declared.circuit.Kind.{Kind}
 use Rattle.circuit_model.specs.FrameInput.{Input}
 use Rattle.circuit_model.specs.Ports.{Ports}
-use Rattle.tone_rules.specs.declared.tones.Tones.{Tones}
 use Rattle.tone_rules.specs.Tables.{table_of}
+use Rattle.exchange_core.specs.declared.answer.Answer.{Answer}
 use Rattle.exchange_core.specs.declared.trace.Event.{Event}
 use Rattle.exchange_core.specs.declared.trace.Trace.{Trace}
 use Rattle.exchange_core.specs.Kept.{kept}
@@ -14,44 +14,42 @@ use Rattle.exchange_core.specs.Setup.{Setting}
 use Rattle.exchange_core.specs.Sound.{setting_of}
 use Rattle.exchange_core.specs.Step.{next, reply, events_of}
 use Rattle.exchange_core.specs.World.{Dimensions, World, start}
-use Rattle.report_text.specs.Report.{lines_sent, report_line}
+use Rattle.call_processor.specs.Frames.{Plays, Carrying, CarriesFrames}
+use Rattle.report_text.specs.Report.{answer_line, lines_sent, report_line}
 
--- what an engine plays on a slot in a frame, given the tones and each frame's input and circuits
-abbrev pub Plays : Type 0
-Plays = (Kind → List ℕ) → List Input → List (List Circuit) → ℕ → Slot → ℕ
+-- what an engine plays on a slot in a frame once the tones are known, given each frame's input and circuits
+abbrev pub Played : Type 0
+Played = List Input → List (List Circuit) → ℕ → Slot → ℕ
 
--- which frames an engine of some type carries: their inputs, circuits and conference ports
-abbrev pub Carrying : Type 0 → Type 1
-Carrying E = E → List Input → List (List Circuit) → List Ports → Type 0
-
--- the octet that the engine puts on a slot in frame f, with these tones
-abbrev pub engine_octet : Plays → Tones → World → ℕ → Slot → ℕ
-engine_octet plays tones w f y = plays (table_of tones) w.inputs w.held f y
+-- the octet that the engine puts on a slot in frame f
+abbrev pub engine_octet : Played → World → ℕ → Slot → ℕ
+engine_octet played w f y = played w.inputs w.held f y
 
 -- what each line sends in the frame that an event is, if it is one
-abbrev pub sent_at : Plays → Setting → World → Event → List (List ℕ)
-sent_at plays s w e = lines_sent (engine_octet plays s.tones (next s w e) w.holding.next) s.dimensions.external
+abbrev pub sent_at : Played → Setting → World → Event → List (List ℕ)
+sent_at played s w e = lines_sent (engine_octet played (next s w e) w.holding.next) s.dimensions.external
 
 -- the line of an event, and the lines of events that happen one after another
-abbrev pub event_line : Plays → Setting → World → ℕ → Event → List ℕ
-event_line plays s w n e = report_line (sent_at plays s w e) n (kept (reply s w e))
+abbrev pub event_line : Played → Setting → World → ℕ → Event → List ℕ
+event_line played s w n e = report_line (sent_at played s w e) n (kept (reply s w e))
 
-abbrev pub event_lines : Plays → Setting → World → List ℕ → List Event → List ℕ
-event_lines plays s w [] events = []
-event_lines plays s w (n ∷ order) [] = []
-event_lines plays s w (n ∷ order) (e ∷ events) = event_line plays s w n e ++ event_lines plays s (next s w e) order events
+abbrev pub event_lines : Played → Setting → World → List ℕ → List Event → List ℕ
+event_lines played s w [] events = []
+event_lines played s w (n ∷ order) [] = []
+event_lines played s w (n ∷ order) (e ∷ events) = event_line played s w n e ++ event_lines played s (next s w e) order events
+
+-- the lines of a trace's events in this order, from the first event of all on
+abbrev pub report_with : Played → ℕ → Trace → List ℕ → List ℕ
+report_with played slots trace order = let s = setting_of slots trace in event_lines played s (start s.dimensions) order (events_of trace.events order)
 
 -- the report of a trace whose events happen in this order: a line for each, in that order
 abbrev pub report : Plays → ℕ → Trace → List ℕ → List ℕ
-report plays slots trace order = let s = setting_of slots trace in event_lines plays s (start s.dimensions) order (events_of trace.events order)
+report plays slots trace order = report_with (plays (table_of trace.tones)) slots trace order
 
--- how many lines and internal slots an engine has, by what its type tells of each
-abbrev pub engine_dimensions : {E : Type 0} → (E → ℕ) → (E → ℕ) → (E → ℕ) → E → Dimensions
-engine_dimensions external bridges slots e = record { external = external e; bridges = bridges e; slots = slots e }
-
--- the engine carries the frames of a world
-abbrev pub CarriesFrames : {E : Type 0} → Carrying E → E → World → Type 0
-CarriesFrames carries e w = carries e w.inputs w.held w.seated
+-- the lines of answers, one after another
+abbrev pub lines_of : List Answer → List ℕ
+lines_of [] = []
+lines_of (a ∷ answers) = answer_line a ++ lines_of answers
 
 -- the engine that a call hands out has these dimensions, and carries the frames of the world
 abbrev pub HandsOut : {E : Type 0} → (E → Dimensions) → Carrying E → Option E → Dimensions → World → Type 0

@@ -6,7 +6,8 @@ ghost use Rattle.trace_text.specs.TraceGrammar.{IsTrace, IsRefused};
 ghost use Rattle.exchange_core.specs.declared.trace.Trace.{Trace};
 ghost use Rattle.exchange_core.specs.Sound.{IsSound};
 ghost use Rattle.exchange_top.specs.Commands.{IsRun, IsInput, IsDone, IsTurnedDown, IsUndone, IsUnfinished, IsWholeInput, Refuses, Runs, Answers, Ends, most_read, reason_name, refusal, words_refusal};
-ghost use Rattle.exchange_top.specs.Report.{HandsOut, engine_dimensions};
+ghost use Rattle.call_processor.specs.Frames.{engine_dimensions};
+ghost use Rattle.exchange_top.specs.Report.{HandsOut};
 ghost use Rattle.exchange_top.specs.Streams.{ConsumesAtMost};
 
 use crate::run::{RunFault, run};
@@ -15,8 +16,11 @@ use ex_io::{Sink, Source};
 use exchange_core::Trace;
 use fabric_map::FabricMap;
 use frame_engine::Carrier;
+use gate::Gate;
 use itoa::Buffer;
 use std::alloc::{AllocError, Global};
+use std::sync::Wait;
+use std::thread::Threads;
 use trace_text::{MOST_BYTES, Reason, TraceFault, read_trace};
 
 /// How a call of the exchange ended.
@@ -97,7 +101,13 @@ fn refuse<K: Sink, C: Carrier>(alloc: Global, sink: &mut K, line: &[u8], status:
 }
 
 // Runs a trace, once there is room for the numbers of its events.
-fn run_trace<K: Sink, C: Carrier>(alloc: Global, trace: &Trace, sink: &mut K) -> Outcome<C>
+fn run_trace<K: Sink, G: Gate, C: Carrier, R: Threads + Wait + Sync>(
+    rt: &R,
+    alloc: Global,
+    trace: &Trace,
+    sink: &mut K,
+    gate: &G,
+) -> Outcome<C>
     requires sound { IsSound trace.now }
     ensures runs { Runs C.plays (HandsOut (engine_dimensions C.external_lines C.bridge_lines C.depth) C.carries result.engine)
         trace.now result.status result.order.items (K.written sink.old) (K.written sink.new) (K.faults sink.old) (K.faults sink.new) }
@@ -110,7 +120,7 @@ fn run_trace<K: Sink, C: Carrier>(alloc: Global, trace: &Trace, sink: &mut K) ->
     let Ok(mut order) = Vec::with_capacity(alloc, trace.events.as_slice().len()) else {
         return ended(alloc, 5);
     };
-    match run(alloc, trace, paths, &mut order, sink) {
+    match run(rt, alloc, trace, paths, &mut order, sink, gate) {
         Ok(engine) => Outcome {
             status: 0,
             order,
@@ -130,7 +140,13 @@ fn run_trace<K: Sink, C: Carrier>(alloc: Global, trace: &Trace, sink: &mut K) ->
 }
 
 // Answers the bytes that were read.
-fn answer<K: Sink, C: Carrier>(alloc: Global, bytes: Vec<u8>, sink: &mut K) -> Outcome<C>
+fn answer<K: Sink, G: Gate, C: Carrier, R: Threads + Wait + Sync>(
+    rt: &R,
+    alloc: Global,
+    bytes: Vec<u8>,
+    sink: &mut K,
+    gate: &G,
+) -> Outcome<C>
     ensures answers { Answers C.plays (HandsOut (engine_dimensions C.external_lines C.bridge_lines C.depth) C.carries result.engine)
         bytes.items result.status result.order.items (K.written sink.old) (K.written sink.new) (K.faults sink.old) (K.faults sink.new) }
     ensures engine { IsSome result.engine ↔ (result.status ≡ 0) }
@@ -139,7 +155,7 @@ fn answer<K: Sink, C: Carrier>(alloc: Global, bytes: Vec<u8>, sink: &mut K) -> O
     match read_trace(alloc, bytes.as_slice()) {
         Ok(trace) => {
             drop(bytes);
-            run_trace(alloc, &trace, sink)
+            run_trace(rt, alloc, &trace, sink, gate)
         }
         Err(TraceFault::Memory) => ended(alloc, 5),
         Err(TraceFault::Line { number, reason }) => match refusal(alloc, number, reason) {
@@ -150,11 +166,13 @@ fn answer<K: Sink, C: Carrier>(alloc: Global, bytes: Vec<u8>, sink: &mut K) -> O
 }
 
 // Answers the words and, where they are the command, the input.
-fn answer_words<S: Source, K: Sink, C: Carrier>(
+fn answer_words<S: Source, K: Sink, G: Gate, C: Carrier, R: Threads + Wait + Sync>(
+    rt: &R,
     alloc: Global,
     words: &[String],
     source: &mut S,
     sink: &mut K,
+    gate: &G,
 ) -> Outcome<C>
     ensures ends { Ends C.plays (HandsOut (engine_dimensions C.external_lines C.bridge_lines C.depth) C.carries result.engine)
         (map string_bytes words.now) result.status result.order.items
@@ -170,7 +188,7 @@ fn answer_words<S: Source, K: Sink, C: Carrier>(
         return refuse(alloc, sink, b"refused words\n", 2);
     }
     match read_all(alloc, source, MOST_BYTES) {
-        Ok(bytes) => answer(alloc, bytes, sink),
+        Ok(bytes) => answer(rt, alloc, bytes, sink, gate),
         Err(ReadFault::Read) => ended(alloc, 3),
         Err(ReadFault::Memory) => ended(alloc, 5),
     }
@@ -179,9 +197,11 @@ fn answer_words<S: Source, K: Sink, C: Carrier>(
 /// Reads a trace, does its events, and writes their report.
 ///
 /// The one command is the word `run`, alone. Its input is read to the end, or until more bytes are
-/// held than a trace may have; then its events are done in the order of the file, and the report has
-/// a line for each (`docs/FORMATS.md`). The causes of another end are met in this order: the words,
-/// reading, the trace, the run, writing.
+/// held than a trace may have. Then the trace is run, one segment after the other: the call processors
+/// and the frame worker of a segment take turns at one switching map, each in a thread of its own,
+/// and are held up at the gate, where a test may look on. The order in which the events took their
+/// turns is `order`, and the report has a line for each in that order (`docs/FORMATS.md`). The causes
+/// of another end are met in this order: the words, reading, the trace, the run, writing.
 ///
 /// The octets of a frame are what the engine of type `C` plays. It is handed out where the status is
 /// 0, and then it has as many lines and internal slots as the exchange had, and carries the frames of
@@ -189,15 +209,17 @@ fn answer_words<S: Source, K: Sink, C: Carrier>(
 ///
 /// A read or write that fails ends the call, and then the source's or the sink's count of faults
 /// rises; neither rises otherwise. Want of memory may end the call too, at any trace.
-pub fn exchange<S: Source, K: Sink, C: Carrier>(
+pub fn exchange<S: Source, K: Sink, G: Gate, C: Carrier, R: Threads + Wait + Sync>(
+    rt: &R,
     alloc: Global,
     words: &[String],
     source: &mut S,
     sink: &mut K,
+    gate: &G,
 ) -> Outcome<C>
-    // 0: all of the input was read, it is a trace, its events were done in the order of the file,
-    // which is lawful for it, their report was written, with what the engine plays in each frame,
-    // and the engine has the trace's sizes and carries their frames.
+    // 0: all of the input was read, it is a trace, its events were done in an order that is lawful for
+    // it, their report was written, with what the engine plays in each frame, and the engine has the
+    // trace's sizes and carries their frames.
     ensures done { result.status ≡ 0 → (bytes : List ℕ)
         × IsWholeInput (S.left source.old) (S.left source.new) bytes
         × IsDone C.plays (HandsOut (engine_dimensions C.external_lines C.bridge_lines C.depth) C.carries result.engine)
@@ -234,5 +256,5 @@ pub fn exchange<S: Source, K: Sink, C: Carrier>(
     ensures no_trace { (bytes : List ℕ) (number : ℕ) (why : Reason) → S.left source.old ≡ Some bytes → IsRefused bytes number why
         → IsRun (map string_bytes words.now) → (result.status ≡ 1) ⊎ IsUnfinished result.status }
 {
-    answer_words(alloc, words, source, sink)
+    answer_words(rt, alloc, words, source, sink, gate)
 }

@@ -1,23 +1,24 @@
 //! The whole exchange, from trace bytes to report bytes, over any engine that carries octets.
 //!
-//! The headline, in the contract of [`exchange`]: where the status is 0, the input was a trace, and
-//! the output got exactly its report (`done`). With `Engine` each octet in it is what the
-//! definitions say its slot hears, also in the frame in which its path is moved; a connection moves
-//! at most 2r-2 live paths for r lines.
+//! The headline, in the contract of [`exchange`]: where the status is 0, the input was a trace, its
+//! events were done in an order that is lawful for it, whichever order the call processors and the
+//! frame worker took their turns in, and the output got exactly the report of a run in that order
+//! (`done`). With `Engine` each octet in it is what the definitions say its slot hears, also in the
+//! frame in which its path is moved; a connection moves at most 2r-2 live paths for r lines.
 //!
 //! - What is no trace is refused at its first line that fails (`turned_down`).
 //! - Statuses 3 and 4 come only where a fault was counted (`read_failed`, `write_failed`), and no
 //!   other status hides one (`reads`, `writes`). With 4 and 5 a front of the text was written
 //!   (`cut_short`).
 //!
-//! It stands on `ex_io`, `circuit_model`, `control_memory`, `circuit_map`, `tone_rules`,
-//! `fabric_map`, `frame_engine`, `exchange_core`, `trace_text` and `report_text`, and on the kit's
-//! `itoa`.
+//! It stands on `ex_io`, `circuit_model`, `control_memory`, `tone_rules`, `fabric_map`,
+//! `frame_engine`, `exchange_core`, `shared_exchange`, `gate`, `call_processor`, `segment_run`,
+//! `trace_text` and `report_text`, and on the kit's `itoa`.
 #![tactic(auto)]
 
 mod call;
 mod run;
+mod segments;
 mod streams;
-mod switch;
 
 pub use call::{Outcome, exchange};

@@ -158,18 +158,19 @@ impl PlainExchange {
 
     /// Puts a tone on an idle slot, where it is given. Whether it is.
     pub(crate) fn sound(&mut self, x: Slot, kind: Kind) -> Result<bool, AllocError> {
-        let is_given = match kind {
-            Kind::Ringback => !self.tones.ringback.is_empty(),
-            Kind::Busy => !self.tones.busy.is_empty(),
+        let octets = match kind {
+            Kind::Ringback => &self.tones.ringback,
+            Kind::Busy => &self.tones.busy,
         };
-        if is_given {
-            match kind {
-                Kind::Ringback => self.rung = self.rung.saturating_add(1),
-                Kind::Busy => self.busy = self.busy.saturating_add(1),
-            }
-            self.circuits.give_tone(x, kind)?;
+        if octets.is_empty() {
+            return Ok(false);
         }
-        Ok(is_given)
+        match kind {
+            Kind::Ringback => self.rung = self.rung.saturating_add(1),
+            Kind::Busy => self.busy = self.busy.saturating_add(1),
+        }
+        self.circuits.give_tone(x, kind)?;
+        Ok(true)
     }
 
     /// Takes a message from the user of a line.

@@ -1,9 +1,7 @@
-ghost use Rattle.std.specs.Prelude.{◌≡◌, IfOk, length};
-ghost use Rattle.exchange_core.specs.Sound.{Fits};
-
+use crate::check::Plain;
 use circuit_model::{IDLE, PLACES, Slot};
-use exchange_core::Event;
 use frame_buffer::DelayLine;
+use plain_calls::{PlainEvent, append_octets};
 use plain_model::Exchange;
 use std::alloc::{AllocError, Global};
 use std::marker::Model;
@@ -38,8 +36,8 @@ impl Nail {
     }
 }
 
-/// What a plain reading of the events says that a report has to say, but for the numbers of moved
-/// paths.
+/// A plain reading of the events, which reports all but the numbers of moved paths; `_ _` stands for
+/// them.
 ///
 /// It lists who is connected with whom and since when, and who has a seat.
 #[derive(Drop)]
@@ -51,6 +49,8 @@ pub struct Yardstick {
     seats: Vec<Slot>,
     delay: DelayLine,
     plain: Exchange,
+    report: String,
+    events: u32,
     refused: u32,
     octets: u32,
 }
@@ -72,9 +72,7 @@ impl Yardstick {
         kind: Kind,
         external: u8,
         bridges: u8,
-    ) -> Result<Yardstick, AllocError>
-        ensures { IfOk result (λ y. y ≡ external) }
-    {
+    ) -> Result<Yardstick, AllocError> {
         Ok(Yardstick {
             kind,
             external,
@@ -83,15 +81,15 @@ impl Yardstick {
             seats: Vec::new(alloc),
             delay: DelayLine::new(alloc, external)?,
             plain: Exchange::new(alloc),
+            report: String::new(alloc),
+            events: 0,
             refused: 0,
             octets: 0,
         })
     }
 
     /// How many external lines there are.
-    pub fn external(&self) -> u8
-        ensures { result ≡ self.now }
-    {
+    pub fn external(&self) -> u8 {
         self.external
     }
 
@@ -110,25 +108,19 @@ impl Yardstick {
         self.octets
     }
 
-    /// Takes one event, and adds what the report says of it behind its number. `_` stands for a
-    /// number of moved paths.
-    pub fn step(
-        &mut self,
-        alloc: Global,
-        event: &Event,
-        report: &mut String,
-    ) -> Result<(), AllocError>
-        requires { Fits self.old event.now }
-        ensures { self.new ≡ self.old }
-    {
+    /// Takes one event, and adds its line to the report.
+    pub fn step(&mut self, alloc: Global, event: &PlainEvent) -> Result<(), AllocError> {
+        self.events = self.events.saturating_add(1);
+        write!(self.report, "{} ", self.events)?;
         match event {
-            Event::Nail(x, y) => report.push_str(self.nail(*x, *y)?),
-            Event::Seat(x, room) => report.push_str(self.seat(*x, *room)?),
-            Event::Free(x) => report.push_str(self.free(*x)),
-            // none is drawn with this yardstick, and one that is no call's gets no answer
-            Event::Message(..) => report.push_str("message"),
-            Event::Frame(input) => self.frame(alloc, input.as_slice(), report),
+            PlainEvent::Nail(x, y) => self.nail(*x, *y)?,
+            PlainEvent::Seat(x, room) => self.seat(*x, *room)?,
+            PlainEvent::Free(x) => self.free(*x)?,
+            // None is drawn with this yardstick, and one that is no call's gets no answer.
+            PlainEvent::Message(..) => self.report.push_str("message")?,
+            PlainEvent::Frame(input) => self.frame(alloc, input.as_slice())?,
         }
+        self.report.push_str("\n")
     }
 
     /// Whom a slot is connected with, and since which frame.
@@ -146,87 +138,71 @@ impl Yardstick {
         self.nail_of(x).is_none() && !self.seats.contains(&x)
     }
 
-    fn refuse(&mut self, answer: &'static str) -> &'static str
-        ensures { self.new ≡ self.old }
-    {
+    fn refuse(&mut self, answer: &str) -> Result<(), AllocError> {
         self.refused = self.refused.saturating_add(1);
-        answer
+        self.report.push_str(answer)
     }
 
-    fn nail(&mut self, one: Slot, other: Slot) -> Result<&'static str, AllocError>
-        ensures { self.new ≡ self.old }
-    {
+    fn nail(&mut self, one: Slot, other: Slot) -> Result<(), AllocError> {
         if !(self.is_idle(one) && self.is_idle(other)) {
-            return Ok(self.refuse("busy"));
+            return self.refuse("busy");
         }
         let since = self.plain.next_frame();
         self.nails.push(Nail { one, other, since })?;
         self.plain.connect(one, other)?;
-        Ok("granted _ _")
+        self.report.push_str("granted _ _")
     }
 
-    fn seat(&mut self, x: Slot, room: u8) -> Result<&'static str, AllocError>
-        ensures { self.new ≡ self.old }
-    {
+    fn seat(&mut self, x: Slot, room: u8) -> Result<(), AllocError> {
         if !self.is_idle(x) {
-            return Ok(self.refuse("busy"));
+            return self.refuse("busy");
         }
         if self.seats.len() == self.ports {
-            return Ok(self.refuse("noport"));
+            return self.refuse("noport");
         }
         self.seats.push(x)?;
         self.plain.seat(x, room)?;
-        Ok("seated _ _")
+        self.report.push_str("seated _ _")
     }
 
-    fn free(&mut self, x: Slot) -> &'static str
-        ensures { self.new ≡ self.old }
-    {
+    fn free(&mut self, x: Slot) -> Result<(), AllocError> {
         if self.is_idle(x) {
             return self.refuse("notnailed");
         }
         self.nails.retain(|nail| nail.partner(x).is_none());
         self.seats.retain(|seat| *seat != x);
         self.plain.clear(x);
-        "freed"
+        self.report.push_str("freed")
     }
 
-    /// A frame. The delay line is read before it takes in what arrives. Past the greatest number
-    /// there is no frame, and nothing is added, which no report agrees with.
-    fn frame(
-        &mut self,
-        alloc: Global,
-        input: &[Option<[u8; 30]>],
-        report: &mut String,
-    ) -> Result<(), AllocError>
-        requires { length input.now ≡ self.old }
-        ensures { self.new ≡ self.old }
-    {
+    // A frame. The delay line is read before it takes in what arrives. Past the greatest number there is
+    // no frame, and nothing is added, which no report agrees with.
+    fn frame(&mut self, alloc: Global, input: &[Option<[u8; 30]>]) -> Result<(), AllocError> {
         let frame = self.plain.next_frame();
         if frame == u32::MAX {
             return Ok(());
         }
         self.plain.frame(alloc, input)?;
-        write!(report, "frame {frame}")?;
+        write!(self.report, "frame {frame}")?;
         for line in 0..self.external {
-            self.line(frame, line, report)?;
+            self.line(frame, line)?;
         }
-        self.delay.push(input);
+        if input.len() == usize::from(self.external) {
+            self.delay.push(input);
+        }
         Ok(())
     }
 
-    /// What a line sends, where it isn't idle.
-    fn line(&mut self, frame: u32, line: u8, report: &mut String) -> Result<(), AllocError>
-        ensures { self.new ≡ self.old }
-    {
+    // What a line sends, where it isn't idle.
+    fn line(&mut self, frame: u32, line: u8) -> Result<(), AllocError> {
         let octets = self.sent(frame, line);
         let loud = octets.iter().filter(|octet| **octet != IDLE).count();
         if loud == 0 {
             return Ok(());
         }
         self.octets = self.octets.saturating_add(loud as u32);
-        write!(report, " {line}:")?;
-        append_octets(report, &octets)
+        write!(self.report, " {line}:")?;
+        append_octets(&mut self.report, &octets)
     }
 
     /// What a line sends in a frame.
@@ -264,10 +240,13 @@ impl Yardstick {
     }
 }
 
-/// Adds octets in hexadecimal digits.
-pub fn append_octets(text: &mut String, octets: &[u8]) -> Result<(), AllocError> {
-    for octet in octets.iter() {
-        write!(text, "{octet:02X}")?;
+impl Plain for Yardstick {
+    fn take(&mut self, alloc: Global, event: &PlainEvent) -> Result<(), AllocError> {
+        self.step(alloc, event)
     }
-    Ok(())
+
+    fn into_text(self) -> String {
+        let Yardstick { report, .. } = self;
+        report
+    }
 }

@@ -1,1 +1,12 @@
 pub mod Orders
+pub mod Lists
+pub mod Doers
+pub mod Filling
+pub mod Runs
+pub mod Loads
+pub mod Answered
+pub mod Gathers
+pub mod Counting
+pub mod Dealt
+pub mod Beside
+pub mod Whole

@@ -1,2 +1,4 @@
 pub mod Segment
 pub mod Segments
+pub mod Team
+pub mod Nothing

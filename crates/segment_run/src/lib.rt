@@ -1,14 +1,26 @@
 //! A segment of a trace: its call processors and its frame worker side by side, and their answers
 //! in the order of the history.
 //!
-//! What a run of a segment does is defined in `specs/`.
+//! `run_segment` starts a thread for each worker that has events, but for one, which is the caller.
+//! Its clauses: the history grows by the segment's events alone (`ran`), by each worker's whole part
+//! where it is answered (`whole`); the answers are the exchange's at their places of the history, with
+//! the octets that the engine plays (`answered`); the engine carries the frames of the history
+//! (`ready`). Segments that are run one after another make a lawful order
+//! (`segments_make_lawful_orders`).
 //!
 //! It stands on `circuit_model`, `tone_rules`, `frame_engine`, `exchange_core`, `gate` and
 //! `call_processor`.
 #![tactic(auto)]
 
 mod answers;
+mod crew;
+mod dealing;
+mod gathering;
 mod laws;
+mod merge;
+mod run;
+mod team;
 
 pub use answers::SegmentAnswer;
 pub use laws::{first_seat_is_chief, segments_leave_room, segments_make_lawful_orders};
+pub use run::run_segment;

@@ -6,7 +6,7 @@
 //! standard input and output nothing can be proved, so the tests here run whole traces over ends in
 //! memory.
 //!
-//! It stands on `ex_io`, `frame_engine` and `exchange_top`.
+//! It stands on `ex_io`, `frame_engine`, `gate` and `exchange_top`.
 #![tactic(auto)]
 
 #[cfg(test)]
@@ -15,6 +15,7 @@ mod tests;
 use ex_io::{StdSink, StdSource};
 use exchange_top::{Outcome, exchange};
 use frame_engine::Engine;
+use gate::OpenGate;
 use std::env;
 use std::io::{self, ErrorKind};
 use std::process::ExitCode;
@@ -36,6 +37,13 @@ fn main(rt: HostRuntime) -> ExitCode {
     };
     let mut source = StdSource::new(rt.stdin());
     let mut sink = StdSink::new(rt.stdout());
-    let outcome: Outcome<Engine> = exchange(rt.alloc(), &words, &mut source, &mut sink);
+    let outcome: Outcome<Engine> = exchange(
+        &rt,
+        rt.alloc(),
+        &words,
+        &mut source,
+        &mut sink,
+        &OpenGate,
+    );
     ExitCode::from(outcome.status)
 }

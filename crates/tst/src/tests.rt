@@ -2,8 +2,13 @@
 use ex_io::{MemSink, MemSource};
 use exchange_top::{Outcome, exchange};
 use frame_engine::{Carrier, Engine, Marker};
+use gate::{Gate, OpenGate, TestGate};
 use std::alloc::{AllocError, Global};
+use std::hint;
+use std::sync::Wait;
+use std::sync::atomic::{AtomicU64, Ordering};
 use std::test::Fail;
+use std::thread::Threads;
 
 // A text in which `+` stands for twenty-nine idle octets.
 fn spelled(alloc: Global, text: &str) -> Result<Vec<u8>, AllocError> {
@@ -33,13 +38,15 @@ struct Ended {
 
 // One call of the exchange. That it has no clause keeps what a call promises out of the tests, which
 // only look at what came of it.
-fn called<C: Carrier>(
+fn called<C: Carrier, G: Gate>(
+    rt: &(impl Threads + Wait + Sync),
     alloc: Global,
     words: &[String],
     mut source: MemSource,
     mut sink: MemSink,
+    gate: &G,
 ) -> Ended {
-    let outcome: Outcome<C> = exchange(alloc, words, &mut source, &mut sink);
+    let outcome: Outcome<C> = exchange(rt, alloc, words, &mut source, &mut sink, gate);
     Ended {
         status: outcome.status,
         order: outcome.order,
@@ -51,11 +58,25 @@ fn called<C: Carrier>(
 }
 
 // How the command `run` ends on an input, and what it writes.
-fn ran<C: Carrier>(alloc: Global, input: Vec<u8>) -> Result<Ended, AllocError> {
+fn ran<C: Carrier>(
+    rt: &(impl Threads + Wait + Sync),
+    alloc: Global,
+    input: Vec<u8>,
+) -> Result<Ended, AllocError> {
+    ran_at::<C, OpenGate>(rt, alloc, input, &OpenGate)
+}
+
+// The same, held up at a gate.
+fn ran_at<C: Carrier, G: Gate>(
+    rt: &(impl Threads + Wait + Sync),
+    alloc: Global,
+    input: Vec<u8>,
+    gate: &G,
+) -> Result<Ended, AllocError> {
     let words = vec![in alloc; String::from_str(alloc, "run")?]?;
     let source = MemSource::new(input, 4096, Vec::new(alloc));
     let sink = MemSink::new(alloc, 1_000_000, 4096, Vec::new(alloc))?;
-    Ok(called::<C>(alloc, &words, source, sink))
+    Ok(called::<C, G>(rt, alloc, &words, source, sink, gate))
 }
 
 const DELAY: &str = "exchange 1 2 0 1\nnail 0/1 1/1\nsync\n\
@@ -74,7 +95,7 @@ fn traces_are_answered_by_their_reports(rt: HostRuntime) -> Result<(), Fail> {
         ),
         // A circuit that is made later is silent for two frames more; one direction may be idle.
         (
-            "exchange 1 2 0 1\nF 0:0a+\nnail 0/1 1/1\nF 0:0b+\nF 0:0c+\nF 0:0d+\n",
+            "exchange 1 2 0 1\nF 0:0a+\nsync\nnail 0/1 1/1\nsync\nF 0:0b+\nF 0:0c+\nF 0:0d+\n",
             5,
             "1 frame 0\n2 granted 0 0\n3 frame 1\n4 frame 2\n5 frame 3 1:0B+\n",
         ),
@@ -86,15 +107,16 @@ fn traces_are_answered_by_their_reports(rt: HostRuntime) -> Result<(), Fail> {
         ),
         // A slot that is used again is silent until the newcomer's first octet has come through.
         (
-            "exchange 1 3 0 1\nnail 0/1 1/1\nF 0:01+ 1:81+ 2:C1+\nF 0:02+ 1:82+ 2:C2+\nfree 0/1\nnail 0/1 2/1\n\
-            F 0:03+ 1:83+ 2:C3+\nF 0:04+ 1:84+ 2:C4+\nF 0:05+ 1:85+ 2:C5+\nfree 1/1\n",
+            "exchange 1 3 0 1\nnail 0/1 1/1\nsync\nF 0:01+ 1:81+ 2:C1+\nF 0:02+ 1:82+ 2:C2+\nsync\n\
+            free 0/1\nnail 0/1 2/1\nsync\n\
+            F 0:03+ 1:83+ 2:C3+\nF 0:04+ 1:84+ 2:C4+\nF 0:05+ 1:85+ 2:C5+\nsync\nfree 1/1\n",
             9,
             "1 granted 0 0\n2 frame 0\n3 frame 1\n4 freed\n5 granted 0 0\n6 frame 2\n7 frame 3\n\
             8 frame 4 0:C3+ 2:03+\n9 notnailed\n",
         ),
         // Two members hear each other four frames later; without a bridge line there is no port.
         (
-            "exchange 1 2 1 1\nseat 0/1 5\nseat 1/1 5\nseat 1/1 6\nF 0:11+ 1:91+\nF\nF\nF\nF\n",
+            "exchange 1 2 1 1\nseat 0/1 5\nseat 1/1 5\nseat 1/1 6\nsync\nF 0:11+ 1:91+\nF\nF\nF\nF\n",
             8,
             "1 seated 0 0\n2 seated 0 0\n3 busy\n4 frame 0\n5 frame 1\n6 frame 2\n7 frame 3\n\
             8 frame 4 0:91+ 1:11+\n",
@@ -116,7 +138,7 @@ fn traces_are_answered_by_their_reports(rt: HostRuntime) -> Result<(), Fail> {
             7 message 0:0802800145080282911E028288\n8 frame 4 0:44+\n9 message 0:080280004E790186\n10 frame 5\n",
         ),
     ] {
-        let ended = ran::<Engine>(alloc, spelled(alloc, trace)?)?;
+        let ended = ran::<Engine>(&rt, alloc, spelled(alloc, trace)?)?;
         assert_eq!(rt; (ended.status, ended.has_engine), (0, true), "{trace}");
         assert_eq!(rt; ended.order.as_slice().last(), Some(&count), "{trace}");
         assert_eq!(rt;
@@ -132,7 +154,7 @@ fn traces_are_answered_by_their_reports(rt: HostRuntime) -> Result<(), Fail> {
 #[test]
 fn another_engine_is_heard(rt: HostRuntime) -> Result<(), Fail> {
     let alloc = rt.alloc();
-    let ended = ran::<Marker>(alloc, spelled(alloc, "exchange 1 1 0 1\nF\n")?)?;
+    let ended = ran::<Marker>(&rt, alloc, spelled(alloc, "exchange 1 1 0 1\nF\n")?)?;
     assert_eq!(rt; ended.status, 0);
     assert_eq!(rt;
         ended.sink.bytes(),
@@ -168,7 +190,7 @@ fn what_is_no_trace_is_refused_at_its_first_fault(rt: HostRuntime) -> Result<(),
         (b"exchange 1 1 1 1\nseat 0/1 64\n", "refused 2 number\n"),
         (too_many.as_slice(), "refused 65537 limit\n"),
     ] {
-        let ended = ran::<Engine>(alloc, input.to_vec(alloc)?)?;
+        let ended = ran::<Engine>(&rt, alloc, input.to_vec(alloc)?)?;
         assert_eq!(rt; (ended.status, ended.has_engine), (1, false), "{refusal}");
         assert!(rt; ended.order.is_empty(), "{refusal}");
         assert_eq!(rt; ended.sink.bytes(), refusal.as_bytes());
@@ -187,7 +209,7 @@ fn words_other_than_run_are_refused_unread(rt: HostRuntime) -> Result<(), Fail> 
         // The first read would fail.
         let source = MemSource::new(Vec::new(alloc), 16, [1].to_vec(alloc)?);
         let sink = MemSink::new(alloc, 100, 16, Vec::new(alloc))?;
-        let ended = called::<Engine>(alloc, &given, source, sink);
+        let ended = called::<Engine, OpenGate>(&rt, alloc, &given, source, sink, &OpenGate);
         assert_eq!(rt; (ended.status, ended.read_faults), (2, 0));
         assert_eq!(rt; ended.sink.bytes(), b"refused words\n".as_slice());
     }
@@ -210,7 +232,7 @@ fn a_failing_read_or_write_ends_the_call(rt: HostRuntime) -> Result<(), Fail> {
         let words = vec![in alloc; String::from_str(alloc, word)?]?;
         let source = MemSource::new(spelled(alloc, input)?, read_piece, [read].to_vec(alloc)?);
         let sink = MemSink::new(alloc, 1000, write_piece, [write].to_vec(alloc)?)?;
-        let ended = called::<Engine>(alloc, &words, source, sink);
+        let ended = called::<Engine, OpenGate>(&rt, alloc, &words, source, sink, &OpenGate);
         assert_eq!(rt;
             (ended.status, ended.read_faults, ended.write_faults),
             ends,
@@ -218,5 +240,71 @@ fn a_failing_read_or_write_ends_the_call(rt: HostRuntime) -> Result<(), Fail> {
         );
         assert_eq!(rt; ended.sink.bytes(), written, "{word}");
     }
+    Ok(())
+}
+
+/// Holds one event's turn up until another event's turn is over.
+#[derive(Drop)]
+struct Behind {
+    held: u32,
+    first: u32,
+    over: AtomicU64,
+}
+
+impl Gate for Behind {
+    fn before_turn(&self, _worker: u32, event: u32) {
+        if event == self.held {
+            for _ in 0..200_000_000 {
+                if self.over.load(Ordering::SeqCst) == 1 {
+                    return;
+                }
+                hint::spin_loop();
+            }
+        }
+    }
+
+    fn after_turn(&self, _worker: u32, event: u32) {
+        if event == self.first {
+            self.over.store(1, Ordering::SeqCst);
+        }
+    }
+
+    fn before_crossing(&self, _frame: u32) {}
+
+    fn after_crossing(&self, _frame: u32) {}
+}
+
+// Two call processors want one slot: the one whose turn comes first gets it.
+#[test]
+fn one_slot_goes_to_whose_turn_comes_first(rt: HostRuntime) -> Result<(), Fail> {
+    let trace = b"exchange 1 3 0 2\nnail 0/1 2/1\nnail 1/1 2/1\n";
+    for (held, first, order, report) in [
+        (2, 1, [1, 2], "1 granted 0 0\n2 busy\n"),
+        (1, 2, [2, 1], "2 granted 0 0\n1 busy\n"),
+    ] {
+        let gate = Behind {
+            held,
+            first,
+            over: AtomicU64::new(0),
+        };
+        let ended = ran_at::<Engine, Behind>(&rt, rt.alloc(), trace.to_vec(rt.alloc())?, &gate)?;
+        assert_eq!(rt; ended.order.as_slice(), order.as_slice());
+        assert_eq!(rt; ended.sink.bytes(), report.as_bytes());
+    }
+    Ok(())
+}
+
+// The octets of a frame move when the turn was given on, beside a call processor in its turn.
+#[test]
+fn octets_move_beside_the_call_processors(rt: HostRuntime) -> Result<(), Fail> {
+    let gate = TestGate::new(1, 0);
+    assert!(rt; !gate.passed());
+    let trace = b"exchange 1 2 0 1\nnail 0/1 1/1\nF\n";
+    let ended = ran_at::<Engine, TestGate>(&rt, rt.alloc(), trace.to_vec(rt.alloc())?, &gate)?;
+    assert!(rt; gate.passed());
+    assert_eq!(rt;
+        ended.sink.bytes(),
+        b"2 frame 0\n1 granted 0 0\n".as_slice()
+    );
     Ok(())
 }

@@ -1,5 +1,5 @@
 use Rattle.exchange_top.specs.Commands.{No_memory_from}
-use Rattle.exchange_top.proofs.Pending.{begun_none}
+use Rattle.exchange_top.proofs.Underway.{begun_none}
 use Rattle.exchange_top.proofs.call.run_trace.Goals as goal
 
 pub returns-in_default-with_capacity-clause-runs : goal.returns-in_default-with_capacity-clause-runs

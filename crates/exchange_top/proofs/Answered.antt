@@ -1,0 +1,241 @@
+-- The answers of a run and the lines of its report.
+use Rattle.std.proofs.Common.{◌≡◌, ℕ, suc, ◌+◌, ◌-◌, ◌<◌, ◌≤◌, Bool, true, false, not, if◌then◌else◌, List, [], ◌∷◌, ◌++◌, length, map, take, drop, Option, Some, None, slice_get, slice_index, refl, sym, ap, subst, ◌∙◌, arith, add-one, append_assoc, append-nil, length-append, take_all}
+use Rattle.std.specs.Prelude.{All}
+use Rattle.std.specs.List.{cons_option}
+use Rattle.std.proofs.lemmas.List.{take-append-drop, take-append-le}
+use Rattle.std.proofs.lemmas.List.Elements.{All-nil, All-cons, All-head, All-tail, All-append, All-weaker, filter_map-append}
+use Rattle.std.proofs.Math.Seq.{take-append_seam, drop-append_seam}
+use Rattle.circuit_model.specs.declared.channel.Slot.{Slot}
+use Rattle.circuit_model.specs.declared.circuit.Kind.{Kind}
+use Rattle.circuit_model.specs.FrameInput.{Input}
+use Rattle.circuit_model.specs.Ports.{given, port_of}
+use Rattle.control_memory.specs.Layout.{Layout}
+use Rattle.exchange_core.specs.declared.answer.Answer.{Answer}
+use Rattle.exchange_core.specs.declared.reply.Reply.{Reply}
+use Rattle.exchange_core.specs.declared.trace.Event.{Event}
+use Rattle.exchange_core.specs.declared.trace.Event.TheVariants.{Nail, Seat, Free, Message, Frame}
+use Rattle.exchange_core.specs.declared.trace.Trace.{Trace}
+use Rattle.exchange_core.specs.IdleSlots.{idle, nailed}
+use Rattle.exchange_core.specs.Kept.{kept}
+use Rattle.exchange_core.specs.Orders.{IsEvent}
+use Rattle.exchange_core.specs.Seats.{Board, Known, StartsWith, AnswersAt, before, setting_at, unseen, world_at}
+use Rattle.exchange_core.specs.Setup.{Setting}
+use Rattle.exchange_core.specs.Sound.{setting_of}
+use Rattle.exchange_core.specs.Step.{MovesAtMost, events_of, may_nail, next, reply, run, world}
+use Rattle.exchange_core.specs.Working.{Entry, IsNumbered, order_of, world_after}
+use Rattle.exchange_core.specs.World.{Dimensions, World, is_full, pass, seated, start}
+use Rattle.exchange_core.proofs.Stepping.{world_more}
+use Rattle.tone_rules.specs.Tables.{table_of}
+use Rattle.call_processor.specs.Frames.{IsPlayed, Plays}
+use Rattle.segment_run.specs.Segment.{AreAnswered, IsAnswered, grown}
+use Rattle.segment_run.proofs.Orders.{order_grown}
+use Rattle.report_text.specs.Report.{answer_line, frame_line, lines_sent, octet_of, report_line}
+use Rattle.exchange_top.specs.Outcomes.{MovesFew}
+use Rattle.exchange_top.specs.Report.{Played, report, event_line, event_lines, lines_of, report_with, sent_at}
+use Rattle.exchange_top.specs.Running.{GrewFew, fabric_at, grown_lines}
+use Rattle.exchange_top.proofs.Reports.{sent_played, take_snoc, within_get}
+
+-- ---- the lines of answers
+
+pub lines_append : (xs ys : List Answer) → lines_of (xs ++ ys) ≡ lines_of xs ++ lines_of ys
+lines_append [] ys = refl
+lines_append (a ∷ xs) ys = ap (λ (l : List ℕ). answer_line a ++ l) (lines_append xs ys) ∙ sym (append_assoc (answer_line a) (lines_of xs) (lines_of ys))
+
+-- one answer more is told
+pub lines_more : (answers : List Answer) (i : ℕ) (a : Answer) → slice_get answers i ≡ Some a → lines_of (take (i + 1) answers) ≡ lines_of (take i answers) ++ answer_line a
+lines_more answers i a found =
+    ap (λ (n : ℕ). lines_of (take n answers)) (add-one i)
+    ∙ (ap lines_of (take_snoc answers i a found)
+    ∙ (lines_append (take i answers) (a ∷ []) ∙ ap (λ (l : List ℕ). lines_of (take i answers) ++ l) (append-nil (answer_line a))))
+
+-- what is told so far, and the rest
+pub lines_split : (answers : List Answer) (i : ℕ) → lines_of answers ≡ lines_of (take i answers) ++ lines_of (drop i answers)
+lines_split answers i = ap lines_of (sym (take-append-drop i answers)) ∙ lines_append (take i answers) (drop i answers)
+
+-- ---- an order that goes on
+
+numbered : (trace : Trace) (n : ℕ) → IsEvent trace n → (e : Event) × IsNumbered trace n e
+numbered trace n is = within_get trace.events (n - 1) (let low = is.0 in let high = is.1 in omega (arith, low, high))
+
+events_long : (trace : Trace) (order : List ℕ) → All (IsEvent trace) order → length order ≡ length (events_of trace.events order)
+events_long trace [] known = refl
+events_long trace (n ∷ order) known =
+    let e = numbered trace n (All-head (IsEvent trace) n order known) in
+    ap suc (events_long trace order (All-tail (IsEvent trace) n order known)) ∙ sym (ap (λ (o : Option Event). length (cons_option o (events_of trace.events order))) e.1)
+
+event_lines-append : (played : Played) (s : Setting) (w : World) (order more : List ℕ) (es fs : List Event) → length order ≡ length es
+    → event_lines played s w (order ++ more) (es ++ fs) ≡ event_lines played s w order es ++ event_lines played s (world s w es) more fs
+event_lines-append played s w [] more [] fs same = refl
+event_lines-append played s w [] more (e ∷ es) fs same = absurd (omega (arith, same))
+event_lines-append played s w (n ∷ order) more [] fs same = absurd (omega (arith, same))
+event_lines-append played s w (n ∷ order) more (e ∷ es) fs same =
+    ap (λ (l : List ℕ). event_line played s w n e ++ l) (event_lines-append played s (next s w e) order more es fs (omega (arith, same)))
+    ∙ sym (append_assoc (event_line played s w n e) (event_lines played s (next s w e) order es) (event_lines played s (world s (next s w e) es) more fs))
+
+run-append : (s : Setting) (w : World) (es fs : List Event) → run s w (es ++ fs) ≡ run s w es ++ run s (world s w es) fs
+run-append s w [] fs = refl
+run-append s w (e ∷ es) fs = ap (λ (l : List Reply). reply s w e ∷ l) (run-append s (next s w e) es fs)
+
+events_append : (trace : Trace) (order more : List ℕ) → events_of trace.events (order ++ more) ≡ events_of trace.events order ++ events_of trace.events more
+events_append trace order more = filter_map-append (λ (n : ℕ). slice_get trace.events (n - 1)) order more
+
+-- the report of a longer order begins with that of its front
+pub report_append : (played : Played) (slots : ℕ) (trace : Trace) (order more : List ℕ) → All (IsEvent trace) order → report_with played slots trace (order ++ more)
+    ≡ report_with played slots trace order ++ event_lines played (setting_of slots trace) (world_after slots trace order) more (events_of trace.events more)
+report_append played slots trace order more known =
+    let s = setting_of slots trace in
+    ap (event_lines played s (start s.dimensions) (order ++ more)) (events_append trace order more)
+    ∙ event_lines-append played s (start s.dimensions) order more (events_of trace.events order) (events_of trace.events more) (events_long trace order known)
+
+-- ---- the line of an answer
+
+-- what lines send matters to a frame's line alone
+module _ (rows others : List (List ℕ)) (n : ℕ) where
+  abbrev IsSame : Reply → Type 0
+  IsSame r = report_line rows n (kept r) ≡ report_line others n (kept r)
+
+  same_either : (b : Bool) (r q : Reply) → IsSame r → IsSame q → IsSame (if b then r else q)
+  same_either true r q one other = one
+  same_either false r q one other = other
+
+  same_seated : (d : Dimensions) (layout : Layout) (x : Slot) (port : Option Slot) → IsSame (seated d layout x port)
+  same_seated d layout x None = refl
+  same_seated d layout x (Some p) = refl
+
+  pub command_line : (s : Setting) (w : World) (e : Event) → ((input : Input) → ¬ (e ≡ Frame input)) → IsSame (reply s w e)
+  command_line s w (Nail x y) other = same_either (may_nail w x y) _ _ refl refl
+  command_line s w (Seat x room) other =
+      same_either (not (idle w x)) _ _ refl
+      (same_either (is_full s.dimensions w) _ _ refl (same_seated s.dimensions w.layout x (port_of s.dimensions.external (given x w.ports) x)))
+  command_line s w (Free x) other = same_either (nailed w x) _ _ refl refl
+  command_line s w (Message line octets) other = refl
+  command_line s w (Frame input) other = absurd (other input refl)
+
+module _ (plays : Plays) (tones : Kind → List ℕ) (board : Board) (front : List Entry) (a : Answer) (n : ℕ)
+    (played : (input : Input) → IsNumbered board.trace n (Frame input) → IsPlayed plays tones board.trace.external (world_at board front) input a.octets) where
+  abbrev here : World
+  here = world_at board front
+
+  abbrev kept_rows : List (List ℕ)
+  kept_rows = lines_sent (octet_of a.octets) (length a.octets)
+
+  abbrev sent : Event → List (List ℕ)
+  sent e = sent_at (plays tones) (setting_at board) here e
+
+  -- an answer has the octets of its frame, and no other event's line has any
+  rows_of : (e : Event) → IsNumbered board.trace n e → report_line kept_rows n (kept (reply (setting_at board) here e)) ≡ report_line (sent e) n (kept (reply (setting_at board) here e))
+  rows_of (Nail x y) is = command_line kept_rows (sent (Nail x y)) n (setting_at board) here (Nail x y) (λ input e. cc)
+  rows_of (Seat x room) is = command_line kept_rows (sent (Seat x room)) n (setting_at board) here (Seat x room) (λ input e. cc)
+  rows_of (Free x) is = command_line kept_rows (sent (Free x)) n (setting_at board) here (Free x) (λ input e. cc)
+  rows_of (Message line octets) is = command_line kept_rows (sent (Message line octets)) n (setting_at board) here (Message line octets) (λ input e. cc)
+  rows_of (Frame input) is =
+      let p = played input is in
+      let lines : kept_rows ≡ lines_sent (octet_of a.octets) board.trace.external = ap (lines_sent (octet_of a.octets)) p.lines in
+      ap (λ (rows : List (List ℕ)). frame_line rows n here.holding.next)
+      (lines ∙ sent_played board.trace.external (plays tones (pass here input).inputs (pass here input).held here.holding.next) a.octets p.played)
+
+  -- the line of an answer is that of its event, after this history
+  answer_is : (e : Event) (r : Reply) → a.event ≡ n → IsNumbered board.trace n e → AnswersAt board front n r → a.reply ≡ kept r
+      → answer_line a ≡ event_line (plays tones) (setting_at board) here n e
+  answer_is e r same number given keeps = (λ i. report_line kept_rows (same i) ((keeps ∙ ap kept (given e number)) i)) ∙ rows_of e number
+
+-- ---- the answers of what came behind a history
+
+-- they have the lines of these events, which moved few paths
+record Told (plays : Plays) (tones : Kind → List ℕ) (board : Board) (front : List Entry) (order : List ℕ) (answers : List Answer) : Type 0 where
+  lines : lines_of answers ≡ event_lines (plays tones) (setting_at board) (world_at board front) order (events_of board.trace.events order)
+  few : All (MovesAtMost board.bound) (run (setting_at board) (world_at board front) (events_of board.trace.events order))
+
+module _ (plays : Plays) (tones : Kind → List ℕ) (board : Board) (history : List Entry) where
+  told_more : (front : List Entry) (entry : Entry) (order : List ℕ) (a : Answer) (answers : List Answer) → IsEvent board.trace entry.1 → a.event ≡ entry.1 → before (length front) history ≡ front
+      → IsAnswered plays tones board history (length front) a → Told plays tones board (front ++ entry ∷ []) order answers → Told plays tones board front (entry.1 ∷ order) (a ∷ answers)
+  told_more front entry order a answers is same at here rest =
+      let n = entry.1 in
+      let s = setting_at board in
+      let w = world_at board front in
+      let trace = board.trace in
+      let more = events_of trace.events order in
+      let e = numbered trace n is in
+      let split : events_of trace.events (n ∷ order) ≡ e.0 ∷ more = ap (λ (o : Option Event). cons_option o more) e.1 in
+      let after : world_at board (front ++ entry ∷ []) ≡ next s w e.0 =
+      world_more (record { trace = trace; slots = board.slots; bound = board.bound; journal = front }) entry.0 n e.0 e.1 in
+      let given : AnswersAt board front n here.reply =
+      subst (λ (m : ℕ). AnswersAt board front m here.reply) same (subst (λ (h : List Entry). AnswersAt board h a.event here.reply) at here.given) in
+      let line : answer_line a ≡ event_line (plays tones) s w n e.0 =
+      answer_is plays tones board front a n (λ input number.
+      subst (λ (h : List Entry). IsPlayed plays tones trace.external (world_at board h) input a.octets) at
+      (here.played input (subst (λ (m : ℕ). IsNumbered trace m (Frame input)) (sym same) number)))
+      e.0 here.reply same e.1 given here.keeps in
+      record {
+        lines = (λ i. line i ++ rest.lines i)
+            ∙ (ap (λ (v : World). event_line (plays tones) s w n e.0 ++ event_lines (plays tones) s v order more) after
+            ∙ sym (ap (event_lines (plays tones) s w (n ∷ order)) split));
+        few = subst (λ (es : List Event). All (MovesAtMost board.bound) (run s w es)) (sym split)
+            (All-cons (MovesAtMost board.bound) (reply s w e.0) (run s (next s w e.0) more) (subst (MovesAtMost board.bound) (given e.0 e.1) here.few)
+            (subst (λ (v : World). All (MovesAtMost board.bound) (run s v more)) after rest.few));
+      }
+
+  told : (front rest : List Entry) (answers : List Answer) → history ≡ front ++ rest → All (IsEvent board.trace) (order_of rest) → map (λ (a : Answer). a.event) answers ≡ order_of rest
+      → ((i : ℕ) (a : Answer) → slice_get answers i ≡ Some a → IsAnswered plays tones board history (length front + i) a) → Told plays tones board front (order_of rest) answers
+  told front [] [] is known same each = record { lines = refl; few = All-nil (MovesAtMost board.bound) }
+  told front [] (a ∷ answers) is known same each = absurd (omega (arith, ap length same))
+  told front (entry ∷ rest) [] is known same each = absurd (omega (arith, ap length same))
+  told front (entry ∷ rest) (a ∷ answers) is known same each =
+      let at : before (length front) history ≡ front = ap (take (length front)) is ∙ take-append_seam front (entry ∷ rest) in
+      let first : length front + 0 ≡ length front = omega arith in
+      let long : length (front ++ entry ∷ []) ≡ length front + 1 = length-append front (entry ∷ []) in
+      told_more front entry (order_of rest) a answers (All-head (IsEvent board.trace) entry.1 (order_of rest) known) (ap (λ (l : List ℕ). slice_index l 0) same) at
+      (subst (λ (p : ℕ). IsAnswered plays tones board history p a) first (each 0 a refl))
+      (told (front ++ entry ∷ []) rest answers (is ∙ sym (append_assoc front (entry ∷ []) rest)) (All-tail (IsEvent board.trace) entry.1 (order_of rest) known) (ap (drop 1) same)
+      (λ i b found. let place : length front + suc i ≡ length (front ++ entry ∷ []) + i = omega (arith, long) in
+      subst (λ (p : ℕ). IsAnswered plays tones board history p b) place (each (suc i) b found)))
+
+-- ---- a run that was answered
+
+module _ (plays : Plays) (tones : Kind → List ℕ) (board : Board) (v w : Known) (answers : List Answer) (answered : AreAnswered plays tones board v w answers) (begins : StartsWith w.seen v.seen)
+    (known : All (IsEvent board.trace) (grown v w)) where
+  all_told : Told plays tones board v.seen (grown v w) answers
+  all_told =
+      let new : unseen v.seen w.seen ≡ begins.0 = ap (drop (length v.seen)) begins.1 ∙ drop-append_seam v.seen begins.0 in
+      told plays tones board w.seen v.seen (unseen v.seen w.seen) answers (begins.1 ∙ ap (λ (l : List Entry). v.seen ++ l) (sym new)) known answered.events answered.each
+
+  -- the lines of the answers are those of the events, in the order of the history
+  pub lines_told : lines_of answers ≡ event_lines (plays tones) (setting_at board) (world_at board v.seen) (grown v w) (events_of board.trace.events (grown v w))
+  lines_told = all_told.lines
+
+  module _ (before_known : All (IsEvent board.trace) (order_of v.seen)) where
+    -- the report grows by the lines of the answers
+    pub report_grown : report_with (plays tones) board.slots board.trace (order_of w.seen) ≡ report_with (plays tones) board.slots board.trace (order_of v.seen) ++ lines_of answers
+    report_grown =
+        ap (report_with (plays tones) board.slots board.trace) (order_grown v w begins)
+        ∙ (report_append (plays tones) board.slots board.trace (order_of v.seen) (grown v w) before_known
+        ∙ ap (λ (l : List ℕ). report_with (plays tones) board.slots board.trace (order_of v.seen) ++ l) (sym lines_told))
+
+    -- what was told of the answers so far is a front of the report
+    pub report_front : (i : ℕ) → report_with (plays tones) board.slots board.trace (order_of w.seen)
+        ≡ (report_with (plays tones) board.slots board.trace (order_of v.seen) ++ lines_of (take i answers)) ++ lines_of (drop i answers)
+    report_front i =
+        let done = report_with (plays tones) board.slots board.trace (order_of v.seen) in
+        report_grown ∙ (ap (λ (l : List ℕ). done ++ l) (lines_split answers i) ∙ sym (append_assoc done (lines_of (take i answers)) (lines_of (drop i answers))))
+
+  -- few paths were moved
+  pub few_told : GrewFew board v w
+  few_told = all_told.few
+
+-- ---- what the history grew by
+
+-- the report grows by the lines of the events
+pub text_grown : (plays : Plays) (board : Board) (v w : Known) → StartsWith w.seen v.seen → All (IsEvent board.trace) (order_of v.seen)
+    → report plays board.slots board.trace (order_of w.seen) ≡ report plays board.slots board.trace (order_of v.seen) ++ grown_lines plays board v w
+text_grown plays board v w begins known =
+    ap (report plays board.slots board.trace) (order_grown v w begins) ∙ report_append (plays (table_of board.trace.tones)) board.slots board.trace (order_of v.seen) (grown v w) known
+
+-- few paths were moved, also in these events
+pub few_grown : (board : Board) (v w : Known) → StartsWith w.seen v.seen → MovesFew (fabric_at board) board.trace (order_of v.seen) → GrewFew board v w → MovesFew (fabric_at board) board.trace (order_of w.seen)
+few_grown board v w begins few more =
+    let s = setting_at board in
+    let old = events_of board.trace.events (order_of v.seen) in
+    let new = events_of board.trace.events (grown v w) in
+    let split : events_of board.trace.events (order_of w.seen) ≡ old ++ new = ap (events_of board.trace.events) (order_grown v w begins) ∙ events_append board.trace (order_of v.seen) (grown v w) in
+    subst (All (MovesAtMost board.bound)) (sym (ap (run s (start s.dimensions)) split ∙ run-append s (start s.dimensions) old new))
+    (All-append (MovesAtMost board.bound) (run s (start s.dimensions) old) (run s (world_at board v.seen) new) few more)

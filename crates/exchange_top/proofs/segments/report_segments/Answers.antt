@@ -1,0 +1,84 @@
+use Rattle.std.proofs.Common.{◌≡◌, ◌+◌, ◌≤◌, List, length, ap, sym, ◌∙◌, arith, subst, refl}
+use Rattle.exchange_core.specs.declared.trace.Trace.{Trace}
+use Rattle.exchange_core.specs.Sound.{IsSound}
+use Rattle.exchange_core.specs.Working.{order_of}
+use Rattle.segment_run.specs.Segment.{Ran, RanWhole}
+use Rattle.segment_run.proofs.Orders.{few_segments}
+use Rattle.exchange_top.specs.Outcomes.{IsBegun, IsReported}
+use Rattle.exchange_top.specs.Running.{fabric_at}
+use Rattle.exchange_top.proofs.Pending.{on_err}
+use Rattle.exchange_top.proofs.Underway.{underway_more, underway_written, begun_segment, begun_flush, reported}
+use Rattle.exchange_top.proofs.segments.report_segments.Goals as goal
+
+pub overflow_cast-segment-end : goal.overflow_cast-segment-end
+overflow_cast-segment-end g c =
+    let few = few_segments c.args.trace.now c.requires.sound in
+    let most = c.requires.sound.count in
+    let same = ap (λ (l : List _). length l) c.as_slice.ensures in
+    omega (arith, few, most, same)
+
+pub returns-in_err-carried-clause-begun : goal.returns-in_err-carried-clause-begun
+returns-in_err-carried-clause-begun g c =
+    let K = g.B.Switchboard.known in
+    let board = g.B.Switchboard.board c.args.board.now in
+    let v = K c.loop-segment.seat in
+    let w = K c.report_segment.new.seat in
+    let k = c.loop-segment.segment in
+    let ran = subst (λ (t : Trace). Ran t k v w) c.requires.trace c.report_segment.ensures.ran in
+    on_err c.from_residual.result
+    (subst (λ (t : Trace). IsBegun g.C.Carrier.plays board.slots t (order_of w.seen) (g.K.Sink.written c.args.sink.now) (g.K.Sink.written c.loop-segment.sink)) (sym c.requires.trace)
+    (begun_segment g.C.Carrier.plays board k v _ _ c.loop-segment.text.items c.loop-segment.invariant.underway w ran))
+
+pub returns-in_err-flush_full-clause-begun : goal.returns-in_err-flush_full-clause-begun
+returns-in_err-flush_full-clause-begun g c =
+    let K = g.B.Switchboard.known in
+    let board = g.B.Switchboard.board c.args.board.now in
+    let v = K c.loop-segment.seat in
+    let w = K c.report_segment.new.seat in
+    let k = c.loop-segment.segment in
+    let ran = subst (λ (t : Trace). Ran t k v w) c.requires.trace c.report_segment.ensures.ran in
+    let whole = subst (λ (t : Trace). RanWhole t k v w) c.requires.trace c.in_ok-carried.ensures.whole in
+    let more = underway_more g.C.Carrier.plays board k v _ _ c.loop-segment.text.items c.loop-segment.invariant.underway w c.report_segment.new.text.items c.report_segment.ensures.chief ran whole c.in_ok-carried.ensures.lines c.in_ok-carried.ensures.few in
+    on_err c.from_residual-in_err-flush_full.result
+    (subst (λ (t : Trace). IsBegun g.C.Carrier.plays board.slots t (order_of w.seen) (g.K.Sink.written c.args.sink.now) (g.K.Sink.written c.flush_full.new.sink)) (sym c.requires.trace)
+    (begun_flush g.C.Carrier.plays board (k + 1) w _ _ c.report_segment.new.text.items more _ c.in_err-flush_full.ensures.front))
+
+pub loop-segment-preserved : goal.loop-segment-preserved
+loop-segment-preserved g c =
+    let K = g.B.Switchboard.known in
+    let board = g.B.Switchboard.board c.args.board.now in
+    let v = K c.loop-segment.seat in
+    let w = K c.report_segment.new.seat in
+    let k = c.loop-segment.segment in
+    let ran = subst (λ (t : Trace). Ran t k v w) c.requires.trace c.report_segment.ensures.ran in
+    let whole = subst (λ (t : Trace). RanWhole t k v w) c.requires.trace c.in_ok-carried.ensures.whole in
+    let more = underway_more g.C.Carrier.plays board k v _ _ c.loop-segment.text.items c.loop-segment.invariant.underway w c.report_segment.new.text.items c.report_segment.ensures.chief ran whole c.in_ok-carried.ensures.lines c.in_ok-carried.ensures.few in
+    record {
+      seated = c.report_segment.ensures.seated;
+      underway = underway_written g.C.Carrier.plays board (k + 1) w _ _ c.report_segment.new.text.items more _ _ c.in_ok-flush_full.ensures.pending;
+      ready = c.in_ok-carried.ensures.ready;
+      steady = c.in_ok-flush_full.ensures.steady ∙ c.loop-segment.invariant.steady;
+    }
+
+pub returns-in_err-flush-clause-begun : goal.returns-in_err-flush-clause-begun
+returns-in_err-flush-clause-begun g c =
+    let K = g.B.Switchboard.known in
+    let board = g.B.Switchboard.board c.args.board.now in
+    let v = K c.loop-segment.seat in
+    on_err c.from_residual-in_err-flush.result
+    (subst (λ (t : Trace). IsBegun g.C.Carrier.plays board.slots t (order_of v.seen) (g.K.Sink.written c.args.sink.now) (g.K.Sink.written c.flush.new.sink)) (sym c.requires.trace)
+    (begun_flush g.C.Carrier.plays board c.loop-segment.segment v _ _ c.loop-segment.text.items c.loop-segment.invariant.underway _ c.in_err-flush.ensures.front))
+
+pub returns-clause-whole : goal.returns-clause-whole
+returns-clause-whole g c =
+    let K = g.B.Switchboard.known in
+    let board = g.B.Switchboard.board c.args.board.now in
+    let v = K c.loop-segment.seat in
+    let k = c.loop-segment.segment in
+    let sound = subst IsSound c.requires.trace c.requires.sound in
+    let same = ap (λ (l : List _). length l) c.as_slice.ensures ∙ ap (λ (t : Trace). length t.segments) c.requires.trace in
+    let over = c.loop-segment-test.false in
+    let within = c.loop-segment.auto.segment-end in
+    let all : k ≡ length board.trace.segments = omega (arith, same, over, within) in
+    subst (λ (t : Trace). IsReported g.C.Carrier.plays (fabric_at board) t (order_of v.seen) (g.K.Sink.written c.args.sink.now) (g.K.Sink.written c.flush.new.sink)) (sym c.requires.trace)
+    (reported g.C.Carrier.plays board k v _ _ c.loop-segment.text.items c.loop-segment.invariant.underway _ sound all c.in_ok-flush.ensures.whole)

@@ -1,0 +1,12 @@
+use Rattle.std.proofs.Common.{◌≡◌}
+use Rattle.call_processor.specs.Frames.{IsReady, engine_dimensions}
+use Rattle.exchange_top.proofs.Underway.{IsUnderway}
+use Rattle.exchange_top.proofs.segments.report_segments.Given as goal
+
+abbrev pub invariant-loop-segment : goal.invariant-loop-segment
+invariant-loop-segment g l = record {
+  seated : g.B.Switchboard.seated l.board l.seat;
+  underway : IsUnderway g.C.Carrier.plays (g.B.Switchboard.board l.board) l.segment (g.B.Switchboard.known l.seat) (g.K.Sink.written l.fn.sink) (g.K.Sink.written l.sink) l.text.items;
+  ready : IsReady g.C.Carrier.carries g.C.Carrier.next (engine_dimensions g.C.Carrier.external_lines g.C.Carrier.bridge_lines g.C.Carrier.depth) (g.B.Switchboard.board l.board) (g.B.Switchboard.known l.seat).seen l.carried.engine l.carried.tool;
+  steady : g.K.Sink.faults l.sink ≡ g.K.Sink.faults l.fn.sink;
+}

@@ -1,0 +1,28 @@
+-- A run of a trace, segment by segment. Source: this exchange's own.
+use Rattle.std.specs.Prelude.{◌≡◌, ◌≤◌, ◌*◌, ℕ, List, None, All, replicate}
+use Rattle.tone_rules.specs.Tables.{table_of}
+use Rattle.control_memory.specs.Layout.{Layout}
+use Rattle.exchange_core.specs.Seats.{Board, Known, setting_at, world_at}
+use Rattle.exchange_core.specs.Step.{run, events_of, MovesAtMost}
+use Rattle.segment_run.specs.Segment.{grown}
+use Rattle.call_processor.specs.Frames.{Plays}
+use Rattle.exchange_top.specs.Outcomes.{Fabric}
+use Rattle.exchange_top.specs.Report.{event_lines}
+
+-- a map of paths that an exchange with so many lines can begin with: it has as many, 1 to 59 internal slots, and no path yet
+pub record IsUnused (lines width depth : ℕ) (layout : Layout) : Type 0 where
+  pub wide : width ≡ lines
+  pub some : 1 ≤ depth
+  pub few : depth ≤ 59
+  pub bare : layout ≡ replicate (30 * lines) None
+
+-- the fabric of a board
+abbrev pub fabric_at : Board → Fabric
+fabric_at board = record { slots = board.slots; most_moves = board.bound }
+
+-- the lines of the events that the history grew by, and that no path that joined in them moved more others than the board's fabric allows
+abbrev pub grown_lines : Plays → Board → Known → Known → List ℕ
+grown_lines plays board v w = event_lines (plays (table_of board.trace.tones)) (setting_at board) (world_at board v.seen) (grown v w) (events_of board.trace.events (grown v w))
+
+abbrev pub GrewFew : Board → Known → Known → Type 0
+GrewFew board v w = All (MovesAtMost board.bound) (run (setting_at board) (world_at board v.seen) (events_of board.trace.events (grown v w)))

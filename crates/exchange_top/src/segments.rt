@@ -1,0 +1,160 @@
+//! The segments of a run, and what is written of each.
+ghost use Rattle.std.specs.Prelude.{◌≡◌, ℕ, ◌+◌, ◌*◌, ◌<◌, ◌≤◌, ◌++◌, ◌^◌, List, [], length, IfOk, OnOk, OnErr, IsErrOf};
+ghost use Rattle.std.specs.declared.option.Option.{Option};
+ghost use Rattle.std.specs.Io.KnownBytes.{Appends};
+ghost use Rattle.ex_io.specs.Ends.{Rose};
+ghost use Rattle.exchange_core.specs.declared.answer.Answer.{Answer};
+ghost use Rattle.exchange_core.specs.Seats.{first_seat, turns_of, setting_at, world_at};
+ghost use Rattle.exchange_core.specs.Sound.{IsSound};
+ghost use Rattle.exchange_core.specs.Working.{order_of};
+ghost use Rattle.call_processor.specs.Frames.{CarriesFrames, IsReady, engine_dimensions};
+ghost use Rattle.segment_run.specs.Segment.{IsChief, Ran, RanWhole};
+ghost use Rattle.segment_run.specs.Segments.{IsDoneBelow};
+ghost use Rattle.exchange_top.specs.declared.run.RunFault.TheVariants.{Memory, Write};
+ghost use Rattle.exchange_top.specs.Outcomes.{IsReported, IsBegun, IsPending};
+ghost use Rattle.exchange_top.specs.Report.{lines_of};
+ghost use Rattle.exchange_top.specs.Running.{GrewFew, fabric_at, grown_lines};
+ghost use Rattle.exchange_top.specs.Streams.{AppendsFront};
+
+use crate::run::RunFault;
+use crate::streams::write_all;
+use ex_io::{Failed, Sink};
+use exchange_core::{Answer, Switchboard, Tool, Trace};
+use frame_engine::Carrier;
+use gate::Gate;
+use report_text::append_answer;
+use segment_run::run_segment;
+use std::alloc::{AllocError, Global};
+use std::sync::Wait;
+use std::thread::Threads;
+
+// So many bytes of a report are gathered before they are written, the lines of a segment together.
+const PIECE: usize = 65_536;
+
+/// The engine, and the control memory of its next frame, between two segments.
+#[derive(Drop)]
+pub struct Carried<C> {
+    /// The engine, which has carried the frames so far.
+    pub engine: C,
+    /// The control memory.
+    pub tool: Tool,
+}
+
+/// Runs the segments of a board's trace one after the other, and writes their report. The lines of a
+/// segment are written once all of its events are answered.
+pub fn report_segments<B: Switchboard, K: Sink, G: Gate, C: Carrier, R: Threads + Wait + Sync>(
+    rt: &R,
+    alloc: Global,
+    board: &B,
+    seat: &mut B::Seat,
+    trace: &Trace,
+    carried: Carried<C>,
+    sink: &mut K,
+    gate: &G,
+) -> Result<C, RunFault>
+    requires seated { B.seated board.now seat.old }
+    requires trace { trace.now ≡ (B.board board.now).trace }
+    requires sound { IsSound trace.now }
+    requires fresh { B.known seat.old ≡ first_seat (turns_of (B.board board.now)) }
+    requires ready { IsReady C.carries C.next (engine_dimensions C.external_lines C.bridge_lines C.depth) (B.board board.now) [] carried.engine carried.tool }
+    ensures seated { B.seated board.now seat.new }
+    ensures chief { IsChief (turns_of (B.board board.now)) (B.known seat.new) }
+    ensures whole { OnOk result (IsReported C.plays (fabric_at (B.board board.now))
+        trace.now (order_of (B.known seat.new).seen) (K.written sink.old) (K.written sink.new)) }
+    ensures carried { IfOk result (λ e. CarriesFrames C.carries e (world_at (B.board board.now) (B.known seat.new).seen)) }
+    ensures sized { IfOk result (λ e. engine_dimensions C.external_lines C.bridge_lines C.depth e ≡ (setting_at (B.board board.now)).dimensions) }
+    ensures steady { OnOk result (K.faults sink.new ≡ K.faults sink.old) }
+
+    ensures begun { OnErr result (IsBegun C.plays (B.board board.now).slots
+        trace.now (order_of (B.known seat.new).seen) (K.written sink.old) (K.written sink.new)) }
+    ensures cause { IsErrOf result RunFault.Write → Rose (K.faults sink.old) (K.faults sink.new) }
+    ensures no_fault { IsErrOf result RunFault.Memory → K.faults sink.new ≡ K.faults sink.old }
+{
+    let mut carried = carried;
+    let mut text = Vec::new(alloc);
+    for segment in 0..trace.segments.as_slice().len() as u32 {
+        carried = report_segment(
+            rt, alloc, board, seat, trace, segment, carried, &mut text, gate,
+        )?;
+        flush_full(sink, &mut text)?;
+    }
+    flush(sink, &mut text)?;
+    Ok(carried.engine)
+}
+
+// Runs one segment, and appends the lines of its events to the text.
+fn report_segment<B: Switchboard, G: Gate, C: Carrier, R: Threads + Wait + Sync>(
+    rt: &R,
+    alloc: Global,
+    board: &B,
+    seat: &mut B::Seat,
+    trace: &Trace,
+    segment: u32,
+    carried: Carried<C>,
+    text: &mut Vec<u8>,
+    gate: &G,
+) -> Result<Carried<C>, AllocError>
+    requires seated { B.seated board.now seat.old }
+    requires trace { trace.now ≡ (B.board board.now).trace }
+    requires sound { IsSound trace.now }
+    requires segment { segment < length trace.now.segments }
+    requires chief { IsChief (turns_of (B.board board.now)) (B.known seat.old) }
+    requires numbers { (B.known seat.old).made ≤ 9 * segment }
+    requires done { IsDoneBelow trace.now segment (order_of (B.known seat.old).seen) }
+    requires ready { IsReady C.carries C.next (engine_dimensions C.external_lines C.bridge_lines C.depth) (B.board board.now) (B.known seat.old).seen carried.engine carried.tool }
+    ensures seated { B.seated board.now seat.new }
+    ensures chief { IsChief (turns_of (B.board board.now)) (B.known seat.new) }
+    ensures ran { Ran trace.now segment (B.known seat.old) (B.known seat.new) }
+    ensures whole { OnOk result (RanWhole trace.now segment (B.known seat.old) (B.known seat.new)) }
+    ensures lines { OnOk result (text.new.items ≡ text.old.items ++ grown_lines C.plays (B.board board.now) (B.known seat.old) (B.known seat.new)) }
+    ensures few { OnOk result (GrewFew (B.board board.now) (B.known seat.old) (B.known seat.new)) }
+    ensures ready { IfOk result (λ c. IsReady C.carries C.next (engine_dimensions C.external_lines C.bridge_lines C.depth) (B.board board.now) (B.known seat.new).seen c.engine c.tool) }
+{
+    let Carried { engine, tool } = carried;
+    let done = run_segment(rt, alloc, board, seat, trace, segment, engine, tool, gate)?;
+    append_answers(text, done.answers.as_slice())?;
+    Ok(Carried {
+        engine: done.engine,
+        tool: done.tool,
+    })
+}
+
+// Appends the line of each answer.
+fn append_answers(text: &mut Vec<u8>, answers: &[Answer]) -> Result<(), AllocError>
+    ensures lines { OnOk result (text.new.items ≡ text.old.items ++ lines_of answers.now) }
+{
+    for answer in answers {
+        append_answer(text, answer)?;
+    }
+    Ok(())
+}
+
+// Writes what is pending, once it is a whole piece.
+fn flush_full<K: Sink>(sink: &mut K, text: &mut Vec<u8>) -> Result<(), Failed>
+    ensures pending { (known : Option (List ℕ)) (whole : List ℕ) →
+        IsPending known (K.written sink.old) text.old.items whole
+        → OnOk result (IsPending known (K.written sink.new) text.new.items whole) }
+    ensures steady { OnOk result (K.faults sink.new ≡ K.faults sink.old) }
+
+    ensures front { OnErr result (AppendsFront (K.written sink.old) (K.written sink.new) text.old.items) }
+    ensures cause { OnErr result (Rose (K.faults sink.old) (K.faults sink.new)) }
+{
+    if text.len() < PIECE {
+        return Ok(());
+    }
+    flush(sink, text)
+}
+
+// Writes all that is pending.
+fn flush<K: Sink>(sink: &mut K, text: &mut Vec<u8>) -> Result<(), Failed>
+    ensures whole { OnOk result (Appends (K.written sink.old) (K.written sink.new) text.old.items) }
+    ensures empty { OnOk result (text.new.items ≡ []) }
+    ensures steady { OnOk result (K.faults sink.new ≡ K.faults sink.old) }
+
+    ensures front { OnErr result (AppendsFront (K.written sink.old) (K.written sink.new) text.old.items) }
+    ensures cause { OnErr result (Rose (K.faults sink.old) (K.faults sink.new)) }
+{
+    write_all(sink, text.as_slice())?;
+    text.clear();
+    Ok(())
+}

@@ -1,0 +1,70 @@
+use crate::draw::Trial;
+use call_traffic::{Counts as Courses, Drawn, LONGEST_TONE, Script};
+
+/// How many traces there were, and how many of them leave their workers a choice.
+#[derive(Clone, Copy, Default)]
+pub struct Orders {
+    pub traces: u32,
+    pub events: u32,
+    pub choices: u32,
+}
+
+impl Orders {
+    /// Counts a trace whose order was lawful, and whose report was the wanted one in it.
+    pub fn add(&mut self, script: &Script) {
+        self.traces = self.traces.saturating_add(1);
+        let events = u32::try_from(script.events.len()).unwrap_or(u32::MAX);
+        self.events = self.events.saturating_add(events);
+        if script.has_choice() {
+            self.choices = self.choices.saturating_add(1);
+        }
+    }
+}
+
+/// What the traces come to in file order.
+#[derive(Clone, Copy, Default)]
+pub struct Counts {
+    pub refused: u32,
+    pub frames: u32,
+    pub octets: u32,
+}
+
+impl Counts {
+    pub fn add(&mut self, trial: &Trial) {
+        self.refused = self.refused.saturating_add(trial.refused);
+        self.frames = self.frames.saturating_add(trial.frames);
+        self.octets = self.octets.saturating_add(trial.octets);
+    }
+}
+
+/// How many of the traces gave tones of a length, and how often each tone was put on a slot in file
+/// order.
+#[derive(Clone, Copy, Default)]
+pub struct Tones {
+    pub one: u32,
+    pub two: u32,
+    pub longest: u32,
+    pub ringback: u32,
+    pub busy: u32,
+}
+
+impl Tones {
+    pub fn add(&mut self, drawn: &Drawn) {
+        for length in [drawn.tones.0, drawn.tones.1] {
+            match length {
+                1 => self.one = self.one.saturating_add(1),
+                2 => self.two = self.two.saturating_add(1),
+                LONGEST_TONE => self.longest = self.longest.saturating_add(1),
+                _ => {}
+            }
+        }
+        self.ringback = self.ringback.saturating_add(drawn.sounded.0);
+        self.busy = self.busy.saturating_add(drawn.sounded.1);
+    }
+
+    /// Whether tones of each length were given, and both were put on slots.
+    pub fn is_whole(&self) -> bool {
+        let counts = [self.one, self.two, self.longest, self.ringback, self.busy];
+        counts.iter().all(|count| *count > 0)
+    }
+}

@@ -1,0 +1,32 @@
+// Which orders are lawful.
+use crate::orders::is_lawful;
+use call_traffic::Post;
+use std::test::Fail;
+
+fn post(worker: u8, segment: u32) -> Post {
+    Post { worker, segment }
+}
+
+#[test]
+fn orders_are_lawful_or_not(rt: HostRuntime) -> Result<(), Fail> {
+    // Events 1 to 3 are of one segment, 4 and 5 of the next but one.
+    let posts = [post(0, 0), post(8, 0), post(0, 0), post(8, 2), post(0, 2)];
+    for (order, lawful) in [
+        ([1, 2, 3, 4, 5].as_slice(), true),
+        (&[2, 1, 3, 5, 4], true),
+        (&[1, 3, 2, 4, 5], true),
+        // An event of a worker's overtakes an earlier one, or one of an earlier segment.
+        (&[3, 2, 1, 4, 5], false),
+        (&[1, 2, 4, 3, 5], false),
+        // One is missing, comes twice, or is none of the trace.
+        (&[1, 2, 3, 4], false),
+        (&[1, 2, 3, 4, 4], false),
+        (&[1, 2, 2, 4, 5], false),
+        (&[1, 2, 3, 4, 5, 5], false),
+        (&[0, 2, 3, 4, 5], false),
+        (&[1, 2, 3, 4, 6], false),
+    ] {
+        assert_eq!(rt; is_lawful(&posts, order), lawful, "{order:?}");
+    }
+    Ok(())
+}

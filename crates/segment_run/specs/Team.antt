@@ -1,0 +1,77 @@
+-- The workers of a segment, their seats and their answers. Source: this exchange's own.
+use Rattle.std.specs.Prelude.{◌≡◌, ◌≢◌, ℕ, zero, suc, ◌+◌, ◌-◌, ◌<◌, ◌≤◌, ◌||◌, nat_lt, Bool, false, IsTrue, if◌then◌else◌, List, [], ◌∷◌, ◌++◌, length, slice_set, slice_index, All}
+use Rattle.std.specs.declared.alloc.Global.{Global}
+use Rattle.std.specs.declared.vec.Vec.{Vec}
+use Rattle.exchange_core.specs.declared.answer.Answer.{Answer}
+use Rattle.exchange_core.specs.declared.trace.Trace.{Trace}
+use Rattle.exchange_core.specs.Orders.{Worker, Processor, Frame_worker}
+use Rattle.exchange_core.specs.Seats.{Board, Known, joining}
+use Rattle.call_processor.specs.declared.worked.Placed.{Placed}
+use Rattle.call_processor.specs.Parts.{part_of}
+
+-- the workers by number: the call processors by theirs, and behind them the frame worker
+abbrev pub worker_numbered : ℕ → ℕ → Worker
+worker_numbered processors i = if nat_lt i processors then Processor i else Frame_worker
+
+-- the part of the worker with this number
+abbrev pub part_numbered : Trace → ℕ → ℕ → List ℕ
+part_numbered trace segment i = part_of trace segment (worker_numbered trace.processors i)
+
+-- how many events it is
+abbrev pub load : Trace → ℕ → ℕ → ℕ
+load trace segment i = length (part_numbered trace segment i)
+
+-- how many events the first so many workers have to do
+unfoldable pub loads_below : Trace → ℕ → ℕ → ℕ
+loads_below trace segment zero = 0
+loads_below trace segment (suc n) = loads_below trace segment n + load trace segment n
+
+-- a seat that seat 0 made when it knew v: with this number and so many turns, the history that v has seen, and no entry of its own
+pub record IsNew (v : Known) (number turns : ℕ) (w : Known) : Type 0 where
+  pub number_is : w.number ≡ number
+  pub turns_are : w.left ≡ turns
+  pub seen_is : w.seen ≡ v.seen
+  pub own_none : w.own ≡ []
+
+-- The workers have seats, whose numbers are n and on; the workers' own numbers rise, from low on. Each has a turn for each event of its part.
+abbrev pub AreDealt : Trace → ℕ → Known → ℕ → ℕ → List (ℕ × Known) → Type 0
+AreDealt trace segment v n low [] = Unit {0}
+AreDealt trace segment v n low (j ∷ js) =
+    (low ≤ j.0) × (j.0 ≤ trace.processors) × IsNew v n (load trace segment j.0) j.1 × AreDealt trace segment v (n + 1) (j.0 + 1) js
+
+-- the turns of all seats
+abbrev pub turns_left : List (ℕ × Known) → ℕ
+turns_left [] = 0
+turns_left (j ∷ js) = j.1.left + turns_left js
+
+-- one of the seats holds the baton
+abbrev pub any_baton : List (ℕ × Known) → Bool
+any_baton [] = false
+any_baton (j ∷ js) = j.1.baton || any_baton js
+
+-- seat 0 after it made so many seats, before which it knew v: but for the turns, the baton and the count it is as it was
+pub record HasDealt (v : Known) (seats : ℕ) (w : Known) : Type 0 where
+  pub number : w.number ≡ v.number
+  pub seen : w.seen ≡ v.seen
+  pub own : w.own ≡ v.own
+  pub kept : w.kept ≡ v.kept
+  pub made : w.made ≡ v.made + seats
+
+-- seat 0 with these seats joined, the last first
+abbrev pub joined_all : Known → List Known → Known
+joined_all v [] = v
+joined_all v (w ∷ ws) = joining (joined_all v ws) w
+
+-- the answer's place is one of so many, from lo on
+abbrev pub IsWithin : ℕ → ℕ → Placed → Type 0
+IsWithin lo count p = (lo ≤ p.place) × (p.place < lo + count)
+
+-- the answers once each of these stands at its place, counted from lo; the last is put there first
+unfoldable pub filled : ℕ → List Placed → List Answer → List Answer
+filled lo [] xs = xs
+filled lo (p ∷ ps) xs = slice_set (filled lo ps xs) (p.place - lo) p.answer
+
+-- the answers of all lists
+unfoldable pub all_of : List (Vec Placed Global) → List Placed
+all_of [] = []
+all_of (v ∷ vs) = v.items ++ all_of vs

@@ -1,0 +1,113 @@
+ghost use Rattle.std.specs.Prelude.{◌≡◌, ◌+◌, ◌<◌, ◌≤◌, ◌^◌, [], IfOk, length, vec_capacity};
+ghost use Rattle.exchange_core.specs.Seats.{turns_of};
+ghost use Rattle.tone_rules.specs.Tables.{table_of};
+ghost use Rattle.call_processor.specs.Frames.{IsReady, engine_dimensions};
+ghost use Rattle.segment_run.specs.Segment.{AreAnswered, IsChief, Ran, RanWhole};
+ghost use Rattle.segment_run.specs.Segments.{events_before};
+
+use crate::answers::SegmentAnswer;
+use crate::dealing::{Job, deal, loads_of};
+use crate::gathering::{all_whole, gather};
+use crate::merge::merge;
+use crate::team::{Team, side_by_side};
+use call_processor::{Placed, Worked};
+use exchange_core::{Switchboard, Tool, Trace};
+use frame_engine::Carrier;
+use gate::Gate;
+use std::alloc::{AllocError, Global};
+use std::sync::Wait;
+use std::thread::Threads;
+
+// What a segment's run fills: the jobs, what came of the workers, and their answers.
+#[derive(Drop)]
+struct Room<T> {
+    jobs: Vec<Job<T>>,
+    done: Vec<Worked<T>>,
+    lists: Vec<Vec<Placed>>,
+}
+
+// Room for eight call processors and the frame worker.
+fn room_for_all<T: Drop>(alloc: Global) -> Result<Room<T>, AllocError>
+    ensures jobs { IfOk result (λ r. (9 ≤ vec_capacity r.jobs) × (r.jobs.items ≡ [])) }
+    ensures done { IfOk result (λ r. (9 ≤ vec_capacity r.done) × (r.done.items ≡ [])) }
+    ensures lists { IfOk result (λ r. (9 ≤ vec_capacity r.lists) × (r.lists.items ≡ [])) }
+{
+    let jobs = Vec::with_capacity(alloc, 9)?;
+    let done = Vec::with_capacity(alloc, 9)?;
+    let lists = Vec::with_capacity(alloc, 9)?;
+    Ok(Room { jobs, done, lists })
+}
+
+// The numbers of the events before a segment and up to its end.
+fn ends_of(trace: &Trace, segment: u32) -> (u32, u32)
+    requires segment { segment < length trace.now.segments }
+    ensures before { result.0 ≡ events_before trace.now.segments segment }
+    ensures last { result.1 ≡ events_before trace.now.segments (segment + 1) }
+{
+    let ends = trace.segments.as_slice();
+    let last = ends[segment as usize];
+    if segment == 0 {
+        return (0, last);
+    }
+    (ends[segment as usize - 1], last)
+}
+
+/// Runs one segment of a board's trace; segments are counted from 0. Each worker that has events gets
+/// a seat of its own, with a turn for each of them, and does them in the order of the file; all of
+/// them run at once, one as the caller. When all are done, seat 0 joins their seats again, and the
+/// answers stand in the order of the history.
+///
+/// Seat 0 holds the baton, and all events of the segments before are done.
+///
+/// # Errors
+///
+/// [`AllocError`] for want of memory. What was done by then is in the history.
+pub fn run_segment<B: Switchboard, G: Gate, C: Carrier, R: Threads + Wait + Sync>(
+    rt: &R,
+    alloc: Global,
+    board: &B,
+    seat: &mut B::Seat,
+    trace: &Trace,
+    segment: u32,
+    engine: C,
+    tool: Tool,
+    gate: &G,
+) -> Result<SegmentAnswer<C>, AllocError>
+    requires seated { B.seated board.now seat.old }
+    requires trace { trace.now ≡ (B.board board.now).trace }
+    requires segment { segment < length trace.now.segments }
+    requires chief { IsChief (turns_of (B.board board.now)) (B.known seat.old) }
+    requires numbers { (B.known seat.old).made + 10 < 2 ^ 32 }
+    requires turns { length (B.known seat.old).seen ≡ events_before trace.now.segments segment }
+    requires ready { IsReady C.carries C.next (engine_dimensions C.external_lines C.bridge_lines C.depth) (B.board board.now) (B.known seat.old).seen engine tool }
+    ensures seated { B.seated board.now seat.new }
+    ensures chief { IsChief (turns_of (B.board board.now)) (B.known seat.new) }
+    ensures ran { Ran trace.now segment (B.known seat.old) (B.known seat.new) }
+    ensures whole { IfOk result (λ a. RanWhole trace.now segment (B.known seat.old) (B.known seat.new)) }
+    ensures turns { IfOk result (λ a. length (B.known seat.new).seen ≡ events_before trace.now.segments (segment + 1)) }
+    ensures answered { IfOk result (λ a. AreAnswered C.plays (table_of trace.now.tones) (B.board board.now) (B.known seat.old) (B.known seat.new) a.answers.items) }
+    ensures ready { IfOk result (λ a. IsReady C.carries C.next (engine_dimensions C.external_lines C.bridge_lines C.depth) (B.board board.now) (B.known seat.new).seen a.engine a.tool) }
+{
+    let Room { jobs, done, lists } = room_for_all(alloc)?;
+    let loads = loads_of(trace, segment);
+    let jobs = deal(board, seat, trace, segment, &loads, jobs);
+    let Team {
+        workers,
+        engine,
+        tool,
+    } = side_by_side(
+        rt, alloc, board, trace, segment, jobs, engine, tool, gate, done,
+    );
+    let whole = all_whole(workers.as_slice());
+    let lists = gather(board, seat, workers, lists);
+    if !whole {
+        return Err(AllocError);
+    }
+    let (before, last) = ends_of(trace, segment);
+    let answers = merge(alloc, lists, before, (last - before) as usize)?;
+    Ok(SegmentAnswer {
+        answers,
+        engine,
+        tool,
+    })
+}
