@@ -32,7 +32,8 @@ use Rattle.segment_run.proofs.Orders.{order_grown}
 use Rattle.report_text.specs.Report.{answer_line, frame_line, lines_sent, octet_of, report_line}
 use Rattle.exchange_top.specs.Outcomes.{MovesFew}
 use Rattle.exchange_top.specs.Report.{Played, report, event_line, event_lines, lines_of, report_with, sent_at}
-use Rattle.exchange_top.specs.Running.{GrewFew, fabric_at, grown_lines}
+use Rattle.exchange_top.specs.Running.{GrewFew, fabric_at, grown_calls, grown_lines}
+use Rattle.exchange_top.specs.Telling.{calls_answered, calls_ended, calls_kept, calls_told}
 use Rattle.exchange_top.proofs.Reports.{sent_played, take_snoc, within_get}
 
 -- ---- the lines of answers
@@ -145,6 +146,7 @@ module _ (plays : Plays) (tones : Kind → List ℕ) (board : Board) (front : Li
 record Told (plays : Plays) (tones : Kind → List ℕ) (board : Board) (front : List Entry) (order : List ℕ) (answers : List Answer) : Type 0 where
   lines : lines_of answers ≡ event_lines (plays tones) (setting_at board) (world_at board front) order (events_of board.trace.events order)
   few : All (MovesAtMost board.bound) (run (setting_at board) (world_at board front) (events_of board.trace.events order))
+  calls : calls_answered answers ≡ calls_ended (run (setting_at board) (world_at board front) (events_of board.trace.events order))
 
 module _ (plays : Plays) (tones : Kind → List ℕ) (board : Board) (history : List Entry) where
   told_more : (front : List Entry) (entry : Entry) (order : List ℕ) (a : Answer) (answers : List Answer) → IsEvent board.trace entry.1 → a.event ≡ entry.1 → before (length front) history ≡ front
@@ -173,11 +175,14 @@ module _ (plays : Plays) (tones : Kind → List ℕ) (board : Board) (history : 
         few = subst (λ (es : List Event). All (MovesAtMost board.bound) (run s w es)) (sym split)
             (All-cons (MovesAtMost board.bound) (reply s w e.0) (run s (next s w e.0) more) (subst (MovesAtMost board.bound) (given e.0 e.1) here.few)
             (subst (λ (v : World). All (MovesAtMost board.bound) (run s v more)) after rest.few));
+        calls = (λ i. calls_kept ((here.keeps ∙ ap kept (given e.0 e.1)) i) ++ rest.calls i)
+            ∙ (ap (λ (v : World). calls_kept (kept (reply s w e.0)) ++ calls_ended (run s v more)) after
+            ∙ ap (λ (es : List Event). calls_ended (run s w es)) (sym split));
       }
 
   told : (front rest : List Entry) (answers : List Answer) → history ≡ front ++ rest → All (IsEvent board.trace) (order_of rest) → map (λ (a : Answer). a.event) answers ≡ order_of rest
       → ((i : ℕ) (a : Answer) → slice_get answers i ≡ Some a → IsAnswered plays tones board history (length front + i) a) → Told plays tones board front (order_of rest) answers
-  told front [] [] is known same each = record { lines = refl; few = All-nil (MovesAtMost board.bound) }
+  told front [] [] is known same each = record { lines = refl; few = All-nil (MovesAtMost board.bound); calls = refl }
   told front [] (a ∷ answers) is known same each = absurd (omega (arith, ap length same))
   told front (entry ∷ rest) [] is known same each = absurd (omega (arith, ap length same))
   told front (entry ∷ rest) (a ∷ answers) is known same each =
@@ -222,6 +227,10 @@ module _ (plays : Plays) (tones : Kind → List ℕ) (board : Board) (v w : Know
   pub few_told : GrewFew board v w
   few_told = all_told.few
 
+  -- the calls that ended are those of the answers
+  pub calls_told_of : calls_answered answers ≡ grown_calls board v w
+  calls_told_of = all_told.calls
+
 -- ---- what the history grew by
 
 -- the report grows by the lines of the events
@@ -239,3 +248,18 @@ few_grown board v w begins few more =
     let split : events_of board.trace.events (order_of w.seen) ≡ old ++ new = ap (events_of board.trace.events) (order_grown v w begins) ∙ events_append board.trace (order_of v.seen) (grown v w) in
     subst (All (MovesAtMost board.bound)) (sym (ap (run s (start s.dimensions)) split ∙ run-append s (start s.dimensions) old new))
     (All-append (MovesAtMost board.bound) (run s (start s.dimensions) old) (run s (world_at board v.seen) new) few more)
+
+calls_append : (xs ys : List Reply) → calls_ended (xs ++ ys) ≡ calls_ended xs ++ calls_ended ys
+calls_append [] ys = refl
+calls_append (r ∷ xs) ys = ap (λ l. calls_kept (kept r) ++ l) (calls_append xs ys) ∙ sym (append_assoc (calls_kept (kept r)) (calls_ended xs) (calls_ended ys))
+
+-- the calls told grow by those that ended in these events
+pub calls_grown : (board : Board) (v w : Known) → StartsWith w.seen v.seen
+    → calls_told board.slots board.trace (order_of w.seen) ≡ calls_told board.slots board.trace (order_of v.seen) ++ grown_calls board v w
+calls_grown board v w begins =
+    let s = setting_at board in
+    let old = events_of board.trace.events (order_of v.seen) in
+    let new = events_of board.trace.events (grown v w) in
+    let split : events_of board.trace.events (order_of w.seen) ≡ old ++ new = ap (events_of board.trace.events) (order_grown v w begins) ∙ events_append board.trace (order_of v.seen) (grown v w) in
+    ap calls_ended (ap (run s (start s.dimensions)) split ∙ run-append s (start s.dimensions) old new)
+    ∙ calls_append (run s (start s.dimensions) old) (run s (world_at board v.seen) new)

@@ -1,167 +1,245 @@
 -- How a call ends, and what each status says.
-use Rattle.std.proofs.Common.{◌≡◌, ◌⊎◌, ℕ, ◌+◌, ◌<◌, ◌≤◌, List, [], ◌++◌, length, Option, Some, None, arith, sym, ◌∙◌, ap, inl, inr, length-append}
+use Rattle.std.proofs.Common.{◌≡◌, ◌⊎◌, ℕ, ◌+◌, ◌<◌, ◌≤◌, List, [], ◌++◌, length, Option, Some, None, refl, arith, sym, ◌∙◌, ap, inl, inr, length-append}
 use Rattle.std.proofs.lemmas.Bool.{cases_lt}
 use Rattle.std.proofs.lemmas.List.{append-nil}
 use Rattle.std.specs.Io.KnownBytes.{Appends, Keeps}
+use Rattle.std.proofs.KnownBytes.{Appends-trans}
 use Rattle.ex_io.specs.Ends.{Rose}
 use Rattle.trace_text.specs.declared.fault.Reason.{Reason}
 use Rattle.exchange_core.specs.declared.trace.Trace.{Trace}
 use Rattle.trace_text.specs.TraceGrammar.{IsTrace, IsRefused, most_bytes}
-use Rattle.call_processor.specs.Frames.{Plays}
-use Rattle.exchange_top.specs.Commands.{Handing, Refuses, Told_so, Untold, IsUnfinished, fabric_of, IsRun, IsInput, IsWholeInput, IsDone, IsTurnedDown, In_refusal, In_report, IsUndone, In_words, In_input, In_answer, Runs, Whole, Unwritten_from, No_memory_from, Answers, Done, Turned_down, Unwritten, No_memory, Told, Ends, Wrong_words, Words_unwritten, Unread, No_room, Answered, refusal, words_refusal}
+use Rattle.command_words.specs.declared.command.Command.{Command}
+use Rattle.command_words.specs.declared.command.Command.TheVariants.{Run, Generate}
+use Rattle.command_words.specs.Words.{command_of}
+use Rattle.exchange_top.specs.declared.listing.Listing.TheVariants as listing
+use Rattle.exchange_top.specs.Commands.{Parties, Refuses, Told_so, Untold, IsUnfinished, fabric_of, IsRun, IsGeneration, IsNoCommand, IsInput, IsWholeInput, IsDone, IsSummed, IsTurnedDown, In_refusal, In_report, IsUndone, In_words, Unheard, In_answer, In_generation, Runs, Whole, Unwritten_from, No_memory_from, Answers, Done, Turned_down, Unwritten, No_memory, Sums, Summed, Sum_unwritten, Sum_no_memory, Told, Ends, Wrong_words, Words_unwritten, Unread, No_room, Answered, Generated, refusal, words_refusal}
 use Rattle.trace_text.proofs.TraceReadings.{never_both}
 
-module _ (plays : Plays) (handed : Handing) where
+-- ---- words ask for one thing
+
+never_run : (words : List (List ℕ)) → IsNoCommand words → IsRun words → ⊥
+never_run words unasked run = let same : None ≡ Some Run = sym unasked ∙ run in cc
+
+never_generation : (words : List (List ℕ)) (seed calls : ℕ) → IsNoCommand words → IsGeneration words seed calls → ⊥
+never_generation words seed calls unasked gen = let same : None ≡ Some (Generate seed calls) = sym unasked ∙ gen in cc
+
+never_one : (words : List (List ℕ)) (seed calls : ℕ) → IsRun words → IsGeneration words seed calls → ⊥
+never_one words seed calls run gen = let same : Some Run ≡ Some (Generate seed calls) = sym run ∙ gen in cc
+
+same_generation : (words : List (List ℕ)) (a n b m : ℕ) → IsGeneration words a n → IsGeneration words b m → (a ≡ b) × (n ≡ m)
+same_generation words a n b m one other = let same : Some (Generate a n) ≡ Some (Generate b m) = sym one ∙ other in (cc, cc)
+
+-- ---- bytes are a trace, or they are refused
+
+read_known : (known bytes : List ℕ) (new : Option (List ℕ)) → IsInput (Some known) new bytes → ((length bytes ≤ most_bytes) × (bytes ≡ known)) ⊎ ((most_bytes < length bytes) × (most_bytes < length known))
+read_known known bytes None input = absurd input.front
+read_known known bytes (Some rest) input =
+    let len : length known ≡ length bytes + length rest = ap (λ (xs : List ℕ). length xs) input.front ∙ length-append bytes rest in
+    elim (cases_lt most_bytes (length bytes)) [
+      | inl more ↦ inr (more, omega (arith, more, len))
+      | inr few ↦ inl (few, sym (input.front ∙ ap (λ xs. bytes ++ xs) (input.whole few) ∙ append-nil bytes))
+    ]
+
+not_down : (t : Trace) (known bytes : List ℕ) (new : Option (List ℕ)) {number : ℕ} {why : Reason} → IsRefused bytes number why → IsInput (Some known) new bytes → IsTrace known t → ⊥
+not_down t known bytes new {number} {why} refused input is =
+    elim (read_known known bytes new input) [
+      | inl whole ↦ never_both known t number why is (rw whole.1 at refused)
+      | inr long ↦ let few = is.few in absurd (omega (arith, few, long.1))
+    ]
+
+not_done : (known bytes : List ℕ) (number : ℕ) (why : Reason) (new : Option (List ℕ)) (t : Trace) → IsInput (Some known) new bytes → IsTrace bytes t → IsRefused known number why → ⊥
+not_done known bytes number why new t input is refused =
+    elim (read_known known bytes new input) [
+      | inl whole ↦ never_both known t number why (rw whole.1 at is) refused
+      | inr long ↦ let few = is.few in absurd (omega (arith, few, long.0))
+    ]
+
+module _ (x : Parties) where
   -- a run of the trace that the bytes are answers them
   pub answers_run : (bytes : List ℕ) (t : Trace) (status : ℕ) (order : List ℕ) (old new : Option (List ℕ)) (before after : ℕ) → IsTrace bytes t
-      → Runs plays handed t status order old new before after → Answers plays handed bytes status order old new before after
-  answers_run bytes t status order old new before after is (Whole s r f) = Done s (record { trace = t; is_trace = is; report = r; engine = f })
+      → Runs x listing.Report t status order old new before after → Answers x bytes status order old new before after
+  answers_run bytes t status order old new before after is (Whole s run text engine) = Done s (record { trace = t; is_trace = is; run = run; text = text; engine = engine })
   answers_run bytes t status order old new before after is (Unwritten_from s rose b) = Unwritten s rose (In_report t is b)
   answers_run bytes t status order old new before after is (No_memory_from s b) = No_memory s (In_report t is b)
 
   pub answers_refused : (bytes : List ℕ) (number : ℕ) (why : Reason) (status : ℕ) (order line : List ℕ) (old new : Option (List ℕ)) (before after : ℕ) → IsRefused bytes number why → order ≡ []
-      → line ≡ refusal number why → Refuses 1 line status old new before after → Answers plays handed bytes status order old new before after
-  answers_refused bytes number why status order line old new before after refused none same (Told_so s written) =
-      Turned_down s (record { number = number; why = why; refused = refused; none = none; text = rw same at written })
-  answers_refused bytes number why status order line old new before after refused none same (Untold s rose cut) = Unwritten s rose (In_refusal number why refused none (rw same at cut))
+      → line ≡ refusal number why → x.told [] → x.told_front [] → Refuses 1 line status old new before after → Answers x bytes status order old new before after
+  answers_refused bytes number why status order line old new before after refused none same told front (Told_so s written) =
+      Turned_down s (record { number = number; why = why; refused = refused; none = none; text = rw same at written }) told
+  answers_refused bytes number why status order line old new before after refused none same told front (Untold s rose cut) = Unwritten s rose (In_refusal number why refused none (rw same at cut) front)
 
-  pub ends_words : (words : List (List ℕ)) (status : ℕ) (order : List ℕ) (old new : Told) → ¬ IsRun words → order ≡ []
-      → Refuses 2 words_refusal status old.written new.written old.writes new.writes → Ends plays handed words status order old new
-  ends_words words status order old new other none (Told_so s written) = Wrong_words other s none written
-  ends_words words status order old new other none (Untold s rose cut) = Words_unwritten other s none rose cut
+  pub ends_words : (words : List (List ℕ)) (status : ℕ) (order : List ℕ) (old new : Told) → IsNoCommand words → order ≡ [] → x.told [] → x.told_front []
+      → Refuses 2 words_refusal status old.written new.written old.writes new.writes → Ends x words status order old new
+  ends_words words status order old new unasked none told front (Told_so s written) = Wrong_words unasked s none written told
+  ends_words words status order old new unasked none told front (Untold s rose cut) = Words_unwritten unasked s none rose cut front
 
-  -- what each status says
+  -- ---- what each status says
 
-  pub done_says : (words : List (List ℕ)) (status : ℕ) (order : List ℕ) (old new : Told) → Ends plays handed words status order old new → status ≡ 0
-      → (bytes : List ℕ) × IsWholeInput old.left new.left bytes × IsDone plays handed bytes order old.written new.written
-  done_says words status order old new (Wrong_words other s none text) h = absurd (omega (arith, s, h))
-  done_says words status order old new (Words_unwritten other s none rose text) h = absurd (omega (arith, s, h))
-  done_says words status order old new (Unread is s none rose kept) h = absurd (omega (arith, s, h))
-  done_says words status order old new (No_room is s none kept) h = absurd (omega (arith, s, h))
-  done_says words status order old new (Answered is bytes input (Done s done)) h = (bytes, record { front = input.front; ended = input.whole done.is_trace.few }, done)
-  done_says words status order old new (Answered is bytes input (Turned_down s down)) h = absurd (omega (arith, s, h))
-  done_says words status order old new (Answered is bytes input (Unwritten s rose cut)) h = absurd (omega (arith, s, h))
-  done_says words status order old new (Answered is bytes input (No_memory s cut)) h = absurd (omega (arith, s, h))
+  pub done_says : (words : List (List ℕ)) (status : ℕ) (order : List ℕ) (old new : Told) → Ends x words status order old new → status ≡ 0 → IsRun words → (bytes : List ℕ) × IsWholeInput old.left new.left bytes × IsDone x.plays x.handed x.told bytes order old.written new.written
+  done_says words status order old new (Wrong_words unasked s none text told) h run = absurd (omega (arith, s, h))
+  done_says words status order old new (Words_unwritten unasked s none rose text told) h run = absurd (omega (arith, s, h))
+  done_says words status order old new (Unread is s none rose kept told) h run = absurd (omega (arith, s, h))
+  done_says words status order old new (No_room s none kept told) h run = absurd (omega (arith, s, h))
+  done_says words status order old new (Answered is bytes input (Done s done)) h run = (bytes, record { front = input.front; ended = input.whole done.is_trace.few }, done)
+  done_says words status order old new (Answered is bytes input (Turned_down s down told)) h run = absurd (omega (arith, s, h))
+  done_says words status order old new (Answered is bytes input (Unwritten s rose cut)) h run = absurd (omega (arith, s, h))
+  done_says words status order old new (Answered is bytes input (No_memory s cut)) h run = absurd (omega (arith, s, h))
+  done_says words status order old new (Generated seed calls is (Summed s done)) h run = absurd (never_one words seed calls run is)
+  done_says words status order old new (Generated seed calls is (Sum_unwritten s rose cut)) h run = absurd (omega (arith, s, h))
+  done_says words status order old new (Generated seed calls is (Sum_no_memory s cut)) h run = absurd (omega (arith, s, h))
 
-  pub turned_down_says : (words : List (List ℕ)) (status : ℕ) (order : List ℕ) (old new : Told) → Ends plays handed words status order old new → status ≡ 1
-      → (bytes : List ℕ) × IsInput old.left new.left bytes × IsTurnedDown bytes order old.written new.written
-  turned_down_says words status order old new (Wrong_words other s none text) h = absurd (omega (arith, s, h))
-  turned_down_says words status order old new (Words_unwritten other s none rose text) h = absurd (omega (arith, s, h))
-  turned_down_says words status order old new (Unread is s none rose kept) h = absurd (omega (arith, s, h))
-  turned_down_says words status order old new (No_room is s none kept) h = absurd (omega (arith, s, h))
+  pub summed_says : (words : List (List ℕ)) (status : ℕ) (order : List ℕ) (old new : Told) (a n : ℕ) → Ends x words status order old new → status ≡ 0 → IsGeneration words a n → IsSummed x.handed x.told x.said a n order old.written new.written
+  summed_says words status order old new a n (Wrong_words unasked s none text told) h gen = absurd (omega (arith, s, h))
+  summed_says words status order old new a n (Words_unwritten unasked s none rose text told) h gen = absurd (omega (arith, s, h))
+  summed_says words status order old new a n (Unread is s none rose kept told) h gen = absurd (omega (arith, s, h))
+  summed_says words status order old new a n (No_room s none kept told) h gen = absurd (omega (arith, s, h))
+  summed_says words status order old new a n (Answered is bytes input (Done s done)) h gen = absurd (never_one words a n is gen)
+  summed_says words status order old new a n (Answered is bytes input (Turned_down s down told)) h gen = absurd (omega (arith, s, h))
+  summed_says words status order old new a n (Answered is bytes input (Unwritten s rose cut)) h gen = absurd (omega (arith, s, h))
+  summed_says words status order old new a n (Answered is bytes input (No_memory s cut)) h gen = absurd (omega (arith, s, h))
+  summed_says words status order old new a n (Generated seed calls is (Summed s done)) h gen = let same = same_generation words seed calls a n is gen in rw (sym same.0, sym same.1) done
+  summed_says words status order old new a n (Generated seed calls is (Sum_unwritten s rose cut)) h gen = absurd (omega (arith, s, h))
+  summed_says words status order old new a n (Generated seed calls is (Sum_no_memory s cut)) h gen = absurd (omega (arith, s, h))
+
+  pub turned_down_says : (words : List (List ℕ)) (status : ℕ) (order : List ℕ) (old new : Told) → Ends x words status order old new → status ≡ 1 → IsRun words × ((bytes : List ℕ) × IsInput old.left new.left bytes × IsTurnedDown bytes order old.written new.written × x.told [])
+  turned_down_says words status order old new (Wrong_words unasked s none text told) h = absurd (omega (arith, s, h))
+  turned_down_says words status order old new (Words_unwritten unasked s none rose text told) h = absurd (omega (arith, s, h))
+  turned_down_says words status order old new (Unread is s none rose kept told) h = absurd (omega (arith, s, h))
+  turned_down_says words status order old new (No_room s none kept told) h = absurd (omega (arith, s, h))
   turned_down_says words status order old new (Answered is bytes input (Done s done)) h = absurd (omega (arith, s, h))
-  turned_down_says words status order old new (Answered is bytes input (Turned_down s down)) h = (bytes, input, down)
+  turned_down_says words status order old new (Answered is bytes input (Turned_down s down told)) h = (is, (bytes, input, down, told))
   turned_down_says words status order old new (Answered is bytes input (Unwritten s rose cut)) h = absurd (omega (arith, s, h))
   turned_down_says words status order old new (Answered is bytes input (No_memory s cut)) h = absurd (omega (arith, s, h))
+  turned_down_says words status order old new (Generated seed calls is (Summed s done)) h = absurd (omega (arith, s, h))
+  turned_down_says words status order old new (Generated seed calls is (Sum_unwritten s rose cut)) h = absurd (omega (arith, s, h))
+  turned_down_says words status order old new (Generated seed calls is (Sum_no_memory s cut)) h = absurd (omega (arith, s, h))
 
-  pub wrong_words_says : (words : List (List ℕ)) (status : ℕ) (order : List ℕ) (old new : Told) → Ends plays handed words status order old new → status ≡ 2
-      → ¬ IsRun words × (order ≡ []) × Appends old.written new.written words_refusal
-  wrong_words_says words status order old new (Wrong_words other s none text) h = (other, none, text)
-  wrong_words_says words status order old new (Words_unwritten other s none rose text) h = absurd (omega (arith, s, h))
-  wrong_words_says words status order old new (Unread is s none rose kept) h = absurd (omega (arith, s, h))
-  wrong_words_says words status order old new (No_room is s none kept) h = absurd (omega (arith, s, h))
+  pub wrong_words_says : (words : List (List ℕ)) (status : ℕ) (order : List ℕ) (old new : Told) → Ends x words status order old new → status ≡ 2 → IsNoCommand words × (order ≡ []) × Appends old.written new.written words_refusal × x.told []
+  wrong_words_says words status order old new (Wrong_words unasked s none text told) h = (unasked, none, text, told)
+  wrong_words_says words status order old new (Words_unwritten unasked s none rose text told) h = absurd (omega (arith, s, h))
+  wrong_words_says words status order old new (Unread is s none rose kept told) h = absurd (omega (arith, s, h))
+  wrong_words_says words status order old new (No_room s none kept told) h = absurd (omega (arith, s, h))
   wrong_words_says words status order old new (Answered is bytes input (Done s done)) h = absurd (omega (arith, s, h))
-  wrong_words_says words status order old new (Answered is bytes input (Turned_down s down)) h = absurd (omega (arith, s, h))
+  wrong_words_says words status order old new (Answered is bytes input (Turned_down s down told)) h = absurd (omega (arith, s, h))
   wrong_words_says words status order old new (Answered is bytes input (Unwritten s rose cut)) h = absurd (omega (arith, s, h))
   wrong_words_says words status order old new (Answered is bytes input (No_memory s cut)) h = absurd (omega (arith, s, h))
+  wrong_words_says words status order old new (Generated seed calls is (Summed s done)) h = absurd (omega (arith, s, h))
+  wrong_words_says words status order old new (Generated seed calls is (Sum_unwritten s rose cut)) h = absurd (omega (arith, s, h))
+  wrong_words_says words status order old new (Generated seed calls is (Sum_no_memory s cut)) h = absurd (omega (arith, s, h))
 
-  pub read_failed_says : (words : List (List ℕ)) (status : ℕ) (order : List ℕ) (old new : Told) → Ends plays handed words status order old new → status ≡ 3
-      → Rose old.reads new.reads × (order ≡ []) × Keeps old.written new.written
-  read_failed_says words status order old new (Wrong_words other s none text) h = absurd (omega (arith, s, h))
-  read_failed_says words status order old new (Words_unwritten other s none rose text) h = absurd (omega (arith, s, h))
-  read_failed_says words status order old new (Unread is s none rose kept) h = (rose, none, kept)
-  read_failed_says words status order old new (No_room is s none kept) h = absurd (omega (arith, s, h))
+  pub read_failed_says : (words : List (List ℕ)) (status : ℕ) (order : List ℕ) (old new : Told) → Ends x words status order old new → status ≡ 3 → Rose old.reads new.reads × (order ≡ []) × Keeps old.written new.written × x.told []
+  read_failed_says words status order old new (Wrong_words unasked s none text told) h = absurd (omega (arith, s, h))
+  read_failed_says words status order old new (Words_unwritten unasked s none rose text told) h = absurd (omega (arith, s, h))
+  read_failed_says words status order old new (Unread is s none rose kept told) h = (rose, none, kept, told)
+  read_failed_says words status order old new (No_room s none kept told) h = absurd (omega (arith, s, h))
   read_failed_says words status order old new (Answered is bytes input (Done s done)) h = absurd (omega (arith, s, h))
-  read_failed_says words status order old new (Answered is bytes input (Turned_down s down)) h = absurd (omega (arith, s, h))
+  read_failed_says words status order old new (Answered is bytes input (Turned_down s down told)) h = absurd (omega (arith, s, h))
   read_failed_says words status order old new (Answered is bytes input (Unwritten s rose cut)) h = absurd (omega (arith, s, h))
   read_failed_says words status order old new (Answered is bytes input (No_memory s cut)) h = absurd (omega (arith, s, h))
+  read_failed_says words status order old new (Generated seed calls is (Summed s done)) h = absurd (omega (arith, s, h))
+  read_failed_says words status order old new (Generated seed calls is (Sum_unwritten s rose cut)) h = absurd (omega (arith, s, h))
+  read_failed_says words status order old new (Generated seed calls is (Sum_no_memory s cut)) h = absurd (omega (arith, s, h))
 
-  pub write_failed_says : (words : List (List ℕ)) (status : ℕ) (order : List ℕ) (old new : Told) → Ends plays handed words status order old new → status ≡ 4 → Rose old.writes new.writes
-  write_failed_says words status order old new (Wrong_words other s none text) h = absurd (omega (arith, s, h))
-  write_failed_says words status order old new (Words_unwritten other s none rose text) h = rose
-  write_failed_says words status order old new (Unread is s none rose kept) h = absurd (omega (arith, s, h))
-  write_failed_says words status order old new (No_room is s none kept) h = absurd (omega (arith, s, h))
+  pub write_failed_says : (words : List (List ℕ)) (status : ℕ) (order : List ℕ) (old new : Told) → Ends x words status order old new → status ≡ 4 → Rose old.writes new.writes
+  write_failed_says words status order old new (Wrong_words unasked s none text told) h = absurd (omega (arith, s, h))
+  write_failed_says words status order old new (Words_unwritten unasked s none rose text told) h = rose
+  write_failed_says words status order old new (Unread is s none rose kept told) h = absurd (omega (arith, s, h))
+  write_failed_says words status order old new (No_room s none kept told) h = absurd (omega (arith, s, h))
   write_failed_says words status order old new (Answered is bytes input (Done s done)) h = absurd (omega (arith, s, h))
-  write_failed_says words status order old new (Answered is bytes input (Turned_down s down)) h = absurd (omega (arith, s, h))
+  write_failed_says words status order old new (Answered is bytes input (Turned_down s down told)) h = absurd (omega (arith, s, h))
   write_failed_says words status order old new (Answered is bytes input (Unwritten s rose cut)) h = rose
   write_failed_says words status order old new (Answered is bytes input (No_memory s cut)) h = absurd (omega (arith, s, h))
+  write_failed_says words status order old new (Generated seed calls is (Summed s done)) h = absurd (omega (arith, s, h))
+  write_failed_says words status order old new (Generated seed calls is (Sum_unwritten s rose cut)) h = rose
+  write_failed_says words status order old new (Generated seed calls is (Sum_no_memory s cut)) h = absurd (omega (arith, s, h))
 
-  pub cut_short_says : (words : List (List ℕ)) (status : ℕ) (order : List ℕ) (old new : Told) → Ends plays handed words status order old new → 4 ≤ status
-      → IsUndone plays words old.left new.left order old.written new.written
-  cut_short_says words status order old new (Wrong_words other s none text) h = absurd (omega (arith, s, h))
-  cut_short_says words status order old new (Words_unwritten other s none rose text) h = In_words other none text
-  cut_short_says words status order old new (Unread is s none rose kept) h = absurd (omega (arith, s, h))
-  cut_short_says words status order old new (No_room is s none kept) h = In_input is none kept
+  pub cut_short_says : (words : List (List ℕ)) (status : ℕ) (order : List ℕ) (old new : Told) → Ends x words status order old new → 4 ≤ status → IsUndone x.plays x.told x.told_front x.said words old.left new.left order old.written new.written
+  cut_short_says words status order old new (Wrong_words unasked s none text told) h = absurd (omega (arith, s, h))
+  cut_short_says words status order old new (Words_unwritten unasked s none rose text told) h = In_words unasked none text told
+  cut_short_says words status order old new (Unread is s none rose kept told) h = absurd (omega (arith, s, h))
+  cut_short_says words status order old new (No_room s none kept told) h = Unheard none kept told
   cut_short_says words status order old new (Answered is bytes input (Done s done)) h = absurd (omega (arith, s, h))
-  cut_short_says words status order old new (Answered is bytes input (Turned_down s down)) h = absurd (omega (arith, s, h))
+  cut_short_says words status order old new (Answered is bytes input (Turned_down s down told)) h = absurd (omega (arith, s, h))
   cut_short_says words status order old new (Answered is bytes input (Unwritten s rose cut)) h = In_answer is bytes input cut
   cut_short_says words status order old new (Answered is bytes input (No_memory s cut)) h = In_answer is bytes input cut
+  cut_short_says words status order old new (Generated seed calls is (Summed s done)) h = absurd (omega (arith, s, h))
+  cut_short_says words status order old new (Generated seed calls is (Sum_unwritten s rose cut)) h = In_generation seed calls is cut
+  cut_short_says words status order old new (Generated seed calls is (Sum_no_memory s cut)) h = In_generation seed calls is cut
 
-  pub statuses_say : (words : List (List ℕ)) (status : ℕ) (order : List ℕ) (old new : Told) → Ends plays handed words status order old new → status ≤ 5
-  statuses_say words status order old new (Wrong_words other s none text) = omega (arith, s)
-  statuses_say words status order old new (Words_unwritten other s none rose text) = omega (arith, s)
-  statuses_say words status order old new (Unread is s none rose kept) = omega (arith, s)
-  statuses_say words status order old new (No_room is s none kept) = omega (arith, s)
+  pub statuses_say : (words : List (List ℕ)) (status : ℕ) (order : List ℕ) (old new : Told) → Ends x words status order old new → status ≤ 5
+  statuses_say words status order old new (Wrong_words unasked s none text told) = omega (arith, s)
+  statuses_say words status order old new (Words_unwritten unasked s none rose text told) = omega (arith, s)
+  statuses_say words status order old new (Unread is s none rose kept told) = omega (arith, s)
+  statuses_say words status order old new (No_room s none kept told) = omega (arith, s)
   statuses_say words status order old new (Answered is bytes input (Done s done)) = omega (arith, s)
-  statuses_say words status order old new (Answered is bytes input (Turned_down s down)) = omega (arith, s)
+  statuses_say words status order old new (Answered is bytes input (Turned_down s down told)) = omega (arith, s)
   statuses_say words status order old new (Answered is bytes input (Unwritten s rose cut)) = omega (arith, s)
   statuses_say words status order old new (Answered is bytes input (No_memory s cut)) = omega (arith, s)
+  statuses_say words status order old new (Generated seed calls is (Summed s done)) = omega (arith, s)
+  statuses_say words status order old new (Generated seed calls is (Sum_unwritten s rose cut)) = omega (arith, s)
+  statuses_say words status order old new (Generated seed calls is (Sum_no_memory s cut)) = omega (arith, s)
 
-  pub other_words_say : (words : List (List ℕ)) (status : ℕ) (order : List ℕ) (old new : Told) → Ends plays handed words status order old new → ¬ IsRun words → (status ≡ 2) ⊎ (status ≡ 4)
-  other_words_say words status order old new (Wrong_words other s none text) not = inl s
-  other_words_say words status order old new (Words_unwritten other s none rose text) not = inr s
-  other_words_say words status order old new (Unread is s none rose kept) not = absurd (not is)
-  other_words_say words status order old new (No_room is s none kept) not = absurd (not is)
-  other_words_say words status order old new (Answered is bytes input answers) not = absurd (not is)
+  pub other_words_say : (words : List (List ℕ)) (status : ℕ) (order : List ℕ) (old new : Told) → Ends x words status order old new → IsNoCommand words → (status ≡ 2) ⊎ (status ≡ 4) ⊎ (status ≡ 5)
+  other_words_say words status order old new (Wrong_words unasked s none text told) other = inl s
+  other_words_say words status order old new (Words_unwritten unasked s none rose text told) other = inr (inl s)
+  other_words_say words status order old new (Unread is s none rose kept told) other = absurd (never_run words other is)
+  other_words_say words status order old new (No_room s none kept told) other = inr (inr s)
+  other_words_say words status order old new (Answered is bytes input (Done s done)) other = absurd (never_run words other is)
+  other_words_say words status order old new (Answered is bytes input (Turned_down s down told)) other = absurd (never_run words other is)
+  other_words_say words status order old new (Answered is bytes input (Unwritten s rose cut)) other = absurd (never_run words other is)
+  other_words_say words status order old new (Answered is bytes input (No_memory s cut)) other = absurd (never_run words other is)
+  other_words_say words status order old new (Generated seed calls is (Summed s done)) other = absurd (never_generation words seed calls other is)
+  other_words_say words status order old new (Generated seed calls is (Sum_unwritten s rose cut)) other = absurd (never_generation words seed calls other is)
+  other_words_say words status order old new (Generated seed calls is (Sum_no_memory s cut)) other = absurd (never_generation words seed calls other is)
 
-  pub command_says : (words : List (List ℕ)) (status : ℕ) (order : List ℕ) (old new : Told) → Ends plays handed words status order old new → IsRun words → (status ≡ 0) ⊎ (status ≡ 1) ⊎ IsUnfinished status
-  command_says words status order old new (Wrong_words other s none text) run = absurd (other run)
-  command_says words status order old new (Words_unwritten other s none rose text) run = absurd (other run)
-  command_says words status order old new (Unread is s none rose kept) run = inr (inr (inl s))
-  command_says words status order old new (No_room is s none kept) run = inr (inr (inr (inr s)))
+  pub command_says : (words : List (List ℕ)) (status : ℕ) (order : List ℕ) (old new : Told) → Ends x words status order old new → IsRun words → (status ≡ 0) ⊎ (status ≡ 1) ⊎ IsUnfinished status
+  command_says words status order old new (Wrong_words unasked s none text told) run = absurd (never_run words unasked run)
+  command_says words status order old new (Words_unwritten unasked s none rose text told) run = absurd (never_run words unasked run)
+  command_says words status order old new (Unread is s none rose kept told) run = inr (inr (inl s))
+  command_says words status order old new (No_room s none kept told) run = inr (inr (inr (inr s)))
   command_says words status order old new (Answered is bytes input (Done s done)) run = inl s
-  command_says words status order old new (Answered is bytes input (Turned_down s down)) run = inr (inl s)
+  command_says words status order old new (Answered is bytes input (Turned_down s down told)) run = inr (inl s)
   command_says words status order old new (Answered is bytes input (Unwritten s rose cut)) run = inr (inr (inr (inl s)))
   command_says words status order old new (Answered is bytes input (No_memory s cut)) run = inr (inr (inr (inr s)))
+  command_says words status order old new (Generated seed calls is (Summed s done)) run = absurd (never_one words seed calls run is)
+  command_says words status order old new (Generated seed calls is (Sum_unwritten s rose cut)) run = absurd (never_one words seed calls run is)
+  command_says words status order old new (Generated seed calls is (Sum_no_memory s cut)) run = absurd (never_one words seed calls run is)
 
-  -- a source that tells its bytes tells those that are read
+  pub generation_says : (words : List (List ℕ)) (status : ℕ) (order : List ℕ) (old new : Told) (a n : ℕ) → Ends x words status order old new → IsGeneration words a n → (status ≡ 0) ⊎ (status ≡ 4) ⊎ (status ≡ 5)
+  generation_says words status order old new a n (Wrong_words unasked s none text told) gen = absurd (never_generation words a n unasked gen)
+  generation_says words status order old new a n (Words_unwritten unasked s none rose text told) gen = absurd (never_generation words a n unasked gen)
+  generation_says words status order old new a n (Unread is s none rose kept told) gen = absurd (never_one words a n is gen)
+  generation_says words status order old new a n (No_room s none kept told) gen = inr (inr s)
+  generation_says words status order old new a n (Answered is bytes input (Done s done)) gen = absurd (never_one words a n is gen)
+  generation_says words status order old new a n (Answered is bytes input (Turned_down s down told)) gen = absurd (never_one words a n is gen)
+  generation_says words status order old new a n (Answered is bytes input (Unwritten s rose cut)) gen = absurd (never_one words a n is gen)
+  generation_says words status order old new a n (Answered is bytes input (No_memory s cut)) gen = absurd (never_one words a n is gen)
+  generation_says words status order old new a n (Generated seed calls is (Summed s done)) gen = inl s
+  generation_says words status order old new a n (Generated seed calls is (Sum_unwritten s rose cut)) gen = inr (inl s)
+  generation_says words status order old new a n (Generated seed calls is (Sum_no_memory s cut)) gen = inr (inr s)
 
-  -- the bytes read from a known input are a front of it, and up to the limit they are all of it
-  read_known : (known bytes : List ℕ) (new : Option (List ℕ)) → IsInput (Some known) new bytes → ((length bytes ≤ most_bytes) × (bytes ≡ known)) ⊎ ((most_bytes < length bytes) × (most_bytes < length known))
-  read_known known bytes None input = absurd input.front
-  read_known known bytes (Some rest) input =
-      let len : length known ≡ length bytes + length rest = ap (λ (xs : List ℕ). length xs) input.front ∙ length-append bytes rest in
-      elim (cases_lt most_bytes (length bytes)) [
-        | inl more ↦ inr (more, omega (arith, more, len))
-        | inr few ↦ inl (few, sym (input.front ∙ ap (λ xs. bytes ++ xs) (input.whole few) ∙ append-nil bytes))
-      ]
+  pub trace_says : (words : List (List ℕ)) (status : ℕ) (order : List ℕ) (old new : Told) (known : List ℕ) (t : Trace) → Ends x words status order old new → old.left ≡ Some known → IsTrace known t → IsRun words → (status ≡ 0) ⊎ IsUnfinished status
+  trace_says words status order old new known t (Wrong_words unasked s none text told) left is_trace run = absurd (never_run words unasked run)
+  trace_says words status order old new known t (Words_unwritten unasked s none rose text told) left is_trace run = absurd (never_run words unasked run)
+  trace_says words status order old new known t (Unread is s none rose kept told) left is_trace run = inr (inl s)
+  trace_says words status order old new known t (No_room s none kept told) left is_trace run = inr (inr (inr s))
+  trace_says words status order old new known t (Answered is bytes input (Done s done)) left is_trace run = inl s
+  trace_says words status order old new known t (Answered is bytes input (Turned_down s down told)) left is_trace run = absurd (not_down t known bytes new.left down.refused (rw left at input) is_trace)
+  trace_says words status order old new known t (Answered is bytes input (Unwritten s rose cut)) left is_trace run = inr (inr (inl s))
+  trace_says words status order old new known t (Answered is bytes input (No_memory s cut)) left is_trace run = inr (inr (inr s))
+  trace_says words status order old new known t (Generated seed calls is (Summed s done)) left is_trace run = absurd (never_one words seed calls run is)
+  trace_says words status order old new known t (Generated seed calls is (Sum_unwritten s rose cut)) left is_trace run = absurd (never_one words seed calls run is)
+  trace_says words status order old new known t (Generated seed calls is (Sum_no_memory s cut)) left is_trace run = absurd (never_one words seed calls run is)
 
-  pub trace_says : (words : List (List ℕ)) (status : ℕ) (order : List ℕ) (old new : Told) (known : List ℕ) (t : Trace) → Ends plays handed words status order old new → old.left ≡ Some known → IsTrace known t
-      → IsRun words → (status ≡ 0) ⊎ IsUnfinished status
-  trace_says words status order old new known t (Wrong_words other s none text) left is run = absurd (other run)
-  trace_says words status order old new known t (Words_unwritten other s none rose text) left is run = absurd (other run)
-  trace_says words status order old new known t (Unread run' s none rose kept) left is run = inr (inl s)
-  trace_says words status order old new known t (No_room run' s none kept) left is run = inr (inr (inr s))
-  trace_says words status order old new known t (Answered run' bytes input (Done s done)) left is run = inl s
-  trace_says words status order old new known t (Answered run' bytes input (Turned_down s down)) left is run =
-      elim (read_known known bytes new.left (rw left at input)) [
-        | inl whole ↦ absurd (never_both known t down.number down.why is (rw whole.1 at down.refused))
-        | inr long ↦ let few = is.few in absurd (omega (arith, few, long.1))
-      ]
-  trace_says words status order old new known t (Answered run' bytes input (Unwritten s rose cut)) left is run = inr (inr (inl s))
-  trace_says words status order old new known t (Answered run' bytes input (No_memory s cut)) left is run = inr (inr (inr s))
-
-  pub no_trace_says : (words : List (List ℕ)) (status : ℕ) (order : List ℕ) (old new : Told) (known : List ℕ) (number : ℕ) (why : Reason) → Ends plays handed words status order old new → old.left ≡ Some known
-      → IsRefused known number why → IsRun words → (status ≡ 1) ⊎ IsUnfinished status
-  no_trace_says words status order old new known number why (Wrong_words other s none text) left refused run = absurd (other run)
-  no_trace_says words status order old new known number why (Words_unwritten other s none rose text) left refused run = absurd (other run)
-  no_trace_says words status order old new known number why (Unread run' s none rose kept) left refused run = inr (inl s)
-  no_trace_says words status order old new known number why (No_room run' s none kept) left refused run = inr (inr (inr s))
-  no_trace_says words status order old new known number why (Answered run' bytes input (Done s done)) left refused run =
-      elim (read_known known bytes new.left (rw left at input)) [
-        | inl whole ↦ absurd (never_both known done.trace number why (rw whole.1 at done.is_trace) refused)
-        | inr long ↦ let few = done.is_trace.few in absurd (omega (arith, few, long.0))
-      ]
-  no_trace_says words status order old new known number why (Answered run' bytes input (Turned_down s down)) left refused run = inl s
-  no_trace_says words status order old new known number why (Answered run' bytes input (Unwritten s rose cut)) left refused run = inr (inr (inl s))
-  no_trace_says words status order old new known number why (Answered run' bytes input (No_memory s cut)) left refused run = inr (inr (inr s))
+  pub no_trace_says : (words : List (List ℕ)) (status : ℕ) (order : List ℕ) (old new : Told) (known : List ℕ) (number : ℕ) (why : Reason) → Ends x words status order old new → old.left ≡ Some known → IsRefused known number why → IsRun words → (status ≡ 1) ⊎ IsUnfinished status
+  no_trace_says words status order old new known number why (Wrong_words unasked s none text told) left refused run = absurd (never_run words unasked run)
+  no_trace_says words status order old new known number why (Words_unwritten unasked s none rose text told) left refused run = absurd (never_run words unasked run)
+  no_trace_says words status order old new known number why (Unread is s none rose kept told) left refused run = inr (inl s)
+  no_trace_says words status order old new known number why (No_room s none kept told) left refused run = inr (inr (inr s))
+  no_trace_says words status order old new known number why (Answered is bytes input (Done s done)) left refused run = absurd (not_done known bytes number why new.left done.trace (rw left at input) done.is_trace refused)
+  no_trace_says words status order old new known number why (Answered is bytes input (Turned_down s down told)) left refused run = inl s
+  no_trace_says words status order old new known number why (Answered is bytes input (Unwritten s rose cut)) left refused run = inr (inr (inl s))
+  no_trace_says words status order old new known number why (Answered is bytes input (No_memory s cut)) left refused run = inr (inr (inr s))
+  no_trace_says words status order old new known number why (Generated seed calls is (Summed s done)) left refused run = absurd (never_one words seed calls run is)
+  no_trace_says words status order old new known number why (Generated seed calls is (Sum_unwritten s rose cut)) left refused run = absurd (never_one words seed calls run is)
+  no_trace_says words status order old new known number why (Generated seed calls is (Sum_no_memory s cut)) left refused run = absurd (never_one words seed calls run is)

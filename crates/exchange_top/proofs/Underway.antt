@@ -13,7 +13,10 @@ use Rattle.call_processor.specs.Frames.{Plays}
 use Rattle.segment_run.specs.Segment.{IsChief, Ran, RanWhole, grown}
 use Rattle.segment_run.specs.Segments.{IsDoneBelow}
 use Rattle.segment_run.proofs.Orders.{none, one_more, cut_short, all_done, first_chief, order_grown}
-use Rattle.exchange_top.specs.Outcomes.{IsReported, IsBegun, IsPending, MovesFew}
+use Rattle.exchange_top.specs.declared.listing.Listing.{Listing}
+use Rattle.exchange_top.specs.declared.listing.Listing.TheVariants as listing
+use Rattle.exchange_top.specs.Outcomes.{IsRunWhole, IsBegun, IsPending, MovesFew, listed}
+use Rattle.exchange_top.specs.Telling.{Telling, calls_told}
 use Rattle.exchange_top.specs.Report.{report}
 use Rattle.exchange_top.specs.Running.{GrewFew, fabric_at, grown_lines}
 use Rattle.exchange_top.specs.Streams.{AppendsFront}
@@ -21,16 +24,24 @@ use Rattle.exchange_top.proofs.Answered.{few_grown, text_grown}
 use Rattle.exchange_top.proofs.Pending.{front_of, front_pending, pending_more, pending_none, whole_pending}
 
 -- the first k segments were done by what seat 0 knows, and of their report all is written but what is pending
-pub record IsUnderway (plays : Plays) (board : Board) (k : ℕ) (seat : Known) (old now : Option (List ℕ)) (pending : List ℕ) : Type 0 where
+pub record IsUnderway (plays : Plays) (l : Listing) (board : Board) (k : ℕ) (seat : Known) (old now : Option (List ℕ)) (pending : List ℕ) : Type 0 where
   pub chief : IsChief (turns_of board) seat
   pub numbers : seat.made ≤ 9 * k
   pub done : IsDoneBelow board.trace k (order_of seat.seen)
-  pub text : IsPending old now pending (report plays board.slots board.trace (order_of seat.seen))
+  pub text : IsPending old now pending (listed l (report plays board.slots board.trace (order_of seat.seen)))
   pub few : MovesFew (fabric_at board) board.trace (order_of seat.seen)
 
+listed_append : (l : Listing) (whole front rest : List ℕ) → whole ≡ front ++ rest → listed l whole ≡ listed l front ++ listed l rest
+listed_append listing.Report whole front rest same = same
+listed_append listing.Nothing whole front rest same = refl
+
+pending_listed_none : (l : Listing) (known : Option (List ℕ)) → IsPending known known [] (listed l [])
+pending_listed_none listing.Report known = pending_none known
+pending_listed_none listing.Nothing known = pending_none known
+
 -- nothing was done
-pub begun_none : (plays : Plays) (slots : ℕ) (trace : Trace) (order : List ℕ) (known : Option (List ℕ)) → order ≡ [] → IsBegun plays slots trace order known known
-begun_none plays slots trace order known empty = rw empty (record {
+pub begun_none : (plays : Plays) (l : Listing) (slots : ℕ) (told_front : Telling) (trace : Trace) (order : List ℕ) (known : Option (List ℕ)) → order ≡ [] → told_front [] → IsBegun plays l slots told_front trace order known known
+begun_none plays l slots told_front trace order known empty front = rw empty (record {
   lawful = (none trace).lawful;
   segments = 0;
   whole = [];
@@ -38,38 +49,43 @@ begun_none plays slots trace order known empty = rw empty (record {
   parts = refl;
   done = none trace;
   text = (0, omega arith, Appends-nil known);
+  calls = front;
 })
 
-module _ (plays : Plays) (board : Board) where
-  pub underway_first : (seat : Known) (known : Option (List ℕ)) (pending : List ℕ) → seat ≡ first_seat (turns_of board) → pending ≡ [] → IsUnderway plays board 0 seat known known pending
+module _ (plays : Plays) (l : Listing) (board : Board) where
+  pub underway_first : (seat : Known) (known : Option (List ℕ)) (pending : List ℕ) → seat ≡ first_seat (turns_of board) → pending ≡ [] → IsUnderway plays l board 0 seat known known pending
   underway_first seat known pending fresh empty = rw (fresh, empty) (record {
     chief = first_chief (turns_of board);
     numbers = omega arith;
     done = none board.trace;
-    text = pending_none known;
+    text = pending_listed_none l known;
     few = All-nil _;
   })
 
-  module _ (k : ℕ) (v : Known) (old now : Option (List ℕ)) (pending : List ℕ) (so_far : IsUnderway plays board k v old now pending) where
+  module _ (k : ℕ) (v : Known) (old now : Option (List ℕ)) (pending : List ℕ) (so_far : IsUnderway plays l board k v old now pending) where
+    listed_grown : {w : Known} → Ran board.trace k v w → listed l (report plays board.slots board.trace (order_of w.seen)) ≡ listed l (report plays board.slots board.trace (order_of v.seen)) ++ listed l (grown_lines plays board v w)
+    listed_grown {w} ran = listed_append l _ _ _ (text_grown plays board v w ran.begins so_far.done.lawful.known)
+
     -- one segment more was done, and its lines are pending too
     pub underway_more : (w : Known) (after : List ℕ) → IsChief (turns_of board) w → Ran board.trace k v w → RanWhole board.trace k v w
-        → after ≡ pending ++ grown_lines plays board v w → GrewFew board v w → IsUnderway plays board (k + 1) w old now after
+        → after ≡ pending ++ listed l (grown_lines plays board v w) → GrewFew board v w → IsUnderway plays l board (k + 1) w old now after
     underway_more w after chief ran whole lines few = record {
       chief = chief;
       numbers = let before = so_far.numbers in let made = ran.few in omega (arith, before, made);
       done = one_more board.trace k v w so_far.done ran whole;
-      text = rw (lines, text_grown plays board v w ran.begins so_far.done.lawful.known) (pending_more old now pending _ (grown_lines plays board v w) so_far.text);
+      text = rw (lines, listed_grown ran) (pending_more old now pending _ (listed l (grown_lines plays board v w)) so_far.text);
       few = few_grown board v w ran.begins so_far.few few;
     }
 
     -- some of it was written, as far as is known
     pub underway_written : (then : Option (List ℕ)) (left : List ℕ) → ((known : Option (List ℕ)) (whole : List ℕ) → IsPending known now pending whole → IsPending known then left whole)
-        → IsUnderway plays board k v old then left
+        → IsUnderway plays l board k v old then left
     underway_written then left written = record { chief = so_far.chief; numbers = so_far.numbers; done = so_far.done; text = written old _ so_far.text; few = so_far.few }
 
-    -- memory ran out in the segment that came next
-    pub begun_segment : (w : Known) → Ran board.trace k v w → IsBegun plays board.slots board.trace (order_of w.seen) old now
-    begun_segment w ran = record {
+    -- memory ran out in the segment that came next, or when its lines were made, or its calls told
+    pub begun_segment : (told_front : Telling) (w : Known) → Ran board.trace k v w → told_front (calls_told board.slots board.trace (order_of w.seen))
+        → IsBegun plays l board.slots told_front board.trace (order_of w.seen) old now
+    begun_segment told_front w ran calls = record {
       lawful = cut_short board.trace k v w so_far.done ran;
       segments = k;
       whole = order_of v.seen;
@@ -77,11 +93,13 @@ module _ (plays : Plays) (board : Board) where
       parts = order_grown v w ran.begins;
       done = so_far.done;
       text = front_of old now so_far.text.done pending _ so_far.text.written so_far.text.rest;
+      calls = calls;
     }
 
     -- writing what was pending failed
-    pub begun_flush : (new : Option (List ℕ)) → AppendsFront now new pending → IsBegun plays board.slots board.trace (order_of v.seen) old new
-    begun_flush new front = record {
+    pub begun_flush : (told_front : Telling) (new : Option (List ℕ)) → AppendsFront now new pending → told_front (calls_told board.slots board.trace (order_of v.seen))
+        → IsBegun plays l board.slots told_front board.trace (order_of v.seen) old new
+    begun_flush told_front new front calls = record {
       lawful = so_far.done.lawful;
       segments = k;
       whole = order_of v.seen;
@@ -89,12 +107,17 @@ module _ (plays : Plays) (board : Board) where
       parts = sym (append-nil (order_of v.seen));
       done = so_far.done;
       text = front_pending old now new pending _ so_far.text front;
+      calls = calls;
     }
 
     -- every segment was done, and all was written
-    pub reported : (new : Option (List ℕ)) → IsSound board.trace → k ≡ length board.trace.segments → Appends now new pending → IsReported plays (fabric_at board) board.trace (order_of v.seen) old new
-    reported new sound all written = record {
+    pub run_whole : (told : Telling) → IsSound board.trace → k ≡ length board.trace.segments → told (calls_told board.slots board.trace (order_of v.seen))
+        → IsRunWhole (fabric_at board) told board.trace (order_of v.seen)
+    run_whole told sound all calls = record {
       lawful = all_done board.trace (order_of v.seen) sound (subst (λ n. IsDoneBelow board.trace n (order_of v.seen)) all so_far.done);
-      text = whole_pending old now new pending _ so_far.text written;
       few = so_far.few;
+      calls = calls;
     }
+
+    pub all_written : (new : Option (List ℕ)) → Appends now new pending → Appends old new (listed l (report plays board.slots board.trace (order_of v.seen)))
+    all_written new written = whole_pending old now new pending _ so_far.text written

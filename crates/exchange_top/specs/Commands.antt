@@ -1,5 +1,5 @@
--- The command, and what its call answers. Source: this exchange's own.
-use Rattle.std.specs.Prelude.{◌≡◌, ◌⊎◌, ℕ, ◌+◌, ◌≤◌, List, [], ◌∷◌, ◌++◌, length, codes, decimal}
+-- The commands, and what a call answers to them. Source: this exchange's own.
+use Rattle.std.specs.Prelude.{◌≡◌, ◌⊎◌, ℕ, ◌+◌, ◌≤◌, List, [], ◌++◌, length, codes, decimal, Some, None}
 use Rattle.std.specs.Io.KnownBytes.{Appends, Consumes, IsAtEnd, Keeps}
 use Rattle.std.specs.declared.option.Option.{Option}
 use Rattle.ex_io.specs.Ends.{Rose}
@@ -8,16 +8,36 @@ use Rattle.trace_text.specs.declared.fault.Reason.TheVariants as reason
 use Rattle.exchange_core.specs.declared.trace.Trace.{Trace}
 use Rattle.fabric_map.specs.Map.{most_moves}
 use Rattle.trace_text.specs.TraceGrammar.{IsTrace, IsRefused, most_bytes}
-use Rattle.exchange_top.specs.Outcomes.{Fabric, IsReported, IsBegun}
+use Rattle.generated_trace.specs.Generated.{IsTrafficOf}
+use Rattle.command_words.specs.Words.{command_of}
+use Rattle.command_words.specs.declared.command.Command.TheVariants.{Run, Generate}
 use Rattle.exchange_core.specs.Sound.{setting_of}
 use Rattle.exchange_core.specs.Working.{world_after}
 use Rattle.exchange_core.specs.World.{Dimensions, World}
 use Rattle.call_processor.specs.Frames.{Plays}
+use Rattle.exchange_top.specs.declared.listing.Listing.{Listing}
+use Rattle.exchange_top.specs.declared.listing.Listing.TheVariants as listing
+use Rattle.exchange_top.specs.Outcomes.{Fabric, IsRunWhole, IsBegun, listed}
+use Rattle.exchange_top.specs.Report.{report}
 use Rattle.exchange_top.specs.Streams.{AppendsFront}
+use Rattle.exchange_top.specs.Summary.{summary_text}
+use Rattle.exchange_top.specs.Telling.{Telling}
 
--- the one command: the word `run`, alone
+-- ---- the commands
+
+-- the words ask for a run of the trace that is read
 abbrev pub IsRun : List (List ℕ) → Type 0
-IsRun words = words ≡ codes "run" ∷ []
+IsRun words = command_of words ≡ Some Run
+
+-- they ask for a run of the trace generated of this seed with so many calls
+abbrev pub IsGeneration : List (List ℕ) → ℕ → ℕ → Type 0
+IsGeneration words seed calls = command_of words ≡ Some (Generate seed calls)
+
+-- they are no command
+abbrev pub IsNoCommand : List (List ℕ) → Type 0
+IsNoCommand words = command_of words ≡ None
+
+-- ---- refusals
 
 -- how a refusal names its reason
 abbrev pub reason_name : Reason → List ℕ
@@ -38,17 +58,11 @@ refusal number why = codes "refused " ++ decimal number ++ codes " " ++ reason_n
 abbrev pub words_refusal : List ℕ
 words_refusal = codes "refused words\n"
 
+-- ---- what is read
+
 -- so many bytes of an input are read at the most: as many as a trace may have, and one piece of 65,536 more
 abbrev pub most_read : ℕ
 most_read = most_bytes + 65536
-
--- a read failed, a write failed, or there was no memory
-abbrev pub IsUnfinished : ℕ → Type 0
-IsUnfinished status = (status ≡ 3) ⊎ (status ≡ 4) ⊎ (status ≡ 5)
-
--- the fabric of every trace: thirty internal slots, where no path that joins moves more others than in any such fabric of so many lines
-abbrev pub fabric_of : Trace → Fabric
-fabric_of trace = record { slots = 30; most_moves = most_moves (trace.external + trace.bridges) }
 
 -- these bytes are all that was left, and they were read
 pub record IsWholeInput (old new : Option (List ℕ)) (bytes : List ℕ) : Type 0 where
@@ -61,16 +75,41 @@ pub record IsInput (old new : Option (List ℕ)) (bytes : List ℕ) : Type 0 whe
   pub whole : length bytes ≤ most_bytes → IsAtEnd new
   pub few : length bytes ≤ most_read
 
+-- ---- a run that comes to its end
+
+-- a read failed, a write failed, or there was no memory
+abbrev pub IsUnfinished : ℕ → Type 0
+IsUnfinished status = (status ≡ 3) ⊎ (status ≡ 4) ⊎ (status ≡ 5)
+
+-- the fabric of every trace: thirty internal slots, where no path that joins moves more others than in any such fabric of so many lines
+abbrev pub fabric_of : Trace → Fabric
+fabric_of trace = record { slots = 30; most_moves = most_moves (trace.external + trace.bridges) }
+
 -- what is said of the engine that is handed out: that it has these dimensions, and carries the frames of this world
 abbrev pub Handing : Type 1
 Handing = Dimensions → World → Type 0
 
--- the bytes were answered by the report of the trace that they are, whole, and the engine of that size was handed out, which carries the frames of its run
-pub record IsDone (plays : Plays) (handed : Handing) (bytes order : List ℕ) (old new : Option (List ℕ)) : Type 0 where
+-- the engine that was handed out has the size of the trace's exchange, and carries the frames of the run
+abbrev pub IsHandedOut : Handing → Trace → List ℕ → Type 0
+IsHandedOut handed trace order = let slots = (fabric_of trace).slots in handed (setting_of slots trace).dimensions (world_after slots trace order)
+
+-- the bytes are a trace, which was run, and its report was written, whole
+pub record IsDone (plays : Plays) (handed : Handing) (told : Telling) (bytes order : List ℕ) (old new : Option (List ℕ)) : Type 0 where
   pub trace : Trace
   pub is_trace : IsTrace bytes trace
-  pub report : IsReported plays (fabric_of trace) trace order old new
-  pub engine : let slots = (fabric_of trace).slots in handed (setting_of slots trace).dimensions (world_after slots trace order)
+  pub run : IsRunWhole (fabric_of trace) told trace order
+  pub text : Appends old new (report plays (fabric_of trace).slots trace order)
+  pub engine : IsHandedOut handed trace order
+
+-- the trace generated of this seed with so many calls was run, and its summary was written, whole: it ends with what the meters say
+pub record IsSummed (handed : Handing) (told : Telling) (said : List ℕ) (seed calls : ℕ) (order : List ℕ) (old new : Option (List ℕ)) : Type 0 where
+  pub trace : Trace
+  pub generated : IsTrafficOf seed calls trace
+  pub run : IsRunWhole (fabric_of trace) told trace order
+  pub text : Appends old new (summary_text trace said)
+  pub engine : IsHandedOut handed trace order
+
+-- ---- other ends
 
 -- the bytes were answered by the refusal of the line that they are no trace for
 pub record IsTurnedDown (bytes order : List ℕ) (old new : Option (List ℕ)) : Type 0 where
@@ -80,17 +119,32 @@ pub record IsTurnedDown (bytes order : List ℕ) (old new : Option (List ℕ)) :
   pub none : order ≡ []
   pub text : Appends old new (refusal number why)
 
--- the answer to the bytes was cut short: nothing was written, or a front of their refusal, or a front of the report of the events that were done
-pub data IsCutShort (plays : Plays) (bytes order : List ℕ) (old new : Option (List ℕ)) : Type 0 where
-  At_once : order ≡ [] → Keeps old new → IsCutShort plays bytes order old new
-  In_refusal : (number : ℕ) (why : Reason) → IsRefused bytes number why → order ≡ [] → AppendsFront old new (refusal number why) → IsCutShort plays bytes order old new
-  In_report : (trace : Trace) → IsTrace bytes trace → IsBegun plays (fabric_of trace).slots trace order old new → IsCutShort plays bytes order old new
+-- the answer to the bytes was cut short: nothing was written, or a front of their refusal, or a front of the report of the segments that were done
+pub data IsCutShort (plays : Plays) (told_front : Telling) (bytes order : List ℕ) (old new : Option (List ℕ)) : Type 0 where
+  At_once : order ≡ [] → Keeps old new → told_front [] → IsCutShort plays told_front bytes order old new
+  In_refusal : (number : ℕ) (why : Reason) → IsRefused bytes number why → order ≡ [] → AppendsFront old new (refusal number why) → told_front []
+      → IsCutShort plays told_front bytes order old new
+  In_report : (trace : Trace) → IsTrace bytes trace → IsBegun plays listing.Report (fabric_of trace).slots told_front trace order old new
+      → IsCutShort plays told_front bytes order old new
 
--- the whole call was cut short: it could write no refusal of the words, or it could not read its input, or its answer to the input was cut short
-pub data IsUndone (plays : Plays) (words : List (List ℕ)) (left_old left_new : Option (List ℕ)) (order : List ℕ) (old new : Option (List ℕ)) : Type 0 where
-  In_words : ¬ IsRun words → order ≡ [] → AppendsFront old new words_refusal → IsUndone plays words left_old left_new order old new
-  In_input : IsRun words → order ≡ [] → Keeps old new → IsUndone plays words left_old left_new order old new
-  In_answer : IsRun words → (bytes : List ℕ) → IsInput left_old left_new bytes → IsCutShort plays bytes order old new → IsUndone plays words left_old left_new order old new
+-- a run of a generated trace was cut short: nothing was written, or a front of its summary once all of it was run
+pub data IsSumCutShort (plays : Plays) (told told_front : Telling) (said : List ℕ) (seed calls : ℕ) (order : List ℕ) (old new : Option (List ℕ)) : Type 0 where
+  Not_begun : order ≡ [] → Keeps old new → told_front [] → IsSumCutShort plays told told_front said seed calls order old new
+  In_run : (trace : Trace) → IsTrafficOf seed calls trace → IsBegun plays listing.Nothing (fabric_of trace).slots told_front trace order old new
+      → IsSumCutShort plays told told_front said seed calls order old new
+  In_summary : (trace : Trace) → IsTrafficOf seed calls trace → IsRunWhole (fabric_of trace) told trace order → AppendsFront old new (summary_text trace said)
+      → IsSumCutShort plays told told_front said seed calls order old new
+
+-- the whole call was cut short: it could write no refusal of the words, or it could not read them or its input, or the answer to them was cut short
+pub data IsUndone (plays : Plays) (told told_front : Telling) (said : List ℕ) (words : List (List ℕ)) (left_old left_new : Option (List ℕ)) (order : List ℕ) (old new : Option (List ℕ)) : Type 0 where
+  In_words : IsNoCommand words → order ≡ [] → AppendsFront old new words_refusal → told_front [] → IsUndone plays told told_front said words left_old left_new order old new
+  Unheard : order ≡ [] → Keeps old new → told_front [] → IsUndone plays told told_front said words left_old left_new order old new
+  In_answer : IsRun words → (bytes : List ℕ) → IsInput left_old left_new bytes → IsCutShort plays told_front bytes order old new
+      → IsUndone plays told told_front said words left_old left_new order old new
+  In_generation : (seed calls : ℕ) → IsGeneration words seed calls → IsSumCutShort plays told told_front said seed calls order old new
+      → IsUndone plays told told_front said words left_old left_new order old new
+
+-- ---- how the parts of a call end
 
 -- how a refusal ends: the line was written and the status is the wanted one, or the write failed; the counts are those of the sink's faults
 -- before and after
@@ -98,18 +152,34 @@ pub data Refuses (wanted : ℕ) (line : List ℕ) (status : ℕ) (old new : Opti
   Told_so : status ≡ wanted → Appends old new line → Refuses wanted line status old new before after
   Untold : status ≡ 4 → Rose before after → AppendsFront old new line → Refuses wanted line status old new before after
 
--- how an answer to the bytes that were read ends, by its status; the counts are those of the sink's faults before and after
-pub data Answers (plays : Plays) (handed : Handing) (bytes : List ℕ) (status : ℕ) (order : List ℕ) (old new : Option (List ℕ)) (before after : ℕ) : Type 0 where
-  Done : status ≡ 0 → IsDone plays handed bytes order old new → Answers plays handed bytes status order old new before after
-  Turned_down : status ≡ 1 → IsTurnedDown bytes order old new → Answers plays handed bytes status order old new before after
-  Unwritten : status ≡ 4 → Rose before after → IsCutShort plays bytes order old new → Answers plays handed bytes status order old new before after
-  No_memory : status ≡ 5 → IsCutShort plays bytes order old new → Answers plays handed bytes status order old new before after
+-- what a call is told and what becomes of its parties: what its engine plays, what is said of the engine that is handed out, what its meters were
+-- told, wholly or as far as it came, and what they say in the end
+pub record Parties : Type 1 where
+  pub plays : Plays
+  pub handed : Handing
+  pub told : Telling
+  pub told_front : Telling
+  pub said : List ℕ
 
--- how a run of a trace ends
-pub data Runs (plays : Plays) (handed : Handing) (trace : Trace) (status : ℕ) (order : List ℕ) (old new : Option (List ℕ)) (before after : ℕ) : Type 0 where
-  Whole : status ≡ 0 → IsReported plays (fabric_of trace) trace order old new → handed (setting_of (fabric_of trace).slots trace).dimensions (world_after (fabric_of trace).slots trace order) → Runs plays handed trace status order old new before after
-  Unwritten_from : status ≡ 4 → Rose before after → IsBegun plays (fabric_of trace).slots trace order old new → Runs plays handed trace status order old new before after
-  No_memory_from : status ≡ 5 → IsBegun plays (fabric_of trace).slots trace order old new → Runs plays handed trace status order old new before after
+-- how an answer to the bytes that were read ends, by its status; the counts are those of the sink's faults before and after
+pub data Answers (x : Parties) (bytes : List ℕ) (status : ℕ) (order : List ℕ) (old new : Option (List ℕ)) (before after : ℕ) : Type 0 where
+  Done : status ≡ 0 → IsDone x.plays x.handed x.told bytes order old new → Answers x bytes status order old new before after
+  Turned_down : status ≡ 1 → IsTurnedDown bytes order old new → x.told [] → Answers x bytes status order old new before after
+  Unwritten : status ≡ 4 → Rose before after → IsCutShort x.plays x.told_front bytes order old new → Answers x bytes status order old new before after
+  No_memory : status ≡ 5 → IsCutShort x.plays x.told_front bytes order old new → Answers x bytes status order old new before after
+
+-- how a run of a trace ends, of which this is listed
+pub data Runs (x : Parties) (l : Listing) (trace : Trace) (status : ℕ) (order : List ℕ) (old new : Option (List ℕ)) (before after : ℕ) : Type 0 where
+  Whole : status ≡ 0 → IsRunWhole (fabric_of trace) x.told trace order → Appends old new (listed l (report x.plays (fabric_of trace).slots trace order))
+      → IsHandedOut x.handed trace order → Runs x l trace status order old new before after
+  Unwritten_from : status ≡ 4 → Rose before after → IsBegun x.plays l (fabric_of trace).slots x.told_front trace order old new → Runs x l trace status order old new before after
+  No_memory_from : status ≡ 5 → IsBegun x.plays l (fabric_of trace).slots x.told_front trace order old new → Runs x l trace status order old new before after
+
+-- how a run of a generated trace ends
+pub data Sums (x : Parties) (seed calls : ℕ) (status : ℕ) (order : List ℕ) (old new : Option (List ℕ)) (before after : ℕ) : Type 0 where
+  Summed : status ≡ 0 → IsSummed x.handed x.told x.said seed calls order old new → Sums x seed calls status order old new before after
+  Sum_unwritten : status ≡ 4 → Rose before after → IsSumCutShort x.plays x.told x.told_front x.said seed calls order old new → Sums x seed calls status order old new before after
+  Sum_no_memory : status ≡ 5 → IsSumCutShort x.plays x.told x.told_front x.said seed calls order old new → Sums x seed calls status order old new before after
 
 -- what the source and the sink tell, before and after: the bytes left and written, and their counts of faults
 pub record Told : Type 0 where
@@ -119,9 +189,12 @@ pub record Told : Type 0 where
   pub writes : ℕ
 
 -- how a call ends, by its status
-pub data Ends (plays : Plays) (handed : Handing) (words : List (List ℕ)) (status : ℕ) (order : List ℕ) (old new : Told) : Type 0 where
-  Wrong_words : ¬ IsRun words → status ≡ 2 → order ≡ [] → Appends old.written new.written words_refusal → Ends plays handed words status order old new
-  Words_unwritten : ¬ IsRun words → status ≡ 4 → order ≡ [] → Rose old.writes new.writes → AppendsFront old.written new.written words_refusal → Ends plays handed words status order old new
-  Unread : IsRun words → status ≡ 3 → order ≡ [] → Rose old.reads new.reads → Keeps old.written new.written → Ends plays handed words status order old new
-  No_room : IsRun words → status ≡ 5 → order ≡ [] → Keeps old.written new.written → Ends plays handed words status order old new
-  Answered : IsRun words → (bytes : List ℕ) → IsInput old.left new.left bytes → Answers plays handed bytes status order old.written new.written old.writes new.writes → Ends plays handed words status order old new
+pub data Ends (x : Parties) (words : List (List ℕ)) (status : ℕ) (order : List ℕ) (old new : Told) : Type 0 where
+  Wrong_words : IsNoCommand words → status ≡ 2 → order ≡ [] → Appends old.written new.written words_refusal → x.told [] → Ends x words status order old new
+  Words_unwritten : IsNoCommand words → status ≡ 4 → order ≡ [] → Rose old.writes new.writes → AppendsFront old.written new.written words_refusal → x.told_front []
+      → Ends x words status order old new
+  Unread : IsRun words → status ≡ 3 → order ≡ [] → Rose old.reads new.reads → Keeps old.written new.written → x.told [] → Ends x words status order old new
+  No_room : status ≡ 5 → order ≡ [] → Keeps old.written new.written → x.told_front [] → Ends x words status order old new
+  Answered : IsRun words → (bytes : List ℕ) → IsInput old.left new.left bytes → Answers x bytes status order old.written new.written old.writes new.writes
+      → Ends x words status order old new
+  Generated : (seed calls : ℕ) → IsGeneration words seed calls → Sums x seed calls status order old.written new.written old.writes new.writes → Ends x words status order old new

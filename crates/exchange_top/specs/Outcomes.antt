@@ -1,5 +1,5 @@
--- How far a run came, and what was written of its report. Source: this exchange's own.
-use Rattle.std.specs.Prelude.{◌≡◌, ℕ, List, ◌++◌, All}
+-- How far a run came, what was written of it, and what its meters were told. Source: this exchange's own.
+use Rattle.std.specs.Prelude.{◌≡◌, ℕ, List, [], ◌++◌, All}
 use Rattle.std.specs.Io.KnownBytes.{Appends}
 use Rattle.std.specs.declared.option.Option.{Option}
 use Rattle.exchange_core.specs.declared.trace.Trace.{Trace}
@@ -9,8 +9,11 @@ use Rattle.exchange_core.specs.Step.{run, events_of, MovesAtMost}
 use Rattle.exchange_core.specs.World.{start}
 use Rattle.segment_run.specs.Segments.{IsDoneBelow}
 use Rattle.call_processor.specs.Frames.{Plays}
+use Rattle.exchange_top.specs.declared.listing.Listing.{Listing}
+use Rattle.exchange_top.specs.declared.listing.Listing.TheVariants as listing
 use Rattle.exchange_top.specs.Report.{report}
 use Rattle.exchange_top.specs.Streams.{AppendsFront}
+use Rattle.exchange_top.specs.Telling.{Telling, calls_told}
 
 -- the fabric that a trace is run on: how many internal slots it has, and how many live paths a new path moves at the most
 pub record Fabric : Type 0 where
@@ -21,22 +24,30 @@ pub record Fabric : Type 0 where
 abbrev pub MovesFew : Fabric → Trace → List ℕ → Type 0
 MovesFew fabric trace order = let s = setting_of fabric.slots trace in All (MovesAtMost fabric.most_moves) (run s (start s.dimensions) (events_of trace.events order))
 
--- every event of the trace was done, in a lawful order, and their report was written; no path that joined moved more others than the fabric allows
-pub record IsReported (plays : Plays) (fabric : Fabric) (trace : Trace) (order : List ℕ) (old new : Option (List ℕ)) : Type 0 where
+-- every event of the trace was done, in a lawful order; no path that joined moved more others than the fabric allows; and the meters were told of
+-- the calls that ended
+pub record IsRunWhole (fabric : Fabric) (told : Telling) (trace : Trace) (order : List ℕ) : Type 0 where
   pub lawful : IsLawful trace order
-  pub text : Appends old new (report plays fabric.slots trace order)
   pub few : MovesFew fabric trace order
+  pub calls : told (calls_told fabric.slots trace order)
+
+-- what a run writes of a report
+abbrev pub listed : Listing → List ℕ → List ℕ
+listed listing.Report text = text
+listed listing.Nothing text = []
 
 -- Some events of the trace were done, in an order that is lawful as far as it goes. The first of them are those of the first segments, and a front
--- of the report of these was written; of the segment in which the run ended, nothing was.
-pub record IsBegun (plays : Plays) (slots : ℕ) (trace : Trace) (order : List ℕ) (old new : Option (List ℕ)) : Type 0 where
+-- of what is written of these was written; of the segment in which the run ended, nothing was. The meters were told of the first few calls that
+-- ended.
+pub record IsBegun (plays : Plays) (l : Listing) (slots : ℕ) (told_front : Telling) (trace : Trace) (order : List ℕ) (old new : Option (List ℕ)) : Type 0 where
   pub lawful : IsLawfulPrefix trace order
   pub segments : ℕ
   pub whole : List ℕ
   pub rest : List ℕ
   pub parts : order ≡ whole ++ rest
   pub done : IsDoneBelow trace segments whole
-  pub text : AppendsFront old new (report plays slots trace whole)
+  pub text : AppendsFront old new (listed l (report plays slots trace whole))
+  pub calls : told_front (calls_told slots trace order)
 
 -- the text was written up to what is pending
 pub record IsPending (old new : Option (List ℕ)) (pending text : List ℕ) : Type 0 where

@@ -7,7 +7,9 @@ use Rattle.exchange_core.specs.Step.{run, events_of, MovesAtMost}
 use Rattle.segment_run.specs.Segment.{grown}
 use Rattle.call_processor.specs.Frames.{Plays}
 use Rattle.exchange_top.specs.Outcomes.{Fabric}
+use Rattle.exchange_core.specs.declared.record.CallRecord.{CallRecord}
 use Rattle.exchange_top.specs.Report.{event_lines}
+use Rattle.exchange_top.specs.Telling.{calls_ended}
 
 -- a map of paths that an exchange with so many lines can begin with: it has as many, 1 to 59 internal slots, and no path yet
 pub record IsUnused (lines width depth : ℕ) (layout : Layout) : Type 0 where
@@ -26,3 +28,7 @@ grown_lines plays board v w = event_lines (plays (table_of board.trace.tones)) (
 
 abbrev pub GrewFew : Board → Known → Known → Type 0
 GrewFew board v w = All (MovesAtMost board.bound) (run (setting_at board) (world_at board v.seen) (events_of board.trace.events (grown v w)))
+
+-- the calls that ended in these events
+abbrev pub grown_calls : Board → Known → Known → List CallRecord
+grown_calls board v w = calls_ended (run (setting_at board) (world_at board v.seen) (events_of board.trace.events (grown v w)))

@@ -1,23 +1,31 @@
-ghost use Rattle.std.specs.Prelude.{◌≡◌, ℕ, ◌≤◌, ◌⊎◌, ◌↔◌, ◌++◌, List, [], map, string_bytes, IsTrue, IsSome, IfOk, None, Some};
+ghost use Rattle.std.specs.Prelude.{◌≡◌, ℕ, ◌≤◌, ◌⊎◌, ◌↔◌, ◌++◌, List, [], map, string_bytes, IsSome, IfOk, None, Some};
+ghost use Rattle.std.specs.List.{concat};
 ghost use Rattle.std.specs.Io.KnownBytes.{Appends, Keeps};
 ghost use Rattle.ex_io.specs.Ends.{Rose};
 ghost use Rattle.trace_text.specs.declared.fault.Reason.{Reason};
 ghost use Rattle.trace_text.specs.TraceGrammar.{IsTrace, IsRefused};
 ghost use Rattle.exchange_core.specs.declared.trace.Trace.{Trace};
 ghost use Rattle.exchange_core.specs.Sound.{IsSound};
-ghost use Rattle.exchange_top.specs.Commands.{IsRun, IsInput, IsDone, IsTurnedDown, IsUndone, IsUnfinished, IsWholeInput, Refuses, Runs, Answers, Ends, most_read, reason_name, refusal, words_refusal};
 ghost use Rattle.call_processor.specs.Frames.{engine_dimensions};
+ghost use Rattle.exchange_top.specs.Commands.{IsRun, IsGeneration, IsNoCommand, IsInput, IsDone, IsSummed, IsTurnedDown, IsUndone, IsUnfinished, IsWholeInput, Refuses, Runs, Sums, Answers, Ends, most_read, reason_name, refusal, words_refusal};
 ghost use Rattle.exchange_top.specs.Report.{HandsOut};
-ghost use Rattle.exchange_top.specs.Streams.{ConsumesAtMost};
+ghost use Rattle.exchange_top.specs.Streams.{AppendsFront, ConsumesAtMost};
+ghost use Rattle.exchange_top.specs.Summary.{summary_text};
+ghost use Rattle.exchange_top.specs.Telling.{AreTold, AreToldFront};
 
+use crate::listing::Listing;
 use crate::run::{RunFault, run};
 use crate::streams::{ReadFault, read_all, write_all};
+use crate::summary::summary;
+use command_words::{Command, WordsFault, read_command};
 use ex_io::{Sink, Source};
 use exchange_core::Trace;
 use fabric_map::FabricMap;
 use frame_engine::Carrier;
 use gate::Gate;
+use generated_trace::generated;
 use itoa::Buffer;
+use meters::Meter;
 use std::alloc::{AllocError, Global};
 use std::sync::Wait;
 use std::thread::Threads;
@@ -26,8 +34,9 @@ use trace_text::{MOST_BYTES, Reason, TraceFault, read_trace};
 /// How a call of the exchange ended.
 #[derive(Drop)]
 pub struct Outcome<C: Carrier> {
-    /// 0 where the trace was run and its report was written, 1 where the input is no trace, 2 where
-    /// the words are no command, 3 where a read failed, 4 where a write failed, 5 for want of memory.
+    /// 0 where the trace was run and its report or its summary was written, 1 where the input is no
+    /// trace, 2 where the words are no command, 3 where a read failed, 4 where a write failed, 5 for want
+    /// of memory.
     pub status: u8,
     /// The numbers of the events that were done, in the order in which they happened.
     pub order: Vec<u32>,
@@ -45,16 +54,6 @@ fn ended<C: Carrier>(alloc: Global, status: u8) -> Outcome<C>
         status,
         order: Vec::new(alloc),
         engine: None,
-    }
-}
-
-// Whether the words are the one command.
-fn is_run(words: &[String]) -> bool
-    ensures { IsTrue result ↔ IsRun (map string_bytes words.now) }
-{
-    match words {
-        [word] => word.as_str() == "run",
-        _ => false,
     }
 }
 
@@ -105,12 +104,20 @@ fn run_trace<K: Sink, G: Gate, C: Carrier, R: Threads + Wait + Sync>(
     rt: &R,
     alloc: Global,
     trace: &Trace,
+    listing: Listing,
     sink: &mut K,
     gate: &G,
+    meters: &mut Vec<Box<dyn Meter>>,
 ) -> Outcome<C>
     requires sound { IsSound trace.now }
-    ensures runs { Runs C.plays (HandsOut (engine_dimensions C.external_lines C.bridge_lines C.depth) C.carries result.engine)
-        trace.now result.status result.order.items (K.written sink.old) (K.written sink.new) (K.faults sink.old) (K.faults sink.new) }
+    ensures runs { Runs (record {
+      plays = C.plays;
+      handed = HandsOut (engine_dimensions C.external_lines C.bridge_lines C.depth) C.carries result.engine;
+      told = AreTold (λ m. stands m) (λ m. text m) meters.old.items meters.new.items;
+      told_front = AreToldFront (λ m. stands m) (λ m. text m) meters.old.items meters.new.items;
+      said = concat (map (λ m. text m []) meters.new.items);
+    })
+        listing trace.now result.status result.order.items (K.written sink.old) (K.written sink.new) (K.faults sink.old) (K.faults sink.new) }
     ensures engine { IsSome result.engine ↔ (result.status ≡ 0) }
     ensures writes { (result.status ≡ 4) ⊎ (K.faults sink.new ≡ K.faults sink.old) }
 {
@@ -120,7 +127,9 @@ fn run_trace<K: Sink, G: Gate, C: Carrier, R: Threads + Wait + Sync>(
     let Ok(mut order) = Vec::with_capacity(alloc, trace.events.as_slice().len()) else {
         return ended(alloc, 5);
     };
-    match run(rt, alloc, trace, paths, &mut order, sink, gate) {
+    match run(
+        rt, alloc, trace, paths, &mut order, listing, sink, gate, meters,
+    ) {
         Ok(engine) => Outcome {
             status: 0,
             order,
@@ -146,8 +155,15 @@ fn answer<K: Sink, G: Gate, C: Carrier, R: Threads + Wait + Sync>(
     bytes: Vec<u8>,
     sink: &mut K,
     gate: &G,
+    meters: &mut Vec<Box<dyn Meter>>,
 ) -> Outcome<C>
-    ensures answers { Answers C.plays (HandsOut (engine_dimensions C.external_lines C.bridge_lines C.depth) C.carries result.engine)
+    ensures answers { Answers (record {
+      plays = C.plays;
+      handed = HandsOut (engine_dimensions C.external_lines C.bridge_lines C.depth) C.carries result.engine;
+      told = AreTold (λ m. stands m) (λ m. text m) meters.old.items meters.new.items;
+      told_front = AreToldFront (λ m. stands m) (λ m. text m) meters.old.items meters.new.items;
+      said = concat (map (λ m. text m []) meters.new.items);
+    })
         bytes.items result.status result.order.items (K.written sink.old) (K.written sink.new) (K.faults sink.old) (K.faults sink.new) }
     ensures engine { IsSome result.engine ↔ (result.status ≡ 0) }
     ensures writes { (result.status ≡ 4) ⊎ (K.faults sink.new ≡ K.faults sink.old) }
@@ -155,7 +171,7 @@ fn answer<K: Sink, G: Gate, C: Carrier, R: Threads + Wait + Sync>(
     match read_trace(alloc, bytes.as_slice()) {
         Ok(trace) => {
             drop(bytes);
-            run_trace(rt, alloc, &trace, sink, gate)
+            run_trace(rt, alloc, &trace, Listing::Report, sink, gate, meters)
         }
         Err(TraceFault::Memory) => ended(alloc, 5),
         Err(TraceFault::Line { number, reason }) => match refusal(alloc, number, reason) {
@@ -165,7 +181,113 @@ fn answer<K: Sink, G: Gate, C: Carrier, R: Threads + Wait + Sync>(
     }
 }
 
-// Answers the words and, where they are the command, the input.
+// Writes the summary of a run of a trace, which came to its end.
+fn sum_up<K: Sink, C: Carrier>(
+    alloc: Global,
+    trace: &Trace,
+    outcome: Outcome<C>,
+    sink: &mut K,
+    meters: &[Box<dyn Meter>],
+) -> Outcome<C>
+    requires whole { outcome.status ≡ 0 }
+    requires engine { IsSome outcome.engine }
+    ensures order { result.order ≡ outcome.order }
+    ensures summed { result.status ≡ 0 → (result.engine ≡ outcome.engine)
+        × Appends (K.written sink.old) (K.written sink.new) (summary_text trace.now (concat (map (λ m. text m []) meters.now))) }
+    ensures unwritten { result.status ≡ 4 → Rose (K.faults sink.old) (K.faults sink.new)
+        × AppendsFront (K.written sink.old) (K.written sink.new) (summary_text trace.now (concat (map (λ m. text m []) meters.now))) }
+    ensures unsaid { result.status ≡ 5 → Keeps (K.written sink.old) (K.written sink.new) }
+    ensures statuses { (result.status ≡ 0) ⊎ (result.status ≡ 4) ⊎ (result.status ≡ 5) }
+    ensures engine { IsSome result.engine ↔ (result.status ≡ 0) }
+    ensures writes { (result.status ≡ 4) ⊎ (K.faults sink.new ≡ K.faults sink.old) }
+{
+    let Outcome { order, engine, .. } = outcome;
+    let Ok(text) = summary(alloc, trace, meters) else {
+        return Outcome {
+            status: 5,
+            order,
+            engine: None,
+        };
+    };
+    match write_all(sink, text.as_slice()) {
+        Ok(()) => Outcome {
+            status: 0,
+            order,
+            engine,
+        },
+        Err(_) => Outcome {
+            status: 4,
+            order,
+            engine: None,
+        },
+    }
+}
+
+// Runs the trace generated of a seed with so many calls, and writes its summary.
+fn run_generated<K: Sink, G: Gate, C: Carrier, R: Threads + Wait + Sync>(
+    rt: &R,
+    alloc: Global,
+    seed: u32,
+    calls: u32,
+    sink: &mut K,
+    gate: &G,
+    meters: &mut Vec<Box<dyn Meter>>,
+) -> Outcome<C>
+    requires some { 1 ≤ calls }
+    requires most { calls ≤ 2000 }
+    ensures sums { Sums (record {
+      plays = C.plays;
+      handed = HandsOut (engine_dimensions C.external_lines C.bridge_lines C.depth) C.carries result.engine;
+      told = AreTold (λ m. stands m) (λ m. text m) meters.old.items meters.new.items;
+      told_front = AreToldFront (λ m. stands m) (λ m. text m) meters.old.items meters.new.items;
+      said = concat (map (λ m. text m []) meters.new.items);
+    })
+        seed calls result.status result.order.items (K.written sink.old) (K.written sink.new) (K.faults sink.old) (K.faults sink.new) }
+    ensures engine { IsSome result.engine ↔ (result.status ≡ 0) }
+    ensures writes { (result.status ≡ 4) ⊎ (K.faults sink.new ≡ K.faults sink.old) }
+{
+    let Ok(trace) = generated(alloc, u64::from(seed), calls) else {
+        return ended(alloc, 5);
+    };
+    let outcome = run_trace(rt, alloc, &trace, Listing::Nothing, sink, gate, meters);
+    if outcome.status != 0 {
+        return outcome;
+    }
+    sum_up(alloc, &trace, outcome, sink, meters.as_slice())
+}
+
+// Reads the input, and answers it.
+fn run_input<S: Source, K: Sink, G: Gate, C: Carrier, R: Threads + Wait + Sync>(
+    rt: &R,
+    alloc: Global,
+    source: &mut S,
+    sink: &mut K,
+    gate: &G,
+    meters: &mut Vec<Box<dyn Meter>>,
+) -> Outcome<C>
+    ensures ends { (words : List (List ℕ)) → IsRun words → Ends (record {
+      plays = C.plays;
+      handed = HandsOut (engine_dimensions C.external_lines C.bridge_lines C.depth) C.carries result.engine;
+      told = AreTold (λ m. stands m) (λ m. text m) meters.old.items meters.new.items;
+      told_front = AreToldFront (λ m. stands m) (λ m. text m) meters.old.items meters.new.items;
+      said = concat (map (λ m. text m []) meters.new.items);
+    })
+        words result.status result.order.items
+        (record { left = S.left source.old; reads = S.faults source.old; written = K.written sink.old; writes = K.faults sink.old })
+        (record { left = S.left source.new; reads = S.faults source.new; written = K.written sink.new; writes = K.faults sink.new }) }
+    ensures stops { ConsumesAtMost most_read (S.left source.old) (S.left source.new) }
+    ensures engine { IsSome result.engine ↔ (result.status ≡ 0) }
+    ensures reads { (result.status ≡ 3) ⊎ (S.faults source.new ≡ S.faults source.old) }
+    ensures writes { (result.status ≡ 4) ⊎ (K.faults sink.new ≡ K.faults sink.old) }
+{
+    match read_all(alloc, source, MOST_BYTES) {
+        Ok(bytes) => answer(rt, alloc, bytes, sink, gate, meters),
+        Err(ReadFault::Read) => ended(alloc, 3),
+        Err(ReadFault::Memory) => ended(alloc, 5),
+    }
+}
+
+// Answers the words.
 fn answer_words<S: Source, K: Sink, G: Gate, C: Carrier, R: Threads + Wait + Sync>(
     rt: &R,
     alloc: Global,
@@ -173,8 +295,15 @@ fn answer_words<S: Source, K: Sink, G: Gate, C: Carrier, R: Threads + Wait + Syn
     source: &mut S,
     sink: &mut K,
     gate: &G,
+    meters: &mut Vec<Box<dyn Meter>>,
 ) -> Outcome<C>
-    ensures ends { Ends C.plays (HandsOut (engine_dimensions C.external_lines C.bridge_lines C.depth) C.carries result.engine)
+    ensures ends { Ends (record {
+      plays = C.plays;
+      handed = HandsOut (engine_dimensions C.external_lines C.bridge_lines C.depth) C.carries result.engine;
+      told = AreTold (λ m. stands m) (λ m. text m) meters.old.items meters.new.items;
+      told_front = AreToldFront (λ m. stands m) (λ m. text m) meters.old.items meters.new.items;
+      said = concat (map (λ m. text m []) meters.new.items);
+    })
         (map string_bytes words.now) result.status result.order.items
         (record { left = S.left source.old; reads = S.faults source.old; written = K.written sink.old; writes = K.faults sink.old })
         (record { left = S.left source.new; reads = S.faults source.new; written = K.written sink.new; writes = K.faults sink.new }) }
@@ -184,24 +313,27 @@ fn answer_words<S: Source, K: Sink, G: Gate, C: Carrier, R: Threads + Wait + Syn
     ensures reads { (result.status ≡ 3) ⊎ (S.faults source.new ≡ S.faults source.old) }
     ensures writes { (result.status ≡ 4) ⊎ (K.faults sink.new ≡ K.faults sink.old) }
 {
-    if !is_run(words) {
-        return refuse(alloc, sink, b"refused words\n", 2);
-    }
-    match read_all(alloc, source, MOST_BYTES) {
-        Ok(bytes) => answer(rt, alloc, bytes, sink, gate),
-        Err(ReadFault::Read) => ended(alloc, 3),
-        Err(ReadFault::Memory) => ended(alloc, 5),
+    match read_command(alloc, words) {
+        Ok(Command::Run) => run_input(rt, alloc, source, sink, gate, meters),
+        Ok(Command::Generate { seed, calls }) => {
+            run_generated(rt, alloc, seed, calls, sink, gate, meters)
+        }
+        Err(WordsFault::NoCommand) => refuse(alloc, sink, b"refused words\n", 2),
+        Err(WordsFault::Memory) => ended(alloc, 5),
     }
 }
 
-/// Reads a trace, does its events, and writes their report.
+/// Runs a trace and writes its report, or runs a generated trace and writes its summary.
 ///
-/// The one command is the word `run`, alone. Its input is read to the end, or until more bytes are
-/// held than a trace may have. Then the trace is run, one segment after the other: the call processors
-/// and the frame worker of a segment take turns at one switching map, each in a thread of its own,
-/// and are held up at the gate, where a test may look on. The order in which the events took their
-/// turns is `order`, and the report has a line for each in that order (`docs/FORMATS.md`). The causes
-/// of another end are met in this order: the words, reading, the trace, the run, writing.
+/// The command `run` reads a trace: its input to the end, or until more bytes are held than a trace may
+/// have. `gen SEED CALLS` reads nothing and takes the trace that is generated of the seed with so many
+/// calls. Then the trace is run, one segment after the other: the call processors and the frame worker
+/// of a segment take turns at one switching map, each in a thread of its own, and are held up at the
+/// gate, where a test may look on. The order in which the events took their turns is `order`; the
+/// report has a line for each in that order, and a summary has a line that counts them and then what
+/// the meters say (`docs/FORMATS.md`). The meters are told of the calls that end, segment by segment,
+/// in that order. The causes of another end are met in this order: the words, reading, the trace, the
+/// run, writing.
 ///
 /// The octets of a frame are what the engine of type `C` plays. It is handed out where the status is
 /// 0, and then it has as many lines and internal slots as the exchange had, and carries the frames of
@@ -216,45 +348,60 @@ pub fn exchange<S: Source, K: Sink, G: Gate, C: Carrier, R: Threads + Wait + Syn
     source: &mut S,
     sink: &mut K,
     gate: &G,
+    meters: &mut Vec<Box<dyn Meter>>,
 ) -> Outcome<C>
-    // 0: all of the input was read, it is a trace, its events were done in an order that is lawful for
-    // it, their report was written, with what the engine plays in each frame, and the engine has the
-    // trace's sizes and carries their frames.
-    ensures done { result.status ≡ 0 → (bytes : List ℕ)
+    // 0 for `run`: all of the input was read, it is a trace, its events were done in an order that is
+    // lawful for it, their report was written, with what the engine plays in each frame, each meter was
+    // told of the calls that ended, and the engine has the trace's sizes and carries their frames.
+    ensures done { result.status ≡ 0 → IsRun (map string_bytes words.now) → (bytes : List ℕ)
         × IsWholeInput (S.left source.old) (S.left source.new) bytes
         × IsDone C.plays (HandsOut (engine_dimensions C.external_lines C.bridge_lines C.depth) C.carries result.engine)
+        (AreTold (λ m. stands m) (λ m. text m) meters.old.items meters.new.items)
         bytes result.order.items (K.written sink.old) (K.written sink.new) }
+    // 0 for `gen`: the same of the generated trace, whose summary was written.
+    ensures summed { (seed calls : ℕ) → result.status ≡ 0 → IsGeneration (map string_bytes words.now) seed calls
+        → IsSummed (HandsOut (engine_dimensions C.external_lines C.bridge_lines C.depth) C.carries result.engine)
+        (AreTold (λ m. stands m) (λ m. text m) meters.old.items meters.new.items) (concat (map (λ m. text m []) meters.new.items))
+        seed calls result.order.items (K.written sink.old) (K.written sink.new) }
     ensures engine { IsSome result.engine ↔ (result.status ≡ 0) }
     // 1: what was read is no trace, and the line that says so was written.
-    ensures turned_down { result.status ≡ 1 → (bytes : List ℕ)
-        × IsInput (S.left source.old) (S.left source.new) bytes
-        × IsTurnedDown bytes result.order.items (K.written sink.old) (K.written sink.new) }
+    ensures turned_down { result.status ≡ 1 → IsRun (map string_bytes words.now)
+        × ((bytes : List ℕ) × IsInput (S.left source.old) (S.left source.new) bytes
+        × IsTurnedDown bytes result.order.items (K.written sink.old) (K.written sink.new)
+        × AreTold (λ m. stands m) (λ m. text m) meters.old.items meters.new.items []) }
     // 2: the words are no command, and the line that says so was written.
-    ensures wrong_words { result.status ≡ 2 → ¬ IsRun (map string_bytes words.now)
+    ensures wrong_words { result.status ≡ 2 → IsNoCommand (map string_bytes words.now)
         × (result.order.items ≡ [])
-        × Appends (K.written sink.old) (K.written sink.new) words_refusal }
-    // 3: a read failed, and nothing was written.
+        × Appends (K.written sink.old) (K.written sink.new) words_refusal
+        × AreTold (λ m. stands m) (λ m. text m) meters.old.items meters.new.items [] }
+    // 3: a read failed, nothing was written, and no meter was told of a call.
     ensures read_failed { result.status ≡ 3 → Rose (S.faults source.old) (S.faults source.new) }
-    ensures silent { result.status ≡ 3 → (result.order.items ≡ []) × Keeps (K.written sink.old) (K.written sink.new) }
-    // 4: a write failed. 5: there was no memory. A front of the text was written.
+    ensures silent { result.status ≡ 3 → (result.order.items ≡ []) × Keeps (K.written sink.old) (K.written sink.new)
+        × AreTold (λ m. stands m) (λ m. text m) meters.old.items meters.new.items [] }
+    // 4: a write failed. 5: there was no memory. A front of the text was written, and each meter was told
+    // of the first few of the calls that ended.
     ensures write_failed { result.status ≡ 4 → Rose (K.faults sink.old) (K.faults sink.new) }
-    ensures cut_short { (result.status ≡ 4) ⊎ (result.status ≡ 5)
-        → IsUndone C.plays (map string_bytes words.now) (S.left source.old) (S.left source.new)
+    ensures cut_short { 4 ≤ result.status → IsUndone C.plays
+        (AreTold (λ m. stands m) (λ m. text m) meters.old.items meters.new.items)
+        (AreToldFront (λ m. stands m) (λ m. text m) meters.old.items meters.new.items) (concat (map (λ m. text m []) meters.new.items))
+        (map string_bytes words.now) (S.left source.old) (S.left source.new)
         result.order.items (K.written sink.old) (K.written sink.new) }
     // There is no other status, and a fault is answered by its own alone.
     ensures statuses { result.status ≤ 5 }
     ensures reads { (result.status ≡ 3) ⊎ (S.faults source.new ≡ S.faults source.old) }
     ensures writes { (result.status ≡ 4) ⊎ (K.faults sink.new ≡ K.faults sink.old) }
-    // Of the input no more is read than the longest trace and one piece; for other words, nothing.
+    // Of the input no more is read than the longest trace and one piece; but for `run`, nothing.
     ensures stops { ConsumesAtMost most_read (S.left source.old) (S.left source.new) }
     ensures unread { ¬ IsRun (map string_bytes words.now) → source.new ≡ source.old }
     // The words and the input decide, but for a fault and for want of memory.
-    ensures other_words { ¬ IsRun (map string_bytes words.now) → (result.status ≡ 2) ⊎ (result.status ≡ 4) }
+    ensures other_words { IsNoCommand (map string_bytes words.now) → (result.status ≡ 2) ⊎ (result.status ≡ 4) ⊎ (result.status ≡ 5) }
     ensures command { IsRun (map string_bytes words.now) → (result.status ≡ 0) ⊎ (result.status ≡ 1) ⊎ IsUnfinished result.status }
+    ensures generation { (seed calls : ℕ) → IsGeneration (map string_bytes words.now) seed calls
+        → (result.status ≡ 0) ⊎ (result.status ≡ 4) ⊎ (result.status ≡ 5) }
     ensures trace { (bytes : List ℕ) (t : Trace) → S.left source.old ≡ Some bytes → IsTrace bytes t
         → IsRun (map string_bytes words.now) → (result.status ≡ 0) ⊎ IsUnfinished result.status }
     ensures no_trace { (bytes : List ℕ) (number : ℕ) (why : Reason) → S.left source.old ≡ Some bytes → IsRefused bytes number why
         → IsRun (map string_bytes words.now) → (result.status ≡ 1) ⊎ IsUnfinished result.status }
 {
-    answer_words(rt, alloc, words, source, sink, gate)
+    answer_words(rt, alloc, words, source, sink, gate, meters)
 }

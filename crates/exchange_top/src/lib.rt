@@ -1,10 +1,13 @@
-//! The whole exchange, from trace bytes to report bytes, over any engine that carries octets.
+//! The whole exchange, from words and trace bytes to report bytes, over any engine that carries
+//! octets, any gate and any meters.
 //!
-//! The headline, in the contract of [`exchange`]: where the status is 0, the input was a trace, its
-//! events were done in an order that is lawful for it, whichever order the call processors and the
-//! frame worker took their turns in, and the output got exactly the report of a run in that order
-//! (`done`). With `Engine` each octet in it is what the definitions say its slot hears, also in the
-//! frame in which its path is moved; a connection moves at most 2r-2 live paths for r lines.
+//! The headline, in the contract of [`exchange`]: where the status is 0 for `run`, the input was a
+//! trace, its events were done in an order that is lawful for it, whichever order the call processors
+//! and the frame worker took their turns in, and the output got exactly the report of a run in that
+//! order; each meter was told of the calls that ended in it (`done`). With `Engine` each octet in it is
+//! what the definitions say its slot hears, also in the frame in which its path is moved; a connection
+//! moves at most 2r-2 live paths for r lines. For `gen` it is the same of a generated trace, whose
+//! summary is written (`summed`).
 //!
 //! - What is no trace is refused at its first line that fails (`turned_down`).
 //! - Statuses 3 and 4 come only where a fault was counted (`read_failed`, `write_failed`), and no
@@ -13,12 +16,15 @@
 //!
 //! It stands on `ex_io`, `circuit_model`, `control_memory`, `tone_rules`, `fabric_map`,
 //! `frame_engine`, `exchange_core`, `shared_exchange`, `gate`, `call_processor`, `segment_run`,
-//! `trace_text` and `report_text`, and on the kit's `itoa`.
+//! `trace_text`, `report_text`, `generated_trace`, `command_words` and `meters`, and on the kit's `itoa`.
 #![tactic(auto)]
 
 mod call;
+mod listing;
 mod run;
 mod segments;
 mod streams;
+mod summary;
+mod telling;
 
 pub use call::{Outcome, exchange};

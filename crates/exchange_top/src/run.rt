@@ -1,21 +1,25 @@
 ghost use Rattle.std.specs.Prelude.{◌≡◌, ◌+◌, ◌≤◌, ◌++◌, [], length, vec_capacity, IfOk, OnOk, OnErr, IsErrOf};
+ghost use Rattle.std.specs.Io.KnownBytes.{Appends};
 ghost use Rattle.ex_io.specs.Ends.{Rose};
 ghost use Rattle.exchange_top.specs.declared.run.RunFault.TheVariants.{Memory, Write};
 ghost use Rattle.exchange_core.specs.Sound.{IsSound, setting_of};
 ghost use Rattle.exchange_core.specs.Working.{order_of, world_after};
 ghost use Rattle.exchange_core.specs.Seats.{first_seat};
-ghost use Rattle.shared_exchange.specs.Sharing.{known};
-ghost use Rattle.turn_lock.specs.Seats.{IsSeatOf};
+ghost use Rattle.shared_exchange.specs.Sharing.{IsSeated, known};
 ghost use Rattle.call_processor.specs.Frames.{CarriesFrames, IsReady, engine_dimensions};
-ghost use Rattle.exchange_top.specs.Outcomes.{IsReported, IsBegun};
+ghost use Rattle.exchange_top.specs.Outcomes.{IsRunWhole, IsBegun, listed};
+ghost use Rattle.exchange_top.specs.Report.{report};
+ghost use Rattle.exchange_top.specs.Telling.{AreTold, AreToldFront};
 ghost use Rattle.exchange_top.specs.Running.{IsUnused};
 
+use crate::listing::Listing;
 use crate::segments::{Carried, report_segments};
 use control_memory::{Image, PathMap};
 use ex_io::{Failed, Sink};
 use exchange_core::{Core, Tool, Trace};
 use frame_engine::Carrier;
 use gate::Gate;
+use meters::Meter;
 use shared_exchange::{Seat, SharedExchange};
 use std::alloc::{AllocError, Global};
 use std::sync::Wait;
@@ -47,8 +51,9 @@ impl From<Failed> for RunFault {
 }
 
 /// Runs a trace on a map of paths, segment after segment, each by its call processors and its frame
-/// worker side by side; writes the report, and notes the numbers of the events of the journal in
-/// `order`, which has room for them. Answers the engine that carried the octets.
+/// worker side by side; writes what is listed of it, tells the meters of the calls that end, and notes
+/// the numbers of the events of the journal in `order`, which has room for them. Returns the engine that
+/// carried the octets.
 ///
 /// # Errors
 ///
@@ -61,26 +66,33 @@ pub fn run<P: PathMap + Drop + Send, K: Sink, G: Gate, C: Carrier, R: Threads + 
     trace: &Trace,
     paths: P,
     order: &mut Vec<u32>,
+    listing: Listing,
     sink: &mut K,
     gate: &G,
+    meters: &mut Vec<Box<dyn Meter>>,
 ) -> Result<C, RunFault>
     requires sound { IsSound trace.now }
     requires paths { IsUnused (trace.now.external + trace.now.bridges) (P.width paths) (P.depth paths) (P.layout paths) }
     requires empty { order.old.items ≡ [] }
     requires room { length trace.now.events ≤ vec_capacity order.old }
-    ensures whole { OnOk result (IsReported C.plays (record { slots = P.depth paths; most_moves = P.bound paths })
-        trace.now order.new.items (K.written sink.old) (K.written sink.new)) }
+    ensures whole { OnOk result (IsRunWhole (record { slots = P.depth paths; most_moves = P.bound paths })
+        (AreTold (λ m. stands m) (λ m. text m) meters.old.items meters.new.items) trace.now order.new.items) }
+    ensures text { OnOk result (Appends (K.written sink.old) (K.written sink.new)
+        (listed listing (report C.plays (P.depth paths) trace.now order.new.items))) }
     ensures carried { IfOk result (λ e. CarriesFrames C.carries e (world_after (P.depth paths) trace.now order.new.items)) }
     ensures sized { IfOk result (λ e. engine_dimensions C.external_lines C.bridge_lines C.depth e ≡ (setting_of (P.depth paths) trace.now).dimensions) }
     ensures steady { OnOk result (K.faults sink.new ≡ K.faults sink.old) }
 
-    ensures begun { OnErr result (IsBegun C.plays (P.depth paths) trace.now order.new.items (K.written sink.old) (K.written sink.new)) }
+    ensures begun { OnErr result (IsBegun C.plays listing (P.depth paths) (AreToldFront (λ m. stands m) (λ m. text m) meters.old.items meters.new.items)
+        trace.now order.new.items (K.written sink.old) (K.written sink.new)) }
     ensures cause { IsErrOf result RunFault.Write → Rose (K.faults sink.old) (K.faults sink.new) }
     ensures no_fault { IsErrOf result RunFault.Memory → K.faults sink.new ≡ K.faults sink.old }
 {
     let (board, seat, carried) = equipped(alloc, trace, paths)?;
     let mut seat = seat;
-    let done = report_segments(rt, alloc, &board, &mut seat, trace, carried, sink, gate);
+    let done = report_segments(
+        rt, alloc, &board, &mut seat, trace, carried, listing, sink, gate, meters,
+    );
     note_order(order, board.close(seat).journal());
     done
 }
@@ -95,7 +107,7 @@ fn equipped<'t, P: PathMap + Drop, C: Carrier>(
     requires sound { IsSound trace.now }
     requires paths { IsUnused (trace.now.external + trace.now.bridges) (P.width paths) (P.depth paths) (P.layout paths) }
     ensures board { IfOk result (λ r. r.0.setting ≡ record { trace = trace.now; slots = P.depth paths; bound = P.bound paths }) }
-    ensures seat { IfOk result (λ r. IsSeatOf r.0 r.1 × (known r.1 ≡ first_seat (length trace.now.events))) }
+    ensures seat { IfOk result (λ r. IsSeated r.0 r.1 × (known r.1 ≡ first_seat (length trace.now.events))) }
     ensures ready { IfOk result (λ r. IsReady C.carries C.next (engine_dimensions C.external_lines C.bridge_lines C.depth) r.0.setting [] r.2.engine r.2.tool) }
 {
     let slots = paths.slots();

@@ -11,17 +11,21 @@ ghost use Rattle.call_processor.specs.Frames.{CarriesFrames, IsReady, engine_dim
 ghost use Rattle.segment_run.specs.Segment.{IsChief, Ran, RanWhole};
 ghost use Rattle.segment_run.specs.Segments.{IsDoneBelow};
 ghost use Rattle.exchange_top.specs.declared.run.RunFault.TheVariants.{Memory, Write};
-ghost use Rattle.exchange_top.specs.Outcomes.{IsReported, IsBegun, IsPending};
-ghost use Rattle.exchange_top.specs.Report.{lines_of};
-ghost use Rattle.exchange_top.specs.Running.{GrewFew, fabric_at, grown_lines};
+ghost use Rattle.exchange_top.specs.Outcomes.{IsRunWhole, IsBegun, IsPending, listed};
+ghost use Rattle.exchange_top.specs.Report.{lines_of, report};
+ghost use Rattle.exchange_top.specs.Running.{GrewFew, fabric_at, grown_calls, grown_lines};
 ghost use Rattle.exchange_top.specs.Streams.{AppendsFront};
+ghost use Rattle.exchange_top.specs.Telling.{AreTold, AreToldFront};
 
+use crate::listing::Listing;
 use crate::run::RunFault;
 use crate::streams::write_all;
+use crate::telling::tell;
 use ex_io::{Failed, Sink};
 use exchange_core::{Answer, Switchboard, Tool, Trace};
 use frame_engine::Carrier;
 use gate::Gate;
+use meters::Meter;
 use report_text::append_answer;
 use segment_run::run_segment;
 use std::alloc::{AllocError, Global};
@@ -40,8 +44,9 @@ pub struct Carried<C> {
     pub tool: Tool,
 }
 
-/// Runs the segments of a board's trace one after the other, and writes their report. The lines of a
-/// segment are written once all of its events are answered.
+/// Runs the segments of a board's trace one after the other, writes of them what is listed, and tells
+/// the meters of the calls that end. The lines of a segment are written once all of its events are
+/// answered and told.
 pub fn report_segments<B: Switchboard, K: Sink, G: Gate, C: Carrier, R: Threads + Wait + Sync>(
     rt: &R,
     alloc: Global,
@@ -49,8 +54,10 @@ pub fn report_segments<B: Switchboard, K: Sink, G: Gate, C: Carrier, R: Threads 
     seat: &mut B::Seat,
     trace: &Trace,
     carried: Carried<C>,
+    listing: Listing,
     sink: &mut K,
     gate: &G,
+    meters: &mut Vec<Box<dyn Meter>>,
 ) -> Result<C, RunFault>
     requires seated { B.seated board.now seat.old }
     requires trace { trace.now ≡ (B.board board.now).trace }
@@ -59,13 +66,15 @@ pub fn report_segments<B: Switchboard, K: Sink, G: Gate, C: Carrier, R: Threads 
     requires ready { IsReady C.carries C.next (engine_dimensions C.external_lines C.bridge_lines C.depth) (B.board board.now) [] carried.engine carried.tool }
     ensures seated { B.seated board.now seat.new }
     ensures chief { IsChief (turns_of (B.board board.now)) (B.known seat.new) }
-    ensures whole { OnOk result (IsReported C.plays (fabric_at (B.board board.now))
-        trace.now (order_of (B.known seat.new).seen) (K.written sink.old) (K.written sink.new)) }
+    ensures whole { OnOk result (IsRunWhole (fabric_at (B.board board.now)) (AreTold (λ m. stands m) (λ m. text m) meters.old.items meters.new.items)
+        trace.now (order_of (B.known seat.new).seen)) }
+    ensures text { OnOk result (Appends (K.written sink.old) (K.written sink.new)
+        (listed listing (report C.plays (B.board board.now).slots trace.now (order_of (B.known seat.new).seen)))) }
     ensures carried { IfOk result (λ e. CarriesFrames C.carries e (world_at (B.board board.now) (B.known seat.new).seen)) }
     ensures sized { IfOk result (λ e. engine_dimensions C.external_lines C.bridge_lines C.depth e ≡ (setting_at (B.board board.now)).dimensions) }
     ensures steady { OnOk result (K.faults sink.new ≡ K.faults sink.old) }
 
-    ensures begun { OnErr result (IsBegun C.plays (B.board board.now).slots
+    ensures begun { OnErr result (IsBegun C.plays listing (B.board board.now).slots (AreToldFront (λ m. stands m) (λ m. text m) meters.old.items meters.new.items)
         trace.now (order_of (B.known seat.new).seen) (K.written sink.old) (K.written sink.new)) }
     ensures cause { IsErrOf result RunFault.Write → Rose (K.faults sink.old) (K.faults sink.new) }
     ensures no_fault { IsErrOf result RunFault.Memory → K.faults sink.new ≡ K.faults sink.old }
@@ -74,7 +83,7 @@ pub fn report_segments<B: Switchboard, K: Sink, G: Gate, C: Carrier, R: Threads 
     let mut text = Vec::new(alloc);
     for segment in 0..trace.segments.as_slice().len() as u32 {
         carried = report_segment(
-            rt, alloc, board, seat, trace, segment, carried, &mut text, gate,
+            rt, alloc, board, seat, trace, segment, carried, listing, &mut text, gate, meters,
         )?;
         flush_full(sink, &mut text)?;
     }
@@ -82,7 +91,7 @@ pub fn report_segments<B: Switchboard, K: Sink, G: Gate, C: Carrier, R: Threads 
     Ok(carried.engine)
 }
 
-// Runs one segment, and appends the lines of its events to the text.
+// Runs one segment, and appends the lines of its events to `out`.
 fn report_segment<B: Switchboard, G: Gate, C: Carrier, R: Threads + Wait + Sync>(
     rt: &R,
     alloc: Global,
@@ -91,8 +100,10 @@ fn report_segment<B: Switchboard, G: Gate, C: Carrier, R: Threads + Wait + Sync>
     trace: &Trace,
     segment: u32,
     carried: Carried<C>,
-    text: &mut Vec<u8>,
+    listing: Listing,
+    out: &mut Vec<u8>,
     gate: &G,
+    meters: &mut Vec<Box<dyn Meter>>,
 ) -> Result<Carried<C>, AllocError>
     requires seated { B.seated board.now seat.old }
     requires trace { trace.now ≡ (B.board board.now).trace }
@@ -106,22 +117,39 @@ fn report_segment<B: Switchboard, G: Gate, C: Carrier, R: Threads + Wait + Sync>
     ensures chief { IsChief (turns_of (B.board board.now)) (B.known seat.new) }
     ensures ran { Ran trace.now segment (B.known seat.old) (B.known seat.new) }
     ensures whole { OnOk result (RanWhole trace.now segment (B.known seat.old) (B.known seat.new)) }
-    ensures lines { OnOk result (text.new.items ≡ text.old.items ++ grown_lines C.plays (B.board board.now) (B.known seat.old) (B.known seat.new)) }
+    ensures lines { OnOk result (out.new.items ≡ out.old.items ++ listed listing (grown_lines C.plays (B.board board.now) (B.known seat.old) (B.known seat.new))) }
     ensures few { OnOk result (GrewFew (B.board board.now) (B.known seat.old) (B.known seat.new)) }
+    ensures told { OnOk result (AreTold (λ m. stands m) (λ m. text m) meters.old.items meters.new.items (grown_calls (B.board board.now) (B.known seat.old) (B.known seat.new))) }
+    ensures told_front { OnErr result (AreToldFront (λ m. stands m) (λ m. text m) meters.old.items meters.new.items (grown_calls (B.board board.now) (B.known seat.old) (B.known seat.new))) }
     ensures ready { IfOk result (λ c. IsReady C.carries C.next (engine_dimensions C.external_lines C.bridge_lines C.depth) (B.board board.now) (B.known seat.new).seen c.engine c.tool) }
 {
     let Carried { engine, tool } = carried;
     let done = run_segment(rt, alloc, board, seat, trace, segment, engine, tool, gate)?;
-    append_answers(text, done.answers.as_slice())?;
+    append_answers(out, listing, done.answers.as_slice())?;
+    tell(meters, done.answers.as_slice())?;
     Ok(Carried {
         engine: done.engine,
         tool: done.tool,
     })
 }
 
+// Appends what is written of each answer.
+fn append_answers(
+    text: &mut Vec<u8>,
+    listing: Listing,
+    answers: &[Answer],
+) -> Result<(), AllocError>
+    ensures lines { OnOk result (text.new.items ≡ text.old.items ++ listed listing (lines_of answers.now)) }
+{
+    match listing {
+        Listing::Report => append_lines(text, answers),
+        Listing::Nothing => Ok(()),
+    }
+}
+
 // Appends the line of each answer.
-fn append_answers(text: &mut Vec<u8>, answers: &[Answer]) -> Result<(), AllocError>
-    ensures lines { OnOk result (text.new.items ≡ text.old.items ++ lines_of answers.now) }
+fn append_lines(text: &mut Vec<u8>, answers: &[Answer]) -> Result<(), AllocError>
+    ensures { OnOk result (text.new.items ≡ text.old.items ++ lines_of answers.now) }
 {
     for answer in answers {
         append_answer(text, answer)?;

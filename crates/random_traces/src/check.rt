@@ -65,7 +65,15 @@ fn report_of<R: Threads + Wait + Sync>(
     let input = Vec::from_slice(alloc, trace.as_bytes())?;
     let mut source = MemSource::new(input, 4096, Vec::new(alloc));
     let mut sink = MemSink::new(alloc, ROOM, 4096, Vec::new(alloc))?;
-    let outcome: Outcome<Engine> = exchange(rt, alloc, &words, &mut source, &mut sink, &OpenGate);
+    let outcome: Outcome<Engine> = exchange(
+        rt,
+        alloc,
+        &words,
+        &mut source,
+        &mut sink,
+        &OpenGate,
+        &mut Vec::new(alloc),
+    );
     if outcome.status != 0 {
         return Ok(Vec::new(alloc));
     }

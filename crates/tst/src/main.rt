@@ -1,12 +1,12 @@
 //! A digital telephone exchange as a filter: a trace of its events on standard input, the report of
 //! what it did on standard output.
 //!
-//! It makes the two standard ends, calls `exchange_top::exchange` with the engine of three stages,
-//! and ends with its status. The promise is that call's; `main` has no contract of its own. Of
+//! It makes the two standard ends and three meters, calls `exchange_top::exchange` with the engine of
+//! three stages, and ends with its status. The promise is that call's; `main` has no contract of its own. Of
 //! standard input and output nothing can be proved, so the tests here run whole traces over ends in
 //! memory.
 //!
-//! It stands on `ex_io`, `frame_engine`, `gate` and `exchange_top`.
+//! It stands on `ex_io`, `frame_engine`, `gate`, `meters` and `exchange_top`.
 #![tactic(auto)]
 
 #[cfg(test)]
@@ -16,6 +16,8 @@ use ex_io::{StdSink, StdSource};
 use exchange_top::{Outcome, exchange};
 use frame_engine::Engine;
 use gate::OpenGate;
+use meters::{CallDetail, HoldingTime, Meter, PegCount};
+use std::alloc::{AllocError, Global};
 use std::env;
 use std::io::{self, ErrorKind};
 use std::process::ExitCode;
@@ -30,9 +32,21 @@ fn words_of(rt: &HostRuntime) -> io::Result<Vec<String>> {
     Ok(arguments.skip(1).collect(rt.alloc())?)
 }
 
+// The meters of every call: the details of the last ten calls, a peg count, and the holding time.
+fn meters(alloc: Global) -> Result<Vec<Box<dyn Meter>>, AllocError> {
+    let mut meters: Vec<Box<dyn Meter>> = Vec::with_capacity(alloc, 3)?;
+    meters.push(Box::new(alloc, CallDetail::new(alloc, 10)?)?)?;
+    meters.push(Box::new(alloc, PegCount::new())?)?;
+    meters.push(Box::new(alloc, HoldingTime::new())?)?;
+    Ok(meters)
+}
+
 fn main(rt: HostRuntime) -> ExitCode {
     // What is left is want of memory.
     let Ok(words) = words_of(&rt) else {
+        return ExitCode::from(5);
+    };
+    let Ok(mut meters) = meters(rt.alloc()) else {
         return ExitCode::from(5);
     };
     let mut source = StdSource::new(rt.stdin());
@@ -44,6 +58,7 @@ fn main(rt: HostRuntime) -> ExitCode {
         &mut source,
         &mut sink,
         &OpenGate,
+        &mut meters,
     );
     ExitCode::from(outcome.status)
 }

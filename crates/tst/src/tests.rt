@@ -3,6 +3,7 @@ use ex_io::{MemSink, MemSource};
 use exchange_top::{Outcome, exchange};
 use frame_engine::{Carrier, Engine, Marker};
 use gate::{Gate, OpenGate, TestGate};
+use meters::{CallDetail, HoldingTime, Meter, PegCount, append_summaries};
 use std::alloc::{AllocError, Global};
 use std::hint;
 use std::sync::Wait;
@@ -45,8 +46,9 @@ fn called<C: Carrier, G: Gate>(
     mut source: MemSource,
     mut sink: MemSink,
     gate: &G,
+    meters: &mut Vec<Box<dyn Meter>>,
 ) -> Ended {
-    let outcome: Outcome<C> = exchange(rt, alloc, words, &mut source, &mut sink, gate);
+    let outcome: Outcome<C> = exchange(rt, alloc, words, &mut source, &mut sink, gate, meters);
     Ended {
         status: outcome.status,
         order: outcome.order,
@@ -76,7 +78,8 @@ fn ran_at<C: Carrier, G: Gate>(
     let words = vec![in alloc; String::from_str(alloc, "run")?]?;
     let source = MemSource::new(input, 4096, Vec::new(alloc));
     let sink = MemSink::new(alloc, 1_000_000, 4096, Vec::new(alloc))?;
-    Ok(called::<C, G>(rt, alloc, &words, source, sink, gate))
+    let mut meters = Vec::new(alloc);
+    Ok(called::<C, G>(rt, alloc, &words, source, sink, gate, &mut meters))
 }
 
 const DELAY: &str = "exchange 1 2 0 1\nnail 0/1 1/1\nsync\n\
@@ -209,7 +212,15 @@ fn words_other_than_run_are_refused_unread(rt: HostRuntime) -> Result<(), Fail> 
         // The first read would fail.
         let source = MemSource::new(Vec::new(alloc), 16, [1].to_vec(alloc)?);
         let sink = MemSink::new(alloc, 100, 16, Vec::new(alloc))?;
-        let ended = called::<Engine, OpenGate>(&rt, alloc, &given, source, sink, &OpenGate);
+        let ended = called::<Engine, OpenGate>(
+            &rt,
+            alloc,
+            &given,
+            source,
+            sink,
+            &OpenGate,
+            &mut Vec::new(alloc),
+        );
         assert_eq!(rt; (ended.status, ended.read_faults), (2, 0));
         assert_eq!(rt; ended.sink.bytes(), b"refused words\n".as_slice());
     }
@@ -232,7 +243,15 @@ fn a_failing_read_or_write_ends_the_call(rt: HostRuntime) -> Result<(), Fail> {
         let words = vec![in alloc; String::from_str(alloc, word)?]?;
         let source = MemSource::new(spelled(alloc, input)?, read_piece, [read].to_vec(alloc)?);
         let sink = MemSink::new(alloc, 1000, write_piece, [write].to_vec(alloc)?)?;
-        let ended = called::<Engine, OpenGate>(&rt, alloc, &words, source, sink, &OpenGate);
+        let ended = called::<Engine, OpenGate>(
+            &rt,
+            alloc,
+            &words,
+            source,
+            sink,
+            &OpenGate,
+            &mut Vec::new(alloc),
+        );
         assert_eq!(rt;
             (ended.status, ended.read_faults, ended.write_faults),
             ends,
@@ -306,5 +325,63 @@ fn octets_move_beside_the_call_processors(rt: HostRuntime) -> Result<(), Fail> {
         ended.sink.bytes(),
         b"2 frame 0\n1 granted 0 0\n".as_slice()
     );
+    Ok(())
+}
+
+// Meters of the three kinds, one of them twice.
+fn four_meters(alloc: Global) -> Result<Vec<Box<dyn Meter>>, AllocError> {
+    let mut meters: Vec<Box<dyn Meter>> = Vec::with_capacity(alloc, 4)?;
+    meters.push(Box::new(alloc, CallDetail::new(alloc, 1)?)?)?;
+    meters.push(Box::new(alloc, PegCount::new())?)?;
+    meters.push(Box::new(alloc, HoldingTime::new())?)?;
+    meters.push(Box::new(alloc, PegCount::new())?)?;
+    Ok(meters)
+}
+
+// A generated trace is run and summed up; the meters of a run are told of its calls and say so.
+#[test]
+fn meters_are_told_of_the_calls(rt: HostRuntime) -> Result<(), Fail> {
+    let alloc = rt.alloc();
+    let call = "exchange 1 2 0 2\nnumber 101 line 1\n\
+        M 0 080200010504038090A31803A98381700480313031\nsync\nM 1 0802800107\nsync\nF\nF\nF\nsync\n\
+        M 0 080200014508028090\n";
+    for (words, input, written, said) in [
+        (
+            ["gen", "0", "1"].as_slice(),
+            "",
+            "events 87 frames 2\ncall 7/1 3/1 0 2 16\npeg 1 1\nholding 2 2\npeg 1 1\n",
+            "call 7/1 3/1 0 2 16\npeg 1 1\nholding 2 2\npeg 1 1\n",
+        ),
+        (
+            &["run"],
+            call,
+            "1 message 0:08028001021803A98381 1:0802000105A104038090A31803A98381700480313031\n\
+            2 message moved 0 0 1:080200010F 0:0802800107\n3 frame 0\n4 frame 1\n5 frame 2\n\
+            6 message 0:080280014D 1:080200014508028290\n",
+            "call 0/1 1/1 0 3 16\npeg 1 1\nholding 3 3\npeg 1 1\n",
+        ),
+    ] {
+        let mut given = Vec::new(alloc);
+        for word in words {
+            given.push(String::from_str(alloc, word)?)?;
+        }
+        let source = MemSource::new(input.as_bytes().to_vec(alloc)?, 4096, Vec::new(alloc));
+        let sink = MemSink::new(alloc, 1_000_000, 4096, Vec::new(alloc))?;
+        let mut meters = four_meters(alloc)?;
+        let ended = called::<Engine, OpenGate>(
+            &rt,
+            alloc,
+            &given,
+            source,
+            sink,
+            &OpenGate,
+            &mut meters,
+        );
+        let mut text = Vec::new(alloc);
+        append_summaries(meters.as_slice(), &mut text)?;
+        assert_eq!(rt; ended.status, 0);
+        assert_eq!(rt; ended.sink.bytes(), written.as_bytes());
+        assert_eq!(rt; text.as_slice(), said.as_bytes());
+    }
     Ok(())
 }

@@ -1,39 +1,45 @@
 use Rattle.std.proofs.Common.{inl, inr, arith}
-use Rattle.exchange_top.proofs.Endings.{done_says, turned_down_says, wrong_words_says, read_failed_says, write_failed_says, cut_short_says, statuses_say, other_words_say, command_says, trace_says, no_trace_says}
+use Rattle.exchange_top.proofs.Endings.{done_says, summed_says, turned_down_says, wrong_words_says, read_failed_says, write_failed_says, cut_short_says, statuses_say, other_words_say, command_says, generation_says, trace_says, no_trace_says}
 use Rattle.exchange_top.proofs.call.exchange.Goals as goal
 
 pub returns-clause-done : goal.returns-clause-done
-returns-clause-done g c h = done_says _ _ _ _ _ _ _ c.answer_words.ensures.ends h
+returns-clause-done g c h run = done_says _ _ _ _ _ _ c.answer_words.ensures.ends h run
+
+pub returns-clause-summed : goal.returns-clause-summed
+returns-clause-summed g c seed calls h gen = summed_says _ _ _ _ _ _ seed calls c.answer_words.ensures.ends h gen
 
 pub returns-clause-turned_down : goal.returns-clause-turned_down
-returns-clause-turned_down g c h = turned_down_says _ _ _ _ _ _ _ c.answer_words.ensures.ends h
+returns-clause-turned_down g c h = turned_down_says _ _ _ _ _ _ c.answer_words.ensures.ends h
 
 pub returns-clause-wrong_words : goal.returns-clause-wrong_words
-returns-clause-wrong_words g c h = wrong_words_says _ _ _ _ _ _ _ c.answer_words.ensures.ends h
+returns-clause-wrong_words g c h = wrong_words_says _ _ _ _ _ _ c.answer_words.ensures.ends h
 
 pub returns-clause-read_failed : goal.returns-clause-read_failed
-returns-clause-read_failed g c h = (read_failed_says _ _ _ _ _ _ _ c.answer_words.ensures.ends h).0
+returns-clause-read_failed g c h = (read_failed_says _ _ _ _ _ _ c.answer_words.ensures.ends h).0
 
 pub returns-clause-silent : goal.returns-clause-silent
-returns-clause-silent g c h = let says = read_failed_says _ _ _ _ _ _ _ c.answer_words.ensures.ends h in (says.1, says.2)
+returns-clause-silent g c h = let says = read_failed_says _ _ _ _ _ _ c.answer_words.ensures.ends h in (says.1, says.2, says.3)
 
 pub returns-clause-write_failed : goal.returns-clause-write_failed
-returns-clause-write_failed g c h = write_failed_says _ _ _ _ _ _ _ c.answer_words.ensures.ends h
+returns-clause-write_failed g c h = write_failed_says _ _ _ _ _ _ c.answer_words.ensures.ends h
 
 pub returns-clause-cut_short : goal.returns-clause-cut_short
-returns-clause-cut_short g c h = cut_short_says _ _ _ _ _ _ _ c.answer_words.ensures.ends (elim h [ inl four ↦ omega (arith, four) | inr five ↦ omega (arith, five) ])
+returns-clause-cut_short g c h = cut_short_says _ _ _ _ _ _ c.answer_words.ensures.ends h
 
 pub returns-clause-statuses : goal.returns-clause-statuses
-returns-clause-statuses g c = statuses_say _ _ _ _ _ _ _ c.answer_words.ensures.ends
+returns-clause-statuses g c = statuses_say _ _ _ _ _ _ c.answer_words.ensures.ends
 
 pub returns-clause-other_words : goal.returns-clause-other_words
-returns-clause-other_words g c not = other_words_say _ _ _ _ _ _ _ c.answer_words.ensures.ends not
+returns-clause-other_words g c not = other_words_say _ _ _ _ _ _ c.answer_words.ensures.ends not
 
 pub returns-clause-command : goal.returns-clause-command
-returns-clause-command g c is = command_says _ _ _ _ _ _ _ c.answer_words.ensures.ends is
+returns-clause-command g c is = command_says _ _ _ _ _ _ c.answer_words.ensures.ends is
+
+pub returns-clause-generation : goal.returns-clause-generation
+returns-clause-generation g c seed calls is = generation_says _ _ _ _ _ _ seed calls c.answer_words.ensures.ends is
 
 pub returns-clause-trace : goal.returns-clause-trace
-returns-clause-trace g c bytes t left is run = trace_says _ _ _ _ _ _ _ bytes t c.answer_words.ensures.ends left is run
+returns-clause-trace g c bytes t left is run = trace_says _ _ _ _ _ _ bytes t c.answer_words.ensures.ends left is run
 
 pub returns-clause-no_trace : goal.returns-clause-no_trace
-returns-clause-no_trace g c bytes number why left refused run = no_trace_says _ _ _ _ _ _ _ bytes number why c.answer_words.ensures.ends left refused run
+returns-clause-no_trace g c bytes number why left refused run = no_trace_says _ _ _ _ _ _ bytes number why c.answer_words.ensures.ends left refused run

@@ -4,10 +4,15 @@ use Rattle.exchange_core.specs.Sound.{IsSound}
 use Rattle.exchange_core.specs.Working.{order_of}
 use Rattle.segment_run.specs.Segment.{Ran, RanWhole}
 use Rattle.segment_run.proofs.Orders.{few_segments}
-use Rattle.exchange_top.specs.Outcomes.{IsBegun, IsReported}
+use Rattle.std.specs.Io.KnownBytes.{Appends}
+use Rattle.exchange_top.specs.Outcomes.{IsBegun, IsRunWhole, listed}
+use Rattle.exchange_top.specs.Report.{report}
+use Rattle.exchange_top.specs.Telling.{AreTold, AreToldFront}
+use Rattle.exchange_top.proofs.Answered.{calls_grown}
+use Rattle.exchange_top.proofs.Tellings.{both_told, both_front, told_front, none_told}
 use Rattle.exchange_top.specs.Running.{fabric_at}
 use Rattle.exchange_top.proofs.Pending.{on_err}
-use Rattle.exchange_top.proofs.Underway.{underway_more, underway_written, begun_segment, begun_flush, reported}
+use Rattle.exchange_top.proofs.Underway.{underway_first, underway_more, underway_written, begun_segment, begun_flush, run_whole, all_written}
 use Rattle.exchange_top.proofs.segments.report_segments.Goals as goal
 
 pub overflow_cast-segment-end : goal.overflow_cast-segment-end
@@ -16,6 +21,15 @@ overflow_cast-segment-end g c =
     let most = c.requires.sound.count in
     let same = ap (λ (l : List _). length l) c.as_slice.ensures in
     omega (arith, few, most, same)
+
+pub loop-segment-init : goal.loop-segment-init
+loop-segment-init g c = record {
+  seated = c.requires.seated;
+  underway = underway_first g.C.Carrier.plays c.args.listing (g.B.Switchboard.board c.args.board.now) (g.B.Switchboard.known c.args.seat.now) _ c.new-text.result.items c.requires.fresh c.new-text.ensures.items;
+  ready = rw c.requires.fresh c.requires.ready;
+  steady = refl;
+  told = rw c.requires.fresh (none_told _ _ _);
+}
 
 pub returns-in_err-carried-clause-begun : goal.returns-in_err-carried-clause-begun
 returns-in_err-carried-clause-begun g c =
@@ -26,8 +40,9 @@ returns-in_err-carried-clause-begun g c =
     let k = c.loop-segment.segment in
     let ran = subst (λ (t : Trace). Ran t k v w) c.requires.trace c.report_segment.ensures.ran in
     on_err c.from_residual.result
-    (subst (λ (t : Trace). IsBegun g.C.Carrier.plays board.slots t (order_of w.seen) (g.K.Sink.written c.args.sink.now) (g.K.Sink.written c.loop-segment.sink)) (sym c.requires.trace)
-    (begun_segment g.C.Carrier.plays board k v _ _ c.loop-segment.text.items c.loop-segment.invariant.underway w ran))
+    (subst (λ (t : Trace). IsBegun g.C.Carrier.plays c.args.listing board.slots (AreToldFront (λ m. (goal.Meter-dyn g (m.vtable, m.value)).stands m.value) (λ m. (goal.Meter-dyn g (m.vtable, m.value)).text m.value) c.args.meters.now.items c.report_segment.new.meters.items) t (order_of w.seen) (g.K.Sink.written c.args.sink.now) (g.K.Sink.written c.loop-segment.sink)) (sym c.requires.trace)
+    (begun_segment g.C.Carrier.plays c.args.listing board k v _ _ c.loop-segment.text.items c.loop-segment.invariant.underway _ w ran
+    (subst (AreToldFront (λ m. (goal.Meter-dyn g (m.vtable, m.value)).stands m.value) (λ m. (goal.Meter-dyn g (m.vtable, m.value)).text m.value) c.args.meters.now.items c.report_segment.new.meters.items) (sym (calls_grown board v w ran.begins)) (both_front _ _ _ _ _ _ _ c.loop-segment.invariant.told c.in_err-carried.ensures.told_front))))
 
 pub returns-in_err-flush_full-clause-begun : goal.returns-in_err-flush_full-clause-begun
 returns-in_err-flush_full-clause-begun g c =
@@ -38,10 +53,11 @@ returns-in_err-flush_full-clause-begun g c =
     let k = c.loop-segment.segment in
     let ran = subst (λ (t : Trace). Ran t k v w) c.requires.trace c.report_segment.ensures.ran in
     let whole = subst (λ (t : Trace). RanWhole t k v w) c.requires.trace c.in_ok-carried.ensures.whole in
-    let more = underway_more g.C.Carrier.plays board k v _ _ c.loop-segment.text.items c.loop-segment.invariant.underway w c.report_segment.new.text.items c.report_segment.ensures.chief ran whole c.in_ok-carried.ensures.lines c.in_ok-carried.ensures.few in
+    let more = underway_more g.C.Carrier.plays c.args.listing board k v _ _ c.loop-segment.text.items c.loop-segment.invariant.underway w c.report_segment.new.out.items c.report_segment.ensures.chief ran whole c.in_ok-carried.ensures.lines c.in_ok-carried.ensures.few in
     on_err c.from_residual-in_err-flush_full.result
-    (subst (λ (t : Trace). IsBegun g.C.Carrier.plays board.slots t (order_of w.seen) (g.K.Sink.written c.args.sink.now) (g.K.Sink.written c.flush_full.new.sink)) (sym c.requires.trace)
-    (begun_flush g.C.Carrier.plays board (k + 1) w _ _ c.report_segment.new.text.items more _ c.in_err-flush_full.ensures.front))
+    (subst (λ (t : Trace). IsBegun g.C.Carrier.plays c.args.listing board.slots (AreToldFront (λ m. (goal.Meter-dyn g (m.vtable, m.value)).stands m.value) (λ m. (goal.Meter-dyn g (m.vtable, m.value)).text m.value) c.args.meters.now.items c.report_segment.new.meters.items) t (order_of w.seen) (g.K.Sink.written c.args.sink.now) (g.K.Sink.written c.flush_full.new.sink)) (sym c.requires.trace)
+    (begun_flush g.C.Carrier.plays c.args.listing board (k + 1) w _ _ c.report_segment.new.out.items more _ _ c.in_err-flush_full.ensures.front
+    (told_front _ _ _ _ _ (subst (AreTold (λ m. (goal.Meter-dyn g (m.vtable, m.value)).stands m.value) (λ m. (goal.Meter-dyn g (m.vtable, m.value)).text m.value) c.args.meters.now.items c.report_segment.new.meters.items) (sym (calls_grown board v w ran.begins)) (both_told _ _ _ _ _ _ _ c.loop-segment.invariant.told c.in_ok-carried.ensures.told)))))
 
 pub loop-segment-preserved : goal.loop-segment-preserved
 loop-segment-preserved g c =
@@ -52,12 +68,13 @@ loop-segment-preserved g c =
     let k = c.loop-segment.segment in
     let ran = subst (λ (t : Trace). Ran t k v w) c.requires.trace c.report_segment.ensures.ran in
     let whole = subst (λ (t : Trace). RanWhole t k v w) c.requires.trace c.in_ok-carried.ensures.whole in
-    let more = underway_more g.C.Carrier.plays board k v _ _ c.loop-segment.text.items c.loop-segment.invariant.underway w c.report_segment.new.text.items c.report_segment.ensures.chief ran whole c.in_ok-carried.ensures.lines c.in_ok-carried.ensures.few in
+    let more = underway_more g.C.Carrier.plays c.args.listing board k v _ _ c.loop-segment.text.items c.loop-segment.invariant.underway w c.report_segment.new.out.items c.report_segment.ensures.chief ran whole c.in_ok-carried.ensures.lines c.in_ok-carried.ensures.few in
     record {
       seated = c.report_segment.ensures.seated;
-      underway = underway_written g.C.Carrier.plays board (k + 1) w _ _ c.report_segment.new.text.items more _ _ c.in_ok-flush_full.ensures.pending;
+      underway = underway_written g.C.Carrier.plays c.args.listing board (k + 1) w _ _ c.report_segment.new.out.items more _ _ c.in_ok-flush_full.ensures.pending;
       ready = c.in_ok-carried.ensures.ready;
       steady = c.in_ok-flush_full.ensures.steady ∙ c.loop-segment.invariant.steady;
+      told = subst (AreTold (λ m. (goal.Meter-dyn g (m.vtable, m.value)).stands m.value) (λ m. (goal.Meter-dyn g (m.vtable, m.value)).text m.value) c.args.meters.now.items c.report_segment.new.meters.items) (sym (calls_grown board v w ran.begins)) (both_told _ _ _ _ _ _ _ c.loop-segment.invariant.told c.in_ok-carried.ensures.told);
     }
 
 pub returns-in_err-flush-clause-begun : goal.returns-in_err-flush-clause-begun
@@ -66,8 +83,9 @@ returns-in_err-flush-clause-begun g c =
     let board = g.B.Switchboard.board c.args.board.now in
     let v = K c.loop-segment.seat in
     on_err c.from_residual-in_err-flush.result
-    (subst (λ (t : Trace). IsBegun g.C.Carrier.plays board.slots t (order_of v.seen) (g.K.Sink.written c.args.sink.now) (g.K.Sink.written c.flush.new.sink)) (sym c.requires.trace)
-    (begun_flush g.C.Carrier.plays board c.loop-segment.segment v _ _ c.loop-segment.text.items c.loop-segment.invariant.underway _ c.in_err-flush.ensures.front))
+    (subst (λ (t : Trace). IsBegun g.C.Carrier.plays c.args.listing board.slots (AreToldFront (λ m. (goal.Meter-dyn g (m.vtable, m.value)).stands m.value) (λ m. (goal.Meter-dyn g (m.vtable, m.value)).text m.value) c.args.meters.now.items c.loop-segment.meters.items) t (order_of v.seen) (g.K.Sink.written c.args.sink.now) (g.K.Sink.written c.flush.new.sink)) (sym c.requires.trace)
+    (begun_flush g.C.Carrier.plays c.args.listing board c.loop-segment.segment v _ _ c.loop-segment.text.items c.loop-segment.invariant.underway _ _ c.in_err-flush.ensures.front
+    (told_front _ _ _ _ _ c.loop-segment.invariant.told)))
 
 pub returns-clause-whole : goal.returns-clause-whole
 returns-clause-whole g c =
@@ -80,5 +98,13 @@ returns-clause-whole g c =
     let over = c.loop-segment-test.false in
     let within = c.loop-segment.auto.segment-end in
     let all : k ≡ length board.trace.segments = omega (arith, same, over, within) in
-    subst (λ (t : Trace). IsReported g.C.Carrier.plays (fabric_at board) t (order_of v.seen) (g.K.Sink.written c.args.sink.now) (g.K.Sink.written c.flush.new.sink)) (sym c.requires.trace)
-    (reported g.C.Carrier.plays board k v _ _ c.loop-segment.text.items c.loop-segment.invariant.underway _ sound all c.in_ok-flush.ensures.whole)
+    subst (λ (t : Trace). IsRunWhole (fabric_at board) (AreTold (λ m. (goal.Meter-dyn g (m.vtable, m.value)).stands m.value) (λ m. (goal.Meter-dyn g (m.vtable, m.value)).text m.value) c.args.meters.now.items c.loop-segment.meters.items) t (order_of v.seen)) (sym c.requires.trace)
+    (run_whole g.C.Carrier.plays c.args.listing board k v _ _ c.loop-segment.text.items c.loop-segment.invariant.underway _ sound all c.loop-segment.invariant.told)
+
+pub returns-clause-text : goal.returns-clause-text
+returns-clause-text g c =
+    let K = g.B.Switchboard.known in
+    let board = g.B.Switchboard.board c.args.board.now in
+    let v = K c.loop-segment.seat in
+    subst (λ (t : Trace). Appends (g.K.Sink.written c.args.sink.now) (g.K.Sink.written c.flush.new.sink) (listed c.args.listing (report g.C.Carrier.plays board.slots t (order_of v.seen)))) (sym c.requires.trace)
+    (all_written g.C.Carrier.plays c.args.listing board c.loop-segment.segment v _ _ c.loop-segment.text.items c.loop-segment.invariant.underway _ c.in_ok-flush.ensures.whole)

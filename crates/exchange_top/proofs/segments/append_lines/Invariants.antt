@@ -1,6 +1,6 @@
 use Rattle.std.proofs.Common.{◌≡◌, ◌++◌, drop}
 use Rattle.exchange_top.specs.Report.{lines_of}
-use Rattle.exchange_top.proofs.segments.append_answers.Given as goal
+use Rattle.exchange_top.proofs.segments.append_lines.Given as goal
 
 abbrev pub invariant-loop-answer : goal.invariant-loop-answer
 invariant-loop-answer l = record {

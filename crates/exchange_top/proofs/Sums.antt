@@ -1,0 +1,61 @@
+-- A generated trace that is run and summed up, and a run on another board.
+use Rattle.std.proofs.Common.{rules, ◌≡◌, ◌≢◌, ◌⊎◌, ℕ, ◌≤◌, List, [], ◌++◌, Option, Some, None, refl, sym, ap, subst, ◌∙◌, inl, inr, arith}
+use Rattle.std.specs.Io.KnownBytes.{Appends, Keeps}
+use Rattle.std.proofs.KnownBytes.{Appends-nil, Appends-trans}
+use Rattle.ex_io.specs.Ends.{Rose}
+use Rattle.exchange_core.specs.declared.trace.Trace.{Trace}
+use Rattle.exchange_core.specs.Seats.{Board}
+use Rattle.generated_trace.specs.Generated.{IsTrafficOf}
+use Rattle.exchange_top.specs.declared.listing.Listing.TheVariants as listing
+use Rattle.exchange_top.specs.Commands.{Handing, Parties, Runs, Whole, Unwritten_from, No_memory_from, Sums, Summed, Sum_unwritten, Sum_no_memory, In_run, In_summary, IsHandedOut}
+use Rattle.exchange_top.specs.Streams.{AppendsFront}
+use Rattle.exchange_top.specs.Summary.{summary_text}
+
+pub keeps : (known : Option (List ℕ)) → Keeps known known
+keeps None = search rules
+keeps (Some bytes) = search rules
+
+-- what holds on a board holds on one that equals it
+pub moved : (P : Board → List ℕ → Type 0) (board wanted : Board) (order seen : List ℕ) → board ≡ wanted → order ≡ seen → P board seen → P wanted order
+moved P board wanted order seen same is holds = subst (λ b. P b order) same (subst (λ o. P board o) (sym is) holds)
+
+-- what was written of nothing, and then a front of a text
+front_then : (old mid new : Option (List ℕ)) (text : List ℕ) → Appends old mid [] → AppendsFront mid new text → AppendsFront old new text
+front_then old mid new text none front = (front.0, front.1, Appends-trans old mid new [] _ none front.2)
+
+front_kept : (old mid new : Option (List ℕ)) (text : List ℕ) → Appends old mid [] → Keeps mid new → AppendsFront old new text
+front_kept old mid new text none kept = (0, omega arith, kept_nil old mid new none kept)
+  where
+    kept_nil : (old mid new : Option (List ℕ)) → Appends old mid [] → Keeps mid new → Appends old new []
+    kept_nil old mid new none kept = search rules
+
+module _ (x : Parties) (seed calls : ℕ) (t : Trace) (is : IsTrafficOf seed calls t) where
+  -- the run itself was cut short
+  pub sums_cut : (status : ℕ) (order : List ℕ) (old new : Option (List ℕ)) (before after : ℕ) → status ≢ 0 → Runs x listing.Nothing t status order old new before after
+      → Sums x seed calls status order old new before after
+  sums_cut status order old new before after not (Whole s run text engine) = absurd (not s)
+  sums_cut status order old new before after not (Unwritten_from s rose b) = Sum_unwritten s rose (In_run t is b)
+  sums_cut status order old new before after not (No_memory_from s b) = Sum_no_memory s (In_run t is b)
+
+  -- all was run, and the summary was written, or not
+  pub sums_up : (h : Handing) (status status' : ℕ) (order order' : List ℕ) (old mid new : Option (List ℕ)) (faults middle then : ℕ) → status ≡ 0
+      → Runs x listing.Nothing t status order old mid faults middle → (status ≡ 4) ⊎ (middle ≡ faults) → order' ≡ order
+      → (status' ≡ 0 → ((d : _) (w : _) → x.handed d w → h d w) × Appends mid new (summary_text t x.said))
+      → (status' ≡ 4 → Rose middle then × AppendsFront mid new (summary_text t x.said)) → (status' ≡ 5 → Keeps mid new)
+      → (status' ≡ 0) ⊎ (status' ≡ 4) ⊎ (status' ≡ 5) → Sums (record x { handed = h }) seed calls status' order' old new faults then
+  sums_up h status status' order order' old mid new faults middle then zero (Whole s run text engine) steady same done unwritten unsaid ends =
+      elim ends [
+        | inl now ↦ Summed now (record {
+          trace = t;
+          generated = is;
+          run = rw same run;
+          text = Appends-trans old mid new [] _ text (done now).1;
+          engine = rw same ((done now).0 _ _ engine);
+        })
+        | inr other ↦ elim other [
+          | inl now ↦ Sum_unwritten now (elim steady [ inl four ↦ absurd (omega (arith, four, zero)) | inr kept ↦ rw (sym kept) (unwritten now).0 ]) (In_summary t is (rw same run) (front_then old mid new _ text (unwritten now).1))
+          | inr now ↦ Sum_no_memory now (In_summary t is (rw same run) (front_kept old mid new _ text (unsaid now)))
+        ]
+      ]
+  sums_up h status status' order order' old mid new faults middle then zero (Unwritten_from s rose b) steady same done unwritten unsaid ends = absurd (omega (arith, s, zero))
+  sums_up h status status' order order' old mid new faults middle then zero (No_memory_from s b) steady same done unwritten unsaid ends = absurd (omega (arith, s, zero))

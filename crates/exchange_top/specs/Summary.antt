@@ -1,0 +1,16 @@
+-- What the command `gen` writes of its run. Source: this exchange's own.
+use Rattle.std.specs.Prelude.{ℕ, ◌++◌, Bool, true, false, List, length, count_by, codes, decimal}
+use Rattle.exchange_core.specs.declared.trace.Event.{Event}
+use Rattle.exchange_core.specs.declared.trace.Event.TheVariants.{Nail, Seat, Free, Message, Frame}
+use Rattle.exchange_core.specs.declared.trace.Trace.{Trace}
+
+abbrev pub is_frame : Event → Bool
+is_frame (Nail x y) = false
+is_frame (Seat x room) = false
+is_frame (Free x) = false
+is_frame (Message line octets) = false
+is_frame (Frame input) = true
+
+-- the line that counts the events and the frames of a trace, and then what its meters say
+abbrev pub summary_text : Trace → List ℕ → List ℕ
+summary_text trace said = codes "events " ++ decimal (length trace.events) ++ codes " frames " ++ decimal (count_by is_frame trace.events) ++ codes "\n" ++ said

@@ -1,0 +1,50 @@
+-- The calls that the meters of a run are told of. Source: this exchange's own.
+use Rattle.std.specs.Prelude.{ℕ, List, [], ◌∷◌, ◌++◌}
+use Rattle.std.specs.List.{AllZip}
+use Rattle.exchange_core.specs.declared.answer.Answer.{Answer}
+use Rattle.exchange_core.specs.declared.answer.Kept.{Kept}
+use Rattle.exchange_core.specs.declared.answer.Kept.TheVariants as k
+use Rattle.exchange_core.specs.declared.record.CallRecord.{CallRecord}
+use Rattle.exchange_core.specs.declared.reply.Reply.{Reply}
+use Rattle.exchange_core.specs.declared.trace.Trace.{Trace}
+use Rattle.exchange_core.specs.Kept.{kept}
+use Rattle.exchange_core.specs.Sound.{setting_of}
+use Rattle.exchange_core.specs.Step.{run, events_of}
+use Rattle.exchange_core.specs.World.{start}
+use Rattle.meters.specs.Telling.{IsTold, IsToldFront}
+
+-- the calls that ended with what is kept of a reply
+abbrev pub calls_kept : Kept → List CallRecord
+calls_kept (k.Granted a b) = []
+calls_kept k.Busy = []
+calls_kept (k.Seated a b) = []
+calls_kept k.NoPort = []
+calls_kept k.Freed = []
+calls_kept k.NotNailed = []
+calls_kept (k.Sent sends moved records) = records
+calls_kept (k.Frame number sends records) = records
+
+-- the calls of these answers, and of these replies, in order
+abbrev pub calls_answered : List Answer → List CallRecord
+calls_answered [] = []
+calls_answered (a ∷ answers) = calls_kept a.reply ++ calls_answered answers
+
+abbrev pub calls_ended : List Reply → List CallRecord
+calls_ended [] = []
+calls_ended (r ∷ replies) = calls_kept (kept r) ++ calls_ended replies
+
+-- the records of the calls that end in a run of a trace whose events happen in this order
+abbrev pub calls_told : ℕ → Trace → List ℕ → List CallRecord
+calls_told slots trace order = let s = setting_of slots trace in calls_ended (run s (start s.dimensions) (events_of trace.events order))
+
+-- what is said of the calls that meters were told of
+abbrev pub Telling : Type 1
+Telling = List CallRecord → Type 0
+
+-- each meter was told of these calls, by what the meters of some type stand for and would say
+abbrev pub AreTold : {M : Type 0} → (M → List CallRecord → Type 0) → (M → List CallRecord → List ℕ) → List M → List M → Telling
+AreTold stands text old new calls = AllZip (λ m n. IsTold calls (stands m) (stands n) (text m) (text n)) old new
+
+-- each meter was told of the first few of these calls
+abbrev pub AreToldFront : {M : Type 0} → (M → List CallRecord → Type 0) → (M → List CallRecord → List ℕ) → List M → List M → Telling
+AreToldFront stands text old new calls = AllZip (λ m n. IsToldFront calls (stands m) (stands n) (text m) (text n)) old new

@@ -1,0 +1,73 @@
+//! The calls that ended, told to meters.
+ghost use Rattle.std.specs.Prelude.{◌≡◌, [], ◌∷◌, List, OnOk, OnErr};
+ghost use Rattle.exchange_core.specs.declared.record.CallRecord.{CallRecord};
+ghost use Rattle.meters.specs.Telling.{IsTold};
+ghost use Rattle.exchange_top.specs.Telling.{AreTold, AreToldFront, calls_answered, calls_kept};
+
+use exchange_core::{Answer, CallRecord, Kept};
+use meters::Meter;
+use std::alloc::AllocError;
+
+/// Tells each meter of the calls that ended with these answers, call by call.
+///
+/// # Errors
+///
+/// [`AllocError`] for want of memory. Then each meter was told of the first few of the calls.
+pub fn tell(meters: &mut Vec<Box<dyn Meter>>, answers: &[Answer]) -> Result<(), AllocError>
+    ensures told { OnOk result (AreTold (λ m. stands m) (λ m. text m) meters.old.items meters.new.items (calls_answered answers.now)) }
+    ensures front { OnErr result (AreToldFront (λ m. stands m) (λ m. text m) meters.old.items meters.new.items (calls_answered answers.now)) }
+{
+    tell_answers(meters.as_mut_slice(), answers)
+}
+
+// The same, of meters that stand in a row.
+fn tell_answers(meters: &mut [Box<dyn Meter>], answers: &[Answer]) -> Result<(), AllocError>
+    ensures told { OnOk result (AreTold (λ m. stands m) (λ m. text m) meters.old meters.new (calls_answered answers.now)) }
+    ensures front { OnErr result (AreToldFront (λ m. stands m) (λ m. text m) meters.old meters.new (calls_answered answers.now)) }
+{
+    for answer in answers {
+        tell_calls(meters, calls_of(answer))?;
+    }
+    Ok(())
+}
+
+// The calls that ended with an answer.
+fn calls_of(answer: &Answer) -> &[CallRecord]
+    ensures { result.now ≡ calls_kept answer.now.reply }
+{
+    match &answer.reply {
+        Kept::Sent { records, .. } => records.as_slice(),
+        Kept::Frame { records, .. } => records.as_slice(),
+        _ => &[],
+    }
+}
+
+// Tells each meter of some calls.
+fn tell_calls(meters: &mut [Box<dyn Meter>], calls: &[CallRecord]) -> Result<(), AllocError>
+    ensures told { OnOk result (AreTold (λ m. stands m) (λ m. text m) meters.old meters.new calls.now) }
+    ensures front { OnErr result (AreToldFront (λ m. stands m) (λ m. text m) meters.old meters.new calls.now) }
+{
+    for told in calls {
+        tell_call(meters, told)?;
+    }
+    Ok(())
+}
+
+// Tells each meter of a call.
+fn tell_call(meters: &mut [Box<dyn Meter>], told: &CallRecord) -> Result<(), AllocError>
+    ensures told { OnOk result (AreTold (λ m. stands m) (λ m. text m) meters.old meters.new (told.now ∷ [])) }
+    ensures front { OnErr result (AreToldFront (λ m. stands m) (λ m. text m) meters.old meters.new (told.now ∷ [])) }
+{
+    for meter in meters.iter_mut() {
+        tell_one(meter, told)?;
+    }
+    Ok(())
+}
+
+// Tells a meter of a call.
+fn tell_one(meter: &mut Box<dyn Meter>, told: &CallRecord) -> Result<(), AllocError>
+    ensures told { OnOk result (IsTold (told.now ∷ []) (stands meter.old) (stands meter.new) (text meter.old) (text meter.new)) }
+    ensures kept { OnErr result (IsTold [] (stands meter.old) (stands meter.new) (text meter.old) (text meter.new)) }
+{
+    meter.note(told)
+}
