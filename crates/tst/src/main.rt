@@ -17,7 +17,7 @@ use exchange_top::{Outcome, exchange};
 use frame_engine::Engine;
 use gate::OpenGate;
 use meters::{CallDetail, HoldingTime, Meter, PegCount};
-use std::alloc::{AllocError, Global};
+use std::alloc::AllocError;
 use std::env;
 use std::io::{self, ErrorKind};
 use std::process::ExitCode;
@@ -32,13 +32,26 @@ fn words_of(rt: &HostRuntime) -> io::Result<Vec<String>> {
     Ok(arguments.skip(1).collect(rt.alloc())?)
 }
 
-// The meters of every call: the details of the last ten calls, a peg count, and the holding time.
-fn meters(alloc: Global) -> Result<Vec<Box<dyn Meter>>, AllocError> {
+// One call, with the standard ends and three meters: the details of the last ten calls, a peg count and
+// the holding time. They are boxed here, where they are used.
+fn run(rt: &HostRuntime, words: &[String]) -> Result<u8, AllocError> {
+    let alloc = rt.alloc();
     let mut meters: Vec<Box<dyn Meter>> = Vec::with_capacity(alloc, 3)?;
     meters.push(Box::new(alloc, CallDetail::new(alloc, 10)?)?)?;
     meters.push(Box::new(alloc, PegCount::new())?)?;
     meters.push(Box::new(alloc, HoldingTime::new())?)?;
-    Ok(meters)
+    let mut source = StdSource::new(rt.stdin());
+    let mut sink = StdSink::new(rt.stdout());
+    let outcome: Outcome<Engine> = exchange(
+        rt,
+        alloc,
+        words,
+        &mut source,
+        &mut sink,
+        &OpenGate,
+        &mut meters,
+    );
+    Ok(outcome.status)
 }
 
 fn main(rt: HostRuntime) -> ExitCode {
@@ -46,19 +59,5 @@ fn main(rt: HostRuntime) -> ExitCode {
     let Ok(words) = words_of(&rt) else {
         return ExitCode::from(5);
     };
-    let Ok(mut meters) = meters(rt.alloc()) else {
-        return ExitCode::from(5);
-    };
-    let mut source = StdSource::new(rt.stdin());
-    let mut sink = StdSink::new(rt.stdout());
-    let outcome: Outcome<Engine> = exchange(
-        &rt,
-        rt.alloc(),
-        &words,
-        &mut source,
-        &mut sink,
-        &OpenGate,
-        &mut meters,
-    );
-    ExitCode::from(outcome.status)
+    ExitCode::from(run(&rt, &words).unwrap_or(5))
 }

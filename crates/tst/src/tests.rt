@@ -328,16 +328,6 @@ fn octets_move_beside_the_call_processors(rt: HostRuntime) -> Result<(), Fail> {
     Ok(())
 }
 
-// Meters of the three kinds, one of them twice.
-fn four_meters(alloc: Global) -> Result<Vec<Box<dyn Meter>>, AllocError> {
-    let mut meters: Vec<Box<dyn Meter>> = Vec::with_capacity(alloc, 4)?;
-    meters.push(Box::new(alloc, CallDetail::new(alloc, 1)?)?)?;
-    meters.push(Box::new(alloc, PegCount::new())?)?;
-    meters.push(Box::new(alloc, HoldingTime::new())?)?;
-    meters.push(Box::new(alloc, PegCount::new())?)?;
-    Ok(meters)
-}
-
 // A generated trace is run and summed up; the meters of a run are told of its calls and say so.
 #[test]
 fn meters_are_told_of_the_calls(rt: HostRuntime) -> Result<(), Fail> {
@@ -367,7 +357,11 @@ fn meters_are_told_of_the_calls(rt: HostRuntime) -> Result<(), Fail> {
         }
         let source = MemSource::new(input.as_bytes().to_vec(alloc)?, 4096, Vec::new(alloc));
         let sink = MemSink::new(alloc, 1_000_000, 4096, Vec::new(alloc))?;
-        let mut meters = four_meters(alloc)?;
+        let mut meters: Vec<Box<dyn Meter>> = Vec::with_capacity(alloc, 4)?;
+        meters.push(Box::new(alloc, CallDetail::new(alloc, 1)?)?)?;
+        meters.push(Box::new(alloc, PegCount::new())?)?;
+        meters.push(Box::new(alloc, HoldingTime::new())?)?;
+        meters.push(Box::new(alloc, PegCount::new())?)?;
         let ended = called::<Engine, OpenGate>(
             &rt,
             alloc,
