@@ -12,15 +12,17 @@
 #[cfg(test)]
 mod tests;
 
-use ex_io::{StdSink, StdSource};
+use ex_io::{Sink, Source, StdSink, StdSource};
 use exchange_top::{Outcome, exchange};
 use frame_engine::Engine;
 use gate::OpenGate;
 use meters::{CallDetail, HoldingTime, Meter, PegCount};
-use std::alloc::AllocError;
+use std::alloc::{AllocError, Global};
 use std::env;
 use std::io::{self, ErrorKind};
 use std::process::ExitCode;
+use std::sync::Wait;
+use std::thread::Threads;
 
 // The words after the program's name. Arguments that are no text are no command.
 fn words_of(rt: &HostRuntime) -> io::Result<Vec<String>> {
@@ -32,25 +34,20 @@ fn words_of(rt: &HostRuntime) -> io::Result<Vec<String>> {
     Ok(arguments.skip(1).collect(rt.alloc())?)
 }
 
-// One call, with the standard ends and three meters: the details of the last ten calls, a peg count and
-// the holding time. They are boxed here, where they are used.
-fn run(rt: &HostRuntime, words: &[String]) -> Result<u8, AllocError> {
-    let alloc = rt.alloc();
+// The status of a call with three meters: the details of the last ten calls, a peg count and the holding
+// time. They are boxed here, where they are used.
+fn status_of<S: Source, K: Sink, R: Threads + Wait + Sync>(
+    rt: &R,
+    alloc: Global,
+    words: &[String],
+    source: &mut S,
+    sink: &mut K,
+) -> Result<u8, AllocError> {
     let mut meters: Vec<Box<dyn Meter>> = Vec::with_capacity(alloc, 3)?;
     meters.push(Box::new(alloc, CallDetail::new(alloc, 10)?)?)?;
     meters.push(Box::new(alloc, PegCount::new())?)?;
     meters.push(Box::new(alloc, HoldingTime::new())?)?;
-    let mut source = StdSource::new(rt.stdin());
-    let mut sink = StdSink::new(rt.stdout());
-    let outcome: Outcome<Engine> = exchange(
-        rt,
-        alloc,
-        words,
-        &mut source,
-        &mut sink,
-        &OpenGate,
-        &mut meters,
-    );
+    let outcome: Outcome<Engine> = exchange(rt, alloc, words, source, sink, &OpenGate, &mut meters);
     Ok(outcome.status)
 }
 
@@ -59,5 +56,8 @@ fn main(rt: HostRuntime) -> ExitCode {
     let Ok(words) = words_of(&rt) else {
         return ExitCode::from(5);
     };
-    ExitCode::from(run(&rt, &words).unwrap_or(5))
+    let mut source = StdSource::new(rt.stdin());
+    let mut sink = StdSink::new(rt.stdout());
+    let status = status_of(&rt, rt.alloc(), &words, &mut source, &mut sink);
+    ExitCode::from(status.unwrap_or(5))
 }
