@@ -26,7 +26,7 @@ IsCountOf calls count = count.calls ≡ register_value (calls_to count.line call
 
 -- the text of a count of the calls to a line
 abbrev pub to_line : ℕ → ℕ → List ℕ
-to_line line calls = codes "to " ++ (decimal line ++ (codes ": " ++ (decimal calls ++ codes "\n")))
+to_line line calls = codes "to " ++ decimal line ++ codes ": " ++ decimal calls ++ codes "\n"
 
 -- the text of a count once it is told these calls too
 abbrev pub to_text_with : LineCount → List CallRecord → List ℕ
