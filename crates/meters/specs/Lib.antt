@@ -2,3 +2,4 @@ pub mod Registers
 pub mod Details
 pub mod Telling
 pub mod Examples
+pub mod CallsTo

@@ -1,4 +1,5 @@
-// Each meter through the trait, beside one of a program's own.
+// Each meter through the trait, beside two of a program's own.
+use crate::calls_to_line::CallsToLine;
 use crate::keeper::Keeper;
 use crate::{CallDetail, HoldingTime, Meter, PegCount, append_summaries};
 use circuit_model::Slot;
@@ -54,6 +55,13 @@ fn note_to_each(meters: &mut [Box<dyn Meter>], call: &CallRecord) -> Result<(), 
     Ok(())
 }
 
+fn note_all(meters: &mut [Box<dyn Meter>], calls: &[CallRecord]) -> Result<(), AllocError> {
+    for call in calls {
+        note_to_each(meters, call)?;
+    }
+    Ok(())
+}
+
 #[test]
 fn meters_say_what_they_were_told(rt: HostRuntime) -> Result<(), Fail> {
     let alloc = rt.alloc();
@@ -64,11 +72,33 @@ fn meters_say_what_they_were_told(rt: HostRuntime) -> Result<(), Fail> {
     meters.push(Box::new(alloc, Keeper::new(alloc))?)?;
     let mut out = vec![in alloc; b'>']?;
     append_summaries(&meters, &mut out)?;
-    for call in &CALLS {
-        note_to_each(&mut meters, call)?;
-    }
+    note_all(&mut meters, &CALLS)?;
     append_summaries(&meters, &mut out)?;
     let wanted = format!(in alloc; ">{OF_NONE}{OF_THREE}")?;
     assert_eq!(rt; out.as_slice(), wanted.as_bytes());
+    Ok(())
+}
+
+// Two counts of the calls to one line, the same or another, beside a peg count. None counts the line of
+// a caller, or a room with the number of the line.
+#[test]
+fn calls_are_counted_at_their_line(rt: HostRuntime) -> Result<(), Fail> {
+    let alloc = rt.alloc();
+    for (first, second, calls, said) in [
+        (12, 0, &CALLS[..0], "to 12: 0\npeg 0 0\nto 0: 0\n"),
+        (12, 0, &CALLS[..1], "to 12: 1\npeg 1 1\nto 0: 0\n"),
+        (12, 0, &CALLS[..3], "to 12: 1\npeg 3 2\nto 0: 1\n"),
+        (0, 0, &CALLS[..3], "to 0: 1\npeg 3 2\nto 0: 1\n"),
+        (63, 7, &CALLS[..3], "to 63: 0\npeg 3 2\nto 7: 0\n"),
+    ] {
+        let mut meters: Vec<Box<dyn Meter>> = Vec::new(alloc);
+        meters.push(Box::new(alloc, CallsToLine::new(first))?)?;
+        meters.push(Box::new(alloc, PegCount::new())?)?;
+        meters.push(Box::new(alloc, CallsToLine::new(second))?)?;
+        note_all(&mut meters, calls)?;
+        let mut out = Vec::new(alloc);
+        append_summaries(&meters, &mut out)?;
+        assert_eq!(rt; out.as_slice(), said.as_bytes());
+    }
     Ok(())
 }

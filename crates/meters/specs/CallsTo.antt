@@ -1,0 +1,33 @@
+-- The calls to one line, and a count of them, which is an example of what a program may add. Source: this exchange's own.
+use Rattle.std.specs.Prelude.{◌≡◌, ℕ, ◌+◌, ◌==◌, Bool, false, List, ◌++◌, codes, decimal}
+use Rattle.std.specs.List.{count_by}
+use Rattle.exchange_core.specs.declared.record.Party.{Party}
+use Rattle.exchange_core.specs.declared.record.Party.TheVariants.{Line, Room}
+use Rattle.exchange_core.specs.declared.record.CallRecord.{CallRecord}
+use Rattle.meters.specs.Registers.{register_value}
+
+-- whether a call to this party is one to this line: it goes to a slot of the line, and to no room
+abbrev pub is_to : ℕ → Party → Bool
+is_to line (Line at) = at.line == line
+is_to line (Room number) = false
+
+-- how many of the calls went to this line
+abbrev pub calls_to : ℕ → List CallRecord → ℕ
+calls_to line calls = count_by (λ call. is_to line call.called) calls
+
+-- a count of the calls to one line
+pub record LineCount : Type 0 where
+  pub line : ℕ
+  pub calls : ℕ
+
+-- it stands for a list of calls
+abbrev pub IsCountOf : List CallRecord → LineCount → Type 0
+IsCountOf calls count = count.calls ≡ register_value (calls_to count.line calls)
+
+-- the text of a count of the calls to a line
+abbrev pub to_line : ℕ → ℕ → List ℕ
+to_line line calls = codes "to " ++ decimal line ++ codes ": " ++ decimal calls ++ codes "\n"
+
+-- the text of a count once it is told these calls too
+abbrev pub to_text_with : LineCount → List CallRecord → List ℕ
+to_text_with count more = to_line count.line (register_value (count.calls + calls_to count.line more))
