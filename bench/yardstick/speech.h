@@ -114,7 +114,7 @@ static void send(void) {
         const uint8_t *restrict from = crossed[l], *restrict by = read_from[l];
         Row heard;
         for (int k = 0; k < CELLS; k++) heard[k] = from[by[k]];
-        if (__builtin_expect(toned[l] != 0, 0)) put_tones(l, heard); // few lines ring
+        if (__builtin_expect(toned[l] != 0, 0)) put_tones(l, heard); // in most traces none rings
         if (!memcmp(heard, idle_row, sizeof heard)) continue;
         put(" ");
         put_number(l);
