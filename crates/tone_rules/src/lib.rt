@@ -5,7 +5,7 @@
 //!   given (`tone`, `octets`).
 //! - [`octet_of`] returns the octets of a tone in order, over and over.
 //!
-//! Nothing here allocates. The exchange gives no tone yet.
+//! Nothing here allocates.
 //!
 //! It stands on `circuit_model` and `q931_codec`.
 #![tactic(auto)]

@@ -6,7 +6,8 @@
 //! standard input and output nothing can be proved, so the tests here run whole traces over ends in
 //! memory.
 //!
-//! It stands on `ex_io`, `frame_engine`, `gate`, `meters` and `exchange_top`.
+//! It stands on `ex_io`, `frame_engine`, `gate`, `meters` and `exchange_top`; its tests on
+//! `traffic_gen` too.
 #![tactic(auto)]
 
 #[cfg(test)]

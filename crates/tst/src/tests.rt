@@ -10,6 +10,7 @@ use std::sync::Wait;
 use std::sync::atomic::{AtomicU64, Ordering};
 use std::test::Fail;
 use std::thread::Threads;
+use traffic_gen::generate;
 
 // A text in which `+` stands for twenty-nine idle octets.
 fn spelled(alloc: Global, text: &str) -> Result<Vec<u8>, AllocError> {
@@ -377,5 +378,40 @@ fn meters_are_told_of_the_calls(rt: HostRuntime) -> Result<(), Fail> {
         assert_eq!(rt; ended.sink.bytes(), written.as_bytes());
         assert_eq!(rt; text.as_slice(), said.as_bytes());
     }
+    Ok(())
+}
+
+// What three meters were told by one call of the exchange, in text.
+fn told(
+    rt: &(impl Threads + Wait + Sync),
+    alloc: Global,
+    words: &[String],
+    input: Vec<u8>,
+) -> Result<Vec<u8>, AllocError> {
+    let source = MemSource::new(input, 4096, Vec::new(alloc));
+    let sink = MemSink::new(alloc, 1_000_000, 4096, Vec::new(alloc))?;
+    let mut meters: Vec<Box<dyn Meter>> = Vec::with_capacity(alloc, 3)?;
+    meters.push(Box::new(alloc, CallDetail::new(alloc, 20)?)?)?;
+    meters.push(Box::new(alloc, PegCount::new())?)?;
+    meters.push(Box::new(alloc, HoldingTime::new())?)?;
+    called::<Marker, OpenGate>(rt, alloc, words, source, sink, &OpenGate, &mut meters);
+    let mut text = Vec::new(alloc);
+    append_summaries(meters.as_slice(), &mut text)?;
+    Ok(text)
+}
+
+// `gen` and `run` of the octets that it draws tell meters of the same calls.
+#[test]
+fn generated_calls_are_those_of_their_trace(rt: HostRuntime) -> Result<(), Fail> {
+    let alloc = rt.alloc();
+    let mut generation = Vec::new(alloc);
+    for word in ["gen", "7", "20"] {
+        generation.push(String::from_str(alloc, word)?)?;
+    }
+    let run = vec![in alloc; String::from_str(alloc, "run")?]?;
+    let of_the_command = told(&rt, alloc, &generation, Vec::new(alloc))?;
+    let of_the_trace = told(&rt, alloc, &run, generate(alloc, 7, 20)?)?;
+    assert!(rt; of_the_command.len() > 400);
+    assert_eq!(rt; of_the_command.as_slice(), of_the_trace.as_slice());
     Ok(())
 }
