@@ -11,7 +11,7 @@ ghost use Rattle.frame_engine.specs.Playing.{by_path, hears_path, played_as, pla
 
 use crate::age::is_through;
 use circuit_model::IDLE;
-use control_memory::{Heard, Image};
+use control_memory::{Heard, HeardWord, Image};
 use frame_buffer::FrameBuffer;
 use tone_rules::{Tones, octet_of};
 
@@ -40,7 +40,7 @@ pub(crate) fn play(read: &FrameBuffer, image: &Image, tones: &Tones, out: &mut [
 
 // Writes what one line sends, given the octets that were read out for its places and what each of
 // them hears. Where no tone is given, none is heard.
-fn play_line(read: &[u8], heard: &[Heard], tones: &Tones, frame: u32, octets: &mut [u8; 30])
+fn play_line(read: &[u8], heard: &[HeardWord], tones: &Tones, frame: u32, octets: &mut [u8; 30])
     requires read { length read.now ≡ 30 }
     requires heard { length heard.now ≡ 30 }
     requires tones { (place : ℕ) (kind : Kind) (since : ℕ) → place < 30 → slice_index_or heard.now place Silent ≡ Tone kind since → IsGiven tones.now kind }
@@ -62,7 +62,7 @@ fn gives_none(tones: &Tones) -> bool
 
 // Writes what a line sends by its paths alone. Where only idle octets were read out for it, whatever
 // its places hear is idle.
-fn play_paths(read: &[u8], heard: &[Heard], frame: u32, octets: &mut [u8; 30])
+fn play_paths(read: &[u8], heard: &[HeardWord], frame: u32, octets: &mut [u8; 30])
     requires read { length read.now ≡ 30 }
     requires heard { length heard.now ≡ 30 }
     ensures { (place : ℕ) → place < 30 → slice_index octets.new place ≡ by_path frame (slice_index read.now place) (slice_index_or heard.now place Silent) }
@@ -86,14 +86,15 @@ fn is_idle(read: &[u8]) -> bool
 
 // Writes what each place of a line sends by its path. Each octet is read before it is known whether
 // it is heard, so that it is chosen by its age without a branch.
-fn play_each(read: &[u8], heard: &[Heard], frame: u32, octets: &mut [u8; 30])
+fn play_each(read: &[u8], heard: &[HeardWord], frame: u32, octets: &mut [u8; 30])
     requires read { length read.now ≡ 30 }
     requires heard { length heard.now ≡ 30 }
     ensures { (place : ℕ) → place < 30 → slice_index octets.new place ≡ by_path frame (slice_index read.now place) (slice_index_or heard.now place Silent) }
 {
+    let through = frame.saturating_sub(1);
     for (place, octet) in octets.iter_mut().enumerate() {
         let sent = read[place];
-        *octet = if hears_path(heard[place], frame) {
+        *octet = if heard[place].is_path_before(through) {
             sent
         } else {
             IDLE
@@ -101,25 +102,15 @@ fn play_each(read: &[u8], heard: &[Heard], frame: u32, octets: &mut [u8; 30])
     }
 }
 
-// Whether what a place hears is a path that is old enough.
-fn hears_path(heard: Heard, frame: u32) -> bool
-    ensures { result ≡ hears_path frame heard }
-{
-    match heard {
-        Heard::Path { since } => is_through(since, frame),
-        _ => false,
-    }
-}
-
 // Writes what a line sends by its paths and tones.
-fn play_all(read: &[u8], heard: &[Heard], tones: &Tones, frame: u32, octets: &mut [u8; 30])
+fn play_all(read: &[u8], heard: &[HeardWord], tones: &Tones, frame: u32, octets: &mut [u8; 30])
     requires read { length read.now ≡ 30 }
     requires heard { length heard.now ≡ 30 }
     requires tones { (place : ℕ) (kind : Kind) (since : ℕ) → place < 30 → slice_index_or heard.now place Silent ≡ Tone kind since → IsGiven tones.now kind }
     ensures { (place : ℕ) → place < 30 → slice_index octets.new place ≡ played_as (table_of tones.now) frame (slice_index read.now place) (slice_index_or heard.now place Silent) }
 {
     for (place, octet) in octets.iter_mut().enumerate() {
-        *octet = play_octet(heard[place], read[place], tones, frame);
+        *octet = play_octet(heard[place].heard(), read[place], tones, frame);
     }
 }
 
