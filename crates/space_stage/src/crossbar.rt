@@ -1,13 +1,10 @@
-ghost use Rattle.std.specs.Prelude.{◌≡◌, ℕ, ◌+◌, ◌<◌, ◌≤◌, length, slice_index};
+ghost use Rattle.std.specs.Prelude.{◌≡◌, ℕ, ◌<◌, length, slice_index};
 ghost use Rattle.frame_buffer.specs.Highways.{SameSize, IsPart};
 ghost use Rattle.control_memory.specs.Image.{lines_of};
 ghost use Rattle.space_stage.specs.Crossing.{gets, IsCrossedPart, IsCrossed, AreStarts};
 
 use control_memory::Image;
 use frame_buffer::{Crossed, Highway, make_idle};
-
-// So many octets of a row are gathered in a run.
-const RUN: usize = 10;
 
 /// Crosses one frame: in each internal slot each outgoing line gets the octet of the incoming line
 /// that the control memory names, and the idle octet where it names none.
@@ -80,8 +77,7 @@ fn cross_row(highway: &Highway, starts: &[u16; 256], image: &Image, line: u8, ro
     }
 }
 
-// Gathers the octets of one outgoing line from the incoming ones: runs of a fixed length, and then
-// those behind them.
+// Gathers the octets of one outgoing line from the incoming ones.
 fn gather_row(highway: &Highway, starts: &[u16; 256], image: &Image, line: u8, row: &mut [u8])
     requires lines { highway.now.lines ≡ lines_of image.now }
     requires starts { AreStarts highway.now.lines highway.now.slots starts.now }
@@ -91,63 +87,10 @@ fn gather_row(highway: &Highway, starts: &[u16; 256], image: &Image, line: u8, r
     ensures size { length row.new ≡ length row.old }
     ensures octets { (slot : ℕ) → slot < length row.new → slice_index row.new slot ≡ gets image.now highway.now line slot }
 {
-    let runs = row.len() / RUN;
-    for run in 0..runs {
-        gather_run(highway, starts, image, line, run * RUN, row);
-    }
-    gather_rest(highway, starts, image, line, runs * RUN, row);
-}
-
-// Gathers so many octets from one slot on. The length is fixed, so that the compiler writes them one by
-// one.
-fn gather_run(
-    highway: &Highway,
-    starts: &[u16; 256],
-    image: &Image,
-    line: u8,
-    first: usize,
-    row: &mut [u8],
-)
-    requires lines { highway.now.lines ≡ lines_of image.now }
-    requires starts { AreStarts highway.now.lines highway.now.slots starts.now }
-    requires slots { highway.now.slots ≡ image.now.slots }
-    requires line { line < lines_of image.now }
-    requires row { length row.old ≡ image.now.slots }
-    requires run { first + 10 ≤ length row.old }
-    ensures size { length row.new ≡ length row.old }
-    ensures before { (slot : ℕ) → slot < first → slice_index row.new slot ≡ slice_index row.old slot }
-    ensures octets { (slot : ℕ) → first ≤ slot → slot < first + 10 → slice_index row.new slot ≡ gets image.now highway.now line slot }
-{
     let rows = highway.rows_behind_idle();
     let table = image.space_row(line);
-    for slot in first..first + RUN {
+    for (slot, octet) in row.iter_mut().enumerate() {
         let start = usize::from(starts[usize::from(table[slot])]);
-        row[slot] = rows[start + slot];
-    }
-}
-
-// Gathers the octets from one slot on to the end.
-fn gather_rest(
-    highway: &Highway,
-    starts: &[u16; 256],
-    image: &Image,
-    line: u8,
-    first: usize,
-    row: &mut [u8],
-)
-    requires lines { highway.now.lines ≡ lines_of image.now }
-    requires starts { AreStarts highway.now.lines highway.now.slots starts.now }
-    requires slots { highway.now.slots ≡ image.now.slots }
-    requires line { line < lines_of image.now }
-    requires row { length row.old ≡ image.now.slots }
-    ensures size { length row.new ≡ length row.old }
-    ensures before { (slot : ℕ) → slot < first → slice_index row.new slot ≡ slice_index row.old slot }
-    ensures octets { (slot : ℕ) → first ≤ slot → slot < length row.new → slice_index row.new slot ≡ gets image.now highway.now line slot }
-{
-    let rows = highway.rows_behind_idle();
-    let table = image.space_row(line);
-    for slot in first..row.len() {
-        let start = usize::from(starts[usize::from(table[slot])]);
-        row[slot] = rows[start + slot];
+        *octet = rows[start + slot];
     }
 }

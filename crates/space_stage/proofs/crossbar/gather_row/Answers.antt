@@ -2,7 +2,7 @@ use Rattle.std.proofs.Common.{rules}
 use Rattle.frame_buffer.specs.Highways.{octet_on}
 use Rattle.control_memory.specs.Image.{received}
 use Rattle.space_stage.proofs.Starts.{start_within, gathered}
-use Rattle.space_stage.proofs.crossbar.gather_run.Goals as goal
+use Rattle.space_stage.proofs.crossbar.gather_row.Goals as goal
 
 pub bounds-rows-start : goal.bounds-rows-start
 bounds-rows-start c =
@@ -11,11 +11,7 @@ bounds-rows-start c =
     search (rules, is)
 
 pub loop-slot-preserved : goal.loop-slot-preserved
-loop-slot-preserved c =
+loop-slot-preserved c k below =
     let h = c.args.highway.now in
     let is = gathered h.slots h.lines (received c.args.image.now c.args.line) c.space_row-table.result.now c.args.starts.now c.rows_behind_idle-rows.result.now (octet_on h) (search rules) (search rules) (search rules) c.rows_behind_idle-rows.ensures.idle c.rows_behind_idle-rows.ensures.lines c.loop-slot.slot (search rules) in
-    record {
-      size = search rules;
-      before = λ k below. search rules;
-      octets = λ k from below. search (rules, is);
-    }
+    search (rules, is)
