@@ -6,7 +6,7 @@ ghost use Rattle.control_memory.specs.declared.heard.Heard.TheVariants.{Silent, 
 ghost use Rattle.control_memory.specs.Image.{lines_of, heard_at};
 ghost use Rattle.tone_rules.specs.Tables.{table_of, IsGiven};
 ghost use Rattle.frame_engine.specs.Frames.{PlaysOut, TonesGiven};
-ghost use Rattle.frame_engine.specs.Playing.{by_path, played_as, played_at};
+ghost use Rattle.frame_engine.specs.Playing.{HasLine, by_path, played_as, played_at};
 
 use crate::age::is_through;
 use circuit_model::IDLE;
@@ -36,7 +36,7 @@ fn play_line(read: &[u8], image: &Image, line: u8, tones: &Tones, octets: &mut [
     requires read { length read.now ≡ 30 }
     requires line { line < lines_of image.now }
     requires tones { TonesGiven tones.now image.now }
-    ensures { (place : ℕ) → place < 30 → slice_index octets.new place ≡ played_at (table_of tones.now) image.now (λ at. slice_index read.now at.place) (record { line = line; place = place }) }
+    ensures { HasLine line (played_at (table_of tones.now) image.now (λ at. slice_index read.now at.place)) octets.new }
 {
     if image.hears_nothing(line) {
         *octets = IDLE_LINE;
