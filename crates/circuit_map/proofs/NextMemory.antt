@@ -264,6 +264,10 @@ shown_start external bridges n k heard ports hearing sitting is_heard is_ports i
 pub shown_by : (external bridges : ℕ) (heard : List (Option Circuit)) (ports later : Ports) (hearing : List Heard) (sitting : List (Option (ℕ × ℕ))) → later ≡ ports → IsShown external bridges heard ports hearing sitting → IsShown external bridges heard later hearing sitting
 shown_by external bridges heard ports later hearing sitting same shown = subst (λ (q : Ports). IsShown external bridges heard q hearing sitting) (sym same) shown
 
+-- what is kept, written as it is heard
+pub shown_as : (external bridges : ℕ) (heard : List (Option Circuit)) (ports : Ports) (hearing later : List Heard) (sitting : List (Option (ℕ × ℕ))) → later ≡ hearing → IsShown external bridges heard ports hearing sitting → IsShown external bridges heard ports later sitting
+shown_as external bridges heard ports hearing later sitting same shown = subst (λ h. IsShown external bridges heard ports h sitting) (sym same) shown
+
 -- the row of a slot without a port
 pub shown_row : (external bridges : ℕ) (heard : List (Option Circuit)) (ports : Ports) (hearing : List Heard) (sitting : List (Option (ℕ × ℕ))) (x : Slot) (o : Option Circuit) (n : ℕ)
     → IsShown external bridges heard ports hearing sitting → length heard ≡ 30 * external → x.line < external → x.place < 30 → port_of external ports x ≡ None → n ≡ number_of x

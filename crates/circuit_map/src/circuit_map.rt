@@ -11,7 +11,7 @@ ghost use Rattle.circuit_map.specs.Connections.{IsExternal, hears_at, hears_afte
 
 use circuit_model::{Circuit, Kind, PLACES, Slot};
 use conference_ports::Ports;
-use control_memory::{Heard, Image, PathMap, port_index};
+use control_memory::{Heard, HeardTable, Image, PathMap, port_index};
 use std::alloc::{AllocError, Global};
 use std::marker::Model;
 
@@ -34,7 +34,7 @@ pub struct CircuitMap<P: PathMap> {
     ports: Ports,
     paths: P,
     // What each slot hears, and who sits in each port: for the next control memory.
-    hearing: Vec<Heard>,
+    hearing: HeardTable,
     sitting: Vec<Option<(u8, u32)>>,
 }
 
@@ -65,7 +65,7 @@ impl<P: PathMap> Model for CircuitMap<P> {
       heard = m.heard.items;
       ports = members m.ports.owners;
       layout = P.layout m.paths;
-    }) (P.width m.paths) m.ports.external m.ports.lines m.ports.owners m.hearing.items m.sitting.items };
+    }) (P.width m.paths) m.ports.external m.ports.lines m.ports.owners m.hearing m.sitting.items };
 }
 
 impl<P: PathMap + Drop> CircuitMap<P> {
@@ -95,7 +95,7 @@ impl<P: PathMap + Drop> CircuitMap<P> {
             heard: vec![in alloc; None; places * usize::from(external)]?,
             ports: Ports::new(alloc, external, bridges)?,
             paths,
-            hearing: vec![in alloc; Heard::Silent; places * usize::from(external + bridges)]?,
+            hearing: HeardTable::new(alloc, external + bridges)?,
             sitting: vec![in alloc; None; places * usize::from(bridges)]?,
         })
     }
@@ -150,7 +150,7 @@ impl<P: PathMap> CircuitMap<P> {
         let at = x.number();
         let since = self.next;
         self.heard[at] = Some(Circuit::Tone { kind, to: x, since });
-        self.hearing[at] = Heard::Tone { kind, since };
+        self.hearing.set(at, Heard::Tone { kind, since });
     }
 
     /// Connects two idle slots: x to y, and then y to x.
@@ -185,8 +185,8 @@ impl<P: PathMap> CircuitMap<P> {
             to: y,
             since,
         });
-        self.hearing[at_x] = Heard::Path { since };
-        self.hearing[at_y] = Heard::Path { since };
+        self.hearing.set(at_x, Heard::Path { since });
+        self.hearing.set(at_y, Heard::Path { since });
         (there, back)
     }
 
@@ -218,8 +218,8 @@ impl<P: PathMap> CircuitMap<P> {
         let sits_at = port_index(self.external, port);
         let since = self.next;
         self.heard[at_x] = Some(Circuit::Member { room, at: x, since });
-        self.hearing[at_x] = Heard::Path { since };
-        self.hearing[at_port] = Heard::Path { since };
+        self.hearing.set(at_x, Heard::Path { since });
+        self.hearing.set(at_port, Heard::Path { since });
         self.sitting[sits_at] = Some((room, since));
         Ok((there, back))
     }
@@ -283,7 +283,7 @@ impl<P: PathMap> CircuitMap<P> {
     {
         let at = x.number();
         self.heard[at] = None;
-        self.hearing[at] = Heard::Silent;
+        self.hearing.set(at, Heard::Silent);
     }
 
     // Takes down the connection of x with y, both ways.
@@ -303,8 +303,8 @@ impl<P: PathMap> CircuitMap<P> {
         let (at_x, at_y) = (x.number(), y.number());
         self.heard[at_x] = None;
         self.heard[at_y] = None;
-        self.hearing[at_x] = Heard::Silent;
-        self.hearing[at_y] = Heard::Silent;
+        self.hearing.set(at_x, Heard::Silent);
+        self.hearing.set(at_y, Heard::Silent);
     }
 
     // Takes a member out of its room, and its port back.
@@ -328,8 +328,8 @@ impl<P: PathMap> CircuitMap<P> {
         let (at_x, at_port) = (x.number(), port.number());
         let sits_at = port_index(self.external, port);
         self.heard[at_x] = None;
-        self.hearing[at_port] = Heard::Silent;
+        self.hearing.set(at_port, Heard::Silent);
         self.sitting[sits_at] = None;
-        self.hearing[at_x] = Heard::Silent;
+        self.hearing.set(at_x, Heard::Silent);
     }
 }

@@ -5,3 +5,4 @@ pub mod Steps
 pub mod LookupsAfter
 pub mod TablesAfter
 pub mod TableRows
+pub mod HeardLines

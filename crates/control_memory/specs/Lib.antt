@@ -2,6 +2,8 @@ pub mod Layout
 pub mod Connecting
 pub mod Examples
 pub mod Tables
+pub mod HeardWords
+pub mod HeardRows
 pub mod Image
 pub mod Carrying
 pub mod Shown

@@ -5,6 +5,8 @@ ghost use Rattle.control_memory.specs.Image.{lines_of, port_number, sent, receiv
 
 use crate::control_table::ControlTable;
 use crate::heard::Heard;
+use crate::heard_table::HeardTable;
+use crate::heard_word::HeardWord;
 use circuit_model::{PLACES, Slot};
 use std::alloc::{AllocError, Global};
 use std::marker::Model;
@@ -24,7 +26,7 @@ pub struct Image {
     space: ControlTable,
     outgoing: ControlTable,
     // What each slot hears, by its number.
-    heard: Vec<Heard>,
+    heard: HeardTable,
     // Who sits in each port: the places of the bridge lines, line after line.
     rooms: Vec<Option<(u8, u32)>>,
 }
@@ -43,11 +45,11 @@ impl Model for Image {
       incoming = m.incoming.entries;
       space = m.space.entries;
       outgoing = m.outgoing.entries;
-      heard = m.heard.items;
+      heard = m.heard;
       rooms = m.rooms.items;
     } };
 
-    ghost invariant = { λ m. IsSized m.external m.bridges m.slots m.incoming m.space m.outgoing (length m.heard.items) (length m.rooms.items) };
+    ghost invariant = { λ m. IsSized m.external m.bridges m.slots m.incoming m.space m.outgoing (length m.heard) (length m.rooms.items) };
 }
 
 impl Image {
@@ -73,7 +75,7 @@ impl Image {
             incoming: ControlTable::new(alloc, lines, slots, PLACES)?,
             space: ControlTable::new(alloc, lines, slots, lines)?,
             outgoing: ControlTable::new(alloc, lines, PLACES, slots)?,
-            heard: vec![in alloc; Heard::Silent; places * usize::from(lines)]?,
+            heard: HeardTable::new(alloc, lines)?,
             rooms: vec![in alloc; None; places * usize::from(bridges)]?,
         })
     }
@@ -194,17 +196,25 @@ impl Image {
         requires place { at.place < 30 }
         ensures { result ≡ heard_at self.now at }
     {
-        self.heard[at.number()]
+        self.heard.get(at)
     }
 
     /// What each place of a line hears.
-    pub fn heard_row(&self, line: u8) -> &[Heard]
+    pub fn heard_row(&self, line: u8) -> &[HeardWord]
         requires { line < lines_of self.now }
         ensures size { length result.now ≡ 30 }
         ensures heard { (place : ℕ) → place < 30 → slice_index_or result.now place Heard.Silent ≡ heard_at self.now (record { line = line; place = place }) }
     {
-        let start = usize::from(line) * usize::from(PLACES);
-        &self.heard[start..start + usize::from(PLACES)]
+        self.heard.row(line)
+    }
+
+    /// Whether a line is known to hear nothing. It is not known of a line that was silenced slot by
+    /// slot.
+    pub fn hears_nothing(&self, line: u8) -> bool
+        requires { line < lines_of self.now }
+        ensures { result ≡ true → (place : ℕ) → place < 30 → heard_at self.now (record { line = line; place = place }) ≡ Heard.Silent }
+    {
+        self.heard.is_silent(line)
     }
 
     /// The room of the member that sits in a conference port, and the frame since which it sits
@@ -237,16 +247,16 @@ impl Image {
         ensures quiet { IsQuiet self.new }
     {
         self.take_out_paths(frame);
-        silence(&mut self.heard);
+        self.heard.clear();
         vacate(&mut self.rooms);
     }
 
     /// Begins the control memory of another frame with what each slot hears and who sits in each
     /// port, and without paths: one copy for each of the two.
     ///
-    /// `hearing` has an entry for every place of every line, by the slot's number; `sitting` one for
-    /// every conference port, that is for every place of the bridge lines, line after line.
-    pub fn begin(&mut self, frame: u32, hearing: &[Heard], sitting: &[Option<(u8, u32)>])
+    /// `hearing` has an entry for every place of every line; `sitting` one for every conference port,
+    /// that is for every place of the bridge lines, line after line.
+    pub fn begin(&mut self, frame: u32, hearing: &HeardTable, sitting: &[Option<(u8, u32)>])
         requires hearing { length hearing.now ≡ 30 * lines_of self.old }
         requires sitting { length sitting.now ≡ 30 * self.old.bridges }
         ensures frame { self.new.frame ≡ frame }
@@ -256,7 +266,7 @@ impl Image {
         ensures rooms { self.new.rooms ≡ sitting.now }
     {
         self.take_out_paths(frame);
-        self.heard.copy_from_slice(hearing);
+        self.heard.copy_from(hearing);
         self.rooms.copy_from_slice(sitting);
     }
 
@@ -327,7 +337,7 @@ impl Image {
         ensures tables { SameTables self.old self.new }
         ensures rooms { self.new.rooms ≡ self.old.rooms }
     {
-        self.heard[at.number()] = heard;
+        self.heard.set(at.number(), heard);
     }
 
     /// Writes that a member of a room sits in a conference port since a frame.
@@ -353,14 +363,6 @@ pub fn port_index(external: u8, port: Slot) -> usize
     ensures { result ≡ port_number external port }
 {
     usize::from(PLACES) * usize::from(port.line - external) + usize::from(port.place)
-}
-
-fn silence(heard: &mut [Heard])
-    ensures { All (λ h. h ≡ Heard.Silent) heard.new }
-{
-    for slot in heard.iter_mut() {
-        *slot = Heard::Silent;
-    }
 }
 
 fn vacate(rooms: &mut [Option<(u8, u32)>])

@@ -16,6 +16,8 @@
 mod control_table;
 mod ends;
 mod heard;
+mod heard_table;
+mod heard_word;
 mod hop;
 mod image;
 mod laws;
@@ -25,6 +27,8 @@ mod path_table;
 pub use control_table::ControlTable;
 pub use ends::Ends;
 pub use heard::Heard;
+pub use heard_table::HeardTable;
+pub use heard_word::HeardWord;
 pub use hop::Hop;
 pub use image::{Image, port_index};
 pub use laws::{tables_carry_their_layout, worked_layouts};

@@ -1,4 +1,7 @@
 -- An exchange at work. Source: this exchange's own.
+use Rattle.std.specs.Prelude.{◌≡◌, List}
+use Rattle.number_plan.specs.declared.plan.Number.{Number}
+use Rattle.tone_rules.specs.declared.tones.Tones.{Tones}
 use Rattle.circuit_map.specs.Connections.{Connections}
 use Rattle.exchange_core.specs.Legs.{Legs}
 use Rattle.exchange_core.specs.LegStanding.{CallsStand}
@@ -12,3 +15,11 @@ pub record IsAtWork (s : Setting) (map : Connections) (legs : Legs) (w : World) 
   pub holds : Holds s.dimensions map legs w
   pub planned : IsPlanned s
   pub stands : CallsStand s w
+
+-- what is said of each setting with this plan of numbers and these tones, and each world, for which the map and the legs are at work
+abbrev pub EachAtWork : List Number → Tones → Connections → Legs → (Setting → World → Type 0) → Type 0
+EachAtWork plan tones map legs Says = (s : Setting) (w : World) → s.plan ≡ plan → s.tones ≡ tones → IsAtWork s map legs w → Says s w
+
+-- what is said of some such setting and world
+abbrev pub SomeAtWork : List Number → Tones → Connections → Legs → (Setting → World → Type 0) → Type 0
+SomeAtWork plan tones map legs Says = (s : Setting) × (w : World) × (s.plan ≡ plan) × (s.tones ≡ tones) × IsAtWork s map legs w × Says s w

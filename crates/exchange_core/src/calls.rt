@@ -1,9 +1,9 @@
-ghost use Rattle.std.specs.Prelude.{◌≡◌, ◌<◌, ◌≤◌, ◌^◌, ℕ, [], None, IfSome};
+ghost use Rattle.std.specs.Prelude.{◌≡◌, ◌<◌, ◌≤◌, ◌^◌, ℕ, [], None, Ok, IfSome};
 ghost use Rattle.circuit_map.specs.Connections.{SameSizes};
 ghost use Rattle.exchange_core.specs.declared.trace.Event.TheVariants as event;
 ghost use Rattle.clearing_rules.specs.Restarting.{restart_asked};
-ghost use Rattle.exchange_core.specs.AtWork.{IsAtWork};
-ghost use Rattle.exchange_core.specs.Calls.{with_leg_named, done, done_for, on_global_reference, answer_to};
+ghost use Rattle.exchange_core.specs.AtWork.{IsAtWork, EachAtWork};
+ghost use Rattle.exchange_core.specs.Calls.{with_leg_named, received_from, done, done_for, on_global_reference, answer_to};
 ghost use Rattle.exchange_core.specs.Legs.{leg_named};
 ghost use Rattle.exchange_core.specs.Responses.{reply_of};
 ghost use Rattle.exchange_core.specs.Setup.{Setting};
@@ -33,10 +33,10 @@ impl<P: PathMap> CallControl<P> {
         requires work { (s : Setting) × (w : World) × (s.plan ≡ plan.now) × (s.tones ≡ tones.now) × IsAtWork s self.old.map self.old.legs w }
         requires line { line < self.old.map.external }
         requires fresh { (out.old.sends ≡ []) × (out.old.moved ≡ None) }
-        ensures reply { (s : Setting) (w : World) → s.plan ≡ plan.now → s.tones ≡ tones.now → IsAtWork s self.old.map self.old.legs w
-            → reply_of result out.new ≡ reply s w (event.Message line octets.now) }
-        ensures world { (s : Setting) (w : World) → s.plan ≡ plan.now → s.tones ≡ tones.now → IsAtWork s self.old.map self.old.legs w
-            → Holds s.dimensions self.new.map self.new.legs (next s w (event.Message line octets.now)) }
+        ensures reply { EachAtWork plan.now tones.now self.old.map self.old.legs (λ s w.
+            reply_of result out.new ≡ reply s w (event.Message line octets.now)) }
+        ensures world { EachAtWork plan.now tones.now self.old.map self.old.legs (λ s w.
+            Holds s.dimensions self.new.map self.new.legs (next s w (event.Message line octets.now))) }
         ensures few { MovesAtMost self.old.map.bound (reply_of result out.new) }
         ensures sizes { SameSizes self.old.map self.new.map }
     {
@@ -49,9 +49,9 @@ impl<P: PathMap> CallControl<P> {
         requires work { (s : Setting) × (w : World) × (s.plan ≡ plan.now) × (s.tones ≡ tones.now) × IsAtWork s self.old.map self.old.legs w }
         requires line { line < self.old.map.external }
         requires fresh { (out.old.sends ≡ []) × (out.old.moved ≡ None) }
-        ensures makes { (s : Setting) (w : World) → s.plan ≡ plan.now → s.tones ≡ tones.now → IsAtWork s self.old.map self.old.legs w
-            → Makes s.dimensions self.new.map self.new.legs out.new.sends out.new.moved (done s w line octets.now).making }
-        ensures records { (s : Setting) (w : World) → s.plan ≡ plan.now → s.tones ≡ tones.now → IsAtWork s self.old.map self.old.legs w → out.new.records ≡ (answer_to s w line octets.now).records }
+        ensures makes { EachAtWork plan.now tones.now self.old.map self.old.legs (λ s w.
+            Makes s.dimensions self.new.map self.new.legs out.new.sends out.new.moved (done s w line octets.now).making) }
+        ensures records { EachAtWork plan.now tones.now self.old.map self.old.legs (λ s w. out.new.records ≡ (answer_to s w line octets.now).records) }
         ensures few { IfSome out.new.moved (λ moves. (moves.0 ≤ self.old.map.bound) × (moves.1 ≤ self.old.map.bound)) }
         ensures sizes { SameSizes self.old.map self.new.map }
     {
@@ -68,10 +68,10 @@ impl<P: PathMap> CallControl<P> {
         requires line { line < self.old.map.external }
         requires reference { message.now.reference < 2 ^ 15 }
         requires fresh { (out.old.sends ≡ []) × (out.old.moved ≡ None) }
-        ensures makes { (s : Setting) (w : World) → s.plan ≡ plan.now → s.tones ≡ tones.now → IsAtWork s self.old.map self.old.legs w → Makes s.dimensions self.new.map self.new.legs out.new.sends out.new.moved
-            (done_for s w line (with_leg_named message.now (leg_named self.old.legs line message.now.flag message.now.reference))).making }
-        ensures records { (s : Setting) (w : World) → s.plan ≡ plan.now → s.tones ≡ tones.now → IsAtWork s self.old.map self.old.legs w
-            → out.new.records ≡ (done_for s w line (with_leg_named message.now (leg_named self.old.legs line message.now.flag message.now.reference))).told }
+        ensures makes { EachAtWork plan.now tones.now self.old.map self.old.legs (λ s w.
+            Makes s.dimensions self.new.map self.new.legs out.new.sends out.new.moved (done_for s w line (received_from self.old.legs line (Ok message.now))).making) }
+        ensures records { EachAtWork plan.now tones.now self.old.map self.old.legs (λ s w.
+            out.new.records ≡ (done_for s w line (received_from self.old.legs line (Ok message.now))).told) }
         ensures few { IfSome out.new.moved (λ moves. (moves.0 ≤ self.old.map.bound) × (moves.1 ≤ self.old.map.bound)) }
         ensures sizes { SameSizes self.old.map self.new.map }
     {
@@ -90,9 +90,10 @@ impl<P: PathMap> CallControl<P> {
         requires reference { message.now.reference < 2 ^ 15 }
         requires nameless { leg_named self.old.legs line message.now.flag message.now.reference ≡ None }
         requires fresh { (out.old.sends ≡ []) × (out.old.moved ≡ None) }
-        ensures makes { (s : Setting) (w : World) → s.plan ≡ plan.now → s.tones ≡ tones.now → IsAtWork s self.old.map self.old.legs w
-            → Makes s.dimensions self.new.map self.new.legs out.new.sends out.new.moved (done_for s w line (with_leg_named message.now None)).making }
-        ensures records { (s : Setting) (w : World) → s.plan ≡ plan.now → s.tones ≡ tones.now → IsAtWork s self.old.map self.old.legs w → out.new.records ≡ (done_for s w line (with_leg_named message.now None)).told }
+        ensures makes { EachAtWork plan.now tones.now self.old.map self.old.legs (λ s w.
+            Makes s.dimensions self.new.map self.new.legs out.new.sends out.new.moved (done_for s w line (with_leg_named message.now None)).making) }
+        ensures records { EachAtWork plan.now tones.now self.old.map self.old.legs (λ s w.
+            out.new.records ≡ (done_for s w line (with_leg_named message.now None)).told) }
         ensures few { IfSome out.new.moved (λ moves. (moves.0 ≤ self.old.map.bound) × (moves.1 ≤ self.old.map.bound)) }
         ensures sizes { SameSizes self.old.map self.new.map }
     {
@@ -115,7 +116,8 @@ impl<P: PathMap> CallControl<P> {
         requires fresh { (out.old.sends ≡ []) × (out.old.moved ≡ None) }
         ensures makes { (s : Setting) (w : World) → s.tones ≡ tones.now → IsAtWork s self.old.map self.old.legs w
             → Makes s.dimensions self.new.map self.new.legs out.new.sends out.new.moved (done_for s w line (on_global_reference (restart_asked message.now))).making }
-        ensures records { (s : Setting) (w : World) → s.tones ≡ tones.now → IsAtWork s self.old.map self.old.legs w → out.new.records ≡ (done_for s w line (on_global_reference (restart_asked message.now))).told }
+        ensures records { (s : Setting) (w : World) → s.tones ≡ tones.now → IsAtWork s self.old.map self.old.legs w
+            → out.new.records ≡ (done_for s w line (on_global_reference (restart_asked message.now))).told }
         ensures moved { out.new.moved ≡ None }
         ensures sizes { SameSizes self.old.map self.new.map }
     {

@@ -2,7 +2,7 @@ ghost use Rattle.std.specs.Prelude.{◌≡◌, ◌<◌, [], None};
 ghost use Rattle.circuit_model.specs.FrameInput.{Input};
 ghost use Rattle.circuit_map.specs.Connections.{SameSizes};
 ghost use Rattle.exchange_core.specs.declared.trace.Event.TheVariants as event;
-ghost use Rattle.exchange_core.specs.AtWork.{IsAtWork};
+ghost use Rattle.exchange_core.specs.AtWork.{IsAtWork, EachAtWork, SomeAtWork};
 ghost use Rattle.exchange_core.specs.Responses.{reply_of};
 ghost use Rattle.exchange_core.specs.Setup.{Setting};
 ghost use Rattle.exchange_core.specs.Sound.{Fits};
@@ -29,12 +29,12 @@ impl<P: PathMap> CallControl<P> {
         tool: &mut Tool,
         out: &mut Outbox,
     ) -> Response
-        requires work { (s : Setting) × (w : World) × (s.plan ≡ plan.now) × (s.tones ≡ tones.now) × IsAtWork s self.old.map self.old.legs w × IsToolFor s.dimensions event.now tool.old }
+        requires work { SomeAtWork plan.now tones.now self.old.map self.old.legs (λ s w. IsToolFor s.dimensions event.now tool.old) }
         requires fits { Fits self.old.map.external event.now }
         requires room { self.old.map.next < 65535 }
         requires fresh { (out.old.sends ≡ []) × (out.old.moved ≡ None) × (out.old.records ≡ []) }
-        ensures reply { (s : Setting) (w : World) → s.plan ≡ plan.now → s.tones ≡ tones.now → IsAtWork s self.old.map self.old.legs w → reply_of result out.new ≡ reply s w event.now }
-        ensures world { (s : Setting) (w : World) → s.plan ≡ plan.now → s.tones ≡ tones.now → IsAtWork s self.old.map self.old.legs w → Holds s.dimensions self.new.map self.new.legs (next s w event.now) }
+        ensures reply { EachAtWork plan.now tones.now self.old.map self.old.legs (λ s w. reply_of result out.new ≡ reply s w event.now) }
+        ensures world { EachAtWork plan.now tones.now self.old.map self.old.legs (λ s w. Holds s.dimensions self.new.map self.new.legs (next s w event.now)) }
         ensures few { MovesAtMost self.old.map.bound (reply_of result out.new) }
         ensures shows { (d : Dimensions) (w : World) → Holds d self.old.map self.old.legs w → ShowsWorld w event.now tool.new }
         ensures tool { (d : Dimensions) → IsToolFor d event.now tool.old → IsToolFor d event.now tool.new }

@@ -4,4 +4,3 @@ pub mod PortRows
 pub mod RoomSums
 pub mod ReadOut
 pub mod Frame
-pub mod IdleRows

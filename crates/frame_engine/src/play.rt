@@ -1,22 +1,20 @@
 ghost use Rattle.std.specs.Prelude.{◌≡◌, ℕ, true, ◌<◌, ◌≤◌, [], length, slice_index, slice_index_or};
 ghost use Rattle.circuit_model.specs.declared.channel.Slot.{Slot};
 ghost use Rattle.circuit_model.specs.declared.circuit.Kind.{Kind};
-ghost use Rattle.circuit_model.specs.FrameInput.{idle_octet};
 ghost use Rattle.frame_buffer.specs.Speech.{octet_of};
 ghost use Rattle.control_memory.specs.declared.heard.Heard.TheVariants.{Silent, Tone};
 ghost use Rattle.control_memory.specs.Image.{lines_of, heard_at};
 ghost use Rattle.tone_rules.specs.Tables.{table_of, IsGiven};
 ghost use Rattle.frame_engine.specs.Frames.{PlaysOut, TonesGiven};
-ghost use Rattle.frame_engine.specs.Playing.{by_path, hears_path, played_as, played_at};
+ghost use Rattle.frame_engine.specs.Playing.{HasLine, by_path, played_as, played_at};
 
 use crate::age::is_through;
 use circuit_model::IDLE;
-use control_memory::{Heard, Image};
+use control_memory::{Heard, HeardWord, Image};
 use frame_buffer::FrameBuffer;
 use tone_rules::{Tones, octet_of};
 
-// The idle octets of a line and two more, so that whole vectors are compared.
-const IDLE_ROW: [u8; 32] = [IDLE; 32];
+const IDLE_LINE: [u8; 30] = [IDLE; 30];
 
 // Writes what each external slot sends.
 pub(crate) fn play(read: &FrameBuffer, image: &Image, tones: &Tones, out: &mut [[u8; 30]])
@@ -28,19 +26,27 @@ pub(crate) fn play(read: &FrameBuffer, image: &Image, tones: &Tones, out: &mut [
 {
     for line in 0..image.external() {
         let octets = &mut out[usize::from(line)];
-        play_line(
-            read.row(line),
-            image.heard_row(line),
-            tones,
-            image.frame(),
-            octets,
-        );
+        play_line(read.row(line), image, line, tones, octets);
     }
 }
 
-// Writes what one line sends, given the octets that were read out for its places and what each of
-// them hears. Where no tone is given, none is heard.
-fn play_line(read: &[u8], heard: &[Heard], tones: &Tones, frame: u32, octets: &mut [u8; 30])
+// Writes what one line sends, given the octets that were read out for its places. One that hears nothing
+// is idle.
+fn play_line(read: &[u8], image: &Image, line: u8, tones: &Tones, octets: &mut [u8; 30])
+    requires read { length read.now ≡ 30 }
+    requires line { line < lines_of image.now }
+    requires tones { TonesGiven tones.now image.now }
+    ensures { HasLine line (played_at (table_of tones.now) image.now (λ at. slice_index read.now at.place)) octets.new }
+{
+    if image.hears_nothing(line) {
+        *octets = IDLE_LINE;
+    } else {
+        play_heard(read, image.heard_row(line), tones, image.frame(), octets);
+    }
+}
+
+// Writes what one line sends, given what each of its places hears. Where no tone is given, none is heard.
+fn play_heard(read: &[u8], heard: &[HeardWord], tones: &Tones, frame: u32, octets: &mut [u8; 30])
     requires read { length read.now ≡ 30 }
     requires heard { length heard.now ≡ 30 }
     requires tones { (place : ℕ) (kind : Kind) (since : ℕ) → place < 30 → slice_index_or heard.now place Silent ≡ Tone kind since → IsGiven tones.now kind }
@@ -60,40 +66,17 @@ fn gives_none(tones: &Tones) -> bool
     tones.ringback.as_slice().is_empty() && tones.busy.as_slice().is_empty()
 }
 
-// Writes what a line sends by its paths alone. Where only idle octets were read out for it, whatever
-// its places hear is idle.
-fn play_paths(read: &[u8], heard: &[Heard], frame: u32, octets: &mut [u8; 30])
+// Writes what a line sends by its paths. Each octet is read before it is known whether it is heard, so
+// that it is chosen by its age without a branch.
+fn play_paths(read: &[u8], heard: &[HeardWord], frame: u32, octets: &mut [u8; 30])
     requires read { length read.now ≡ 30 }
     requires heard { length heard.now ≡ 30 }
     ensures { (place : ℕ) → place < 30 → slice_index octets.new place ≡ by_path frame (slice_index read.now place) (slice_index_or heard.now place Silent) }
 {
-    if is_idle(read) {
-        *octets = [IDLE; 30];
-    } else {
-        play_each(read, heard, frame, octets);
-    }
-}
-
-// Whether none but idle octets were read out for a line.
-fn is_idle(read: &[u8]) -> bool
-    requires { length read.now ≡ 30 }
-    ensures { result ≡ true → (place : ℕ) → place < 30 → slice_index read.now place ≡ idle_octet }
-{
-    let mut row = IDLE_ROW;
-    row[..30].copy_from_slice(read);
-    row == IDLE_ROW
-}
-
-// Writes what each place of a line sends by its path. Each octet is read before it is known whether
-// it is heard, so that it is chosen by its age without a branch.
-fn play_each(read: &[u8], heard: &[Heard], frame: u32, octets: &mut [u8; 30])
-    requires read { length read.now ≡ 30 }
-    requires heard { length heard.now ≡ 30 }
-    ensures { (place : ℕ) → place < 30 → slice_index octets.new place ≡ by_path frame (slice_index read.now place) (slice_index_or heard.now place Silent) }
-{
+    let through = frame.saturating_sub(1);
     for (place, octet) in octets.iter_mut().enumerate() {
         let sent = read[place];
-        *octet = if hears_path(heard[place], frame) {
+        *octet = if heard[place].is_path_before(through) {
             sent
         } else {
             IDLE
@@ -101,25 +84,15 @@ fn play_each(read: &[u8], heard: &[Heard], frame: u32, octets: &mut [u8; 30])
     }
 }
 
-// Whether what a place hears is a path that is old enough.
-fn hears_path(heard: Heard, frame: u32) -> bool
-    ensures { result ≡ hears_path frame heard }
-{
-    match heard {
-        Heard::Path { since } => is_through(since, frame),
-        _ => false,
-    }
-}
-
 // Writes what a line sends by its paths and tones.
-fn play_all(read: &[u8], heard: &[Heard], tones: &Tones, frame: u32, octets: &mut [u8; 30])
+fn play_all(read: &[u8], heard: &[HeardWord], tones: &Tones, frame: u32, octets: &mut [u8; 30])
     requires read { length read.now ≡ 30 }
     requires heard { length heard.now ≡ 30 }
     requires tones { (place : ℕ) (kind : Kind) (since : ℕ) → place < 30 → slice_index_or heard.now place Silent ≡ Tone kind since → IsGiven tones.now kind }
     ensures { (place : ℕ) → place < 30 → slice_index octets.new place ≡ played_as (table_of tones.now) frame (slice_index read.now place) (slice_index_or heard.now place Silent) }
 {
     for (place, octet) in octets.iter_mut().enumerate() {
-        *octet = play_octet(heard[place], read[place], tones, frame);
+        *octet = play_octet(heard[place].heard(), read[place], tones, frame);
     }
 }
 

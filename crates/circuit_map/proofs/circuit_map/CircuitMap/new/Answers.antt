@@ -7,7 +7,6 @@ use Rattle.circuit_map.proofs.OwnersRooms.{roomed_free}
 use Rattle.circuit_map.proofs.Paths.{own_ports}
 use Rattle.circuit_map.proofs.Starting.{holds_empty, silent_rows, free_members}
 use Rattle.circuit_map.proofs.NextMemory.{shown_start}
-use Rattle.control_memory.specs.declared.heard.Heard.TheVariants.{Silent}
 use Rattle.circuit_map.proofs.circuit_map.CircuitMap.new.Goals as goal
 
 pub returns-clause-holds : goal.returns-clause-holds
@@ -18,8 +17,7 @@ returns-clause-holds g c =
 pub invariant_of-result : goal.invariant_of-result
 invariant_of-result g c =
     let rows : c.in_ok-vec.field-0.items ≡ replicate (30 * c.args.external) None = search rules in
-    let hearing : c.in_ok-vec-2.field-0.items ≡ replicate (30 * (c.args.external + c.args.bridges)) Silent = search rules in
-    let sitting : c.in_ok-vec-3.field-0.items ≡ replicate (30 * c.args.bridges) None = search rules in
+    let sitting : c.in_ok-vec-2.field-0.items ≡ replicate (30 * c.args.bridges) None = search rules in
     record {
       few = c.requires.few;
       width = c.requires.lines;
@@ -30,5 +28,5 @@ invariant_of-result g c =
       legal = c.slots-slots.ensures.legal;
       held = (empty, own_ports _ _ _ (returns-clause-holds g c));
       roomed = roomed_free _ _ (30 * c.args.bridges) c.in_ok-new.ensures.free;
-      shown = shown_start c.args.external c.args.bridges (30 * c.args.external) (30 * c.args.bridges) _ _ _ _ rows (ap members c.in_ok-new.ensures.free ∙ free_members (30 * c.args.bridges)) hearing sitting;
+      shown = shown_start c.args.external c.args.bridges (30 * c.args.external) (30 * c.args.bridges) _ _ _ _ rows (ap members c.in_ok-new.ensures.free ∙ free_members (30 * c.args.bridges)) c.in_ok-new-2.ensures sitting;
     }

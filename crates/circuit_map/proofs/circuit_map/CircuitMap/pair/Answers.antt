@@ -11,7 +11,7 @@ use Rattle.circuit_map.proofs.OwnersRooms.{roomed_on}
 use Rattle.circuit_map.proofs.Holdings.{holds_pair, swapped}
 use Rattle.circuit_map.proofs.Paths.{own_ports, no_inlet, no_outlet, idle_joins_none, none_joins_idle, two_more}
 use Rattle.circuit_map.proofs.Seating.{idle_portless}
-use Rattle.circuit_map.proofs.NextMemory.{shown_row}
+use Rattle.circuit_map.proofs.NextMemory.{shown_as, shown_row}
 use Rattle.circuit_map.proofs.circuit_map.CircuitMap.pair.Goals as goal
 
 pub connect-there-requires-clause-inlet : goal.connect-there-requires-clause-inlet
@@ -115,7 +115,7 @@ invariant_of-self g c =
     let held = c.self.invariant.held in
     let none_x = idle_portless _ held.0 _ c.args.x held.1 (ap (λ (m : Connections). hears_at m c.args.x) is ∙ c.requires.idle_x) in
     let none_y = idle_portless _ held.0 _ c.args.y held.1 (ap (λ (m : Connections). hears_at m c.args.y) is ∙ c.requires.idle_y) in
-    let one = shown_row _ _ _ _ _ _ c.args.x (Some (Pair c.args.y c.args.x c.self.inside.next)) _ c.self.invariant.shown c.self.invariant.listeners near_x c.requires.external_x.1 none_x c.number-at_x.ensures in
+    let one = shown_as _ _ _ _ _ _ _ c.set.ensures (shown_row _ _ _ _ _ _ c.args.x (Some (Pair c.args.y c.args.x c.self.inside.next)) _ c.self.invariant.shown c.self.invariant.listeners near_x c.requires.external_x.1 none_x c.number-at_x.ensures) in
     let old = subst (λ (m : Connections). (h : Holding) × Represents m h m.ports) c.self.view_is c.self.invariant.held in
     let first = c.connect-there.ensures in
     let second = c.connect-back.ensures in
@@ -130,5 +130,5 @@ invariant_of-self g c =
       held = (after old.0 (Connect c.args.x c.args.y), own_ports _ _ _ (returns-clause-holds g c old.0 c.args.self.now.ports old.1));
       roomed = roomed_on (hears_at c.args.self.now) _ _ (subst (λ (m : Connections). AreRoomed (hears_at m) c.self.inside.ports.owners) is c.self.invariant.roomed)
           (λ z room since e. two_keep (hears_at c.args.self.now) _ c.args.x c.args.y _ _ (returns-clause-hears g c) c.requires.idle_x c.requires.idle_y z _ e);
-      shown = shown_row _ _ _ _ _ _ c.args.y (Some (Pair c.args.x c.args.y c.self.inside.next)) _ one (length-set c.self.inside.heard.items _ _ ∙ c.self.invariant.listeners) near_y c.requires.external_y.1 none_y c.number-at_y.ensures;
+      shown = shown_as _ _ _ _ _ _ _ c.set-2.ensures (shown_row _ _ _ _ _ _ c.args.y (Some (Pair c.args.x c.args.y c.self.inside.next)) _ one (length-set c.self.inside.heard.items _ _ ∙ c.self.invariant.listeners) near_y c.requires.external_y.1 none_y c.number-at_y.ensures);
     }

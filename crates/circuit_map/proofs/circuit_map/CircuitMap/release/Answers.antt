@@ -10,7 +10,7 @@ use Rattle.circuit_map.proofs.OwnersRooms.{roomed_on, others_hear_on}
 use Rattle.circuit_map.proofs.Rows.{hears_written, row_inside}
 use Rattle.circuit_map.proofs.Paths.{own_ports, external_slot}
 use Rattle.circuit_map.proofs.Clearing.{clear_paths, clears, hearing_at, row_of_self, rows_two, nobody_returns, connected_to, joined_there, joined_back, still_joined, less_two, pair_partner, no_member_too}
-use Rattle.circuit_map.proofs.NextMemory.{shown_row, unseated_portless}
+use Rattle.circuit_map.proofs.NextMemory.{shown_as, shown_row, unseated_portless}
 use Rattle.circuit_map.proofs.circuit_map.CircuitMap.release.Goals as goal
 
 pub disconnect-requires-clause-stands : goal.disconnect-requires-clause-stands
@@ -55,15 +55,16 @@ index_mut-requires-2 g c =
     let external = ap (λ (m : Connections). m.external) c.self.view_is in
     omega (arith, inside, external, c.number-at_y.ensures, c.self.invariant.listeners, c.self.inside.heard.ok.0)
 
-pub index_mut-requires-4 : goal.index_mut-requires-4
-index_mut-requires-4 g c =
+pub set-requires-2 : goal.set-requires-2
+set-requires-2 g c =
     let held = subst (λ (m : Connections). (h : Holding) × Represents m h m.ports) c.self.view_is c.self.invariant.held in
     let m = c.args.self.now in
     let hx = connected_to m held.0 m.ports c.args.x c.args.y c.requires.connected.0 c.requires.connected.1 held.1 c.requires.connected.2 in
     let near = other_end m held.0 c.args.x c.args.y c.requires.connected.1 held.1 hx in
     let inside = row_inside m.external c.args.y near.0 near.1 in
     let external = ap (λ (m : Connections). m.external) c.self.view_is in
-    omega (arith, inside, external, c.number-at_y.ensures, c.self.invariant.shown.hearers, c.self.inside.hearing.ok.0)
+    let hearers = ap length c.set.ensures ∙ length-set c.self.inside.hearing _ _ ∙ c.self.invariant.shown.hearers in
+    omega (arith, inside, external, c.number-at_y.ensures, hearers)
 
 pub returns-clause-hears : goal.returns-clause-hears
 returns-clause-hears g c = λ z.
@@ -136,7 +137,7 @@ invariant_of-self g c =
     let near_y = k.inside y _ hy in
     let none_x = unseated_portless _ held.0 _ x (λ room at t e. no_member_too _ y x at s room t hx e) held.1 in
     let none_y = unseated_portless _ held.0 _ y (λ room at t e. no_member_too _ x y at s room t hy e) held.1 in
-    let one = shown_row _ _ _ _ _ _ x None _ c.self.invariant.shown c.self.invariant.listeners near_x c.requires.external.1 none_x c.number-at_x.ensures in
+    let one = shown_as _ _ _ _ _ _ _ c.set.ensures (shown_row _ _ _ _ _ _ x None _ c.self.invariant.shown c.self.invariant.listeners near_x c.requires.external.1 none_x c.number-at_x.ensures) in
     let old = subst (λ (m : Connections). (h : Holding) × Represents m h m.ports) c.self.view_is c.self.invariant.held in
     let first = c.disconnect.ensures in
     let second = c.disconnect-2.ensures in
@@ -151,5 +152,5 @@ invariant_of-self g c =
       held = (after old.0 (Clear c.args.x), own_ports _ _ _ (returns-clause-holds g c old.0 c.args.self.now.ports old.1));
       roomed = roomed_on (hears_at m) _ _ (subst (λ (m : Connections). AreRoomed (hears_at m) c.self.inside.ports.owners) is c.self.invariant.roomed)
           (others_hear_on (hears_at m) _ x (returns-clause-hears g c) (λ room t e. no_member_too _ y x x s room t hx (ap (λ (m : Connections). hears_at m x) is ∙ e)));
-      shown = shown_row _ _ _ _ _ _ y None _ one (length-set c.self.inside.heard.items _ _ ∙ c.self.invariant.listeners) near_y.0 near_y.1 none_y c.number-at_y.ensures;
+      shown = shown_as _ _ _ _ _ _ _ c.set-2.ensures (shown_row _ _ _ _ _ _ y None _ one (length-set c.self.inside.heard.items _ _ ∙ c.self.invariant.listeners) near_y.0 near_y.1 none_y c.number-at_y.ensures);
     }

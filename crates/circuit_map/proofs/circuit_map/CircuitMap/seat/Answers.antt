@@ -11,7 +11,7 @@ use Rattle.circuit_map.proofs.Paths.{own_ports, no_inlet, no_outlet, idle_joins_
 use Rattle.circuit_map.proofs.Sockets.{length-given}
 use Rattle.circuit_map.proofs.Seating.{lowest_port, free_in_members, no_number, free_port_slot, holds_seat, no_lowest, none_given, free_port, port_joins_none, none_joins_port, idle_portless, full_where, not_full, seated_port, port_beyond}
 use Rattle.circuit_map.proofs.Rows.{hears_written, hears_set, given_keeps}
-use Rattle.circuit_map.proofs.NextMemory.{shown_row, shown_given, shown_by}
+use Rattle.circuit_map.proofs.NextMemory.{shown_as, shown_row, shown_given, shown_by}
 use Rattle.circuit_model.proofs.Slots.{same_slot-refl}
 use Rattle.circuit_model.specs.declared.channel.Slot.{Slot}
 use Rattle.conference_ports.specs.Owners.{members}
@@ -250,13 +250,13 @@ invariant_of-self-2 g c =
     let held = c.self.invariant.held in
     let near : x.line < c.self.inside.external = subst (λ e. x.line < e) (sym (ap (λ (m : Connections). m.external) is)) c.requires.external.0 in
     let none = idle_portless _ held.0 _ x held.1 (ap (λ (m : Connections). hears_at m x) is ∙ c.requires.idle) in
-    let one = shown_row _ _ _ _ _ _ x (Some (Member c.args.room x since)) _ c.self.invariant.shown c.self.invariant.listeners near c.requires.external.1 none c.number-at_x.ensures in
+    let one = shown_as _ _ _ _ _ _ _ c.set.ensures (shown_row _ _ _ _ _ _ x (Some (Member c.args.room x since)) _ c.self.invariant.shown c.self.invariant.listeners near c.requires.external.1 none c.number-at_x.ensures) in
     let heard = set c.self.inside.heard.items c.number-at_x.result (Some (Member c.args.room x since)) in
     let hears : hears_in c.self.inside.external heard x ≡ Some (Member c.args.room x since) =
     (λ i. hears_in c.self.inside.external (set c.self.inside.heard.items (c.number-at_x.ensures i) (Some (Member c.args.room x since))) x)
     ∙ hears_written c.self.inside.external c.self.inside.heard.items x (Some (Member c.args.room x since)) x c.self.invariant.listeners near c.requires.external.1
     ∙ ap (λ b. if b then Some (Member c.args.room x since) else hears_in c.self.inside.external c.self.inside.heard.items x) (same_slot-refl x) in
-    let two = shown_given c.self.inside.external c.self.inside.bridges heard (members c.self.inside.ports.owners) _ _ x p lowest.0 (Some (Member c.args.room x since)) _ _ one lowest.1 at in_p hears c.number-at_port.ensures c.port_index-sits_at.ensures in
+    let two = shown_as _ _ _ _ _ _ _ c.set-2.ensures (shown_given c.self.inside.external c.self.inside.bridges heard (members c.self.inside.ports.owners) _ _ x p lowest.0 (Some (Member c.args.room x since)) _ _ one lowest.1 at in_p hears c.number-at_port.ensures c.port_index-sits_at.ensures) in
     let old = subst (λ (m : Connections). (h : Holding) × Represents m h m.ports) c.self.view_is c.self.invariant.held in
     let first = c.connect-there.ensures in
     let second = c.connect-back.ensures in

@@ -5,7 +5,7 @@ use Rattle.circuit_map.proofs.OwnersRooms.{roomed_on, others_hear_on}
 use Rattle.circuit_map.proofs.Rows.{hears_written}
 use Rattle.circuit_map.proofs.Paths.{own_ports}
 use Rattle.circuit_map.proofs.Clearing.{clear_pathless, hearing_at, row_of_self, rows_one, pathless_pair, pathless_member, nobody_returns}
-use Rattle.circuit_map.proofs.NextMemory.{shown_row, unseated_portless}
+use Rattle.circuit_map.proofs.NextMemory.{shown_as, shown_row, unseated_portless}
 use Rattle.circuit_map.proofs.circuit_map.CircuitMap.silence.Goals as goal
 
 pub returns-clause-hears : goal.returns-clause-hears
@@ -59,5 +59,5 @@ invariant_of-self g c =
       held = (after old.0 (Clear c.args.x), own_ports _ _ _ (returns-clause-holds g c old.0 c.args.self.now.ports old.1));
       roomed = roomed_on (hears_at c.args.self.now) _ _ (subst (λ (m : Connections). AreRoomed (hears_at m) c.self.inside.ports.owners) is c.self.invariant.roomed)
           (others_hear_on (hears_at c.args.self.now) _ c.args.x (returns-clause-hears g c) (λ room s e. pathless_member (hears_at c.args.self.now c.args.x) room c.args.x s c.requires.pathless e));
-      shown = shown_row _ _ _ _ _ _ c.args.x None _ c.self.invariant.shown c.self.invariant.listeners near c.requires.external.1 none c.number-at.ensures;
+      shown = shown_as _ _ _ _ _ _ _ c.set.ensures (shown_row _ _ _ _ _ _ c.args.x None _ c.self.invariant.shown c.self.invariant.listeners near c.requires.external.1 none c.number-at.ensures);
     }

@@ -7,7 +7,7 @@ use Rattle.circuit_map.proofs.OwnersRooms.{roomed_on}
 use Rattle.circuit_map.proofs.Holdings.{holds_tone}
 use Rattle.circuit_map.proofs.Paths.{own_ports}
 use Rattle.circuit_map.proofs.Seating.{idle_portless}
-use Rattle.circuit_map.proofs.NextMemory.{shown_row}
+use Rattle.circuit_map.proofs.NextMemory.{shown_as, shown_row}
 use Rattle.circuit_map.proofs.circuit_map.CircuitMap.tone.Goals as goal
 
 pub returns-clause-hears : goal.returns-clause-hears
@@ -48,5 +48,5 @@ invariant_of-self g c =
       held = (after old.0 (Give_tone c.args.x c.args.kind), own_ports _ _ _ (returns-clause-holds g c old.0 c.args.self.now.ports old.1));
       roomed = roomed_on (hears_at c.args.self.now) _ _ (subst (λ (m : Connections). AreRoomed (hears_at m) c.self.inside.ports.owners) is c.self.invariant.roomed)
           (λ z room since e. given_keeps (hears_at c.args.self.now) _ c.args.x (Some (Tone c.args.kind c.args.x c.args.self.now.next)) (returns-clause-hears g c) c.requires.idle z _ e);
-      shown = shown_row _ _ _ _ _ _ c.args.x (Some (Tone c.args.kind c.args.x c.self.inside.next)) _ c.self.invariant.shown c.self.invariant.listeners near c.requires.external.1 none c.number-at.ensures;
+      shown = shown_as _ _ _ _ _ _ _ c.set.ensures (shown_row _ _ _ _ _ _ c.args.x (Some (Tone c.args.kind c.args.x c.self.inside.next)) _ c.self.invariant.shown c.self.invariant.listeners near c.requires.external.1 none c.number-at.ensures);
     }

@@ -10,7 +10,7 @@ use Rattle.circuit_map.proofs.Rows.{hears_written}
 use Rattle.circuit_map.proofs.Paths.{own_ports, external_slot}
 use Rattle.circuit_map.proofs.Sockets.{length-returned, port_line}
 use Rattle.circuit_map.proofs.Clearing.{clear_paths, clears, hearing_at, row_of_self, rows_one, seated_in, member_ported, port_slot, joined_port, port_joined, port_apart, still_joined, less_two, member_partner, no_member_too}
-use Rattle.circuit_map.proofs.NextMemory.{shown_row, shown_returned, shown_by, one_port, returned_portless}
+use Rattle.circuit_map.proofs.NextMemory.{shown_as, shown_row, shown_returned, shown_by, one_port, returned_portless}
 use Rattle.conference_ports.specs.Owners.{members}
 use Rattle.circuit_map.proofs.circuit_map.CircuitMap.unseat.Goals as goal
 
@@ -124,8 +124,8 @@ invariant_of-self g c =
     let near : x.line < c.self.inside.external = subst (λ e. x.line < e) (sym (ap (λ (m : Connections). m.external) is)) c.requires.external.0 in
     let at_p : port_of c.self.inside.external (members c.self.inside.ports.owners) x ≡ Some p = ap (λ e. port_of e (members c.self.inside.ports.owners) x) (sym c.self.invariant.first) ∙ sym c.port_of.ensures ∙ c.in-Some.is in
     let in_p = port_slot c.self.inside.external c.self.inside.bridges (members c.self.inside.ports.owners) x p at_p c.self.invariant.sockets in
-    let one = shown_returned c.self.inside.external c.self.inside.bridges _ _ _ _ x p _ _ c.self.invariant.shown at_p (one_port _ held.0 _ x held.1) in_p c.number-at_port.ensures c.port_index-sits_at.ensures in
-    let two = shown_row _ _ _ _ _ _ x None _ one c.self.invariant.listeners near c.requires.external.1 (returned_portless c.self.inside.external (members c.self.inside.ports.owners) x) c.number-at_x.ensures in
+    let one = shown_as _ _ _ _ _ _ _ c.set.ensures (shown_returned c.self.inside.external c.self.inside.bridges _ _ _ _ x p _ _ c.self.invariant.shown at_p (one_port _ held.0 _ x held.1) in_p c.number-at_port.ensures c.port_index-sits_at.ensures) in
+    let two = shown_as _ _ _ _ _ _ _ c.set-2.ensures (shown_row _ _ _ _ _ _ x None _ one c.self.invariant.listeners near c.requires.external.1 (returned_portless c.self.inside.external (members c.self.inside.ports.owners) x) c.number-at_x.ensures) in
     let old = subst (λ (m : Connections). (h : Holding) × Represents m h m.ports) c.self.view_is c.self.invariant.held in
     let first = c.disconnect.ensures in
     let second = c.disconnect-2.ensures in

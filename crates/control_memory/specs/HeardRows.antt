@@ -1,0 +1,18 @@
+-- Rows of what slots hear, and which of them may hear something. Source: this exchange's own.
+use Rattle.std.specs.Prelude.{◌≡◌, ℕ, ◌+◌, ◌*◌, ◌%◌, ◌<◌, List, length, slice_index_or}
+use Rattle.std.specs.Int.{bit_at}
+use Rattle.control_memory.specs.declared.heard.Heard.{Heard}
+use Rattle.control_memory.specs.declared.heard.Heard.TheVariants.{Silent}
+
+-- what a place of a line hears
+abbrev pub heard_on : List Heard → ℕ → ℕ → Heard
+heard_on heard line place = slice_index_or heard (30 * line + place) Silent
+
+-- no place of the line hears anything
+abbrev pub IsSilent : List Heard → ℕ → Type 0
+IsSilent heard line = (place : ℕ) → place < 30 → heard_on heard line place ≡ Silent
+
+-- thirty places to each of so many lines; and a word of marks, a bit for each line by its number modulo 64, without which the line is silent
+pub record AreHeardOn (lines : ℕ) (heard : List Heard) (marks : ℕ) : Type 0 where
+  pub size : length heard ≡ 30 * lines
+  pub silent : (line : ℕ) → line < lines → bit_at marks (line % 64) ≡ 0 → IsSilent heard line

@@ -1,0 +1,150 @@
+ghost use Rattle.std.specs.Prelude.{◌≡◌, ℕ, true, ◌+◌, ◌*◌, ◌%◌, ◌<◌, ◌≤◌, IfOk, length, replicate, slice_index_or, slice_set};
+ghost use Rattle.std.specs.Int.{bit_at};
+ghost use Rattle.control_memory.specs.Layout.{number_of};
+ghost use Rattle.control_memory.specs.HeardRows.{heard_on, IsSilent};
+
+use crate::heard::Heard;
+use crate::heard_word::HeardWord;
+use circuit_model::{PLACES, Slot};
+use std::alloc::{AllocError, Global};
+use std::marker::Model;
+
+/// What each slot of some lines hears: a row of thirty words for each line. Contracts see the list of it,
+/// by the slot's number.
+///
+/// Beside the rows stands a word of marks of the lines that may hear something, so that a line that
+/// hears nothing costs nothing.
+#[derive(Drop)]
+pub struct HeardTable {
+    lines: u8,
+    words: Vec<HeardWord>,
+    // Which lines may hear something: a bit for each, by the line's number modulo 64. A line without a
+    // bit hears nothing.
+    marks: u64,
+}
+
+impl Model for HeardTable {
+    ghost use Rattle.std.specs.Prelude.{List};
+    ghost use Rattle.control_memory.specs.declared.heard.Heard.{Heard};
+    ghost use Rattle.control_memory.specs.HeardRows.{AreHeardOn};
+
+    ghost Value = { List Heard };
+
+    ghost view = { λ t. t.words.items };
+
+    ghost invariant = { λ t. AreHeardOn t.lines t.words.items t.marks };
+}
+
+impl HeardTable {
+    /// Nothing is heard on so many lines.
+    pub fn new(alloc: Global, lines: u8) -> Result<HeardTable, AllocError>
+        ensures { IfOk result (λ t. t ≡ replicate (30 * lines) Heard.Silent) }
+    {
+        let slots = usize::from(PLACES) * usize::from(lines);
+        Ok(HeardTable {
+            lines,
+            words: vec![in alloc; HeardWord::of(Heard::Silent); slots]?,
+            marks: 0,
+        })
+    }
+
+    /// What a slot hears.
+    pub fn get(&self, at: Slot) -> Heard
+        requires { number_of at < length self.now }
+        ensures { result ≡ slice_index_or self.now (number_of at) Heard.Silent }
+    {
+        self.words[at.number()].heard()
+    }
+
+    /// What each place of a line hears.
+    pub fn row(&self, line: u8) -> &[HeardWord]
+        requires { 30 * line + 30 ≤ length self.now }
+        ensures size { length result.now ≡ 30 }
+        ensures heard { (place : ℕ) → place < 30 → slice_index_or result.now place Heard.Silent ≡ heard_on self.now line place }
+    {
+        let start = usize::from(PLACES) * usize::from(line);
+        &self.words[start..start + usize::from(PLACES)]
+    }
+
+    /// Whether a line is known to hear nothing. It is not known of a line that was silenced place by
+    /// place.
+    pub fn is_silent(&self, line: u8) -> bool
+        requires { 30 * line + 30 ≤ length self.now }
+        ensures { result ≡ true → IsSilent self.now line }
+    {
+        (self.marks >> (line % 64)) & 1 == 0
+    }
+
+    /// Writes what the slot with a number hears.
+    pub fn set(&mut self, number: usize, heard: Heard)
+        requires { number < length self.old }
+        ensures { self.new ≡ slice_set self.old number heard }
+    {
+        let line = number / usize::from(PLACES);
+        self.words[number] = HeardWord::of(heard);
+        self.marks |= 1 << (line % 64);
+    }
+
+    /// Nothing is heard on any line.
+    pub fn clear(&mut self)
+        ensures size { length self.new ≡ length self.old }
+        ensures silent { (k : ℕ) → slice_index_or self.new k Heard.Silent ≡ Heard.Silent }
+    {
+        silence(&mut self.words);
+        self.marks = 0;
+    }
+
+    /// Takes over what as many lines hear. Lines that hear nothing in both tables stay as they are.
+    pub fn copy_from(&mut self, other: &HeardTable)
+        requires { length self.old ≡ length other.now }
+        ensures { self.new ≡ other.now }
+    {
+        copy_rows(
+            &mut self.words,
+            &other.words,
+            self.lines,
+            self.marks | other.marks,
+        );
+        self.marks = other.marks;
+    }
+}
+
+// Writes that nothing is heard.
+fn silence(words: &mut [HeardWord])
+    ensures size { length words.new ≡ length words.old }
+    ensures silent { (k : ℕ) → slice_index_or words.new k Heard.Silent ≡ Heard.Silent }
+{
+    for word in words.iter_mut() {
+        *word = HeardWord::of(Heard::Silent);
+    }
+}
+
+// Copies the rows of the lines with a mark.
+fn copy_rows(to: &mut Vec<HeardWord>, from: &[HeardWord], lines: u8, marks: u64)
+    requires to { length to.old.items ≡ 30 * lines }
+    requires from { length from.now ≡ 30 * lines }
+    ensures size { length to.new.items ≡ 30 * lines }
+    ensures marked { (line place : ℕ) → line < lines → place < 30 → bit_at marks (line % 64) ≡ 1 → heard_on to.new.items line place ≡ heard_on from.now line place }
+    ensures others { (line place : ℕ) → line < lines → place < 30 → bit_at marks (line % 64) ≡ 0 → heard_on to.new.items line place ≡ heard_on to.old.items line place }
+{
+    for line in 0..lines {
+        if (marks >> (line % 64)) & 1 == 0 {
+            continue;
+        }
+        copy_row(to, from, line);
+    }
+}
+
+// Copies the row of a line.
+fn copy_row(to: &mut Vec<HeardWord>, from: &[HeardWord], line: u8)
+    requires to { 30 * line + 30 ≤ length to.old.items }
+    requires from { length from.now ≡ length to.old.items }
+    ensures size { length to.new.items ≡ length to.old.items }
+    ensures here { (place : ℕ) → place < 30 → heard_on to.new.items line place ≡ heard_on from.now line place }
+    ensures others { (l place : ℕ) → (l ≡ line → ⊥) → place < 30 → heard_on to.new.items l place ≡ heard_on to.old.items l place }
+{
+    let start = usize::from(PLACES) * usize::from(line);
+    for at in start..start + usize::from(PLACES) {
+        to[at] = from[at].copied();
+    }
+}

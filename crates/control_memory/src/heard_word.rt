@@ -1,0 +1,102 @@
+ghost use Rattle.std.specs.Prelude.{◌≡◌, ⊤};
+ghost use Rattle.control_memory.specs.HeardWords.{is_path_before};
+
+use crate::heard::Heard;
+use circuit_model::Kind;
+use std::alloc::AllocError;
+use std::marker::Model;
+
+// The words of paths stand below this one, and those of ringing tones begin with it.
+const RINGBACK: u64 = 1 << 32;
+
+// The first word of busy tones.
+const BUSY: u64 = 2 << 32;
+
+// The word of a slot that hears nothing.
+const SILENT: u64 = 3 << 32;
+
+/// What a slot hears, as a number, so that a row of these is worked through without a branch. Contracts
+/// see the [`Heard`].
+#[derive(Drop)]
+pub struct HeardWord {
+    number: u64,
+}
+
+impl Model for HeardWord {
+    ghost use Rattle.control_memory.specs.declared.heard.Heard.{Heard};
+    ghost use Rattle.control_memory.specs.HeardWords.{heard_in};
+
+    ghost Value = { Heard };
+
+    ghost view = { λ w. heard_in w.number };
+}
+
+impl Clone for HeardWord {
+    ghost is_clone = { λ x y. y ≡ x };
+
+    ghost is_infallible = { λ _. ⊤ };
+
+    fn clone(&self) -> Result<HeardWord, AllocError> {
+        Ok(self.copied())
+    }
+}
+
+impl HeardWord {
+    /// The word of what a slot hears.
+    pub fn of(heard: Heard) -> HeardWord
+        ensures { result ≡ heard }
+    {
+        let number = match heard {
+            Heard::Silent => SILENT,
+            Heard::Path { since } => u64::from(since),
+            Heard::Tone {
+                kind: Kind::Ringback,
+                since,
+            } => RINGBACK + u64::from(since),
+            Heard::Tone {
+                kind: Kind::Busy,
+                since,
+            } => BUSY + u64::from(since),
+        };
+        HeardWord { number }
+    }
+
+    /// The same word.
+    pub(crate) fn copied(&self) -> HeardWord
+        ensures { result ≡ self.now }
+    {
+        HeardWord {
+            number: self.number,
+        }
+    }
+
+    /// What the slot hears.
+    pub fn heard(&self) -> Heard
+        ensures { result ≡ self.now }
+    {
+        if self.number < RINGBACK {
+            Heard::Path {
+                since: self.number as u32,
+            }
+        } else if self.number < BUSY {
+            Heard::Tone {
+                kind: Kind::Ringback,
+                since: (self.number - RINGBACK) as u32,
+            }
+        } else if self.number < SILENT {
+            Heard::Tone {
+                kind: Kind::Busy,
+                since: (self.number - BUSY) as u32,
+            }
+        } else {
+            Heard::Silent
+        }
+    }
+
+    /// Whether it is a path that stands since before a frame.
+    pub fn is_path_before(&self, frame: u32) -> bool
+        ensures { result ≡ is_path_before frame self.now }
+    {
+        self.number < u64::from(frame)
+    }
+}
