@@ -3,7 +3,7 @@
 //! A bridge of 60 members in four rooms is mixed as many times as the one word says: each member hears
 //! the A-law code (ITU-T G.711) of the sum of the others of its room. It takes the same steps as the
 //! proved mix, which were the fastest of those tried here: a table decodes, a total is formed for each
-//! room, each member's own value is taken out of it, and the leading bit gives the segment.
+//! room, each member's own value is kept and taken out of it, and a table of all codes gives the octet.
 
 /// Decodes an octet as ITU-T G.711, table 1a, says; evaluated at compile time for the table.
 const fn decoded(octet: u8) -> i16 {
@@ -35,43 +35,41 @@ fn compress(value: i32) -> u8 {
     (sign | number as u8) ^ 0x55
 }
 
-#[derive(Clone, Copy)]
-struct Seated {
-    room: u8,
-    octet: Option<u8>,
+/// The octet of every value from -4095 to 4095.
+struct Codes([u8; 8191]);
+
+impl Codes {
+    fn new() -> Box<Codes> {
+        Box::new(Codes(std::array::from_fn(|index| compress(index as i32 - 4095))))
+    }
+
+    fn code(&self, value: i32) -> u8 {
+        self.0[(value.clamp(-4095, 4095) + 4095) as usize]
+    }
 }
 
-fn value_of(octet: Option<u8>) -> i32 {
-    octet.map_or(0, expand)
-}
-
-fn mix_rooms(places: &[Option<Seated>], out: &mut [u8]) {
+fn mix(codes: &Codes, octets: &[Option<u8>; 60], out: &mut [u8; 60]) {
     let mut totals = [0; 256];
-    for member in places.iter().flatten() {
-        totals[usize::from(member.room)] += value_of(member.octet);
+    let mut own = [0; 60];
+    for (place, octet) in octets.iter().enumerate() {
+        own[place] = octet.map_or(0, expand);
+        totals[place % 4] += own[place];
     }
-    for (heard, member) in out.iter_mut().zip(places) {
-        *heard = match member {
-            Some(member) => compress(totals[usize::from(member.room)] - value_of(member.octet)),
-            None => 0xD5,
-        };
+    for (place, heard) in out.iter_mut().enumerate() {
+        *heard = codes.code(totals[place % 4] - own[place]);
     }
-}
-
-fn seated(place: usize, octet: Option<u8>) -> Option<Seated> {
-    Some(Seated { room: (place % 4) as u8, octet })
 }
 
 fn main() {
     let rounds: u32 = std::env::args().nth(1).and_then(|word| word.parse().ok()).unwrap_or(0);
-    let mut places: [_; 60] = std::array::from_fn(|place| seated(place, Some(0x2A)));
+    let codes = Codes::new();
+    let mut octets = [Some(0x2A); 60];
     let mut out = [0; 60];
     let mut sum = 0u32;
     for round in 0..rounds {
-        mix_rooms(&places, &mut out);
+        mix(&codes, &octets, &mut out);
         let place = round as usize % 60;
-        let octet = if round % 7 == 0 { None } else { Some(out[place] ^ (round % 251) as u8) };
-        places[place] = seated(place, octet);
+        octets[place] = if round % 7 == 0 { None } else { Some(out[place] ^ (round % 251) as u8) };
         sum = sum.wrapping_mul(31).wrapping_add(u32::from(out[0]));
     }
     println!("{sum}");

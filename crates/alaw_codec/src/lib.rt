@@ -6,7 +6,8 @@
 //!
 //! - [`expand`] returns the definition's value of every octet (`value`), of magnitude 4032 at most
 //!   (`within`).
-//! - [`compress`] returns the definition's octet of every `i32`.
+//! - [`compress`] returns the definition's octet of every `i32`, and so does [`CodeTable::code`] by
+//!   one look into a table that is made once.
 //! - Coding the value of an octet gives that octet back ([`law_of_round_trip`]).
 //!
 //! It stands on `circuit_model`.
@@ -14,6 +15,10 @@
 
 ghost use Rattle.std.specs.Prelude.{◌≡◌, ℕ, ◌<◌, ◌≤◌, nat_abs};
 ghost use Rattle.circuit_model.specs.ALaw.{interval_of, expand, compress};
+
+mod code_table;
+
+pub use code_table::CodeTable;
 
 /// The even bits of an octet, counted from 1 at the top: they are inverted on the line (table 1a,
 /// note 2).

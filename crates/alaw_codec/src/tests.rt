@@ -1,4 +1,5 @@
 use super::*;
+use std::alloc::AllocError;
 
 /// The 256 octets as Python's `audioop.alaw2lin` decodes them into sixteen bits: eight times the
 /// values of table 1a.
@@ -94,6 +95,16 @@ fn values_encode_as_elsewhere(rt: HostRuntime) {
     for (value, octet) in ENCODED {
         assert_eq!(rt; compress(value), octet);
     }
+}
+
+#[test]
+fn the_table_encodes_as_elsewhere(rt: HostRuntime) -> Result<(), AllocError> {
+    let codes = CodeTable::new(rt.alloc())?;
+    for (value, octet) in ENCODED {
+        assert_eq!(&rt; codes.code(value), octet);
+    }
+    assert_eq!(&rt; [codes.code(i32::MAX), codes.code(i32::MIN)], [0xAA, 0x2A]);
+    Ok(())
 }
 
 /// The values that a reader of the standard tries first, and those that it leaves open.

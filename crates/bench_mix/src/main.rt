@@ -5,37 +5,39 @@
 //! uses what the one before gave, so none can be left out. It is proved safe; no clause says what
 //! it prints.
 //!
-//! It stands on `conference_mix`.
+//! It stands on `alaw_codec` and `conference_mix`.
 #![tactic(auto)]
 
-use conference_mix::{MAX_MEMBERS, Seated, mix_rooms};
+use alaw_codec::CodeTable;
+use conference_mix::{MAX_MEMBERS, Mixer, Seated};
 use std::{env, io};
 
-/// The member in a place: each fourth place is of one room.
-fn seated(place: usize, octet: Option<u8>) -> Option<Seated> {
-    let room = (place % 4) as u8;
-    Some(Seated { room, octet })
+/// Mixes what the members sent: each fourth place is of one room.
+fn mix(codes: &CodeTable, octets: &[Option<u8>; MAX_MEMBERS], out: &mut [u8; MAX_MEMBERS]) {
+    let mut mixer = Mixer::new(MAX_MEMBERS);
+    for place in 0..MAX_MEMBERS {
+        let room = (place % 4) as u8;
+        let octet = octets[place];
+        mixer.seat(place, Seated { room, octet });
+    }
+    mixer.mix(codes, out);
 }
 
 /// What place 0 hears in each of so many rounds, folded into a number.
 ///
 /// Each round one member repeats what it heard, so no round can be left out.
-fn heard(rounds: u32) -> u32 {
-    let mut places = [None; MAX_MEMBERS];
-    for place in 0..MAX_MEMBERS {
-        places[place] = seated(place, Some(0x2A));
-    }
+fn heard(codes: &CodeTable, rounds: u32) -> u32 {
+    let mut octets = [Some(0x2A); MAX_MEMBERS];
     let mut out = [0; MAX_MEMBERS];
     let mut sum = 0u32;
     for round in 0..rounds {
-        mix_rooms(&places, &mut out);
+        mix(codes, &octets, &mut out);
         let place = round as usize % MAX_MEMBERS;
-        let octet = if round % 7 == 0 {
+        octets[place] = if round % 7 == 0 {
             None
         } else {
             Some(out[place] ^ (round % 251) as u8)
         };
-        places[place] = seated(place, octet);
         sum = sum.wrapping_mul(31).wrapping_add(u32::from(out[0]));
     }
     sum
@@ -49,6 +51,7 @@ fn main(rt: HostRuntime) -> io::Result<()> {
     let Some(rounds) = rounds else {
         return Ok(());
     };
-    let sum = heard(rounds);
+    let codes = CodeTable::new(rt.alloc())?;
+    let sum = heard(&codes, rounds);
     println!(rt; "{sum}")
 }

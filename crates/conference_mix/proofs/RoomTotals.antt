@@ -1,13 +1,15 @@
 -- The totals of the rooms, as members are added to them, and what each place is given of them.
-use Rattle.std.proofs.Common.{◌≡◌, ℕ, ◌<◌, ◌≤◌, ◌+◌, List, length, take, get_or, set, get_or-set_other, get_or-set_same, Option, Some, None, ℤ, pos, ◌+ℤ◌, ◌-ℤ◌, nat_abs, refl, sym, ap, ◌∙◌, subst, inl, inr, arith}
+use Rattle.std.proofs.Common.{◌≡◌, ℕ, zero, suc, ◌<◌, ◌≤◌, ◌*◌, eqb, List, [], ◌∷◌, length, get_or, set, get_or-set_other, get_or-set_same, Option, Some, None, ℤ, pos, ◌+ℤ◌, ◌-ℤ◌, nat_abs, refl, sym, ap, ◌∙◌, subst, inl, inr, arith}
 use Rattle.std.proofs.lemmas.Int.{ints}
 use Rattle.std.proofs.lemmas.Bool.{cases_eq, eq-eqb, ne_eqb}
-use Rattle.std.proofs.lemmas.List.{get_or-map, length-map, take-map}
+use Rattle.std.proofs.lemmas.List.{get_or-map, length-map}
 use Rattle.circuit_model.specs.ALaw.{compress}
-use Rattle.conference_mix.specs.declared.rooms.Seated.{Seated}
-use Rattle.conference_mix.specs.Bridge.{value_of}
-use Rattle.conference_mix.specs.Rooms.{counted_in, room_row, room_total, given_to_member, coded_without}
-use Rattle.conference_mix.proofs.Sums.{sum_of, sum_of-more, sum_of_values-others}
+use Rattle.circuit_model.proofs.Slots.{true_or_false}
+use Rattle.conference_mix.specs.declared.mixer.Seated.{Seated}
+use Rattle.conference_mix.specs.Bridge.{value_of, mixed_for}
+use Rattle.conference_mix.specs.Rooms.{counted_in, room_row, room_total, given_to_member, given_at}
+use Rattle.conference_mix.specs.Seats.{value_in}
+use Rattle.conference_mix.proofs.Sums.{sum_of-cons, sum_of_values-others}
 
 nothing_more : (x : ℤ) → x ≡ x +ℤ pos 0
 nothing_more x = omega (arith, ints)
@@ -26,38 +28,42 @@ total-added totals q member value inside is =
           get_or-set_other totals room q _ (pos 0) other ∙ rw no (nothing_more (get_or totals q (pos 0)))
     ]
 
-pub total-small : (totals : List ℤ) (room q : ℕ) (value : ℤ) → room < length totals → nat_abs value ≤ 4032 → nat_abs (get_or (set totals room (get_or totals room (pos 0) +ℤ value)) q (pos 0)) ≤ nat_abs (get_or totals q (pos 0)) + 4032
-total-small totals room q value inside small =
-    elim (cases_eq q room) [
-      | inl same ↦
-          subst (λ r. nat_abs (get_or (set totals room (get_or totals room (pos 0) +ℤ value)) r (pos 0)) ≤ nat_abs (get_or totals r (pos 0)) + 4032) (sym same)
-          (let e = get_or-set_same totals room (get_or totals room (pos 0) +ℤ value) (pos 0) inside in rw e (omega (arith, ints, small)))
-      | inr other ↦ let e = get_or-set_other totals room q (get_or totals room (pos 0) +ℤ value) (pos 0) other in rw e (omega arith)
-    ]
+-- one place is taken that was free
+pub total-set : (q : ℕ) (places : List (Option Seated)) (k : ℕ) (member : Option Seated) → k < length places → get_or places k None ≡ None
+    → room_total q (set places k member) ≡ room_total q places +ℤ value_of (counted_in q member)
+total-set q [] k member inside free = absurd (omega (arith, inside))
+total-set q (place ∷ places) zero member inside free =
+    let before = sum_of-cons (counted_in q place) (room_row q places) in
+    let after = sum_of-cons (counted_in q member) (room_row q places) in
+    let nothing : value_of (counted_in q place) ≡ pos 0 = ap (λ (o : Option Seated). value_of (counted_in q o)) free in
+    omega (arith, ints, before, after, nothing)
+total-set q (place ∷ places) (suc k) member inside free =
+    let rest = total-set q places k member (omega (arith, inside)) free in
+    let before = sum_of-cons (counted_in q place) (room_row q places) in
+    let after = sum_of-cons (counted_in q place) (room_row q (set places k member)) in
+    omega (arith, ints, rest, before, after)
 
--- one place more
-pub total-more : (places : List (Option Seated)) (room i : ℕ) → i < length places
-    → room_total room (take (i + 1) places) ≡ room_total room (take i places) +ℤ value_of (counted_in room (get_or places i None))
-total-more places room i inside =
-    let row = room_row room places in
-    let size : length row ≡ length places = length-map places (counted_in room) in
-    let whole : (n : ℕ) → room_row room (take n places) ≡ take n row = λ n. sym (take-map (counted_in room) n places) in
-    ap (λ (r : List (Option ℕ)). sum_of r) (whole (i + 1))
-    ∙ sum_of-more row i None (omega (arith, inside, size))
-    ∙ ap (λ (r : List (Option ℕ)). sum_of r +ℤ value_of (get_or row i None)) (sym (whole i))
-    ∙ ap (λ (o : Option ℕ). room_total room (take i places) +ℤ value_of o) (get_or-map (counted_in room) places i None None inside)
+-- a place adds no more to a room than its value
+counted-small : (q : ℕ) (place : Option Seated) → nat_abs (value_in place) ≤ 4032 → nat_abs (value_of (counted_in q place)) ≤ 4032
+counted-small q None small = omega (arith, ints)
+counted-small q (Some member) small = elim (true_or_false (eqb member.room q)) [ inl same ↦ rw same small | inr other ↦ rw other (omega (arith, ints)) ]
 
--- each place is given the mix of the others of its member's room
-pub given_is : (places : List (Option Seated)) (totals : List ℤ) (k : ℕ) (member : Option Seated) → k < length places → get_or places k None ≡ member
-    → ((seated : Seated) → member ≡ Some seated → get_or totals seated.room (pos 0) ≡ room_total seated.room places)
-    → coded_without totals member ≡ given_to_member places k member
-given_is places totals k None inside is total = refl
-given_is places totals k (Some seated) inside is total =
-    let row = room_row seated.room places in
-    let size : length row ≡ length places = length-map places (counted_in seated.room) in
-    let yes = eq-eqb seated.room seated.room refl in
-    let own : value_of (get_or row k None) ≡ value_of seated.octet = ap value_of (get_or-map (counted_in seated.room) places k None None inside ∙ ap (counted_in seated.room) is) ∙ rw yes refl in
-    ap compress
-    (ap (λ (z : ℤ). z -ℤ value_of seated.octet) (total seated refl)
-    ∙ ap (λ (z : ℤ). room_total seated.room places -ℤ z) (sym own)
-    ∙ sum_of_values-others row k None (omega (arith, inside, size)))
+pub total-within : (q : ℕ) (places : List (Option Seated)) → ((k : ℕ) → k < length places → nat_abs (value_in (get_or places k None)) ≤ 4032) → nat_abs (room_total q places) ≤ 4032 * length places
+total-within q [] small = omega (arith, ints)
+total-within q (place ∷ places) small =
+    let rest = total-within q places (λ k inside. small (suc k) (omega (arith, inside))) in
+    let first = counted-small q place (small 0 (omega arith)) in
+    let whole = sum_of-cons (counted_in q place) (room_row q places) in
+    omega (arith, ints, rest, first, whole)
+
+-- a member is given the mix of the others of its room
+pub given_is : (places : List (Option Seated)) (total own : ℤ) (k : ℕ) (member : Seated) → k < length places → get_or places k None ≡ Some member
+    → total ≡ room_total member.room places → own ≡ value_of member.octet → compress (total -ℤ own) ≡ given_at k places
+given_is places total own k member inside is whole adds =
+    let row = room_row member.room places in
+    let size : length row ≡ length places = length-map places (counted_in member.room) in
+    let yes = eq-eqb member.room member.room refl in
+    let counts : value_of (get_or row k None) ≡ value_of member.octet = ap value_of (get_or-map (counted_in member.room) places k None None inside ∙ ap (counted_in member.room) is) ∙ rw yes refl in
+    let left = sum_of_values-others row k None (omega (arith, inside, size)) in
+    let mixed : compress (total -ℤ own) ≡ mixed_for k row = ap compress (ap (λ (z : ℤ). z -ℤ own) whole ∙ ap (λ (z : ℤ). room_total member.room places -ℤ z) (adds ∙ sym counts) ∙ left) in
+    mixed ∙ sym (ap (given_to_member places k) is)

@@ -1,10 +1,9 @@
 -- What a conference bridge gives the members of many rooms at once. Source: this exchange's own.
-use Rattle.std.specs.Prelude.{ℕ, ◌==◌, ℤ, pos, ◌-ℤ◌, List, Option, Some, None, map, slice_index_or, if◌then◌else◌}
-use Rattle.circuit_model.specs.ALaw.{compress}
+use Rattle.std.specs.Prelude.{ℕ, ◌==◌, ℤ, List, Option, Some, None, map, slice_index_or, if◌then◌else◌}
 use Rattle.circuit_model.specs.FrameInput.{idle_octet}
 use Rattle.circuit_model.specs.Hears.{sum_of_values}
-use Rattle.conference_mix.specs.declared.rooms.Seated.{Seated}
-use Rattle.conference_mix.specs.Bridge.{present, value_of, mixed_for}
+use Rattle.conference_mix.specs.declared.mixer.Seated.{Seated}
+use Rattle.conference_mix.specs.Bridge.{present, mixed_for}
 
 -- what counts of a place in a room: the octet of its member, where the member sits in that room
 abbrev pub counted_in : ℕ → Option Seated → Option ℕ
@@ -26,8 +25,3 @@ given_to_member places k (Some member) = mixed_for k (room_row member.room place
 
 abbrev pub given_at : ℕ → List (Option Seated) → ℕ
 given_at k places = given_to_member places k (slice_index_or places k None)
-
--- the total of a member's room without the member's own value, coded once, given the total of each room
-abbrev pub coded_without : List ℤ → Option Seated → ℕ
-coded_without totals None = idle_octet
-coded_without totals (Some member) = compress (slice_index_or totals member.room (pos 0) -ℤ value_of member.octet)

@@ -6,8 +6,8 @@
 //! that total.
 //!
 //! - [`mix`] writes to each place of one room what the definition says.
-//! - [`mix_rooms`] does so for all rooms at once: each place gets what its room alone would give
-//!   it.
+//! - [`Mixer`] does so for all rooms at once: each port gets what its room alone would give it
+//!   ([`Mixer::mix`]).
 //! - The order of the places does not matter ([`law_of_order`]); a member alone hears the idle
 //!   octet, and one of two hears what the other sends ([`law_of_small_rooms`]).
 //!
@@ -19,11 +19,11 @@ ghost use Rattle.circuit_model.specs.Hears.{sum_of_values};
 ghost use Rattle.conference_mix.specs.Bridge.{most_members, present, value_of, mixed_for};
 
 mod laws;
-mod rooms;
+mod mixer;
 
 use alaw_codec::{compress, expand};
 pub use laws::{law_of_order, law_of_small_rooms};
-pub use rooms::{Seated, mix_rooms};
+pub use mixer::{Mixer, Seated};
 
 /// The most members that a bridge mixes: as many as two bridge lines have bearer channels. The limit
 /// is this exchange's own.

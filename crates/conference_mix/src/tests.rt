@@ -1,4 +1,6 @@
 use super::*;
+use alaw_codec::CodeTable;
+use std::alloc::AllocError;
 
 /// Five members, and what each of them hears: the other octets decoded, added and encoded again by
 /// Python's `audioop` (`alaw2lin`, `add`, `lin2alaw`, at sixteen bits), which saturates as this bridge.
@@ -77,17 +79,18 @@ fn a_full_room(rt: HostRuntime) {
 
 /// Members of two rooms in turn, and a place where nobody sits: each room sounds as it does alone.
 #[test]
-fn rooms_do_not_hear_each_other(rt: HostRuntime) {
+fn rooms_do_not_hear_each_other(rt: HostRuntime) -> Result<(), AllocError> {
+    let codes = CodeTable::new(rt.alloc())?;
     for (members, heard) in MIXED {
-        let mut places = [None; 11];
+        let mut mixer = Mixer::new(11);
         for k in 0..5 {
             let octet = members[k];
-            places[2 * k] = Some(Seated { room: 0, octet });
+            mixer.seat(2 * k, Seated { room: 0, octet });
             let octet = Some(0xAA);
-            places[2 * k + 1] = Some(Seated { room: 255, octet });
+            mixer.seat(2 * k + 1, Seated { room: 255, octet });
         }
         let mut out = [0; 11];
-        mix_rooms(&places, &mut out);
+        mixer.mix(&codes, &mut out);
         let [a, _, b, _, c, _, d, _, e, _, free] = out;
         assert_eq!(rt; [a, b, c, d, e], heard);
         assert_eq!(rt;
@@ -95,4 +98,5 @@ fn rooms_do_not_hear_each_other(rt: HostRuntime) {
             [0xAA, 0xAA, 0xAA, 0xAA, 0xAA, 0xD5]
         );
     }
+    Ok(())
 }

@@ -1,13 +1,13 @@
 -- The members in the ports as the bridge takes them: a room's row, and what each port is given.
-use Rattle.std.proofs.Common.{◌≡◌, ℕ, ◌*◌, ◌<◌, ◌≤◌, List, [], ◌∷◌, length, map, take, get_or, Option, Some, None, refl, ap, ◌∙◌, arith}
+use Rattle.std.proofs.Common.{◌≡◌, ℕ, ◌*◌, ◌<◌, List, [], ◌∷◌, length, map, get_or, Option, Some, None, refl, ap, ◌∙◌, arith}
 use Rattle.std.specs.List.{range_with_len}
-use Rattle.std.proofs.lemmas.List.{length-take-le, get_or-take}
-use Rattle.std.proofs.lemmas.List.FromFn.{get_or-map-range_with_len, fill_by_all}
+use Rattle.std.proofs.lemmas.List.{length-map}
+use Rattle.std.proofs.lemmas.List.FromFn.{get_or-map-range_with_len, fill_by_all, length-range_with_len}
 use Rattle.circuit_model.specs.declared.channel.Slot.{Slot}
 use Rattle.circuit_model.specs.FrameInput.{idle_octet}
 use Rattle.circuit_model.specs.Ports.{port_numbered}
 use Rattle.control_memory.specs.Image.{Control, room_at}
-use Rattle.conference_mix.specs.declared.rooms.Seated.{Seated}
+use Rattle.conference_mix.specs.declared.mixer.Seated.{Seated}
 use Rattle.conference_mix.specs.Bridge.{mixed_for}
 use Rattle.conference_mix.specs.Rooms.{counted_in, room_row, given_to_member}
 use Rattle.frame_engine.specs.Ports.{seated_by, member_in, members, given_to}
@@ -44,11 +44,10 @@ given_to-seat m octet k low =
     ap (given_to_member (members m octet) k) (get_or-map-range_with_len (member_in m octet) 0 (30 * m.bridges) k k None low (omega arith))
     ∙ by_seat m octet k (octet (port_numbered m.external k)) (room_at m (port_numbered m.external k))
 
--- places that were filled one by one
-pub members-filled : (m : Control) (octet : Slot → ℕ) (places : List (Option Seated)) (n : ℕ) → n ≡ 30 * m.bridges → n ≤ length places → ((k : ℕ) → k < 30 * m.bridges → get_or places k None ≡ member_in m octet k)
-    → take n places ≡ members m octet
-members-filled m octet places n is long each =
-    let ports = 30 * m.bridges in
-    let enough : ports ≤ length places = omega (arith, is, long) in
-    ap (λ i. take i places) is
-    ∙ fill_by_all (member_in m octet) (take ports places) ports None (length-take-le ports places enough) (λ k low. get_or-take ports places k None low ∙ each k low)
+-- there is a place for each port
+pub members-length : (m : Control) (octet : Slot → ℕ) → length (members m octet) ≡ 30 * m.bridges
+members-length m octet = length-map (range_with_len 0 (30 * m.bridges)) (member_in m octet) ∙ length-range_with_len 0 (30 * m.bridges)
+
+-- places that were taken one by one
+pub members-seated : (m : Control) (octet : Slot → ℕ) (places : List (Option Seated)) → length places ≡ 30 * m.bridges → ((k : ℕ) → k < 30 * m.bridges → get_or places k None ≡ member_in m octet k) → places ≡ members m octet
+members-seated m octet places size each = fill_by_all (member_in m octet) places (30 * m.bridges) None size each

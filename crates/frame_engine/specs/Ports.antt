@@ -5,7 +5,7 @@ use Rattle.circuit_model.specs.declared.channel.Slot.{Slot}
 use Rattle.circuit_model.specs.Ports.{port_numbered}
 use Rattle.circuit_model.specs.Hears.{is_through}
 use Rattle.control_memory.specs.Image.{Control, room_at}
-use Rattle.conference_mix.specs.declared.rooms.Seated.{Seated}
+use Rattle.conference_mix.specs.declared.mixer.Seated.{Seated}
 use Rattle.conference_mix.specs.Rooms.{given_at}
 
 -- the octet that was read out for a member counts in frame f once the member has sat in its port for two frames

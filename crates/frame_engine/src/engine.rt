@@ -6,6 +6,7 @@ use crate::carrier::Carrier;
 use crate::intake::take_in;
 use crate::play::play;
 use crate::ports::mix_ports;
+use alaw_codec::CodeTable;
 use control_memory::Image;
 use frame_buffer::{Crossed, FrameBuffer, Highway};
 use space_stage::cross;
@@ -16,7 +17,7 @@ use time_stage::{incoming, outgoing};
 use tone_rules::Tones;
 
 /// The engine of a time-space-time exchange: two speech memories, the highways between the stages,
-/// and the control memory of the frame that crossed last.
+/// the control memory of the frame that crossed last, and the A-law codes for the bridges.
 ///
 /// In each frame it reads out what crossed in the frame before, by the control memory of that
 /// frame; mixes the conference ports; lets what came in the frame before cross, by the control
@@ -37,6 +38,7 @@ pub struct Engine {
     highway: Highway,
     crossed: Crossed,
     read: FrameBuffer,
+    codes: CodeTable,
 }
 
 impl Model for Engine {
@@ -85,6 +87,7 @@ impl Carrier for Engine {
             highway: Highway::new(alloc, lines, slots)?,
             crossed: Crossed::new(alloc, lines, slots)?,
             read: FrameBuffer::new(alloc, lines)?,
+            codes: CodeTable::new(alloc)?,
         })
     }
 
@@ -97,7 +100,7 @@ impl Carrier for Engine {
     ) {
         outgoing(&self.crossed, &self.kept, &mut self.read);
         self.read.swap();
-        mix_ports(&self.read, image, &mut self.speech);
+        mix_ports(&self.read, image, &self.codes, &mut self.speech);
         incoming(&self.speech, image, &mut self.highway);
         cross(&self.highway, image, &mut self.crossed);
         take_in(input, self.external, &mut self.speech);

@@ -1,17 +1,39 @@
-ghost use Rattle.std.specs.Prelude.{◌≡◌, ℕ, ◌+◌, ◌*◌, ◌≤◌, ◌<◌, None, slice_index, slice_index_or};
+ghost use Rattle.std.specs.Prelude.{◌≡◌, ℕ, ◌+◌, ◌*◌, ◌≤◌, ◌<◌, None, replicate, slice_index};
 ghost use Rattle.circuit_model.specs.Ports.{port_numbered};
 ghost use Rattle.frame_buffer.specs.Speech.{octet_of};
 ghost use Rattle.control_memory.specs.Image.{lines_of};
-ghost use Rattle.frame_engine.specs.Ports.{counted, seated_by, member_in, given_to};
+ghost use Rattle.frame_engine.specs.Ports.{counted, members, given_to};
 
 use crate::age::is_through;
+use alaw_codec::CodeTable;
 use circuit_model::{IDLE, PLACES};
-use conference_mix::{MAX_MEMBERS, Seated, mix_rooms};
+use conference_mix::{MAX_MEMBERS, Mixer, Seated};
 use control_memory::Image;
 use frame_buffer::FrameBuffer;
 
 // Gives each conference port its member's room without the member.
-pub(crate) fn mix_ports(read: &FrameBuffer, image: &Image, speech: &mut FrameBuffer)
+pub(crate) fn mix_ports(
+    read: &FrameBuffer,
+    image: &Image,
+    codes: &CodeTable,
+    speech: &mut FrameBuffer,
+)
+    requires few { image.now.bridges ≤ 2 }
+    requires lines { lines_of image.now ≤ 255 }
+    requires read { read.now.lines ≡ lines_of image.now }
+    requires speech { speech.old.lines ≡ lines_of image.now }
+    ensures lines { speech.new.lines ≡ speech.old.lines }
+    ensures ports { (k : ℕ) → k < 30 * image.now.bridges → octet_of speech.new.filled (port_numbered image.now.external k) ≡ given_to image.now (octet_of read.now.readable) k }
+    ensures readable { speech.new.readable ≡ speech.old.readable }
+{
+    // Without a bridge nothing is made ready for a mix.
+    if image.bridges() > 0 {
+        mix_bridges(read, image, codes, speech);
+    }
+}
+
+// Gives each port of all bridges what it hears.
+fn mix_bridges(read: &FrameBuffer, image: &Image, codes: &CodeTable, speech: &mut FrameBuffer)
     requires few { image.now.bridges ≤ 2 }
     requires lines { lines_of image.now ≤ 255 }
     requires read { read.now.lines ≡ lines_of image.now }
@@ -21,48 +43,38 @@ pub(crate) fn mix_ports(read: &FrameBuffer, image: &Image, speech: &mut FrameBuf
     ensures readable { speech.new.readable ≡ speech.old.readable }
 {
     let mut octets = [IDLE; MAX_MEMBERS];
-    mix_all(read, image, &mut octets);
+    mix_all(read, image, codes, &mut octets);
     for bridge in 0..image.bridges() {
         speech.put_line(image.external() + bridge, &line_of(&octets, bridge));
     }
 }
 
 // Writes what each port is given, port by port.
-fn mix_all(read: &FrameBuffer, image: &Image, octets: &mut [u8; MAX_MEMBERS])
+fn mix_all(read: &FrameBuffer, image: &Image, codes: &CodeTable, octets: &mut [u8; MAX_MEMBERS])
     requires few { image.now.bridges ≤ 2 }
     requires lines { lines_of image.now ≤ 255 }
     requires read { read.now.lines ≡ lines_of image.now }
     ensures { (k : ℕ) → k < 30 * image.now.bridges → slice_index octets.new k ≡ given_to image.now (octet_of read.now.readable) k }
 {
-    let mut places = [None; MAX_MEMBERS];
-    find_members(read, image, &mut places);
     let ports = usize::from(image.bridges() * PLACES);
-    mix_rooms(&places[..ports], &mut octets[..ports]);
+    let mut mixer = Mixer::new(ports);
+    seat_members(read, image, &mut mixer);
+    mixer.mix(codes, &mut octets[..ports]);
 }
 
-// Writes the member in each port, and what counts of it.
-fn find_members(read: &FrameBuffer, image: &Image, places: &mut [Option<Seated>; MAX_MEMBERS])
-    requires few { image.now.bridges ≤ 2 }
+// Seats the member of each port, with what counts of it.
+fn seat_members(read: &FrameBuffer, image: &Image, mixer: &mut Mixer)
     requires read { read.now.lines ≡ lines_of image.now }
-    ensures { (k : ℕ) → k < 30 * image.now.bridges → slice_index_or places.new k None ≡ member_in image.now (octet_of read.now.readable) k }
+    requires free { mixer.old ≡ replicate (30 * image.now.bridges) None }
+    ensures { mixer.new ≡ members image.now (octet_of read.now.readable) }
 {
     let octets = read.rows_from(image.external());
+    let frame = image.frame();
     for (port, seat) in image.seats().iter().enumerate() {
-        places[port] = member(*seat, octets[port], image.frame());
-    }
-}
-
-// The member of a seat, and what counts of it: the octet that was read out for it, and nothing
-// before it has sat there for two frames.
-fn member(seat: Option<(u8, u32)>, octet: u8, frame: u32) -> Option<Seated>
-    ensures { result ≡ seated_by frame octet seat }
-{
-    match seat {
-        Some((room, since)) => Some(Seated {
-            room,
-            octet: counted(octet, since, frame),
-        }),
-        None => None,
+        if let Some((room, since)) = *seat {
+            let octet = counted(octets[port], since, frame);
+            mixer.seat(port, Seated { room, octet });
+        }
     }
 }
 

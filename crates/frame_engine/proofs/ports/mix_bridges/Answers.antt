@@ -1,7 +1,7 @@
 use Rattle.std.proofs.Common.{◌*◌, ◌%◌, ◌<◌, ◌≤◌, get_or, ap, ◌∙◌, ⊎_elim, arith, rules}
 use Rattle.circuit_model.specs.Ports.{port_numbered}
 use Rattle.circuit_model.proofs.PortSeats.{below_or_not}
-use Rattle.frame_engine.proofs.ports.mix_ports.Goals as goal
+use Rattle.frame_engine.proofs.ports.mix_bridges.Goals as goal
 
 pub loop-bridge-preserved : goal.loop-bridge-preserved
 loop-bridge-preserved c =

@@ -2,7 +2,7 @@ use Rattle.std.proofs.Common.{◌≡◌, ℕ, ◌*◌, ◌<◌}
 use Rattle.circuit_model.specs.Ports.{port_numbered}
 use Rattle.frame_buffer.specs.Speech.{octet_of}
 use Rattle.frame_engine.specs.Ports.{given_to}
-use Rattle.frame_engine.proofs.ports.mix_ports.Given as goal
+use Rattle.frame_engine.proofs.ports.mix_bridges.Given as goal
 
 abbrev pub invariant-loop-bridge : goal.invariant-loop-bridge
 invariant-loop-bridge l = record {
