@@ -36,7 +36,7 @@ pub record Made (lines slots : ℕ) (m : Matrix) (layout : Layout) (from to : Sl
   pub count : moved layout (with_path (laid (without_all layout (taken_by layout moves)) (taken_by layout moves) moves) from to slot) ≡ length moves
 
 -- ---- where a slot is free in both
-made_common : (lines slots : ℕ) (m : Matrix) (layout : Layout) (from to : Slot) (c : ℕ) → Beside lines slots m layout → IsSlot lines from → hop_of layout from ≡ None → common_slot slots layout from.line to.line ≡ Some c → Made lines slots m layout from to [] c
+pub made_common : (lines slots : ℕ) (m : Matrix) (layout : Layout) (from to : Slot) (c : ℕ) → Beside lines slots m layout → IsSlot lines from → hop_of layout from ≡ None → common_slot slots layout from.line to.line ≡ Some c → Made lines slots m layout from to [] c
 made_common lines slots m layout from to c b inside free common = record {
   taken = tt;
   same = refl;
