@@ -99,17 +99,20 @@ fn refuse<K: Sink, C: Carrier>(alloc: Global, sink: &mut K, line: &[u8], status:
     }
 }
 
-// Runs a trace, once there is room for the numbers of its events.
+// Runs a trace, once there is room for the numbers of its events. Lines stand in `out` until they are
+// written.
 fn run_trace<K: Sink, G: Gate, C: Carrier, R: Threads + Wait + Sync>(
     rt: &R,
     alloc: Global,
     trace: &Trace,
     listing: Listing,
+    out: &mut Vec<u8>,
     sink: &mut K,
     gate: &G,
     meters: &mut Vec<Box<dyn Meter>>,
 ) -> Outcome<C>
     requires sound { IsSound trace.now }
+    requires blank { out.old.items ≡ [] }
     ensures runs { Runs (record {
       plays = C.plays;
       handed = HandsOut (engine_dimensions C.external_lines C.bridge_lines C.depth) C.carries result.engine;
@@ -128,7 +131,7 @@ fn run_trace<K: Sink, G: Gate, C: Carrier, R: Threads + Wait + Sync>(
         return ended(alloc, 5);
     };
     match run(
-        rt, alloc, trace, paths, &mut order, listing, sink, gate, meters,
+        rt, alloc, trace, paths, &mut order, listing, out, sink, gate, meters,
     ) {
         Ok(engine) => Outcome {
             status: 0,
@@ -170,8 +173,19 @@ fn answer<K: Sink, G: Gate, C: Carrier, R: Threads + Wait + Sync>(
 {
     match read_trace(alloc, bytes.as_slice()) {
         Ok(trace) => {
-            drop(bytes);
-            run_trace(rt, alloc, &trace, Listing::Report, sink, gate, meters)
+            // The lines take the memory that the input had, so that its pages are not faulted in anew.
+            let mut out = bytes;
+            out.clear();
+            run_trace(
+                rt,
+                alloc,
+                &trace,
+                Listing::Report,
+                &mut out,
+                sink,
+                gate,
+                meters,
+            )
         }
         Err(TraceFault::Memory) => ended(alloc, 5),
         Err(TraceFault::Line { number, reason }) => match refusal(alloc, number, reason) {
@@ -249,7 +263,17 @@ fn run_generated<K: Sink, G: Gate, C: Carrier, R: Threads + Wait + Sync>(
     let Ok(trace) = generated(alloc, u64::from(seed), calls) else {
         return ended(alloc, 5);
     };
-    let outcome = run_trace(rt, alloc, &trace, Listing::Nothing, sink, gate, meters);
+    let mut out = Vec::new(alloc);
+    let outcome = run_trace(
+        rt,
+        alloc,
+        &trace,
+        Listing::Nothing,
+        &mut out,
+        sink,
+        gate,
+        meters,
+    );
     if outcome.status != 0 {
         return outcome;
     }

@@ -52,8 +52,8 @@ impl From<Failed> for RunFault {
 
 /// Runs a trace on a map of paths, segment after segment, each by its call processors and its frame
 /// worker side by side; writes what is listed of it, tells the meters of the calls that end, and notes
-/// the numbers of the events of the journal in `order`, which has room for them. Returns the engine that
-/// carried the octets.
+/// the numbers of the events of the journal in `order`, which has room for them. Lines stand in `out`
+/// until they are written. Returns the engine that carried the octets.
 ///
 /// # Errors
 ///
@@ -67,6 +67,7 @@ pub fn run<P: PathMap + Drop + Send, K: Sink, G: Gate, C: Carrier, R: Threads + 
     paths: P,
     order: &mut Vec<u32>,
     listing: Listing,
+    out: &mut Vec<u8>,
     sink: &mut K,
     gate: &G,
     meters: &mut Vec<Box<dyn Meter>>,
@@ -74,6 +75,7 @@ pub fn run<P: PathMap + Drop + Send, K: Sink, G: Gate, C: Carrier, R: Threads + 
     requires sound { IsSound trace.now }
     requires paths { IsUnused (trace.now.external + trace.now.bridges) (P.width paths) (P.depth paths) (P.layout paths) }
     requires empty { order.old.items ≡ [] }
+    requires blank { out.old.items ≡ [] }
     requires room { length trace.now.events ≤ vec_capacity order.old }
     ensures whole { OnOk result (IsRunWhole (record { slots = P.depth paths; most_moves = P.bound paths })
         (AreTold (λ m. stands m) (λ m. text m) meters.old.items meters.new.items) trace.now order.new.items) }
@@ -91,7 +93,7 @@ pub fn run<P: PathMap + Drop + Send, K: Sink, G: Gate, C: Carrier, R: Threads + 
     let (board, seat, carried) = equipped(alloc, trace, paths)?;
     let mut seat = seat;
     let done = report_segments(
-        rt, alloc, &board, &mut seat, trace, carried, listing, sink, gate, meters,
+        rt, alloc, &board, &mut seat, trace, carried, listing, out, sink, gate, meters,
     );
     note_order(order, board.close(seat).journal());
     done

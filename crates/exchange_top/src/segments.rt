@@ -46,7 +46,7 @@ pub struct Carried<C> {
 
 /// Runs the segments of a board's trace one after the other, writes of them what is listed, and tells
 /// the meters of the calls that end. The lines of a segment are written once all of its events are
-/// answered and told.
+/// answered and told; until then they stand in `out`.
 pub fn report_segments<B: Switchboard, K: Sink, G: Gate, C: Carrier, R: Threads + Wait + Sync>(
     rt: &R,
     alloc: Global,
@@ -55,10 +55,12 @@ pub fn report_segments<B: Switchboard, K: Sink, G: Gate, C: Carrier, R: Threads 
     trace: &Trace,
     carried: Carried<C>,
     listing: Listing,
+    out: &mut Vec<u8>,
     sink: &mut K,
     gate: &G,
     meters: &mut Vec<Box<dyn Meter>>,
 ) -> Result<C, RunFault>
+    requires blank { out.old.items ≡ [] }
     requires seated { B.seated board.now seat.old }
     requires trace { trace.now ≡ (B.board board.now).trace }
     requires sound { IsSound trace.now }
@@ -80,14 +82,13 @@ pub fn report_segments<B: Switchboard, K: Sink, G: Gate, C: Carrier, R: Threads 
     ensures no_fault { IsErrOf result RunFault.Memory → K.faults sink.new ≡ K.faults sink.old }
 {
     let mut carried = carried;
-    let mut text = Vec::new(alloc);
     for segment in 0..trace.segments.as_slice().len() as u32 {
         carried = report_segment(
-            rt, alloc, board, seat, trace, segment, carried, listing, &mut text, gate, meters,
+            rt, alloc, board, seat, trace, segment, carried, listing, out, gate, meters,
         )?;
-        flush_full(sink, &mut text)?;
+        flush_full(sink, out)?;
     }
-    flush(sink, &mut text)?;
+    flush(sink, out)?;
     Ok(carried.engine)
 }
 

@@ -6,9 +6,7 @@ use Rattle.control_memory.specs.Connecting.{Side, Incoming, Outgoing, across, pa
 use Rattle.control_memory.proofs.Lookups.{IsPathOf, path_in_found, path_out_found}
 use Rattle.paull_matrix.specs.Matrix.{Matrix}
 use Rattle.rearrange_chain.specs.declared.moves.Move.{Move}
-use Rattle.rearrange_chain.specs.declared.moves.End.{End}
-use Rattle.rearrange_chain.specs.declared.moves.End.TheVariants.{Row, Column}
-use Rattle.rearrange_chain.specs.Chain.{move_of, far_end, far_line as look_far, chain as matrix_chain}
+use Rattle.rearrange_chain.specs.Chain.{End, Row, Column, move_of, far_end, far_line as look_far, chain as matrix_chain}
 use Rattle.fabric_map.proofs.MatrixOfLayout.{column_matches}
 use Rattle.fabric_map.proofs.Rearranged.{Beside}
 

@@ -28,7 +28,11 @@ pub record CanConnect (f : Fabric) (from to : Slot) : Type 0 where
   pub inlet : hop_of f.layout from ≡ None
   pub outlet : path_to f.layout to ≡ None
 
-beside_of : (m : Matrix) (f : Fabric) → IsMap m f → Beside f.lines f.slots m f.layout
+-- what a call of connect asks, of the fields
+pub can_of : (f now : Fabric) → f ≡ now → (from to : Slot) → IsSlot now.lines from → IsSlot now.lines to → hop_of now.layout from ≡ None → path_to now.layout to ≡ None → CanConnect f from to
+can_of f now is from to a b i o = subst (λ (x : Fabric). CanConnect x from to) (sym is) (record { from_inside = a; to_inside = b; inlet = i; outlet = o })
+
+pub beside_of : (m : Matrix) (f : Fabric) → IsMap m f → Beside f.lines f.slots m f.layout
 beside_of m f map_of = record { legal_matrix = map_of.legal_matrix; legal = map_of.legal; is = map_of.is }
 
 legal_thirty : (m : Matrix) (f : Fabric) → IsMap m f → Legal f.lines 30 f.layout

@@ -7,3 +7,4 @@ pub mod FreeSlots
 pub mod SlotsOfTheRule
 pub mod RuleOnTheMap
 pub mod Connected
+pub mod InTheCommonSlot

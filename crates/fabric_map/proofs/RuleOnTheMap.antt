@@ -10,8 +10,7 @@ use Rattle.control_memory.specs.Connecting.{Outgoing, chain, exchanged, with_pat
 use Rattle.paull_matrix.specs.Matrix.{Matrix, lowest_in_row, lowest_in_column, lowest_in_both, paths_of_row, paths_of_column}
 use Rattle.paull_matrix.proofs.Laws.{row_lacks_one, column_lacks_one}
 use Rattle.rearrange_chain.specs.declared.moves.Move.{Move}
-use Rattle.rearrange_chain.specs.declared.moves.End.TheVariants.{Column}
-use Rattle.rearrange_chain.specs.Chain.{slot_for, slot_by, moves_for, moves_by, slot_a, slot_b, column_chain, lifted, far_line as look_far, chain as matrix_chain, exchanged as exchanged_matrix}
+use Rattle.rearrange_chain.specs.Chain.{Column, slot_for, slot_by, moves_for, moves_by, slot_a, slot_b, column_chain, lifted, far_line as look_far, chain as matrix_chain, exchanged as exchanged_matrix}
 use Rattle.rearrange_chain.proofs.Exchange.{IsExchange, exchange_lifts, exchange_places, lifted_lines}
 use Rattle.rearrange_chain.proofs.Freed.{column_chain_makes_room}
 use Rattle.control_memory.specs.declared.ends.Ends.{Ends}
@@ -36,7 +35,7 @@ pub record Made (lines slots : ℕ) (m : Matrix) (layout : Layout) (from to : Sl
   pub count : moved layout (with_path (laid (without_all layout (taken_by layout moves)) (taken_by layout moves) moves) from to slot) ≡ length moves
 
 -- ---- where a slot is free in both
-made_common : (lines slots : ℕ) (m : Matrix) (layout : Layout) (from to : Slot) (c : ℕ) → Beside lines slots m layout → IsSlot lines from → hop_of layout from ≡ None → common_slot slots layout from.line to.line ≡ Some c → Made lines slots m layout from to [] c
+pub made_common : (lines slots : ℕ) (m : Matrix) (layout : Layout) (from to : Slot) (c : ℕ) → Beside lines slots m layout → IsSlot lines from → hop_of layout from ≡ None → common_slot slots layout from.line to.line ≡ Some c → Made lines slots m layout from to [] c
 made_common lines slots m layout from to c b inside free common = record {
   taken = tt;
   same = refl;

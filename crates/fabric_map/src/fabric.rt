@@ -1,5 +1,8 @@
-ghost use Rattle.std.specs.Prelude.{◌≡◌, ℕ, ◌*◌, ◌-◌, ◌<◌, ◌≤◌, [], List, None, IfOk, length, replicate};
-ghost use Rattle.control_memory.specs.Layout.{Layout, Legal};
+ghost use Rattle.std.specs.Prelude.{◌≡◌, ◌↔◌, ◌⊎◌, ℕ, ◌*◌, ◌-◌, ◌<◌, ◌≤◌, [], List, None, IfOk, length, replicate};
+ghost use Rattle.circuit_model.specs.declared.channel.Slot.{Slot};
+ghost use Rattle.control_memory.specs.Layout.{Layout, Legal, IsSlot, Joins, hop_of, path_to};
+ghost use Rattle.control_memory.specs.Connecting.{connect as joined, moved};
+ghost use Rattle.fabric_map.specs.Map.{most_moves};
 ghost use Rattle.rearrange_chain.specs.declared.moves.Move.{Move};
 ghost use Rattle.control_memory.specs.declared.ends.Ends.{Ends};
 ghost use Rattle.control_memory.specs.Paths.{Fabric};
@@ -49,6 +52,31 @@ impl FabricMap {
             matrix: PaullMatrix::new(alloc, lines, SLOTS)?,
             paths: PathTable::new(alloc, lines, SLOTS)?,
         })
+    }
+
+    // Connects by the rule where paths may have to move for it. It stands apart, so that the lists of
+    // moves are made only where no slot is free in both lines.
+    fn connect_by_moves(&mut self, from: Slot, to: Slot) -> u32
+        requires from { IsSlot self.old.lines from }
+        requires to { IsSlot self.old.lines to }
+        requires inlet { hop_of self.old.layout from ≡ None }
+        requires outlet { path_to self.old.layout to ≡ None }
+        ensures layout { self.new.layout ≡ joined self.old.lines self.old.slots self.old.layout from to }
+        ensures pairs { (x y : Slot) → IsSlot self.old.lines x → Joins self.new.layout x y ↔ (Joins self.old.layout x y ⊎ ((x ≡ from) × (y ≡ to))) }
+        ensures moves { result ≡ moved self.old.layout self.new.layout }
+        ensures few { result ≤ most_moves self.old.lines }
+        ensures lines { self.new.lines ≡ self.old.lines }
+        ensures slots { self.new.slots ≡ self.old.slots }
+        ensures legal { Legal self.new.lines self.new.slots self.new.layout }
+    {
+        let mut moves = ArrayVec::new();
+        let mut lifted = ArrayVec::new();
+        let freed = make_room(&mut self.matrix, from.line, to.line, &mut moves);
+        lift_all(&mut self.paths, &moves, &mut lifted);
+        lay_all(&mut self.paths, &moves, &lifted);
+        self.matrix.place(from.line, to.line, freed);
+        self.paths.add(from, to, freed);
+        moves.len() as u32
     }
 }
 
@@ -102,14 +130,12 @@ impl PathMap for FabricMap {
     }
 
     fn connect(&mut self, from: Slot, to: Slot) -> u32 {
-        let mut moves = ArrayVec::new();
-        let mut lifted = ArrayVec::new();
-        let slot = make_room(&mut self.matrix, from.line, to.line, &mut moves);
-        lift_all(&mut self.paths, &moves, &mut lifted);
-        lay_all(&mut self.paths, &moves, &lifted);
+        let Some(slot) = self.matrix.common_free(from.line, to.line) else {
+            return self.connect_by_moves(from, to);
+        };
         self.matrix.place(from.line, to.line, slot);
         self.paths.add(from, to, slot);
-        moves.len() as u32
+        0
     }
 
     fn disconnect(&mut self, from: Slot, to: Slot) {

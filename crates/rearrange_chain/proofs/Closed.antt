@@ -4,9 +4,7 @@ use Rattle.std.specs.Prelude.{slice_get}
 use Rattle.std.proofs.lemmas.Option.{same_Some}
 use mathlib.Core.Logic.{inl, inr}
 use Rattle.rearrange_chain.specs.declared.moves.Move.{Move}
-use Rattle.rearrange_chain.specs.declared.moves.End.{End}
-use Rattle.rearrange_chain.specs.declared.moves.End.TheVariants.{Row, Column}
-use Rattle.rearrange_chain.specs.Chain.{far_end, move_of}
+use Rattle.rearrange_chain.specs.Chain.{End, Row, Column, far_end, move_of}
 use Rattle.rearrange_chain.proofs.Walk.{line_of, leave, enter, step, end_at, IsMirrored, IsWithin, IsEndOf, own_chain, then_cases, map_cases, entered_by, turned, next_at, is_step, has_step, end_cases, old_of, new_of, walk_ends, chain_length, comes_to_ends, never_comes_to}
 
 -- What a chain from a start needs, so that it comes to an end and comes back nowhere: the paths are found from both of their ends, what is

@@ -7,9 +7,7 @@ use Rattle.paull_matrix.proofs.Numbers.{lowest_passes, lowest_none}
 use Rattle.paull_matrix.proofs.Laws.{column_of_row, row_of_column, row_inside, no_column}
 use Rattle.paull_matrix.proofs.Bools.{both_true}
 use Rattle.rearrange_chain.specs.declared.moves.Move.{Move}
-use Rattle.rearrange_chain.specs.declared.moves.End.{End}
-use Rattle.rearrange_chain.specs.declared.moves.End.TheVariants.{Row, Column}
-use Rattle.rearrange_chain.specs.Chain.{far_line, far_end, move_of, chain, lifted, exchanged, ChangesBy}
+use Rattle.rearrange_chain.specs.Chain.{End, Row, Column, far_line, far_end, move_of, chain, lifted, exchanged, ChangesBy}
 use Rattle.rearrange_chain.proofs.Walk.{leave, enter, IsMirrored, IsWithin, own_chain, is_step, has_step, rows_leave_once, rows_take_once, columns_take_once, not_entered, new_of, old_of}
 use Rattle.rearrange_chain.proofs.Closed.{IsOpen, chain_bound, takes_neighbour, other_untouched}
 use Rattle.rearrange_chain.proofs.Exchange.{IsExchange, lifted_keeps, lifted_from, lifted_takes, placed_keeps, placed_from, exchange_changes, exchange_cells, exchange_legal, exchange_sizes}

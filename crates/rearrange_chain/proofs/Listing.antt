@@ -1,11 +1,8 @@
 -- Listing a chain move by move.
 use Rattle.std.proofs.Common.{◌≡◌, ℕ, zero, suc, ◌+◌, ◌-◌, ◌*◌, ◌<◌, ◌≤◌, Option, Some, None, List, [], ◌∷◌, ◌++◌, length, length-append, append_assoc, append-nil, arith, refl, sym, ap, ◌∙◌}
-use Rattle.paull_matrix.specs.Matrix.{Matrix, IsLegal}
+use Rattle.paull_matrix.specs.Matrix.{Matrix, column_slot, IsLegal}
 use Rattle.rearrange_chain.specs.declared.moves.Move.{Move}
-use Rattle.rearrange_chain.specs.declared.moves.End.{End}
-use Rattle.rearrange_chain.specs.declared.moves.End.TheVariants.{Row, Column}
-use Rattle.rearrange_chain.specs.Chain.{far_line, far_end, move_of, chain}
-use Rattle.rearrange_chain.specs.Steps.{IsEndIn}
+use Rattle.rearrange_chain.specs.Chain.{End, Column, far_end, move_of, chain}
 use Rattle.rearrange_chain.proofs.Freed.{lines_within}
 
 chain_some : (look : End → ℕ → Option ℕ) (n : ℕ) (e : End) (a b line : ℕ) → 0 < n → look e a ≡ Some line → chain look n e a b ≡ move_of e line a b ∷ chain look (n - 1) (far_end e line) b a
@@ -47,10 +44,6 @@ pub rest_done : (look : End → ℕ → Option ℕ) (lines : ℕ) (whole moves :
     → moves ++ chain look (2 * lines - length moves) e a b ≡ whole → look e a ≡ None → moves ≡ whole
 rest_done look lines whole moves e a b rest ends = sym (append-nil moves) ∙ ap (λ ms. moves ++ ms) (sym (chain_none look (2 * lines - length moves) e a b ends)) ∙ rest
 
-end_in : (m : Matrix) (e : End) (line : ℕ) → line < m.lines → IsEndIn m (far_end e line)
-end_in m (Row i) line inside = inside
-end_in m (Column j) line inside = inside
-
--- the next end lies within the matrix
-pub next_end_in : (m : Matrix) (e : End) (s line : ℕ) → IsLegal m → far_line m e s ≡ Some line → IsEndIn m (far_end e line)
-next_end_in m e s line legal goes = end_in m e line (lines_within m legal e s line goes)
+-- the next line lies within the matrix
+pub row_in : (m : Matrix) (column s row : ℕ) → IsLegal m → column_slot m column s ≡ Some row → row < m.lines
+row_in m column s row legal goes = lines_within m legal (Column column) s row goes

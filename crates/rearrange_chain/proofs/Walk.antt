@@ -12,9 +12,7 @@ use Rattle.std.proofs.lemmas.List.FromFn.{length-map-range_with_len, get_or-map-
 use mathlib.Core.Logic.{inl, inr}
 use Rattle.paull_matrix.proofs.Bools.{false_unless, or_cases}
 use Rattle.rearrange_chain.specs.declared.moves.Move.{Move}
-use Rattle.rearrange_chain.specs.declared.moves.End.{End}
-use Rattle.rearrange_chain.specs.declared.moves.End.TheVariants.{Row, Column}
-use Rattle.rearrange_chain.specs.Chain.{far_end, move_of, chain}
+use Rattle.rearrange_chain.specs.Chain.{End, Row, Column, far_end, move_of, chain}
 
 abbrev pub line_of : End → ℕ
 line_of (Row i) = i

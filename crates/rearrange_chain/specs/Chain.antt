@@ -5,8 +5,11 @@
 use Rattle.std.specs.Prelude.{◌≡◌, ℕ, zero, suc, ◌*◌, Option, Some, None, unwrap_or, List, [], ◌∷◌, ◌≢◌, All, AllPairs}
 use Rattle.paull_matrix.specs.Matrix.{Matrix, row_slot, column_slot, lowest_in_row, lowest_in_column, lowest_in_both, with_path, without_path}
 use Rattle.rearrange_chain.specs.declared.moves.Move.{Move}
-use Rattle.rearrange_chain.specs.declared.moves.End.{End}
-use Rattle.rearrange_chain.specs.declared.moves.End.TheVariants.{Row, Column}
+
+-- one end of a path: its row or its column
+pub data End : Type 0 where
+  Row : ℕ → End
+  Column : ℕ → End
 
 -- the line at the other end of the path that a row or a column has in a slot
 abbrev pub far_line : Matrix → End → ℕ → Option ℕ

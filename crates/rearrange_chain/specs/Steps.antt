@@ -2,8 +2,6 @@
 use Rattle.std.specs.Prelude.{◌≡◌, ◌<◌, ⊤, Some, None, List, [], ◌∷◌}
 use Rattle.paull_matrix.specs.Matrix.{Matrix, row_slot, column_slot, with_path, without_path}
 use Rattle.rearrange_chain.specs.declared.moves.Move.{Move}
-use Rattle.rearrange_chain.specs.declared.moves.End.{End}
-use Rattle.rearrange_chain.specs.declared.moves.End.TheVariants.{Row, Column}
 
 -- each path to be moved stands when its turn comes
 abbrev pub CanLift : Matrix → List Move → Type 0
@@ -22,8 +20,3 @@ pub record HasRoom (m : Matrix) (v : Move) : Type 0 where
 abbrev pub CanPlace : Matrix → List Move → Type 0
 CanPlace m [] = ⊤
 CanPlace m (v ∷ moves) = HasRoom m v × CanPlace (with_path m v.row v.column v.new) moves
-
--- a row or a column of the matrix
-abbrev pub IsEndIn : Matrix → End → Type 0
-IsEndIn m (Row i) = i < m.lines
-IsEndIn m (Column j) = j < m.lines

@@ -17,5 +17,5 @@ mod room;
 #[cfg(test)]
 mod tests;
 
-pub use moves::{End, Move};
+pub use moves::Move;
 pub use room::make_room;

@@ -12,6 +12,7 @@ ghost use Rattle.paull_matrix.specs.Matrix.{
   IsLegal,
 };
 ghost use Rattle.rearrange_chain.specs.Chain.{
+  Column,
   far_line,
   chain,
   lifted,
@@ -21,9 +22,9 @@ ghost use Rattle.rearrange_chain.specs.Chain.{
   moves_for,
   ChangesBy,
 };
-ghost use Rattle.rearrange_chain.specs.Steps.{CanLift, CanPlace, IsEndIn};
+ghost use Rattle.rearrange_chain.specs.Steps.{CanLift, CanPlace};
 
-use crate::moves::{End, Move};
+use crate::moves::Move;
 use arrayvec::ArrayVec;
 use paull_matrix::PaullMatrix;
 
@@ -64,39 +65,40 @@ pub fn make_room(matrix: &mut PaullMatrix, i: u8, j: u8, moves: &mut ArrayVec<Mo
     }
     let a = matrix.free_in_row(i);
     let b = matrix.free_in_column(j);
-    walk(matrix, End::Column(j), a, b, moves);
+    walk(matrix, j, a, b, moves);
     lift_all(matrix, moves);
     place_all(matrix, moves);
     a
 }
 
-/// Lists the moves of the chain from `start`, whose paths leave the slots `a` and `b` in turn.
-fn walk(matrix: &PaullMatrix, start: End, a: u8, b: u8, moves: &mut ArrayVec<Move, 66>)
-    requires start { IsEndIn matrix.now start }
+/// Lists the moves of the chain from column `j`, whose paths leave the slots `a` and `b` in turn: from
+/// a column to a row in `a`, and on to the next column in `b`.
+fn walk(matrix: &PaullMatrix, j: u8, a: u8, b: u8, moves: &mut ArrayVec<Move, 66>)
+    requires column { j < matrix.now.lines }
     requires slots { (a < matrix.now.slots) × (b < matrix.now.slots) }
     requires empty { moves.old.items ≡ [] }
-    requires bound { length (chain (far_line matrix.now) (2 * matrix.now.lines) start a b) + 2 ≤ 2 * matrix.now.lines }
+    requires bound { length (chain (far_line matrix.now) (2 * matrix.now.lines) (Column j) a b) + 2 ≤ 2 * matrix.now.lines }
     requires few { matrix.now.lines ≤ 34 }
-    ensures chain { moves.new.items ≡ chain (far_line matrix.now) (2 * matrix.now.lines) start a b }
+    ensures chain { moves.new.items ≡ chain (far_line matrix.now) (2 * matrix.now.lines) (Column j) a b }
 {
-    let (mut end, mut old, mut new) = (start, a, b);
-    while let Some(line) = far_line(matrix, end, old) {
-        moves.push(end.moved(line, old, new));
-        end = end.far(line);
-        (old, new) = (new, old);
-    }
-}
-
-/// The line at the other end of the path that a row or a column has in slot `s`.
-fn far_line(matrix: &PaullMatrix, end: End, s: u8) -> Option<u8>
-    requires end { IsEndIn matrix.now end }
-    requires slot { s < matrix.now.slots }
-    ensures line { result ≡ far_line matrix.now end s }
-    ensures legal { IsLegal matrix.now }
-{
-    match end {
-        End::Row(row) => matrix.row_slot(row, s),
-        End::Column(column) => matrix.column_slot(column, s),
+    let mut column = j;
+    while let Some(row) = matrix.column_slot(column, a) {
+        moves.push(Move {
+            row,
+            column,
+            old: a,
+            new: b,
+        });
+        let Some(next) = matrix.row_slot(row, b) else {
+            return;
+        };
+        moves.push(Move {
+            row,
+            column: next,
+            old: b,
+            new: a,
+        });
+        column = next;
     }
 }
 

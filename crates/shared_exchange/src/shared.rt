@@ -58,6 +58,7 @@ impl<'t, P: PathMap + Drop> SharedExchange<'t, P> {
         ensures seat { IfOk result (λ r. known r.1 ≡ first_seat (length core.entry.trace.events)) }
     {
         let turns = core.trace().events.as_slice().len() as u32;
+        let core = Box::new(alloc, core)?;
         match TurnLock::open(alloc, Exchange { core }, turns) {
             Ok((lock, turns)) => Ok((SharedExchange { lock }, Seat { turns })),
             Err((_, refused)) => Err(refused),
@@ -79,7 +80,7 @@ impl<'t, P: PathMap> SharedExchange<'t, P> {
         let SharedExchange { lock } = self;
         let Seat { turns } = seat;
         let Exchange { core } = lock.close(turns);
-        core
+        Box::into_inner(core)
     }
 }
 

@@ -25,10 +25,11 @@ impl Model for Setting {
     ghost view = { λ s. record { trace = s.trace; slots = s.slots; bound = s.bound } };
 }
 
-/// The core, each of whose steps is a turn of the lock.
+/// The core, each of whose steps is a turn of the lock. It stands in a box, so that a turn moves one
+/// word out of the lock and home again.
 #[derive(Drop)]
 pub struct Exchange<'t, P: PathMap> {
-    pub core: Core<'t, P>,
+    pub core: Box<Core<'t, P>>,
 }
 
 impl<'t, P: PathMap> Stepper for Exchange<'t, P> {
@@ -38,11 +39,11 @@ impl<'t, P: PathMap> Stepper for Exchange<'t, P> {
 
     type Setting = Setting;
 
-    ghost setting = { λ x. board_of x.core };
+    ghost setting = { λ x. board_of x.core.value };
 
-    ghost journal = { λ x. turns_in x.core.journal };
+    ghost journal = { λ x. turns_in x.core.value.journal };
 
-    ghost room = { λ x. length x.core.trace.events - length x.core.journal };
+    ghost room = { λ x. length x.core.value.trace.events - length x.core.value.journal };
 
     ghost reserved = { λ board event. IsFrame board.trace event };
 

@@ -25,7 +25,7 @@ overflow_cast-segment-end g c =
 pub loop-segment-init : goal.loop-segment-init
 loop-segment-init g c = record {
   seated = c.requires.seated;
-  underway = underway_first g.C.Carrier.plays c.args.listing (g.B.Switchboard.board c.args.board.now) (g.B.Switchboard.known c.args.seat.now) _ c.new-text.result.items c.requires.fresh c.new-text.ensures.items;
+  underway = underway_first g.C.Carrier.plays c.args.listing (g.B.Switchboard.board c.args.board.now) (g.B.Switchboard.known c.args.seat.now) _ c.args.out.now.items c.requires.fresh c.requires.blank;
   ready = rw c.requires.fresh c.requires.ready;
   steady = refl;
   told = rw c.requires.fresh (none_told _ _ _);
@@ -41,7 +41,7 @@ returns-in_err-carried-clause-begun g c =
     let ran = subst (λ (t : Trace). Ran t k v w) c.requires.trace c.report_segment.ensures.ran in
     on_err c.from_residual.result
     (subst (λ (t : Trace). IsBegun g.C.Carrier.plays c.args.listing board.slots (AreToldFront (λ m. (goal.Meter-dyn g (m.vtable, m.value)).stands m.value) (λ m. (goal.Meter-dyn g (m.vtable, m.value)).text m.value) c.args.meters.now.items c.report_segment.new.meters.items) t (order_of w.seen) (g.K.Sink.written c.args.sink.now) (g.K.Sink.written c.loop-segment.sink)) (sym c.requires.trace)
-    (begun_segment g.C.Carrier.plays c.args.listing board k v _ _ c.loop-segment.text.items c.loop-segment.invariant.underway _ w ran
+    (begun_segment g.C.Carrier.plays c.args.listing board k v _ _ c.loop-segment.out.items c.loop-segment.invariant.underway _ w ran
     (subst (AreToldFront (λ m. (goal.Meter-dyn g (m.vtable, m.value)).stands m.value) (λ m. (goal.Meter-dyn g (m.vtable, m.value)).text m.value) c.args.meters.now.items c.report_segment.new.meters.items) (sym (calls_grown board v w ran.begins)) (both_front _ _ _ _ _ _ _ c.loop-segment.invariant.told c.in_err-carried.ensures.told_front))))
 
 pub returns-in_err-flush_full-clause-begun : goal.returns-in_err-flush_full-clause-begun
@@ -53,7 +53,7 @@ returns-in_err-flush_full-clause-begun g c =
     let k = c.loop-segment.segment in
     let ran = subst (λ (t : Trace). Ran t k v w) c.requires.trace c.report_segment.ensures.ran in
     let whole = subst (λ (t : Trace). RanWhole t k v w) c.requires.trace c.in_ok-carried.ensures.whole in
-    let more = underway_more g.C.Carrier.plays c.args.listing board k v _ _ c.loop-segment.text.items c.loop-segment.invariant.underway w c.report_segment.new.out.items c.report_segment.ensures.chief ran whole c.in_ok-carried.ensures.lines c.in_ok-carried.ensures.few in
+    let more = underway_more g.C.Carrier.plays c.args.listing board k v _ _ c.loop-segment.out.items c.loop-segment.invariant.underway w c.report_segment.new.out.items c.report_segment.ensures.chief ran whole c.in_ok-carried.ensures.lines c.in_ok-carried.ensures.few in
     on_err c.from_residual-in_err-flush_full.result
     (subst (λ (t : Trace). IsBegun g.C.Carrier.plays c.args.listing board.slots (AreToldFront (λ m. (goal.Meter-dyn g (m.vtable, m.value)).stands m.value) (λ m. (goal.Meter-dyn g (m.vtable, m.value)).text m.value) c.args.meters.now.items c.report_segment.new.meters.items) t (order_of w.seen) (g.K.Sink.written c.args.sink.now) (g.K.Sink.written c.flush_full.new.sink)) (sym c.requires.trace)
     (begun_flush g.C.Carrier.plays c.args.listing board (k + 1) w _ _ c.report_segment.new.out.items more _ _ c.in_err-flush_full.ensures.front
@@ -68,7 +68,7 @@ loop-segment-preserved g c =
     let k = c.loop-segment.segment in
     let ran = subst (λ (t : Trace). Ran t k v w) c.requires.trace c.report_segment.ensures.ran in
     let whole = subst (λ (t : Trace). RanWhole t k v w) c.requires.trace c.in_ok-carried.ensures.whole in
-    let more = underway_more g.C.Carrier.plays c.args.listing board k v _ _ c.loop-segment.text.items c.loop-segment.invariant.underway w c.report_segment.new.out.items c.report_segment.ensures.chief ran whole c.in_ok-carried.ensures.lines c.in_ok-carried.ensures.few in
+    let more = underway_more g.C.Carrier.plays c.args.listing board k v _ _ c.loop-segment.out.items c.loop-segment.invariant.underway w c.report_segment.new.out.items c.report_segment.ensures.chief ran whole c.in_ok-carried.ensures.lines c.in_ok-carried.ensures.few in
     record {
       seated = c.report_segment.ensures.seated;
       underway = underway_written g.C.Carrier.plays c.args.listing board (k + 1) w _ _ c.report_segment.new.out.items more _ _ c.in_ok-flush_full.ensures.pending;
@@ -84,7 +84,7 @@ returns-in_err-flush-clause-begun g c =
     let v = K c.loop-segment.seat in
     on_err c.from_residual-in_err-flush.result
     (subst (λ (t : Trace). IsBegun g.C.Carrier.plays c.args.listing board.slots (AreToldFront (λ m. (goal.Meter-dyn g (m.vtable, m.value)).stands m.value) (λ m. (goal.Meter-dyn g (m.vtable, m.value)).text m.value) c.args.meters.now.items c.loop-segment.meters.items) t (order_of v.seen) (g.K.Sink.written c.args.sink.now) (g.K.Sink.written c.flush.new.sink)) (sym c.requires.trace)
-    (begun_flush g.C.Carrier.plays c.args.listing board c.loop-segment.segment v _ _ c.loop-segment.text.items c.loop-segment.invariant.underway _ _ c.in_err-flush.ensures.front
+    (begun_flush g.C.Carrier.plays c.args.listing board c.loop-segment.segment v _ _ c.loop-segment.out.items c.loop-segment.invariant.underway _ _ c.in_err-flush.ensures.front
     (told_front _ _ _ _ _ c.loop-segment.invariant.told)))
 
 pub returns-clause-whole : goal.returns-clause-whole
@@ -99,7 +99,7 @@ returns-clause-whole g c =
     let within = c.loop-segment.auto.segment-end in
     let all : k ≡ length board.trace.segments = omega (arith, same, over, within) in
     subst (λ (t : Trace). IsRunWhole (fabric_at board) (AreTold (λ m. (goal.Meter-dyn g (m.vtable, m.value)).stands m.value) (λ m. (goal.Meter-dyn g (m.vtable, m.value)).text m.value) c.args.meters.now.items c.loop-segment.meters.items) t (order_of v.seen)) (sym c.requires.trace)
-    (run_whole g.C.Carrier.plays c.args.listing board k v _ _ c.loop-segment.text.items c.loop-segment.invariant.underway _ sound all c.loop-segment.invariant.told)
+    (run_whole g.C.Carrier.plays c.args.listing board k v _ _ c.loop-segment.out.items c.loop-segment.invariant.underway _ sound all c.loop-segment.invariant.told)
 
 pub returns-clause-text : goal.returns-clause-text
 returns-clause-text g c =
@@ -107,4 +107,4 @@ returns-clause-text g c =
     let board = g.B.Switchboard.board c.args.board.now in
     let v = K c.loop-segment.seat in
     subst (λ (t : Trace). Appends (g.K.Sink.written c.args.sink.now) (g.K.Sink.written c.flush.new.sink) (listed c.args.listing (report g.C.Carrier.plays board.slots t (order_of v.seen)))) (sym c.requires.trace)
-    (all_written g.C.Carrier.plays c.args.listing board c.loop-segment.segment v _ _ c.loop-segment.text.items c.loop-segment.invariant.underway _ c.in_ok-flush.ensures.whole)
+    (all_written g.C.Carrier.plays c.args.listing board c.loop-segment.segment v _ _ c.loop-segment.out.items c.loop-segment.invariant.underway _ c.in_ok-flush.ensures.whole)

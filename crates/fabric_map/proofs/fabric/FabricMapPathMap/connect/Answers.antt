@@ -1,159 +1,54 @@
-use Rattle.std.proofs.Common.{◌≡◌, ◌⊎◌, ◌∙◌, sym, ap, subst, length, None}
+use Rattle.std.proofs.Common.{◌≡◌, ℕ, ◌⊎◌, ◌∙◌, Some, None, [], refl, sym, ap, subst}
 use Rattle.circuit_model.specs.declared.channel.Slot.{Slot}
 use Rattle.control_memory.specs.Layout.{IsSlot, Joins, hop_of, path_to}
-use Rattle.control_memory.specs.Connecting.{with_path, connect, moved, IsFree}
-use Rattle.rearrange_chain.specs.Chain.{moves_for, exchanged}
+use Rattle.control_memory.specs.Connecting.{connect, moved}
 use Rattle.control_memory.specs.Paths.{Fabric}
-use Rattle.fabric_map.specs.Rearranging.{AreTaken, taken_by}
-use Rattle.fabric_map.proofs.Rearranged.{Beside}
-use Rattle.fabric_map.proofs.Connected.{CanConnect, has_row_room, has_column_room, connects, readied, readied_is, can_lay_is, free_in, pairs_after, map_with}
+use Rattle.paull_matrix.specs.Matrix.{Matrix, lowest_in_both}
+use Rattle.fabric_map.specs.Map.{IsMap}
+use Rattle.fabric_map.proofs.Connected.{can_of, pairs_after, map_with}
+use Rattle.fabric_map.proofs.InTheCommonSlot.{InCommon, in_common}
 use Rattle.fabric_map.proofs.fabric.FabricMapPathMap.connect.Goals as goal
 
--- what the call asks, of the fields
-can_of : (f now : Fabric) → f ≡ now → (from to : Slot) → IsSlot now.lines from → IsSlot now.lines to → hop_of now.layout from ≡ None → path_to now.layout to ≡ None → CanConnect f from to
-can_of f now is from to a b i o = subst (λ (x : Fabric). CanConnect x from to) (sym is) (record { from_inside = a; to_inside = b; inlet = i; outlet = o })
+-- what holds where a slot is free in both lines, from what the call asks
+found : (m : Matrix) (f now : Fabric) → f ≡ now → (from to : Slot) (slot : ℕ) → IsMap m f → IsSlot now.lines from → IsSlot now.lines to → hop_of now.layout from ≡ None → path_to now.layout to ≡ None → Some slot ≡ lowest_in_both m from.line to.line → InCommon m f from to slot
+found m f now is from to slot map_of a b i o lowest = in_common m f from to slot map_of (can_of f now is from to a b i o) lowest
 
-pub make_room-slot-requires-clause-row_room : goal.make_room-slot-requires-clause-row_room
-make_room-slot-requires-clause-row_room c =
-    has_row_room c.self.inside.matrix c.self.inside.paths c.args.from c.args.to c.self.invariant (can_of c.self.inside.paths c.args.self.now c.self.view_is c.args.from c.args.to c.requires.from c.requires.to c.requires.inlet c.requires.outlet)
+pub place-requires-clause-slot : goal.place-requires-clause-slot
+place-requires-clause-slot c = (found c.self.inside.matrix c.self.inside.paths c.args.self.now c.self.view_is c.args.from c.args.to c.in-Some.slot c.self.invariant c.requires.from c.requires.to c.requires.inlet c.requires.outlet c.in-Some.ensures.lowest).below
 
-pub make_room-slot-requires-clause-column_room : goal.make_room-slot-requires-clause-column_room
-make_room-slot-requires-clause-column_room c =
-    has_column_room c.self.inside.matrix c.self.inside.paths c.args.from c.args.to c.self.invariant (can_of c.self.inside.paths c.args.self.now c.self.view_is c.args.from c.args.to c.requires.from c.requires.to c.requires.inlet c.requires.outlet)
+pub place-requires-clause-missing_in_row : goal.place-requires-clause-missing_in_row
+place-requires-clause-missing_in_row c = (found c.self.inside.matrix c.self.inside.paths c.args.self.now c.self.view_is c.args.from c.args.to c.in-Some.slot c.self.invariant c.requires.from c.requires.to c.requires.inlet c.requires.outlet c.in-Some.ensures.lowest).row
 
-pub lift_all-requires-clause-taken : goal.lift_all-requires-clause-taken
-lift_all-requires-clause-taken c =
-    let can = can_of c.self.inside.paths c.args.self.now c.self.view_is c.args.from c.args.to c.requires.from c.requires.to c.requires.inlet c.requires.outlet in
-    let made = connects c.self.inside.matrix c.self.inside.paths c.args.from c.args.to c.self.invariant can in
-    let moves = c.deref.ensures.0 ∙ c.make_room-slot.ensures.moves in
-    subst (λ v. AreTaken c.self.inside.paths.layout v (taken_by c.self.inside.paths.layout v)) (sym moves) made.taken
+pub place-requires-clause-missing_in_column : goal.place-requires-clause-missing_in_column
+place-requires-clause-missing_in_column c = (found c.self.inside.matrix c.self.inside.paths c.args.self.now c.self.view_is c.args.from c.args.to c.in-Some.slot c.self.invariant c.requires.from c.requires.to c.requires.inlet c.requires.outlet c.in-Some.ensures.lowest).column
 
-pub lay_all-requires-clause-same : goal.lay_all-requires-clause-same
-lay_all-requires-clause-same c =
-    let can = can_of c.self.inside.paths c.args.self.now c.self.view_is c.args.from c.args.to c.requires.from c.requires.to c.requires.inlet c.requires.outlet in
-    let made = connects c.self.inside.matrix c.self.inside.paths c.args.from c.args.to c.self.invariant can in
-    let first = c.deref.ensures.0 ∙ c.make_room-slot.ensures.moves in
-    let second = c.deref-2.ensures.0 ∙ c.make_room-slot.ensures.moves in
-    ap length (c.deref-3.ensures.0 ∙ c.lift_all.ensures.lifted ∙ ap (taken_by c.self.inside.paths.layout) first) ∙ made.same ∙ sym (ap length second)
-
-pub lay_all-requires-clause-room : goal.lay_all-requires-clause-room
-lay_all-requires-clause-room c =
-    let can = can_of c.self.inside.paths c.args.self.now c.self.view_is c.args.from c.args.to c.requires.from c.requires.to c.requires.inlet c.requires.outlet in
-    let made = connects c.self.inside.matrix c.self.inside.paths c.args.from c.args.to c.self.invariant can in
-    let first = c.deref.ensures.0 ∙ c.make_room-slot.ensures.moves in
-    let second = c.deref-2.ensures.0 ∙ c.make_room-slot.ensures.moves in
-    can_lay_is _ _ _ _ c.self.inside.paths.layout _ (moves_for c.self.inside.matrix c.args.from.line c.args.to.line) c.deref.result.now c.deref-2.result.now c.deref-3.result.now
-    c.lift_all.ensures.lines c.lift_all.ensures.slots first second (c.deref-3.ensures.0 ∙ c.lift_all.ensures.lifted) c.lift_all.ensures.layout made.room
+pub add-requires-clause-slot : goal.add-requires-clause-slot
+add-requires-clause-slot c = (found c.self.inside.matrix c.self.inside.paths c.args.self.now c.self.view_is c.args.from c.args.to c.in-Some.slot c.self.invariant c.requires.from c.requires.to c.requires.inlet c.requires.outlet c.in-Some.ensures.lowest).within
 
 pub add-requires-clause-free : goal.add-requires-clause-free
-add-requires-clause-free c =
-    let f = c.self.inside.paths in
-    let m = c.self.inside.matrix in
-    let from = c.args.from in
-    let to = c.args.to in
-    let mv = moves_for m from.line to.line in
-    let can = can_of f c.args.self.now c.self.view_is from to c.requires.from c.requires.to c.requires.inlet c.requires.outlet in
-    let made = connects m f from to c.self.invariant can in
-    let first = c.deref.ensures.0 ∙ c.make_room-slot.ensures.moves in
-    let second = c.deref-2.ensures.0 ∙ c.make_room-slot.ensures.moves in
-    let after = c.make_room-slot.new.matrix in
-    let after_is : after ≡ exchanged m mv = c.make_room-slot.ensures.exchanged ∙ ap (exchanged m) c.make_room-slot.ensures.moves in
-    let laid_is : c.lay_all.new.paths.layout ≡ readied f.layout mv =
-    readied_is f.layout c.lift_all.new.paths.layout c.lay_all.new.paths.layout mv c.deref.result.now c.deref-2.result.now c.deref-3.result.now first second (c.deref-3.ensures.0 ∙ c.lift_all.ensures.lifted) c.lift_all.ensures.layout c.lay_all.ensures.layout in
-    let lines : c.lay_all.new.paths.lines ≡ f.lines = c.lay_all.ensures.lines ∙ c.lift_all.ensures.lines in
-    let slots : c.lay_all.new.paths.slots ≡ f.slots = c.lay_all.ensures.slots ∙ c.lift_all.ensures.slots in
-    let beside = subst (λ x. Beside f.lines f.slots x (readied f.layout mv)) (sym after_is) made.beside in
-    let free = free_in f.lines f.slots after f.layout from to mv c.make_room-slot.result c.self.invariant.legal can.inlet can.outlet can.from_inside beside made.joins c.make_room-slot.ensures.row_free c.make_room-slot.ensures.column_free in
-    subst (λ n. IsFree n c.lay_all.new.paths.layout from to c.make_room-slot.result) (sym lines) (subst (λ l. IsFree f.lines l from to c.make_room-slot.result) (sym laid_is) free)
+add-requires-clause-free c = (found c.self.inside.matrix c.self.inside.paths c.args.self.now c.self.view_is c.args.from c.args.to c.in-Some.slot c.self.invariant c.requires.from c.requires.to c.requires.inlet c.requires.outlet c.in-Some.ensures.lowest).free
 
 pub invariant_of-self : goal.invariant_of-self
 invariant_of-self c =
-    let f = c.self.inside.paths in
     let m = c.self.inside.matrix in
-    let from = c.args.from in
-    let to = c.args.to in
-    let mv = moves_for m from.line to.line in
-    let can = can_of f c.args.self.now c.self.view_is from to c.requires.from c.requires.to c.requires.inlet c.requires.outlet in
-    let made = connects m f from to c.self.invariant can in
-    let first = c.deref.ensures.0 ∙ c.make_room-slot.ensures.moves in
-    let second = c.deref-2.ensures.0 ∙ c.make_room-slot.ensures.moves in
-    let after = c.make_room-slot.new.matrix in
-    let after_is : after ≡ exchanged m mv = c.make_room-slot.ensures.exchanged ∙ ap (exchanged m) c.make_room-slot.ensures.moves in
-    let laid_is : c.lay_all.new.paths.layout ≡ readied f.layout mv =
-    readied_is f.layout c.lift_all.new.paths.layout c.lay_all.new.paths.layout mv c.deref.result.now c.deref-2.result.now c.deref-3.result.now first second (c.deref-3.ensures.0 ∙ c.lift_all.ensures.lifted) c.lift_all.ensures.layout c.lay_all.ensures.layout in
-    let lines : c.lay_all.new.paths.lines ≡ f.lines = c.lay_all.ensures.lines ∙ c.lift_all.ensures.lines in
-    let slots : c.lay_all.new.paths.slots ≡ f.slots = c.lay_all.ensures.slots ∙ c.lift_all.ensures.slots in
-    let beside = subst (λ x. Beside f.lines f.slots x (readied f.layout mv)) (sym after_is) made.beside in
-    let free = free_in f.lines f.slots after f.layout from to mv c.make_room-slot.result c.self.invariant.legal can.inlet can.outlet can.from_inside beside made.joins c.make_room-slot.ensures.row_free c.make_room-slot.ensures.column_free in
-    map_with m f from to c.make_room-slot.result after c.place.new.self mv c.add.new.self c.self.invariant can beside c.make_room-slot.ensures.sizes.0 c.make_room-slot.ensures.sizes.1 c.make_room-slot.ensures.within free c.place.ensures.placed c.place.ensures.legal
-    (c.add.ensures.layout ∙ ap (λ l. with_path l from to c.make_room-slot.result) laid_is) (c.add.ensures.lines ∙ lines) (c.add.ensures.slots ∙ slots)
+    let f = c.self.inside.paths in
+    let can = can_of f c.args.self.now c.self.view_is c.args.from c.args.to c.requires.from c.requires.to c.requires.inlet c.requires.outlet in
+    map_with m f c.args.from c.args.to c.in-Some.slot m c.place.new.self [] c.add.new.self c.self.invariant can (found c.self.inside.matrix c.self.inside.paths c.args.self.now c.self.view_is c.args.from c.args.to c.in-Some.slot c.self.invariant c.requires.from c.requires.to c.requires.inlet c.requires.outlet c.in-Some.ensures.lowest).beside refl refl (found c.self.inside.matrix c.self.inside.paths c.args.self.now c.self.view_is c.args.from c.args.to c.in-Some.slot c.self.invariant c.requires.from c.requires.to c.requires.inlet c.requires.outlet c.in-Some.ensures.lowest).below (found c.self.inside.matrix c.self.inside.paths c.args.self.now c.self.view_is c.args.from c.args.to c.in-Some.slot c.self.invariant c.requires.from c.requires.to c.requires.inlet c.requires.outlet c.in-Some.ensures.lowest).free c.place.ensures.placed c.place.ensures.legal
+    c.add.ensures.layout c.add.ensures.lines c.add.ensures.slots
 
 pub returns-clause-layout : goal.returns-clause-layout
-returns-clause-layout c =
-    let f = c.self.inside.paths in
-    let m = c.self.inside.matrix in
-    let from = c.args.from in
-    let to = c.args.to in
-    let mv = moves_for m from.line to.line in
-    let can = can_of f c.args.self.now c.self.view_is from to c.requires.from c.requires.to c.requires.inlet c.requires.outlet in
-    let made = connects m f from to c.self.invariant can in
-    let first = c.deref.ensures.0 ∙ c.make_room-slot.ensures.moves in
-    let second = c.deref-2.ensures.0 ∙ c.make_room-slot.ensures.moves in
-    let after = c.make_room-slot.new.matrix in
-    let after_is : after ≡ exchanged m mv = c.make_room-slot.ensures.exchanged ∙ ap (exchanged m) c.make_room-slot.ensures.moves in
-    let laid_is : c.lay_all.new.paths.layout ≡ readied f.layout mv =
-    readied_is f.layout c.lift_all.new.paths.layout c.lay_all.new.paths.layout mv c.deref.result.now c.deref-2.result.now c.deref-3.result.now first second (c.deref-3.ensures.0 ∙ c.lift_all.ensures.lifted) c.lift_all.ensures.layout c.lay_all.ensures.layout in
-    let lines : c.lay_all.new.paths.lines ≡ f.lines = c.lay_all.ensures.lines ∙ c.lift_all.ensures.lines in
-    let slots : c.lay_all.new.paths.slots ≡ f.slots = c.lay_all.ensures.slots ∙ c.lift_all.ensures.slots in
-    let beside = subst (λ x. Beside f.lines f.slots x (readied f.layout mv)) (sym after_is) made.beside in
-    let free = free_in f.lines f.slots after f.layout from to mv c.make_room-slot.result c.self.invariant.legal can.inlet can.outlet can.from_inside beside made.joins c.make_room-slot.ensures.row_free c.make_room-slot.ensures.column_free in
-    c.add.ensures.layout ∙ ap (λ l. with_path l from to c.make_room-slot.result) laid_is ∙ ap (with_path (readied f.layout mv) from to) c.make_room-slot.ensures.slot ∙ made.joined
-    ∙ ap (λ (x : Fabric). connect x.lines x.slots x.layout from to) c.self.view_is
+returns-clause-layout c = c.add.ensures.layout ∙ (found c.self.inside.matrix c.self.inside.paths c.args.self.now c.self.view_is c.args.from c.args.to c.in-Some.slot c.self.invariant c.requires.from c.requires.to c.requires.inlet c.requires.outlet c.in-Some.ensures.lowest).joined ∙ ap (λ (x : Fabric). connect x.lines x.slots x.layout c.args.from c.args.to) c.self.view_is
 
 pub returns-clause-pairs : goal.returns-clause-pairs
 returns-clause-pairs c =
     let f = c.self.inside.paths in
-    let m = c.self.inside.matrix in
     let from = c.args.from in
     let to = c.args.to in
-    let mv = moves_for m from.line to.line in
-    let can = can_of f c.args.self.now c.self.view_is from to c.requires.from c.requires.to c.requires.inlet c.requires.outlet in
-    let made = connects m f from to c.self.invariant can in
-    let first = c.deref.ensures.0 ∙ c.make_room-slot.ensures.moves in
-    let second = c.deref-2.ensures.0 ∙ c.make_room-slot.ensures.moves in
-    let after = c.make_room-slot.new.matrix in
-    let after_is : after ≡ exchanged m mv = c.make_room-slot.ensures.exchanged ∙ ap (exchanged m) c.make_room-slot.ensures.moves in
-    let laid_is : c.lay_all.new.paths.layout ≡ readied f.layout mv =
-    readied_is f.layout c.lift_all.new.paths.layout c.lay_all.new.paths.layout mv c.deref.result.now c.deref-2.result.now c.deref-3.result.now first second (c.deref-3.ensures.0 ∙ c.lift_all.ensures.lifted) c.lift_all.ensures.layout c.lay_all.ensures.layout in
-    let lines : c.lay_all.new.paths.lines ≡ f.lines = c.lay_all.ensures.lines ∙ c.lift_all.ensures.lines in
-    let slots : c.lay_all.new.paths.slots ≡ f.slots = c.lay_all.ensures.slots ∙ c.lift_all.ensures.slots in
-    let beside = subst (λ x. Beside f.lines f.slots x (readied f.layout mv)) (sym after_is) made.beside in
-    let free = free_in f.lines f.slots after f.layout from to mv c.make_room-slot.result c.self.invariant.legal can.inlet can.outlet can.from_inside beside made.joins c.make_room-slot.ensures.row_free c.make_room-slot.ensures.column_free in
-    let new : c.add.new.self.layout ≡ with_path (readied f.layout mv) from to c.make_room-slot.result = c.add.ensures.layout ∙ ap (λ l. with_path l from to c.make_room-slot.result) laid_is in
-    let all : (x y : Slot) → IsSlot f.lines x → (Joins c.add.new.self.layout x y → Joins f.layout x y ⊎ ((x ≡ from) × (y ≡ to))) × (Joins f.layout x y ⊎ ((x ≡ from) × (y ≡ to)) → Joins c.add.new.self.layout x y) =
-    λ x y in_x. subst (λ l. (Joins l x y → Joins f.layout x y ⊎ ((x ≡ from) × (y ≡ to))) × (Joins f.layout x y ⊎ ((x ≡ from) × (y ≡ to)) → Joins l x y)) (sym new)
-    (pairs_after f.lines f.layout (readied f.layout mv) from to c.make_room-slot.result beside.legal.inlets can.from_inside free.inlet made.joins x y in_x) in
-    subst (λ (now : Fabric). (x y : Slot) → IsSlot now.lines x → (Joins c.add.new.self.layout x y → Joins now.layout x y ⊎ ((x ≡ from) × (y ≡ to))) × (Joins now.layout x y ⊎ ((x ≡ from) × (y ≡ to)) → Joins c.add.new.self.layout x y)) c.self.view_is all
+    let after = c.add.new.self.layout in
+    let all : (x y : Slot) → IsSlot f.lines x → (Joins after x y → Joins f.layout x y ⊎ ((x ≡ from) × (y ≡ to))) × (Joins f.layout x y ⊎ ((x ≡ from) × (y ≡ to)) → Joins after x y) =
+    λ x y in_x. subst (λ l. (Joins l x y → Joins f.layout x y ⊎ ((x ≡ from) × (y ≡ to))) × (Joins f.layout x y ⊎ ((x ≡ from) × (y ≡ to)) → Joins l x y)) (sym c.add.ensures.layout)
+    (pairs_after f.lines f.layout f.layout from to c.in-Some.slot c.self.invariant.legal.inlets (subst (λ (n : Fabric). IsSlot n.lines from) (sym c.self.view_is) c.requires.from) (found c.self.inside.matrix c.self.inside.paths c.args.self.now c.self.view_is c.args.from c.args.to c.in-Some.slot c.self.invariant c.requires.from c.requires.to c.requires.inlet c.requires.outlet c.in-Some.ensures.lowest).free.inlet (λ x y in_x. (λ j. j, λ j. j)) x y in_x) in
+    subst (λ (now : Fabric). (x y : Slot) → IsSlot now.lines x → (Joins after x y → Joins now.layout x y ⊎ ((x ≡ from) × (y ≡ to))) × (Joins now.layout x y ⊎ ((x ≡ from) × (y ≡ to)) → Joins after x y)) c.self.view_is all
 
 pub returns-clause-moves : goal.returns-clause-moves
-returns-clause-moves c =
-    let f = c.self.inside.paths in
-    let m = c.self.inside.matrix in
-    let from = c.args.from in
-    let to = c.args.to in
-    let mv = moves_for m from.line to.line in
-    let can = can_of f c.args.self.now c.self.view_is from to c.requires.from c.requires.to c.requires.inlet c.requires.outlet in
-    let made = connects m f from to c.self.invariant can in
-    let first = c.deref.ensures.0 ∙ c.make_room-slot.ensures.moves in
-    let second = c.deref-2.ensures.0 ∙ c.make_room-slot.ensures.moves in
-    let after = c.make_room-slot.new.matrix in
-    let after_is : after ≡ exchanged m mv = c.make_room-slot.ensures.exchanged ∙ ap (exchanged m) c.make_room-slot.ensures.moves in
-    let laid_is : c.lay_all.new.paths.layout ≡ readied f.layout mv =
-    readied_is f.layout c.lift_all.new.paths.layout c.lay_all.new.paths.layout mv c.deref.result.now c.deref-2.result.now c.deref-3.result.now first second (c.deref-3.ensures.0 ∙ c.lift_all.ensures.lifted) c.lift_all.ensures.layout c.lay_all.ensures.layout in
-    let lines : c.lay_all.new.paths.lines ≡ f.lines = c.lay_all.ensures.lines ∙ c.lift_all.ensures.lines in
-    let slots : c.lay_all.new.paths.slots ≡ f.slots = c.lay_all.ensures.slots ∙ c.lift_all.ensures.slots in
-    let beside = subst (λ x. Beside f.lines f.slots x (readied f.layout mv)) (sym after_is) made.beside in
-    let free = free_in f.lines f.slots after f.layout from to mv c.make_room-slot.result c.self.invariant.legal can.inlet can.outlet can.from_inside beside made.joins c.make_room-slot.ensures.row_free c.make_room-slot.ensures.column_free in
-    c.len.ensures.value ∙ ap length c.make_room-slot.ensures.moves ∙ sym made.count
-    ∙ ap (moved f.layout) (sym (c.add.ensures.layout ∙ ap (λ l. with_path l from to c.make_room-slot.result) laid_is ∙ ap (with_path (readied f.layout mv) from to) c.make_room-slot.ensures.slot))
-    ∙ ap (λ (x : Fabric). moved x.layout c.add.new.self.layout) c.self.view_is
+returns-clause-moves c = sym (found c.self.inside.matrix c.self.inside.paths c.args.self.now c.self.view_is c.args.from c.args.to c.in-Some.slot c.self.invariant c.requires.from c.requires.to c.requires.inlet c.requires.outlet c.in-Some.ensures.lowest).none_moved ∙ ap (moved c.self.inside.paths.layout) (sym c.add.ensures.layout) ∙ ap (λ (x : Fabric). moved x.layout c.add.new.self.layout) c.self.view_is

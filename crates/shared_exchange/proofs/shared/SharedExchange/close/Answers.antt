@@ -5,7 +5,7 @@ use Rattle.shared_exchange.proofs.Histories.{history_in, settled_same}
 use Rattle.shared_exchange.proofs.shared.SharedExchange.close.Goals as goal
 
 pub returns-clause-journal : goal.returns-clause-journal
-returns-clause-journal g c = sym (history_in c.close-core.result.core.journal) ∙ ap history_of (search rules)
+returns-clause-journal g c = sym (history_in c.into_inner.result.journal) ∙ ap history_of (search rules)
 
 pub returns-clause-settled : goal.returns-clause-settled
 returns-clause-settled g c = settled_same c.args.self.setting c.args.seat (search rules) (search rules)
