@@ -3,7 +3,7 @@ ghost use Rattle.exchange_core.specs.declared.trace.Event.TheVariants.{Frame};
 ghost use Rattle.exchange_core.specs.Orders.{Frame_worker, IsEvent};
 ghost use Rattle.exchange_core.specs.Working.{IsNumbered};
 ghost use Rattle.tone_rules.specs.Tables.{table_of};
-ghost use Rattle.call_processor.specs.Frames.{IsReady, HasFrame, engine_dimensions};
+ghost use Rattle.call_processor.specs.Frames.{IsReady, IsReadyFor, HasFrame, engine_dimensions};
 ghost use Rattle.call_processor.specs.Parts.{part_of};
 ghost use Rattle.call_processor.specs.Work.{Handled, IsAnswer, MayWork, Works};
 ghost use Rattle.call_processor.specs.Workplaces.{EndsReady, FinishesReady, HasFrames, HasWorked};
@@ -40,12 +40,12 @@ fn do_frame<B: Switchboard, G: Gate, C: Carrier, R: Wait>(
     requires frame { IsNumbered (B.board board.now).trace event (Frame input.now) }
     requires turn { 0 < (B.known seat.old).left }
     requires baton { IsTrue (B.known seat.old).baton }
-    requires ready { IsReady C.carries C.next (engine_dimensions C.external_lines C.bridge_lines C.depth) (B.board board.now) (B.known seat.old).seen engine.old desk.old.tool }
+    requires ready { IsReadyFor C.carries C.next C.external_lines C.bridge_lines C.depth (B.board board.now) (B.known seat.old) engine.old desk.old.tool }
     requires tones { tones.now ≡ (B.board board.now).trace.tones }
     requires lines { length octets.old.items ≡ (B.board board.now).trace.external }
     ensures seated { B.seated board.now seat.new }
     ensures handled { Handled (B.known seat.old) event (B.known seat.new) }
-    ensures ready { IsReady C.carries C.next (engine_dimensions C.external_lines C.bridge_lines C.depth) (B.board board.now) (B.known seat.new).seen engine.new desk.new.tool }
+    ensures ready { IsReadyFor C.carries C.next C.external_lines C.bridge_lines C.depth (B.board board.now) (B.known seat.new) engine.new desk.new.tool }
     ensures lines { length octets.new.items ≡ (B.board board.now).trace.external }
     ensures place { IfOk result (λ p. length (B.known seat.new).seen ≡ p.place + 1) }
     ensures event { IfOk result (λ p. p.answer.event ≡ event) }
@@ -93,11 +93,11 @@ fn do_frames<B: Switchboard, G: Gate, C: Carrier, R: Wait>(
     requires seated { B.seated board.now seat.old }
     requires may { MayWork (B.board board.now) trace.now segment Frame_worker (B.known seat.old) }
     requires baton { IsTrue (B.known seat.old).baton }
-    requires ready { IsReady C.carries C.next (engine_dimensions C.external_lines C.bridge_lines C.depth) (B.board board.now) (B.known seat.old).seen engine.old desk.old.tool }
+    requires ready { IsReadyFor C.carries C.next C.external_lines C.bridge_lines C.depth (B.board board.now) (B.known seat.old) engine.old desk.old.tool }
     requires empty { answers.old.items ≡ [] }
     ensures seated { B.seated board.now seat.new }
     ensures works { Works (B.board board.now) (part_of trace.now segment Frame_worker) (B.known seat.old) answers.new.items (is_ok result) (B.known seat.new) }
-    ensures ready { IsReady C.carries C.next (engine_dimensions C.external_lines C.bridge_lines C.depth) (B.board board.now) (B.known seat.new).seen engine.new desk.new.tool }
+    ensures ready { IsReadyFor C.carries C.next C.external_lines C.bridge_lines C.depth (B.board board.now) (B.known seat.new) engine.new desk.new.tool }
     ensures octets { All (HasFrame C.plays (table_of trace.now.tones) (B.board board.now) (B.known seat.new)) answers.new.items }
 {
     let worker = u32::from(trace.processors);
@@ -206,7 +206,7 @@ pub fn run_frames_at<B: Switchboard, G: Gate, C: Carrier, R: Wait>(
     requires seated { B.seated board.now seat }
     requires may { MayWork (B.board board.now) trace.now segment Frame_worker (B.known seat) }
     requires baton { IsTrue (B.known seat).baton }
-    requires ready { IsReady C.carries C.next (engine_dimensions C.external_lines C.bridge_lines C.depth) (B.board board.now) (B.known seat).seen engine tool }
+    requires ready { IsReadyFor C.carries C.next C.external_lines C.bridge_lines C.depth (B.board board.now) (B.known seat) engine tool }
     ensures seated { B.seated board.now result.finished.seat }
     ensures works { HasWorked B.known (B.board board.now) (part_of trace.now segment Frame_worker) (B.known seat) result.finished }
     ensures ready { FinishesReady C.carries C.next (engine_dimensions C.external_lines C.bridge_lines C.depth) B.known (B.board board.now) result }

@@ -7,7 +7,7 @@ ghost use Rattle.exchange_core.specs.declared.answer.Answer.{Answer};
 ghost use Rattle.exchange_core.specs.Seats.{first_seat, turns_of, setting_at, world_at};
 ghost use Rattle.exchange_core.specs.Sound.{IsSound};
 ghost use Rattle.exchange_core.specs.Working.{order_of};
-ghost use Rattle.call_processor.specs.Frames.{CarriesFrames, IsReady, engine_dimensions};
+ghost use Rattle.call_processor.specs.Frames.{CarriesFrames, IsReady, IsReadyFor, engine_dimensions};
 ghost use Rattle.segment_run.specs.Segment.{IsChief, Ran, RanWhole};
 ghost use Rattle.segment_run.specs.Segments.{IsDoneBelow};
 ghost use Rattle.exchange_top.specs.declared.run.RunFault.TheVariants.{Memory, Write};
@@ -115,7 +115,7 @@ fn report_segment<B: Switchboard, G: Gate, C: Carrier, R: Threads + Wait + Sync>
     requires chief { IsChief (turns_of (B.board board.now)) (B.known seat.old) }
     requires numbers { (B.known seat.old).made ≤ 9 * segment }
     requires done { IsDoneBelow trace.now segment (order_of (B.known seat.old).seen) }
-    requires ready { IsReady C.carries C.next (engine_dimensions C.external_lines C.bridge_lines C.depth) (B.board board.now) (B.known seat.old).seen carried.engine carried.tool }
+    requires ready { IsReadyFor C.carries C.next C.external_lines C.bridge_lines C.depth (B.board board.now) (B.known seat.old) carried.engine carried.tool }
     ensures seated { B.seated board.now seat.new }
     ensures chief { IsChief (turns_of (B.board board.now)) (B.known seat.new) }
     ensures ran { Ran trace.now segment (B.known seat.old) (B.known seat.new) }
@@ -126,7 +126,7 @@ fn report_segment<B: Switchboard, G: Gate, C: Carrier, R: Threads + Wait + Sync>
         (B.board board.now) (B.known seat.old) (B.known seat.new)) }
     ensures told_front { OnErr result (GrowthIsTold (AreToldFront (λ m. stands m) (λ m. text m) meters.old.items meters.new.items)
         (B.board board.now) (B.known seat.old) (B.known seat.new)) }
-    ensures ready { IfOk result (λ c. IsReady C.carries C.next (engine_dimensions C.external_lines C.bridge_lines C.depth) (B.board board.now) (B.known seat.new).seen c.engine c.tool) }
+    ensures ready { IfOk result (λ c. IsReadyFor C.carries C.next C.external_lines C.bridge_lines C.depth (B.board board.now) (B.known seat.new) c.engine c.tool) }
 {
     let Carried {
         engine,

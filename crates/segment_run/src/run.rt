@@ -1,7 +1,7 @@
 ghost use Rattle.std.specs.Prelude.{◌≡◌, ◌+◌, ◌<◌, ◌≤◌, ◌^◌, IfOk, length};
 ghost use Rattle.exchange_core.specs.Seats.{turns_of};
 ghost use Rattle.tone_rules.specs.Tables.{table_of};
-ghost use Rattle.call_processor.specs.Frames.{IsReady, engine_dimensions};
+ghost use Rattle.call_processor.specs.Frames.{IsReady, IsReadyFor, engine_dimensions};
 ghost use Rattle.segment_run.specs.Segment.{AreAnswered, IsAnswerOf, IsChief, MayRun, Ran, RanWhole};
 ghost use Rattle.segment_run.specs.Segments.{events_before};
 
@@ -64,8 +64,7 @@ pub fn run_segment<B: Switchboard, G: Gate, C: Carrier, R: Threads + Wait + Sync
     ensures whole { IfOk result (λ a. RanWhole trace.now segment (B.known seat.old) (B.known seat.new)) }
     ensures turns { IfOk result (λ a. length (B.known seat.new).seen ≡ events_before trace.now.segments (segment + 1)) }
     ensures answered { IfOk result (λ a. AreAnswered C.plays (table_of trace.now.tones) (B.board board.now) (B.known seat.old) (B.known seat.new) a.answers.items) }
-    ensures ready { IfOk result (λ a. IsReady C.carries C.next (engine_dimensions C.external_lines C.bridge_lines C.depth) (B.board board.now)
-        (B.known seat.new).seen a.engine a.tool) }
+    ensures ready { IfOk result (λ a. IsReadyFor C.carries C.next C.external_lines C.bridge_lines C.depth (B.board board.now) (B.known seat.new) a.engine a.tool) }
 {
     let workroom = Workroom::new(alloc)?;
     let (done, _) = run_segment_in(
@@ -94,7 +93,7 @@ pub fn run_segment_in<B: Switchboard, G: Gate, C: Carrier, R: Threads + Wait + S
 ) -> Result<(SegmentAnswer<C>, Workroom<B::Seat>), AllocError>
     requires seated { B.seated board.now seat.old }
     requires may { MayRun (B.board board.now) trace.now segment (B.known seat.old) }
-    requires ready { IsReady C.carries C.next (engine_dimensions C.external_lines C.bridge_lines C.depth) (B.board board.now) (B.known seat.old).seen engine tool }
+    requires ready { IsReadyFor C.carries C.next C.external_lines C.bridge_lines C.depth (B.board board.now) (B.known seat.old) engine tool }
     ensures seated { B.seated board.now seat.new }
     ensures chief { IsChief (turns_of (B.board board.now)) (B.known seat.new) }
     ensures ran { Ran trace.now segment (B.known seat.old) (B.known seat.new) }

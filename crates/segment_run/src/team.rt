@@ -5,7 +5,7 @@ ghost use Rattle.exchange_core.specs.Orders.{Frame_worker};
 ghost use Rattle.exchange_core.specs.Seats.{Known};
 ghost use Rattle.exchange_core.specs.Sound.{IsSound};
 ghost use Rattle.tone_rules.specs.Tables.{table_of};
-ghost use Rattle.call_processor.specs.Frames.{IsReady, engine_dimensions};
+ghost use Rattle.call_processor.specs.Frames.{IsReadyFor, engine_dimensions};
 ghost use Rattle.call_processor.specs.Parts.{part_of};
 ghost use Rattle.call_processor.specs.Work.{MayWork};
 ghost use Rattle.call_processor.specs.Workplaces.{FinishesReady, HasFrames, HasWorked};
@@ -50,7 +50,7 @@ fn with_frames<B: Switchboard, G: Gate, C: Carrier, R: Threads + Wait + Sync>(
     requires seated { B.seated board.now frames.seat × All (λ j. B.seated board.now j.seat) crew.jobs.items }
     requires frames { MayWork (B.board board.now) trace.now segment Frame_worker (B.known frames.seat) }
     requires baton { IsTrue (B.known frames.seat).baton }
-    requires ready { IsReady C.carries C.next (engine_dimensions C.external_lines C.bridge_lines C.depth) (B.board board.now) (B.known frames.seat).seen engine tool }
+    requires ready { IsReadyFor C.carries C.next C.external_lines C.bridge_lines C.depth (B.board board.now) (B.known frames.seat) engine tool }
     requires all_may { All (MayProcess B.known (B.board board.now) trace.now segment) crew.jobs.items }
     requires room { vec_len crew.jobs ≤ vec_capacity crew.done }
     requires empty { crew.done.items ≡ [] }
@@ -81,7 +81,7 @@ fn with_frames<B: Switchboard, G: Gate, C: Carrier, R: Threads + Wait + Sync>(
             requires seated { B.seated board.now seat }
             requires may { MayWork (B.board board.now) trace.now segment Frame_worker (B.known seat) }
             requires baton { IsTrue (B.known seat).baton }
-            requires ready { IsReady C.carries C.next (engine_dimensions C.external_lines C.bridge_lines C.depth) (B.board board.now) (B.known seat).seen engine tool }
+            requires ready { IsReadyFor C.carries C.next C.external_lines C.bridge_lines C.depth (B.board board.now) (B.known seat) engine tool }
             ensures seated { B.seated board.entry.now result.finished.seat }
             ensures works { HasWorked B.known (B.board board.entry.now) (part_of trace.entry.now segment Frame_worker) (B.known seat) result.finished }
             ensures ready { FinishesReady C.carries C.next (engine_dimensions C.external_lines C.bridge_lines C.depth) B.known (B.board board.entry.now) result }

@@ -1,6 +1,6 @@
 ghost use Rattle.std.specs.Prelude.{◌≡◌, IsTrue};
 ghost use Rattle.exchange_core.specs.Seats.{turns_of};
-ghost use Rattle.call_processor.specs.Frames.{IsReady, engine_dimensions};
+ghost use Rattle.call_processor.specs.Frames.{IsReadyFor, engine_dimensions};
 ghost use Rattle.segment_run.specs.Gathered.{AllDone, IsComplete};
 ghost use Rattle.segment_run.specs.Segment.{IsChief, MayRun, Ran};
 
@@ -49,7 +49,7 @@ pub fn work_all<B: Switchboard, G: Gate, C: Carrier, R: Threads + Wait + Sync>(
 ) -> Gathered<B::Seat, C>
     requires seated { B.seated board.now seat.old }
     requires may { MayRun (B.board board.now) trace.now segment (B.known seat.old) }
-    requires ready { IsReady C.carries C.next (engine_dimensions C.external_lines C.bridge_lines C.depth) (B.board board.now) (B.known seat.old).seen engine tool }
+    requires ready { IsReadyFor C.carries C.next C.external_lines C.bridge_lines C.depth (B.board board.now) (B.known seat.old) engine tool }
     ensures seated { B.seated board.now seat.new }
     ensures chief { IsChief (turns_of (B.board board.now)) (B.known seat.new) }
     ensures ran { Ran trace.now segment (B.known seat.old) (B.known seat.new) }
