@@ -41,6 +41,10 @@ pub record IsReady {E : Type 0} (carries : Carrying E) (next : E → ℕ) (sizes
   pub sized : sizes engine ≡ (setting_at board).dimensions
   pub image : IsFrameTool (setting_at board).dimensions tool
 
+-- so for what a seat has seen, by what the engine's type tells of an engine
+abbrev pub IsReadyFor : {E : Type 0} → Carrying E → (E → ℕ) → (E → ℕ) → (E → ℕ) → (E → ℕ) → Board → Known → E → Tool → Type 0
+IsReadyFor carries next external bridges slots board v engine tool = IsReady carries next (engine_dimensions external bridges slots) board v.seen engine tool
+
 -- in the frame that begins in this world with this input, the octets are those that the engine plays, for each external line
 pub record IsPlayed (plays : Plays) (tones : Kind → List ℕ) (external : ℕ) (w : World) (input : Input) (octets : List (List ℕ)) : Type 0 where
   pub lines : length octets ≡ external

@@ -1,3 +1,4 @@
 pub mod Parts
 pub mod Work
 pub mod Frames
+pub mod Workplaces

@@ -1,11 +1,20 @@
 -- What a worker has done of its part of a segment. Source: this exchange's own.
 use Rattle.std.specs.Prelude.{◌≡◌, ℕ, ◌+◌, ◌<◌, ◌≤◌, Bool, IsTrue, List, ◌++◌, length, map, slice_get, Some, All, AllPairs}
 use Rattle.exchange_core.specs.declared.reply.Reply.{Reply}
+use Rattle.exchange_core.specs.declared.trace.Trace.{Trace}
 use Rattle.exchange_core.specs.Kept.{kept}
+use Rattle.exchange_core.specs.Orders.{Worker}
 use Rattle.exchange_core.specs.Seats.{Board, Known, StartsWith, AnswersAt, before, entries_of, handling}
 use Rattle.exchange_core.specs.Step.{MovesAtMost}
 use Rattle.exchange_core.specs.Working.{Entry}
 use Rattle.call_processor.specs.declared.worked.Placed.{Placed}
+use Rattle.call_processor.specs.Parts.{part_of}
+
+-- the worker may do its part of this segment of the board's trace: its seat has a turn for each event of it
+pub record MayWork (board : Board) (trace : Trace) (segment : ℕ) (worker : Worker) (v : Known) : Type 0 where
+  pub trace_is : trace ≡ board.trace
+  pub within : segment < length trace.segments
+  pub turns : length (part_of trace segment worker) ≤ v.left
 
 -- the entries of the seat with this number for these events
 abbrev pub entries_for : ℕ → List ℕ → List Entry

@@ -1,19 +1,21 @@
-ghost use Rattle.std.specs.Prelude.{◌≡◌, ◌<◌, ◌≤◌, ◌+◌, [], IfOk, IsTrue, All, is_ok, length};
+ghost use Rattle.std.specs.Prelude.{◌≡◌, ◌<◌, ◌≤◌, ◌+◌, [], IfOk, IsTrue, All, OnOk, is_ok, length};
 ghost use Rattle.exchange_core.specs.declared.trace.Event.TheVariants.{Frame};
 ghost use Rattle.exchange_core.specs.Orders.{Frame_worker, IsEvent};
 ghost use Rattle.exchange_core.specs.Working.{IsNumbered};
 ghost use Rattle.tone_rules.specs.Tables.{table_of};
-ghost use Rattle.call_processor.specs.Frames.{IsReady, HasFrame, engine_dimensions};
+ghost use Rattle.call_processor.specs.Frames.{IsReady, IsReadyFor, HasFrame, engine_dimensions};
 ghost use Rattle.call_processor.specs.Parts.{part_of};
-ghost use Rattle.call_processor.specs.Work.{Handled, IsAnswer, Works};
+ghost use Rattle.call_processor.specs.Work.{Handled, IsAnswer, MayWork, Works};
+ghost use Rattle.call_processor.specs.Workplaces.{EndsReady, FinishesReady, HasFrames, HasWorked};
 
 use crate::segment::{input_of, numbers_of};
-use crate::worked::{Framed, Placed, Worked};
+use crate::worked::{Finished, FinishedFrames, Framed, Placed, Worked, Workplace};
 use circuit_model::IDLE;
 use exchange_core::{Answer, Desk, Input, Switchboard, Tool, Trace};
 use frame_engine::Carrier;
 use gate::Gate;
 use std::alloc::{AllocError, Global};
+use std::mem::replace;
 use std::sync::Wait;
 use tone_rules::Tones;
 
@@ -38,12 +40,12 @@ fn do_frame<B: Switchboard, G: Gate, C: Carrier, R: Wait>(
     requires frame { IsNumbered (B.board board.now).trace event (Frame input.now) }
     requires turn { 0 < (B.known seat.old).left }
     requires baton { IsTrue (B.known seat.old).baton }
-    requires ready { IsReady C.carries C.next (engine_dimensions C.external_lines C.bridge_lines C.depth) (B.board board.now) (B.known seat.old).seen engine.old desk.old.tool }
+    requires ready { IsReadyFor C.carries C.next C.external_lines C.bridge_lines C.depth (B.board board.now) (B.known seat.old) engine.old desk.old.tool }
     requires tones { tones.now ≡ (B.board board.now).trace.tones }
     requires lines { length octets.old.items ≡ (B.board board.now).trace.external }
     ensures seated { B.seated board.now seat.new }
     ensures handled { Handled (B.known seat.old) event (B.known seat.new) }
-    ensures ready { IsReady C.carries C.next (engine_dimensions C.external_lines C.bridge_lines C.depth) (B.board board.now) (B.known seat.new).seen engine.new desk.new.tool }
+    ensures ready { IsReadyFor C.carries C.next C.external_lines C.bridge_lines C.depth (B.board board.now) (B.known seat.new) engine.new desk.new.tool }
     ensures lines { length octets.new.items ≡ (B.board board.now).trace.external }
     ensures place { IfOk result (λ p. length (B.known seat.new).seen ≡ p.place + 1) }
     ensures event { IfOk result (λ p. p.answer.event ≡ event) }
@@ -64,6 +66,16 @@ fn do_frame<B: Switchboard, G: Gate, C: Carrier, R: Wait>(
     Ok(Placed { place, answer })
 }
 
+// Makes room for what so many lines send, unless there is.
+fn make_room(alloc: Global, octets: &mut Vec<[u8; 30]>, lines: usize) -> Result<(), AllocError>
+    ensures { OnOk result (length octets.new.items ≡ lines) }
+{
+    if octets.len() != lines {
+        *octets = vec![in alloc; [IDLE; 30]; lines]?;
+    }
+    Ok(())
+}
+
 // Does the frames of a segment in order, until memory runs out.
 fn do_frames<B: Switchboard, G: Gate, C: Carrier, R: Wait>(
     rt: &R,
@@ -74,23 +86,22 @@ fn do_frames<B: Switchboard, G: Gate, C: Carrier, R: Wait>(
     segment: u32,
     engine: &mut C,
     desk: &mut Desk,
-    gate: &G,
+    octets: &mut Vec<[u8; 30]>,
     answers: &mut Vec<Placed>,
+    gate: &G,
 ) -> Result<(), AllocError>
     requires seated { B.seated board.now seat.old }
-    requires trace { trace.now ≡ (B.board board.now).trace }
-    requires segment { segment < length trace.now.segments }
-    requires turns { length (part_of trace.now segment Frame_worker) ≤ (B.known seat.old).left }
+    requires may { MayWork (B.board board.now) trace.now segment Frame_worker (B.known seat.old) }
     requires baton { IsTrue (B.known seat.old).baton }
-    requires ready { IsReady C.carries C.next (engine_dimensions C.external_lines C.bridge_lines C.depth) (B.board board.now) (B.known seat.old).seen engine.old desk.old.tool }
+    requires ready { IsReadyFor C.carries C.next C.external_lines C.bridge_lines C.depth (B.board board.now) (B.known seat.old) engine.old desk.old.tool }
     requires empty { answers.old.items ≡ [] }
     ensures seated { B.seated board.now seat.new }
     ensures works { Works (B.board board.now) (part_of trace.now segment Frame_worker) (B.known seat.old) answers.new.items (is_ok result) (B.known seat.new) }
-    ensures ready { IsReady C.carries C.next (engine_dimensions C.external_lines C.bridge_lines C.depth) (B.board board.now) (B.known seat.new).seen engine.new desk.new.tool }
+    ensures ready { IsReadyFor C.carries C.next C.external_lines C.bridge_lines C.depth (B.board board.now) (B.known seat.new) engine.new desk.new.tool }
     ensures octets { All (HasFrame C.plays (table_of trace.now.tones) (B.board board.now) (B.known seat.new)) answers.new.items }
 {
     let worker = u32::from(trace.processors);
-    let mut octets = vec![in alloc; [IDLE; 30]; usize::from(trace.external)]?;
+    make_room(alloc, octets, usize::from(trace.external))?;
     let (first, end) = numbers_of(trace, segment);
     for event in first..end {
         let Some(input) = input_of(trace, event) else {
@@ -107,7 +118,7 @@ fn do_frames<B: Switchboard, G: Gate, C: Carrier, R: Wait>(
             input,
             engine,
             desk,
-            &mut octets,
+            octets,
             &trace.tones,
             gate,
         )?;
@@ -146,12 +157,13 @@ pub fn run_frames<B: Switchboard, G: Gate, C: Carrier, R: Wait>(
     requires ready { IsReady C.carries C.next (engine_dimensions C.external_lines C.bridge_lines C.depth) (B.board board.now) (B.known seat).seen engine tool }
     ensures seated { B.seated board.now result.worked.seat }
     ensures works { Works (B.board board.now) (part_of trace.now segment Frame_worker) (B.known seat) result.worked.answers.items result.worked.whole (B.known result.worked.seat) }
-    ensures ready { IsReady C.carries C.next (engine_dimensions C.external_lines C.bridge_lines C.depth) (B.board board.now) (B.known result.worked.seat).seen result.engine result.tool }
+    ensures ready { EndsReady C.carries C.next (engine_dimensions C.external_lines C.bridge_lines C.depth) B.known (B.board board.now) result }
     ensures octets { All (HasFrame C.plays (table_of trace.now.tones) (B.board board.now) (B.known result.worked.seat)) result.worked.answers.items }
 {
     let mut seat = seat;
     let mut engine = engine;
     let mut desk = Desk::new(tool);
+    let mut octets = Vec::new(alloc);
     let mut answers = Vec::new(alloc);
     let done = do_frames(
         rt,
@@ -162,8 +174,9 @@ pub fn run_frames<B: Switchboard, G: Gate, C: Carrier, R: Wait>(
         segment,
         &mut engine,
         &mut desk,
-        gate,
+        &mut octets,
         &mut answers,
+        gate,
     );
     Framed {
         worked: Worked {
@@ -173,5 +186,59 @@ pub fn run_frames<B: Switchboard, G: Gate, C: Carrier, R: Wait>(
         },
         engine,
         tool: desk.tool,
+    }
+}
+
+/// Does the frames of one segment as [`run_frames`] does, at a workplace that the frame worker is lent
+/// and hands back.
+pub fn run_frames_at<B: Switchboard, G: Gate, C: Carrier, R: Wait>(
+    rt: &R,
+    alloc: Global,
+    board: &B,
+    seat: B::Seat,
+    trace: &Trace,
+    segment: u32,
+    engine: C,
+    tool: Tool,
+    workplace: Workplace,
+    gate: &G,
+) -> FinishedFrames<B::Seat, C>
+    requires seated { B.seated board.now seat }
+    requires may { MayWork (B.board board.now) trace.now segment Frame_worker (B.known seat) }
+    requires baton { IsTrue (B.known seat).baton }
+    requires ready { IsReadyFor C.carries C.next C.external_lines C.bridge_lines C.depth (B.board board.now) (B.known seat) engine tool }
+    ensures seated { B.seated board.now result.finished.seat }
+    ensures works { HasWorked B.known (B.board board.now) (part_of trace.now segment Frame_worker) (B.known seat) result.finished }
+    ensures ready { FinishesReady C.carries C.next (engine_dimensions C.external_lines C.bridge_lines C.depth) B.known (B.board board.now) result }
+    ensures octets { HasFrames C.plays (table_of trace.now.tones) B.known (B.board board.now) result.finished }
+{
+    let mut seat = seat;
+    let mut engine = engine;
+    let mut workplace = workplace;
+    workplace.desk.tool = tool;
+    workplace.answers.clear();
+    let whole = do_frames(
+        rt,
+        alloc,
+        board,
+        &mut seat,
+        trace,
+        segment,
+        &mut engine,
+        &mut workplace.desk,
+        &mut workplace.octets,
+        &mut workplace.answers,
+        gate,
+    )
+    .is_ok();
+    let tool = replace(&mut workplace.desk.tool, Tool::Nothing);
+    FinishedFrames {
+        finished: Finished {
+            seat,
+            workplace,
+            whole,
+        },
+        engine,
+        tool,
     }
 }

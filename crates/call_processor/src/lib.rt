@@ -6,6 +6,8 @@
 //!   the exchange's at the whole history before it (`works`).
 //! - An answer to a frame has the octets that the engine plays (`octets` of [`run_frames`]), and
 //!   the engine comes back carrying the frames of the history (`ready`).
+//! - [`process_at`] and [`run_frames_at`] do the same at a workplace that they are lent, so that a
+//!   worker of the next segment needs no memory of its own but for what it hands out.
 //! - [`numbers_of`] returns the numbers of a segment's events, and [`input_of`] the input of a
 //!   frame.
 //!
@@ -18,7 +20,7 @@ mod processing;
 mod segment;
 mod worked;
 
-pub use framing::run_frames;
-pub use processing::process;
+pub use framing::{run_frames, run_frames_at};
+pub use processing::{process, process_at};
 pub use segment::{input_of, is_of_processor, numbers_of, processor_of};
-pub use worked::{Framed, Placed, Worked};
+pub use worked::{Finished, FinishedFrames, Framed, Placed, Worked, Workplace};

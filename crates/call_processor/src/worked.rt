@@ -1,4 +1,5 @@
-use exchange_core::{Answer, Tool};
+use exchange_core::{Answer, Desk, Tool};
+use std::alloc::{AllocError, Global};
 
 /// An answer, and the place of its entry in the history, counted from 0.
 #[derive(Drop)]
@@ -29,4 +30,50 @@ pub struct Framed<T, C> {
     pub engine: C,
     /// The control memory for the next frame.
     pub tool: Tool,
+}
+
+/// What a worker is lent for its part of a segment, and may be lent again for another. What an earlier
+/// worker left there is of no matter.
+#[derive(Drop)]
+pub struct Workplace {
+    /// The desk.
+    pub desk: Box<Desk>,
+    /// What the external lines send in a frame. The frame worker makes the room for it, once.
+    pub octets: Vec<[u8; 30]>,
+    /// The answers.
+    pub answers: Vec<Placed>,
+}
+
+/// What came of a worker's part of a segment that was done at a workplace.
+#[derive(Drop)]
+pub struct Finished<T> {
+    /// The worker's seat.
+    pub seat: T,
+    /// The workplace. Its answers are the worker's, in the order of its part.
+    pub workplace: Workplace,
+    /// Whether all of the part was done and answered. False only for want of memory.
+    pub whole: bool,
+}
+
+/// What came of the frame worker's part of a segment that was done at a workplace. The engine and the
+/// tool come back with it.
+#[derive(Drop)]
+pub struct FinishedFrames<T, C> {
+    /// What came of its part.
+    pub finished: Finished<T>,
+    /// The engine. Where the part was done whole, it carries the frames of the history.
+    pub engine: C,
+    /// The control memory for the next frame.
+    pub tool: Tool,
+}
+
+impl Workplace {
+    /// A workplace that nobody used yet. `AllocError` where memory is lacking.
+    pub fn new(alloc: Global) -> Result<Workplace, AllocError> {
+        Ok(Workplace {
+            desk: Box::new(alloc, Desk::new(Tool::Nothing))?,
+            octets: Vec::new(alloc),
+            answers: Vec::new(alloc),
+        })
+    }
 }

@@ -9,7 +9,7 @@ use Rattle.call_processor.specs.Frames.{Plays}
 use Rattle.exchange_top.specs.Outcomes.{Fabric}
 use Rattle.exchange_core.specs.declared.record.CallRecord.{CallRecord}
 use Rattle.exchange_top.specs.Report.{event_lines}
-use Rattle.exchange_top.specs.Telling.{calls_ended}
+use Rattle.exchange_top.specs.Telling.{Telling, calls_ended}
 
 -- a map of paths that an exchange with so many lines can begin with: it has as many, 1 to 59 internal slots, and no path yet
 pub record IsUnused (lines width depth : ℕ) (layout : Layout) : Type 0 where
@@ -32,3 +32,7 @@ GrewFew board v w = All (MovesAtMost board.bound) (run (setting_at board) (world
 -- the calls that ended in these events
 abbrev pub grown_calls : Board → Known → Known → List CallRecord
 grown_calls board v w = calls_ended (run (setting_at board) (world_at board v.seen) (events_of board.trace.events (grown v w)))
+
+-- meters were told so of the calls that ended in them
+abbrev pub GrowthIsTold : Telling → Board → Known → Known → Type 0
+GrowthIsTold told board v w = told (grown_calls board v w)

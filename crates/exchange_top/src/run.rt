@@ -20,6 +20,7 @@ use exchange_core::{Core, Tool, Trace};
 use frame_engine::Carrier;
 use gate::Gate;
 use meters::Meter;
+use segment_run::Workroom;
 use shared_exchange::{Seat, SharedExchange};
 use std::alloc::{AllocError, Global};
 use std::sync::Wait;
@@ -100,12 +101,12 @@ pub fn run<P: PathMap + Drop + Send, K: Sink, G: Gate, C: Carrier, R: Threads + 
 }
 
 // What a run needs before its first event: the exchange that its workers share, with seat 0 of it, the
-// engine, and a control memory.
+// engine, a control memory, and a workroom.
 fn equipped<'t, P: PathMap + Drop, C: Carrier>(
     alloc: Global,
     trace: &'t Trace,
     paths: P,
-) -> Result<(SharedExchange<'t, P>, Seat<'t, P>, Carried<C>), AllocError>
+) -> Result<(SharedExchange<'t, P>, Seat<'t, P>, Carried<Seat<'t, P>, C>), AllocError>
     requires sound { IsSound trace.now }
     requires paths { IsUnused (trace.now.external + trace.now.bridges) (P.width paths) (P.depth paths) (P.layout paths) }
     ensures board { IfOk result (λ r. r.0.setting ≡ record { trace = trace.now; slots = P.depth paths; bound = P.bound paths }) }
@@ -119,6 +120,7 @@ fn equipped<'t, P: PathMap + Drop, C: Carrier>(
     let carried = Carried {
         engine: C::new(alloc, external, bridges, slots)?,
         tool: Tool::Image(Image::new(alloc, external, bridges, slots)?),
+        workroom: Workroom::new(alloc)?,
     };
     Ok((board, seat, carried))
 }

@@ -7,13 +7,13 @@ ghost use Rattle.exchange_core.specs.declared.answer.Answer.{Answer};
 ghost use Rattle.exchange_core.specs.Seats.{first_seat, turns_of, setting_at, world_at};
 ghost use Rattle.exchange_core.specs.Sound.{IsSound};
 ghost use Rattle.exchange_core.specs.Working.{order_of};
-ghost use Rattle.call_processor.specs.Frames.{CarriesFrames, IsReady, engine_dimensions};
+ghost use Rattle.call_processor.specs.Frames.{CarriesFrames, IsReady, IsReadyFor, engine_dimensions};
 ghost use Rattle.segment_run.specs.Segment.{IsChief, Ran, RanWhole};
 ghost use Rattle.segment_run.specs.Segments.{IsDoneBelow};
 ghost use Rattle.exchange_top.specs.declared.run.RunFault.TheVariants.{Memory, Write};
 ghost use Rattle.exchange_top.specs.Outcomes.{IsRunWhole, IsBegun, IsPending, listed};
 ghost use Rattle.exchange_top.specs.Report.{lines_of, report};
-ghost use Rattle.exchange_top.specs.Running.{GrewFew, fabric_at, grown_calls, grown_lines};
+ghost use Rattle.exchange_top.specs.Running.{GrewFew, GrowthIsTold, fabric_at, grown_lines};
 ghost use Rattle.exchange_top.specs.Streams.{AppendsFront};
 ghost use Rattle.exchange_top.specs.Telling.{AreTold, AreToldFront};
 
@@ -27,7 +27,7 @@ use frame_engine::Carrier;
 use gate::Gate;
 use meters::Meter;
 use report_text::append_answer;
-use segment_run::run_segment;
+use segment_run::{Workroom, run_segment_in};
 use std::alloc::{AllocError, Global};
 use std::sync::Wait;
 use std::thread::Threads;
@@ -35,13 +35,16 @@ use std::thread::Threads;
 // So many bytes of a report are gathered before they are written, the lines of a segment together.
 const PIECE: usize = 65_536;
 
-/// The engine, and the control memory of its next frame, between two segments.
+/// What goes from one segment to the next: the engine, the control memory of its next frame, and the
+/// workroom. `T` is the type of the workers' seats.
 #[derive(Drop)]
-pub struct Carried<C> {
+pub struct Carried<T, C> {
     /// The engine, which has carried the frames so far.
     pub engine: C,
     /// The control memory.
     pub tool: Tool,
+    /// Where the workers of a segment work.
+    pub workroom: Workroom<T>,
 }
 
 /// Runs the segments of a board's trace one after the other, writes of them what is listed, and tells
@@ -53,7 +56,7 @@ pub fn report_segments<B: Switchboard, K: Sink, G: Gate, C: Carrier, R: Threads 
     board: &B,
     seat: &mut B::Seat,
     trace: &Trace,
-    carried: Carried<C>,
+    carried: Carried<B::Seat, C>,
     listing: Listing,
     out: &mut Vec<u8>,
     sink: &mut K,
@@ -100,12 +103,12 @@ fn report_segment<B: Switchboard, G: Gate, C: Carrier, R: Threads + Wait + Sync>
     seat: &mut B::Seat,
     trace: &Trace,
     segment: u32,
-    carried: Carried<C>,
+    carried: Carried<B::Seat, C>,
     listing: Listing,
     out: &mut Vec<u8>,
     gate: &G,
     meters: &mut Vec<Box<dyn Meter>>,
-) -> Result<Carried<C>, AllocError>
+) -> Result<Carried<B::Seat, C>, AllocError>
     requires seated { B.seated board.now seat.old }
     requires trace { trace.now ≡ (B.board board.now).trace }
     requires sound { IsSound trace.now }
@@ -113,24 +116,33 @@ fn report_segment<B: Switchboard, G: Gate, C: Carrier, R: Threads + Wait + Sync>
     requires chief { IsChief (turns_of (B.board board.now)) (B.known seat.old) }
     requires numbers { (B.known seat.old).made ≤ 9 * segment }
     requires done { IsDoneBelow trace.now segment (order_of (B.known seat.old).seen) }
-    requires ready { IsReady C.carries C.next (engine_dimensions C.external_lines C.bridge_lines C.depth) (B.board board.now) (B.known seat.old).seen carried.engine carried.tool }
+    requires ready { IsReadyFor C.carries C.next C.external_lines C.bridge_lines C.depth (B.board board.now) (B.known seat.old) carried.engine carried.tool }
     ensures seated { B.seated board.now seat.new }
     ensures chief { IsChief (turns_of (B.board board.now)) (B.known seat.new) }
     ensures ran { Ran trace.now segment (B.known seat.old) (B.known seat.new) }
     ensures whole { OnOk result (RanWhole trace.now segment (B.known seat.old) (B.known seat.new)) }
     ensures lines { OnOk result (out.new.items ≡ out.old.items ++ listed listing (grown_lines C.plays (B.board board.now) (B.known seat.old) (B.known seat.new))) }
     ensures few { OnOk result (GrewFew (B.board board.now) (B.known seat.old) (B.known seat.new)) }
-    ensures told { OnOk result (AreTold (λ m. stands m) (λ m. text m) meters.old.items meters.new.items (grown_calls (B.board board.now) (B.known seat.old) (B.known seat.new))) }
-    ensures told_front { OnErr result (AreToldFront (λ m. stands m) (λ m. text m) meters.old.items meters.new.items (grown_calls (B.board board.now) (B.known seat.old) (B.known seat.new))) }
-    ensures ready { IfOk result (λ c. IsReady C.carries C.next (engine_dimensions C.external_lines C.bridge_lines C.depth) (B.board board.now) (B.known seat.new).seen c.engine c.tool) }
+    ensures told { OnOk result (GrowthIsTold (AreTold (λ m. stands m) (λ m. text m) meters.old.items meters.new.items)
+        (B.board board.now) (B.known seat.old) (B.known seat.new)) }
+    ensures told_front { OnErr result (GrowthIsTold (AreToldFront (λ m. stands m) (λ m. text m) meters.old.items meters.new.items)
+        (B.board board.now) (B.known seat.old) (B.known seat.new)) }
+    ensures ready { IfOk result (λ c. IsReadyFor C.carries C.next C.external_lines C.bridge_lines C.depth (B.board board.now) (B.known seat.new) c.engine c.tool) }
 {
-    let Carried { engine, tool } = carried;
-    let done = run_segment(rt, alloc, board, seat, trace, segment, engine, tool, gate)?;
+    let Carried {
+        engine,
+        tool,
+        workroom,
+    } = carried;
+    let (done, workroom) = run_segment_in(
+        rt, alloc, board, seat, trace, segment, engine, tool, workroom, gate,
+    )?;
     append_answers(out, listing, done.answers.as_slice())?;
     tell(meters, done.answers.as_slice())?;
     Ok(Carried {
         engine: done.engine,
         tool: done.tool,
+        workroom,
     })
 }
 

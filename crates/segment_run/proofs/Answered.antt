@@ -1,28 +1,27 @@
 -- The answers of all workers, each at its place in the history.
-use Rattle.std.proofs.Common.{◌≡◌, ◌≢◌, ℕ, zero, suc, ◌+◌, ◌-◌, ◌<◌, ◌≤◌, ◌⊎◌, inl, inr, Bool, true, false, cond, ◌&&◌, IsTrue, List, [], ◌∷◌, ◌++◌, map, filter, length, reverse, take, slice_get, Option, Some, None, refl, sym, ap, ◌∙◌, subst, arith, length-append}
+use Rattle.std.proofs.Common.{◌≡◌, ◌≢◌, ℕ, suc, ◌+◌, ◌<◌, ◌≤◌, ◌⊎◌, inl, inr, Bool, true, false, ◌&&◌, IsTrue, List, [], ◌∷◌, ◌++◌, map, length, reverse, take, slice_get, Option, Some, None, refl, sym, ap, ◌∙◌, subst, arith, length-append}
 use Rattle.std.specs.Prelude.{nat_eq, replicate}
 use Rattle.std.specs.List.{All, AllZip}
-use Rattle.std.specs.declared.alloc.Global.{Global}
-use Rattle.std.specs.declared.vec.Vec.{Vec}
 use Rattle.std.proofs.lemmas.Bool.{cases_lt}
 use Rattle.std.proofs.lemmas.List.{length-replicate, reverse-append}
+use Rattle.std.proofs.lemmas.List.Elements.{All-push}
 use lib.Seq.{take-append-le}
 use Rattle.circuit_model.specs.declared.circuit.Kind.{Kind}
 use Rattle.circuit_model.specs.FrameInput.{Input}
 use Rattle.exchange_core.specs.declared.answer.Answer.{Answer}
-use Rattle.exchange_core.specs.declared.trace.Event.{Event}
 use Rattle.exchange_core.specs.declared.trace.Event.TheVariants.{Frame}
 use Rattle.exchange_core.specs.declared.trace.Trace.{Trace}
-use Rattle.exchange_core.specs.Orders.{Worker, Processor, Frame_worker, segment_of}
-use Rattle.exchange_core.specs.Seats.{Board, Known, StartsWith, AnswersAt, before, world_at, unseen}
+use Rattle.exchange_core.specs.Orders.{Worker, Processor, segment_of}
+use Rattle.exchange_core.specs.Seats.{Board, Known, StartsWith, AnswersAt, before, world_at}
 use Rattle.exchange_core.specs.Working.{Entry, IsNumbered, order_of}
 use Rattle.call_processor.specs.declared.worked.Placed.{Placed}
+use Rattle.call_processor.specs.declared.worked.Workplace.{Workplace}
 use Rattle.call_processor.specs.Frames.{Plays, HasFrame, IsPlayed}
-use Rattle.call_processor.specs.Parts.{does, is_its, is_worker}
+use Rattle.call_processor.specs.Parts.{does, is_its}
 use Rattle.call_processor.specs.Work.{IsAnswer, Works, answered}
 use Rattle.segment_run.specs.Nothing.{nothing}
 use Rattle.segment_run.specs.Segment.{IsAnswered, AreAnswered, grown}
-use Rattle.segment_run.specs.Team.{AreDealt, IsWithin, all_of, filled, load, part_numbered, turns_left, worker_numbered}
+use Rattle.segment_run.specs.Team.{AreDealt, IsRising, IsWithin, all_of, filled, load, part_numbered, turns_left, worker_numbered}
 use Rattle.segment_run.proofs.Lists.{In, all_in, in_all, in_either, in_left, in_map, filter_in, length_of_map, range_in, both, got_left, got_behind, got_within}
 use Rattle.segment_run.proofs.Doers.{numbered_processor}
 use Rattle.segment_run.proofs.Filling.{AreApart, all_of_last, all_of_none, apart_append, apart_rising, each_filled, events_are, length_filled}
@@ -40,12 +39,12 @@ number_of (Some e) = e.0
 pub no_frame : (trace : Trace) (p n : ℕ) (input : Input) → is_its trace (Processor p) n ≡ true → IsNumbered trace n (Frame input) → ⊥
 no_frame trace p n input its number = let e : false ≡ true = ap (does trace.processors (Processor p)) (sym number) ∙ its in absurd (cc e)
 
-module _ {J U : Type 0} (plays : Plays) (tones : Kind → List ℕ) (board : Board) (trace : Trace) (segment : ℕ) (wj : J → ℕ) (kj : J → Known) (ku : U → Known) (au : U → Vec Placed Global) (bu : U → Bool) where
+module _ {J U : Type 0} (plays : Plays) (tones : Kind → List ℕ) (board : Board) (trace : Trace) (segment : ℕ) (wj : J → ℕ) (kj : J → Known) (ku : U → Known) (au : U → Workplace) (bu : U → Bool) where
   abbrev pub Octets : J → U → Type 0
-  Octets j u = wj j ≡ trace.processors → All (HasFrame plays tones board (ku u)) (au u).items
+  Octets j u = wj j ≡ trace.processors → All (HasFrame plays tones board (ku u)) (au u).answers.items
 
   abbrev pub Answers : J → U → Type 0
-  Answers j u = Works board (part_numbered trace segment (wj j)) (kj j) (au u).items (bu u) (ku u) × Octets j u
+  Answers j u = Works board (part_numbered trace segment (wj j)) (kj j) (au u).answers.items (bu u) (ku u) × Octets j u
 
   abbrev pub seated : List J → List (ℕ × Known)
   seated js = map (λ (j : J). (wj j, kj j)) js
@@ -58,17 +57,17 @@ module _ {J U : Type 0} (plays : Plays) (tones : Kind → List ℕ) (board : Boa
     given : IsAnswered plays tones board k.seen p.place p.answer
 
   module _ (same : trace ≡ board.trace) (v k : Known) where
-    good : (j : J) (u : U) → Answers j u → wj j ≤ trace.processors → (kj j).seen ≡ v.seen → StartsWith k.seen (ku u).seen → (p : Placed) → In p (au u).items → Good (length v.seen) k (kj j).number p
+    good : (j : J) (u : U) → Answers j u → wj j ≤ trace.processors → (kj j).seen ≡ v.seen → StartsWith k.seen (ku u).seen → (p : Placed) → In p (au u).answers.items → Good (length v.seen) k (kj j).number p
     good j u r few started s p i =
         let w = r.0 in
-        let a = all_in (IsAnswer board (ku u)) (au u).items w.each p i in
+        let a = all_in (IsAnswer board (ku u)) (au u).answers.items w.each p i in
         let here = got_within (ku u).seen p.place ((ku u).number, p.answer.event) a.entry in
         let as_before : before p.place k.seen ≡ before p.place (ku u).seen = ap (take p.place) s.1 ∙ take-append-le p.place (ku u).seen s.0 (omega (arith, here)) in
-        let beyond = all_in (λ (q : Placed). length (kj j).seen ≤ q.place) (au u).items w.beyond p i in
+        let beyond = all_in (λ (q : Placed). length (kj j).seen ≤ q.place) (au u).answers.items w.beyond p i in
         let long = ap length started in
         let part = part_numbered trace segment (wj j) in
-        let said : In p.answer.event (answered (au u).items) = in_map (λ (q : Placed). q.answer.event) (au u).items p i in
-        let done : In p.answer.event w.done = subst (λ (l : List ℕ). In p.answer.event l) (sym w.told.1) (in_left (answered (au u).items) w.told.0 p.answer.event said) in
+        let said : In p.answer.event (answered (au u).answers.items) = in_map (λ (q : Placed). q.answer.event) (au u).answers.items p i in
+        let done : In p.answer.event w.done = subst (λ (l : List ℕ). In p.answer.event l) (sym w.told.1) (in_left (answered (au u).answers.items) w.told.0 p.answer.event said) in
         let its : In p.answer.event part = subst (λ (l : List ℕ). In p.answer.event l) (sym w.first.1) (in_left w.done w.first.0 p.answer.event done) in
         let worker = worker_numbered trace.processors (wj j) in
         let f = filter_in (λ (m : ℕ). nat_eq (segment_of trace.segments m) segment && is_its trace worker m) _ p.answer.event its in
@@ -95,23 +94,30 @@ module _ {J U : Type 0} (plays : Plays) (tones : Kind → List ℕ) (board : Boa
         octets mine input number (inl inside) =
             absurd (no_frame trace (wj j) p.answer.event input (ap (λ (w : Worker). is_its trace w p.answer.event) (sym (numbered_processor trace.processors (wj j) inside)) ∙ mine)
             (subst (λ (t : Trace). IsNumbered t p.answer.event (Frame input)) (sym same) number))
-        octets mine input number (inr past) = all_in (HasFrame plays tones board (ku u)) (au u).items (r.1 (omega (arith, past, few))) p i input number
+        octets mine input number (inr past) = all_in (HasFrame plays tones board (ku u)) (au u).answers.items (r.1 (omega (arith, past, few))) p i input number
 
     -- ---- all answers
 
-    abbrev pub lists : List U → List (Vec Placed Global)
+    abbrev pub lists : List U → List (Workplace)
     lists us = reverse (map au us)
 
-    lists_cons : (u : U) (us : List U) → all_of (lists (u ∷ us)) ≡ all_of (lists us) ++ (au u).items
+    lists_cons : (u : U) (us : List U) → all_of (lists (u ∷ us)) ≡ all_of (lists us) ++ (au u).answers.items
     lists_cons u us = ap all_of (reverse_cons (au u) (map au us)) ∙ all_of_last (lists us) (au u)
 
-    in_lists : (us : List U) (p : Placed) → In p (all_of (lists us)) → (u : U) × In u us × In p (au u).items
+    in_lists : (us : List U) (p : Placed) → In p (all_of (lists us)) → (u : U) × In u us × In p (au u).answers.items
     in_lists [] p i = absurd (subst (λ (l : List Placed). In p l) all_of_none i)
-    in_lists (u ∷ us) p i = pick (in_lists us p) (in_either (all_of (lists us)) (au u).items p (subst (λ (l : List Placed). In p l) (lists_cons u us) i))
+    in_lists (u ∷ us) p i = pick (in_lists us p) (in_either (all_of (lists us)) (au u).answers.items p (subst (λ (l : List Placed). In p l) (lists_cons u us) i))
       where
-        pick : (In p (all_of (lists us)) → (x : U) × In x us × In p (au x).items) → In p (all_of (lists us)) ⊎ In p (au u).items → (x : U) × In x (u ∷ us) × In p (au x).items
+        pick : (In p (all_of (lists us)) → (x : U) × In x us × In p (au x).answers.items) → In p (all_of (lists us)) ⊎ In p (au u).answers.items → (x : U) × In x (u ∷ us) × In p (au x).answers.items
         pick tail (inl h) = let r = tail h in (r.0, inr r.1, r.2)
         pick tail (inr h) = (u, inl refl, h)
+
+    -- those of each worker rise
+    pub all_rising : (js : List J) (us : List U) → AllZip Answers js us → All IsRising (lists us)
+    all_rising [] [] z = λ i x h. absurd (omega (arith, h))
+    all_rising [] (u ∷ us) z = absurd z
+    all_rising (j ∷ js) [] z = absurd z
+    all_rising (j ∷ js) (u ∷ us) z = subst (All IsRising) (sym (reverse_cons (au u) (map au us))) (All-push IsRising (lists us) (au u) (all_rising js us z.1) z.0.0.rising)
 
     record Since (n : ℕ) (j : J) : Type 0 where
       number : n ≤ (kj j).number
@@ -151,7 +157,7 @@ module _ {J U : Type 0} (plays : Plays) (tones : Kind → List ℕ) (board : Boa
     apart n low (j ∷ js) (u ∷ us) z d seen =
         let tail : All Seen us = λ i x h. seen (suc i) x (omega (arith, h)) in
         subst AreApart (sym (lists_cons u us))
-        (apart_append (all_of (lists us)) (au u).items (apart (n + 1) (wj j + 1) js us z.1 d.3 tail) (apart_rising (au u).items z.0.0.rising)
+        (apart_append (all_of (lists us)) (au u).answers.items (apart (n + 1) (wj j + 1) js us z.1 d.3 tail) (apart_rising (au u).answers.items z.0.0.rising)
         (λ p q a b e.
         let older = one_good (n + 1) (wj j + 1) js us z.1 d.3 tail p a in
         let mine = good j u z.0 d.1 d.2.seen_is (seen 0 u (omega arith)) q b in
@@ -168,10 +174,10 @@ module _ {J U : Type 0} (plays : Plays) (tones : Kind → List ℕ) (board : Boa
     as_many n low (j ∷ js) [] z d whole = absurd z
     as_many n low (j ∷ js) (u ∷ us) z d whole =
         let a = ap length (lists_cons u us) in
-        let b = length-append (all_of (lists us)) (au u).items in
+        let b = length-append (all_of (lists us)) (au u).answers.items in
         let c = as_many (n + 1) (wj j + 1) js us z.1 d.3 (λ i x h. whole (suc i) x (omega (arith, h))) in
         let told = ap length (z.0.0.all (whole 0 u (omega arith))) in
-        let e = length_of_map (λ (q : Placed). q.answer.event) (au u).items in
+        let e = length_of_map (λ (q : Placed). q.answer.event) (au u).answers.items in
         let turns = d.2.turns_are in
         omega (arith, a, b, c, told, e, turns)
 

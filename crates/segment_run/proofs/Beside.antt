@@ -7,7 +7,7 @@ use Rattle.exchange_core.specs.Orders.{Worker, Processor, Frame_worker}
 use Rattle.exchange_core.specs.Seats.{Board, Known}
 use Rattle.call_processor.specs.declared.worked.Placed.{Placed}
 use Rattle.call_processor.specs.Parts.{part_of}
-use Rattle.call_processor.specs.Work.{Works}
+use Rattle.call_processor.specs.Work.{MayWork, Works}
 use Rattle.segment_run.specs.Team.{AreDealt, load, worker_numbered}
 use Rattle.segment_run.proofs.Lists.{In, all_in, in_all, in_left, in_right}
 use Rattle.segment_run.proofs.Doers.{numbered_frames, numbered_processor}
@@ -45,10 +45,15 @@ module _ {J : Type 0} (trace : Trace) (segment : ℕ) (worker : J → ℕ) (know
   pub last_dealt : (v : Known) (n : ℕ) (js : List J) (x : J) → AreDealt trace segment v n 0 (dealt_to (js ++ x ∷ [])) → IsDealt 0 x
   last_dealt v n js x d = each_dealt v n 0 (js ++ x ∷ []) d x (in_right js (x ∷ []) x (inl refl))
 
-  abbrev pub MayProcess : J → Type 0
-  MayProcess j = length (part_of trace segment (Processor (worker j))) ≤ (known j).left
+  abbrev pub HasTurns : J → Type 0
+  HasTurns j = length (part_of trace segment (Processor (worker j))) ≤ (known j).left
 
-  processor_may : (j : J) → worker j < trace.processors → (known j).left ≡ load trace segment (worker j) → MayProcess j
+  -- where the trace is the board's, each may do its part
+  pub they_may : (board : Board) → trace ≡ board.trace → segment < length trace.segments → (js : List J) → All (λ j. worker j < trace.processors) js → All HasTurns js
+      → All (λ j. (worker j < trace.processors) × MayWork board trace segment (Processor (worker j)) (known j)) js
+  they_may board same within js below turns = λ k d h. (below k d h, record { trace_is = same; within = within; turns = turns k d h })
+
+  processor_may : (j : J) → worker j < trace.processors → (known j).left ≡ load trace segment (worker j) → HasTurns j
   processor_may j below turns =
       let same : load trace segment (worker j) ≡ length (part_of trace segment (Processor (worker j))) = ap (λ (w : Worker). length (part_of trace segment w)) (numbered_processor trace.processors (worker j) below) in
       omega (arith, turns, same)
@@ -56,8 +61,8 @@ module _ {J : Type 0} (trace : Trace) (segment : ℕ) (worker : J → ℕ) (know
   -- a last job of a call processor: all are
   pub record Processors (js : List J) (x : J) : Type 0 where
     pub numbers : All (λ j. worker j < trace.processors) js
-    pub turn : MayProcess x
-    pub turns : All MayProcess js
+    pub turn : HasTurns x
+    pub turns : All HasTurns js
     pub all : All (λ j. worker j < trace.processors) (js ++ x ∷ [])
 
   -- a last job of the frame worker: all others are of call processors
@@ -65,7 +70,7 @@ module _ {J : Type 0} (trace : Trace) (segment : ℕ) (worker : J → ℕ) (know
     pub is : worker x ≡ trace.processors
     pub frames : length (part_of trace segment Frame_worker) ≤ (known x).left
     pub numbers : All (λ j. worker j < trace.processors) js
-    pub turns : All MayProcess js
+    pub turns : All HasTurns js
 
   module _ (jobs js : List J) (x : J) (same : jobs ≡ js ++ x ∷ []) (dealt : (v : Known) × (n : ℕ) × AreDealt trace segment v n 0 (dealt_to jobs)) where
     those : AreDealt trace segment dealt.0 dealt.1 0 (dealt_to (js ++ x ∷ []))
@@ -77,7 +82,7 @@ module _ {J : Type 0} (trace : Trace) (segment : ℕ) (worker : J → ℕ) (know
     lower : worker x ≤ trace.processors → (j : J) → In j js → worker j < trace.processors
     lower most j i = let a = below_last dealt.0 dealt.1 0 js x those j i in omega (arith, a, most)
 
-    each_may : worker x ≤ trace.processors → (j : J) → In j js → MayProcess j
+    each_may : worker x ≤ trace.processors → (j : J) → In j js → HasTurns j
     each_may most j i = processor_may j (lower most j i) (each_dealt dealt.0 dealt.1 0 (js ++ x ∷ []) those j (in_left js (x ∷ []) j i)).turns
 
     pub processors_may : worker x < trace.processors → Processors js x
@@ -87,7 +92,7 @@ module _ {J : Type 0} (trace : Trace) (segment : ℕ) (worker : J → ℕ) (know
         record {
           numbers = numbers;
           turn = processor_may x below last.turns;
-          turns = in_all MayProcess js (each_may most);
+          turns = in_all HasTurns js (each_may most);
           all = All-push (λ j. worker j < trace.processors) js x numbers below;
         }
 
@@ -100,7 +105,7 @@ module _ {J : Type 0} (trace : Trace) (segment : ℕ) (worker : J → ℕ) (know
           is = omega (arith, few, past);
           frames = omega (arith, turns, mine);
           numbers = in_all (λ j. worker j < trace.processors) js (lower few);
-          turns = in_all MayProcess js (each_may few);
+          turns = in_all HasTurns js (each_may few);
         }
 
   -- ---- what comes of them

@@ -1,7 +1,7 @@
 -- Who did which event of the growth.
-use Rattle.std.proofs.Common.{◌≡◌, ◌≢◌, ℕ, zero, suc, ◌+◌, ◌-◌, ◌%◌, ◌<◌, ◌≤◌, ◌⊎◌, inl, inr, Bool, true, false, cond, ◌&&◌, IsTrue, List, [], ◌∷◌, ◌++◌, map, filter, length, slice_get, Option, Some, None, refl, sym, ap, ◌∙◌, subst, arith, append-nil, append_assoc, length-append}
+use Rattle.std.proofs.Common.{◌≡◌, ℕ, ◌+◌, ◌-◌, ◌%◌, ◌<◌, ◌≤◌, ◌⊎◌, inl, inr, Bool, true, false, cond, ◌&&◌, List, [], ◌∷◌, ◌++◌, map, filter, length, slice_get, Option, Some, None, refl, sym, ap, ◌∙◌, subst, arith}
 use Rattle.std.specs.Prelude.{◌||◌, nat_eq, nat_lt}
-use Rattle.std.specs.List.{All, AllPairs, list_any}
+use Rattle.std.specs.List.{list_any}
 use Rattle.std.proofs.lemmas.Bool.{cases_lt}
 use Rattle.std.proofs.lemmas.Bool.Decides.{nat_tests}
 use Rattle.std.proofs.lemmas.Nat.{mod_below}
@@ -10,12 +10,12 @@ use Rattle.exchange_core.specs.declared.trace.Event.{Event}
 use Rattle.exchange_core.specs.declared.trace.Event.TheVariants.{Nail, Seat, Free, Message, Frame}
 use Rattle.exchange_core.specs.declared.trace.Trace.{Trace}
 use Rattle.exchange_core.specs.Orders.{Worker, Processor, Frame_worker, IsEvent, segment_of, worker_of}
-use Rattle.exchange_core.specs.Seats.{Known, Kept, Settled, Accounts, StartsWith, entries_of, keeping}
+use Rattle.exchange_core.specs.Seats.{Known, Kept, Settled, Accounts, entries_of, keeping}
 use Rattle.exchange_core.specs.Working.{Entry, order_of}
 use Rattle.call_processor.specs.Parts.{is_its, is_worker, does, part_of}
 use Rattle.call_processor.specs.Work.{entries_for}
 use Rattle.segment_run.specs.Team.{AreDealt, IsNew, load, part_numbered, worker_numbered}
-use Rattle.segment_run.proofs.Lists.{In, all_in, in_all, in_either, in_left, in_filter, filter_in, filter_alike, filter_none, none_behind, in_map, map_in, filter_map_of, length_of_map, range_in, both, any_in}
+use Rattle.segment_run.proofs.Lists.{In, all_in, in_either, in_left, in_filter, filter_in, filter_alike, filter_none, none_behind, in_map, map_in, filter_map_of, range_in, both, any_in}
 
 -- ---- workers
 

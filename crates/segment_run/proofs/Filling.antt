@@ -1,16 +1,15 @@
 -- What stands at the places once each answer was put at its own.
-use Rattle.std.proofs.Common.{◌≡◌, ◌≢◌, ℕ, zero, suc, ◌+◌, ◌-◌, ◌<◌, ◌≤◌, ◌⊎◌, inl, inr, Bool, true, false, cond, List, [], ◌∷◌, ◌++◌, map, length, slice_get, Some, refl, sym, ap, ◌∙◌, subst, arith, append_assoc, length-append}
+use Rattle.std.proofs.Common.{◌≡◌, ◌≢◌, ℕ, zero, suc, ◌+◌, ◌-◌, ◌<◌, ◌≤◌, ◌⊎◌, inl, inr, List, [], ◌∷◌, ◌++◌, map, length, slice_get, Some, refl, sym, ap, ◌∙◌, subst, arith, append_assoc, length-append}
 use Rattle.std.specs.Prelude.{slice_set, replicate}
 use Rattle.std.specs.List.{All, AllPairs}
-use Rattle.std.specs.declared.alloc.Global.{Global}
-use Rattle.std.specs.declared.vec.Vec.{Vec}
-use Rattle.std.proofs.lemmas.List.{length-set, length-replicate, map-append, reverse-append}
+use Rattle.std.proofs.lemmas.List.{length-set, length-replicate}
 use Rattle.exchange_core.specs.declared.answer.Answer.{Answer}
 use Rattle.exchange_core.specs.Working.{Entry, order_of}
 use Rattle.call_processor.specs.declared.worked.Placed.{Placed}
+use Rattle.call_processor.specs.declared.worked.Workplace.{Workplace}
 use Rattle.segment_run.specs.Nothing.{nothing}
-use Rattle.segment_run.specs.Team.{IsWithin, all_of, filled}
-use Rattle.segment_run.proofs.Lists.{In, all_in, in_all, in_either, got_set, got_there, got_within, got_behind}
+use Rattle.segment_run.specs.Team.{IsRising, IsWithin, all_of, filled}
+use Rattle.segment_run.proofs.Lists.{In, all_in, in_either, no_length, got_set, got_there}
 
 -- ---- put there one by one
 
@@ -33,20 +32,20 @@ pub filled_last : (lo : ℕ) (ps : List Placed) (p : Placed) (xs : List Answer) 
 unfolding filled
 filled_last lo ps p xs = filled_append lo ps (p ∷ []) xs
 
-pub all_of_append : (us vs : List (Vec Placed Global)) → all_of (us ++ vs) ≡ all_of us ++ all_of vs
+pub all_of_append : (us vs : List (Workplace)) → all_of (us ++ vs) ≡ all_of us ++ all_of vs
 unfolding all_of
 all_of_append [] vs = refl
-all_of_append (u ∷ us) vs = ap (λ (l : List Placed). u.items ++ l) (all_of_append us vs) ∙ sym (append_assoc u.items (all_of us) (all_of vs))
+all_of_append (u ∷ us) vs = ap (λ (l : List Placed). u.answers.items ++ l) (all_of_append us vs) ∙ sym (append_assoc u.answers.items (all_of us) (all_of vs))
 
-pub all_of_one : (v : Vec Placed Global) → all_of (v ∷ []) ≡ v.items
+pub all_of_one : (v : Workplace) → all_of (v ∷ []) ≡ v.answers.items
 unfolding all_of
-all_of_one v = append-none v.items
+all_of_one v = append-none v.answers.items
   where
     append-none : (xs : List Placed) → xs ++ [] ≡ xs
     append-none [] = refl
     append-none (x ∷ xs) = ap (λ (l : List Placed). x ∷ l) (append-none xs)
 
-pub all_of_last : (vs : List (Vec Placed Global)) (v : Vec Placed Global) → all_of (vs ++ v ∷ []) ≡ all_of vs ++ v.items
+pub all_of_last : (vs : List (Workplace)) (v : Workplace) → all_of (vs ++ v ∷ []) ≡ all_of vs ++ v.answers.items
 all_of_last vs v = all_of_append vs (v ∷ []) ∙ ap (λ (l : List Placed). all_of vs ++ l) (all_of_one v)
 
 pub all_of_none : all_of [] ≡ []
@@ -199,3 +198,72 @@ events_are (e ∷ rest) (m ∷ ms) long f =
     let first = f 0 m refl in
     let same : e ≡ (first.0, m.event) = cc (first.1) in
     λ i. (ap (λ (x : Entry). x.1) (sym same) i) ∷ (events_are rest ms (omega (arith, long)) (λ k a at. f (suc k) a at) i)
+
+-- ---- the answers of one worker, which stand in their order already
+
+abbrev Rising : List Placed → Type 0
+Rising ps = AllPairs (λ (p q : Placed). p.place < q.place) ps
+
+rising_above : (p : Placed) (ps : List Placed) → Rising (p ∷ ps) → (q : Placed) → In q ps → p.place < q.place
+rising_above p ps r q i = all_in (λ (x : Placed). p.place < x.place) ps (λ k d within. r 0 (suc k) d (omega arith) (omega (arith, within))) q i
+
+rising_rest : (p : Placed) (ps : List Placed) → Rising (p ∷ ps) → Rising ps
+rising_rest p ps r = λ i j d lt within. r (suc i) (suc j) d (omega (arith, lt)) (omega (arith, within))
+
+-- no more places rise than there are
+rising_few : (lo hi : ℕ) (ps : List Placed) → Rising ps → ((p : Placed) → In p ps → (lo ≤ p.place) × (p.place < hi)) → length ps ≤ hi - lo
+rising_few lo hi [] r each = omega arith
+rising_few lo hi (p ∷ ps) r each =
+    let mine = each p (inl refl) in
+    let low = mine.0 in
+    let high = mine.1 in
+    let tail = rising_few (p.place + 1) hi ps (rising_rest p ps r) (λ q i. let above = rising_above p ps r q i in (omega (arith, above), (each q (inr i)).1)) in
+    omega (arith, low, high, tail)
+
+-- what stands before all places stays
+filled_behind : (lo : ℕ) (ps : List Placed) (x : Answer) (xs : List Answer) → ((p : Placed) → In p ps → lo < p.place) → filled lo ps (x ∷ xs) ≡ x ∷ filled (lo + 1) ps xs
+unfolding filled
+filled_behind lo [] x xs each = refl
+filled_behind lo (p ∷ ps) x xs each =
+    let above = each p (inl refl) in
+    let next : p.place - lo ≡ suc (p.place - (lo + 1)) = omega (arith, above) in
+    ap (λ (l : List Answer). slice_set l (p.place - lo) p.answer) (filled_behind lo ps x xs (λ q i. each q (inr i)))
+    ∙ ap (λ (n : ℕ). slice_set (x ∷ filled (lo + 1) ps xs) n p.answer) next
+
+filled_in_order : (lo : ℕ) (ps : List Placed) (xs : List Answer) → Rising ps → ((p : Placed) → In p ps → IsWithin lo (length ps) p) → length xs ≡ length ps → filled lo ps xs ≡ map (λ (p : Placed). p.answer) ps
+unfolding filled
+filled_in_order lo [] [] r each same = refl
+filled_in_order lo [] (x ∷ xs) r each same = absurd (omega (arith, same))
+filled_in_order lo (p ∷ ps) [] r each same = absurd (omega (arith, same))
+filled_in_order lo (p ∷ ps) (x ∷ xs) r each same =
+    let mine = each p (inl refl) in
+    let low = mine.0 in
+    let few = rising_few (p.place + 1) (lo + suc (length ps)) ps (rising_rest p ps r) (λ q i. let above = rising_above p ps r q i in (omega (arith, above), (each q (inr i)).1)) in
+    let first : p.place - lo ≡ zero = omega (arith, low, few, mine.1) in
+    let behind = filled_behind lo ps x xs (λ q i. let above = rising_above p ps r q i in omega (arith, above, low)) in
+    let rest = filled_in_order (lo + 1) ps xs (rising_rest p ps r) (λ q i. let above = rising_above p ps r q i in let high = (each q (inr i)).1 in (omega (arith, above, low), omega (arith, high))) (omega (arith, same)) in
+    ap (λ (l : List Answer). slice_set l (p.place - lo) p.answer) behind
+    ∙ (ap (λ (n : ℕ). slice_set (x ∷ filled (lo + 1) ps xs) n p.answer) first
+    ∙ ap (λ (l : List Answer). p.answer ∷ l) rest)
+
+-- where all answers lie at one workplace
+module _ (used rest : List Workplace) (w : Workplace) (is : used ≡ rest ++ w ∷ []) (one : length used ≡ 1) where
+  alone : used ≡ w ∷ []
+  alone =
+      let long = ap length is in
+      is ∙ ap (λ (l : List Workplace). l ++ w ∷ []) (no_length rest (omega (arith, long, one, length-append rest (w ∷ []))))
+
+  all_there : all_of used ≡ w.answers.items
+  all_there = ap all_of alone ∙ all_of_one w
+
+  pub many_alone : (count : ℕ) → length (all_of used) ≡ count → length w.answers.items ≡ count
+  many_alone count many = sym (ap length all_there) ∙ many
+
+  pub filled_alone : (lo count : ℕ) → All (IsWithin lo count) (all_of used) → length (all_of used) ≡ count → All IsRising used
+      → map (λ (p : Placed). p.answer) w.answers.items ≡ filled lo (all_of used) (replicate count nothing)
+  filled_alone lo count within many rising =
+      let size = many_alone count many in
+      let inside = subst (λ (n : ℕ). All (IsWithin lo n) w.answers.items) (sym size) (subst (All (IsWithin lo count)) all_there within) in
+      let up = subst (All IsRising) alone rising 0 w (omega arith) in
+      sym (filled_in_order lo w.answers.items (replicate count nothing) up (λ p i. all_in (IsWithin lo (length w.answers.items)) w.answers.items inside p i) (length-replicate count nothing ∙ sym size))
+      ∙ ap (λ (l : List Placed). filled lo l (replicate count nothing)) (sym all_there)

@@ -1,22 +1,19 @@
 -- From what the workers of a segment did to what seat 0 knows once it has joined them.
-use Rattle.std.proofs.Common.{◌≡◌, ◌≢◌, ℕ, zero, suc, ◌+◌, ◌-◌, ◌<◌, ◌≤◌, ◌⊎◌, inl, inr, Bool, true, false, cond, IsTrue, List, [], ◌∷◌, ◌++◌, map, filter, length, reverse, slice_get, Some, refl, sym, ap, ◌∙◌, subst, arith, append-nil, append_assoc, length-append}
-use Rattle.std.specs.Prelude.{◌||◌, nat_eq}
-use Rattle.std.specs.List.{All, AllPairs, AllZip}
-use Rattle.std.specs.declared.alloc.Global.{Global}
-use Rattle.std.specs.declared.vec.Vec.{Vec}
+use Rattle.std.proofs.Common.{◌≡◌, ◌≢◌, ℕ, suc, ◌+◌, ◌<◌, ◌≤◌, ◌⊎◌, inl, inr, Bool, true, false, IsTrue, List, [], ◌∷◌, ◌++◌, map, filter, length, refl, sym, ap, ◌∙◌, subst, arith, append-nil, length-append}
+use Rattle.std.specs.Prelude.{◌||◌}
+use Rattle.std.specs.List.{All, AllZip}
 use Rattle.std.proofs.lemmas.Bool.{cases_lt}
-use Rattle.std.proofs.lemmas.List.{map-append, reverse-append}
 use Rattle.exchange_core.specs.declared.trace.Trace.{Trace}
 use Rattle.exchange_core.specs.Orders.{Worker, Processor, Frame_worker}
 use Rattle.exchange_core.specs.Seats.{Board, Known, Kept, Settled, StartsWith, keeping, unseen}
 use Rattle.exchange_core.specs.Working.{Entry, order_of}
-use Rattle.call_processor.specs.declared.worked.Placed.{Placed}
+use Rattle.call_processor.specs.declared.worked.Workplace.{Workplace}
 use Rattle.call_processor.specs.Parts.{is_its, is_worker, part_of}
 use Rattle.call_processor.specs.Work.{Works, answered, entries_for}
 use Rattle.segment_run.specs.Segment.{IsChief, Ran, RanWhole, IsOfSegment, grown}
 use Rattle.segment_run.specs.Team.{AreDealt, HasDealt, any_baton, joined_all, load, part_numbered, turns_left, worker_numbered}
-use Rattle.segment_run.proofs.Lists.{In, all_in, in_all, in_map, map_in, length_of_map}
-use Rattle.segment_run.proofs.Doers.{Doer, Joined, Its, seat_of, its_of, of_doer, of_other, found, is_itself, no_part, numbered_frames, numbered_processor}
+use Rattle.segment_run.proofs.Lists.{In, all_in, in_all, map_in, length_of_map}
+use Rattle.segment_run.proofs.Doers.{Doer, Joined, seat_of, its_of, of_doer, of_other, found, is_itself, no_part, numbered_frames, numbered_processor}
 
 -- ---- lists side by side
 
@@ -98,9 +95,9 @@ settled_same turns v c d left s =
     let same : record v { baton = c.baton } ≡ c = λ i. record { number = sym d.number i; left = sym left i; baton = c.baton; seen = sym d.seen i; own = sym d.own i; made = made i; kept = sym d.kept i } in
     subst (Settled turns) same (record { own = s.own; kept = s.kept; others = s.others; once = s.once; entries_made = s.entries_made; within = s.within; accounted = s.accounted; whole = s.whole })
 
-module _ {J U : Type 0} (board : Board) (trace : Trace) (segment : ℕ) (wj : J → ℕ) (kj : J → Known) (ku : U → Known) (au : U → Vec Placed Global) (bu : U → Bool) (E : J → U → Type 0) where
+module _ {J U : Type 0} (board : Board) (trace : Trace) (segment : ℕ) (wj : J → ℕ) (kj : J → Known) (ku : U → Known) (au : U → Workplace) (bu : U → Bool) (E : J → U → Type 0) where
   abbrev pub Each : J → U → Type 0
-  Each j u = Works board (part_numbered trace segment (wj j)) (kj j) (au u).items (bu u) (ku u) × E j u
+  Each j u = Works board (part_numbered trace segment (wj j)) (kj j) (au u).answers.items (bu u) (ku u) × E j u
 
   abbrev pub seats : List J → List (ℕ × Known)
   seats js = map (λ (j : J). (wj j, kj j)) js
@@ -265,7 +262,7 @@ module _ {J U : Type 0} (board : Board) (trace : Trace) (segment : ℕ) (wj : J 
           let yes_it = all_in (λ (u : U). IsTrue (bu u)) us all_whole p.u p.out in
           let given = w.all yes_it in
           let a = ap length w.told.1 in
-          let b = length-append (answered (au p.u).items) w.told.0 in
+          let b = length-append (answered (au p.u).answers.items) w.told.0 in
           let d = ap length w.first.1 in
           let e = length-append w.done w.first.0 in
           let f = ap length given in

@@ -1,36 +1,32 @@
 -- A segment's run as a whole: from what was dealt, done and joined to what the run promises.
-use Rattle.std.proofs.Common.{◌≡◌, ◌≢◌, ℕ, zero, suc, ◌+◌, ◌-◌, ◌<◌, ◌≤◌, ◌⊎◌, inl, inr, Bool, true, false, IsTrue, List, [], ◌∷◌, ◌++◌, map, length, drop, filter, slice_get, Some, refl, sym, ap, ◌∙◌, subst, arith, append-nil, append_assoc, length-append}
+use Rattle.std.proofs.Common.{◌≡◌, ◌≢◌, ℕ, suc, ◌+◌, ◌-◌, ◌<◌, ◌≤◌, ◌⊎◌, inl, inr, Bool, true, false, IsTrue, List, [], ◌∷◌, ◌++◌, map, length, drop, filter, refl, sym, ap, ◌∙◌, subst, arith, append-nil, append_assoc, length-append}
 use Rattle.std.specs.Prelude.{◌||◌, nat_eq, replicate}
 use Rattle.std.specs.List.{All, AllZip}
-use Rattle.std.specs.declared.alloc.Global.{Global}
-use Rattle.std.specs.declared.vec.Vec.{Vec}
 use Rattle.std.proofs.lemmas.Bool.{cases_lt}
 use Rattle.std.proofs.lemmas.Bool.Decides.{nat_tests}
 use Rattle.circuit_model.specs.declared.circuit.Kind.{Kind}
-use Rattle.circuit_model.specs.FrameInput.{Input}
 use Rattle.exchange_core.specs.declared.answer.Answer.{Answer}
 use Rattle.exchange_core.specs.declared.tool.Tool.{Tool}
-use Rattle.exchange_core.specs.declared.trace.Event.TheVariants.{Frame}
 use Rattle.exchange_core.specs.declared.trace.Trace.{Trace}
-use Rattle.exchange_core.specs.Orders.{Worker, Processor, Frame_worker}
-use Rattle.exchange_core.specs.Seats.{Board, Known, Kept, Settled, StartsWith, IsFrame, NoFrames, entries_of, keeping, setting_at, turns_of, unseen, world_at}
+use Rattle.exchange_core.specs.Orders.{Worker, Frame_worker}
+use Rattle.exchange_core.specs.Seats.{Board, Known, Kept, Settled, StartsWith, IsFrame, NoFrames, entries_of, keeping, turns_of, unseen, world_at}
 use Rattle.exchange_core.specs.Sound.{IsSound}
 use Rattle.exchange_core.specs.Working.{Entry, order_of}
 use Rattle.exchange_core.specs.World.{Dimensions}
-use Rattle.call_processor.specs.declared.worked.Placed.{Placed}
+use Rattle.call_processor.specs.declared.worked.Workplace.{Workplace}
 use Rattle.call_processor.specs.Frames.{Carrying, Plays, IsReady}
 use Rattle.call_processor.specs.Parts.{does, is_its, is_worker, part_of}
-use Rattle.call_processor.specs.Work.{Works, answered, entries_for}
+use Rattle.call_processor.specs.Work.{Works, answered}
 use Rattle.call_processor.proofs.FrameSteps.{same_frames, still_carried}
 use Rattle.segment_run.specs.Nothing.{nothing}
 use Rattle.segment_run.specs.Segment.{AreAnswered, IsChief, IsOfSegment, Ran, RanWhole, grown}
 use Rattle.segment_run.specs.Segments.{events_before}
-use Rattle.segment_run.specs.Team.{AreDealt, HasDealt, IsWithin, all_of, any_baton, filled, joined_all, load, loads_below, part_numbered, turns_left, worker_numbered}
-use Rattle.segment_run.proofs.Lists.{In, all_in, in_all, in_either, in_filter, in_left, in_right, in_map, filter_none, none_behind, no_length}
-use Rattle.segment_run.proofs.Doers.{Doer, Dealt, Joined, dealt_in, alike, entries_split, found, is_itself, numbered_frames, numbered_processor, one_worker, its_of}
+use Rattle.segment_run.specs.Team.{AreDealt, HasDealt, IsRising, IsWithin, all_of, any_baton, filled, joined_all, load, loads_below, part_numbered, turns_left, worker_numbered}
+use Rattle.segment_run.proofs.Lists.{In, all_in, in_all, in_filter, in_left, in_right, in_map, filter_none, none_behind}
+use Rattle.segment_run.proofs.Doers.{Doer, Joined, dealt_in, alike, entries_split, found, numbered_frames, numbered_processor, one_worker, its_of}
 use Rattle.segment_run.proofs.Loads.{ends_are, loads_all}
-use Rattle.segment_run.proofs.Runs.{zip_and, zip_map, zip_right, sum_left, still_chief, ran, ran_whole, turns_are, grown_is, grew, ts, pair_of, joined, after as settled_after, doer, doers}
-use Rattle.segment_run.proofs.Answered.{Octets, all_within, are_answered, as_many, lists}
+use Rattle.segment_run.proofs.Runs.{zip_and, sum_left, still_chief, ran, ran_whole, turns_are, grown_is, grew, ts, pair_of, joined, after as settled_after, doer, doers}
+use Rattle.segment_run.proofs.Answered.{Octets, all_rising, all_within, are_answered, as_many, lists}
 
 -- ---- a run that did nothing
 
@@ -126,7 +122,7 @@ module _ (turns : ℕ) (trace : Trace) (segment : ℕ) (v k : Known) (rest : Lis
 
 -- ---- the whole run
 
-module _ {J U E : Type 0} (board : Board) (trace : Trace) (segment : ℕ) (wj : J → ℕ) (kj : J → Known) (ku : U → Known) (au : U → Vec Placed Global) (bu : U → Bool)
+module _ {J U E : Type 0} (board : Board) (trace : Trace) (segment : ℕ) (wj : J → ℕ) (kj : J → Known) (ku : U → Known) (au : U → Workplace) (bu : U → Bool)
     (plays : Plays) (tones : Kind → List ℕ) (carries : Carrying E) (next : E → ℕ) (sizes : E → Dimensions) where
   abbrev IsReadyAt : List Entry → E → Tool → Type 0
   IsReadyAt = IsReady carries next sizes board
@@ -135,7 +131,7 @@ module _ {J U E : Type 0} (board : Board) (trace : Trace) (segment : ℕ) (wj : 
   jobs_of js = map (λ (j : J). (wj j, kj j)) js
 
   abbrev Did_part : J → U → Type 0
-  Did_part j u = Works board (part_numbered trace segment (wj j)) (kj j) (au u).items (bu u) (ku u)
+  Did_part j u = Works board (part_numbered trace segment (wj j)) (kj j) (au u).answers.items (bu u) (ku u)
 
   abbrev Has_octets : J → U → Type 0
   Has_octets = Octets plays tones board trace segment wj kj ku au bu
@@ -265,7 +261,7 @@ module _ {J U E : Type 0} (board : Board) (trace : Trace) (segment : ℕ) (wj : 
         let w = y.0 in
         let given = ap length (w.all (whole 0 u (omega arith))) in
         let told = ap length w.told.1 in
-        let told_long = length-append (answered (au u).items) w.told.0 in
+        let told_long = length-append (answered (au u).answers.items) w.told.0 in
         let first = ap length w.first.1 in
         let first_long = length-append w.done w.first.0 in
         let turns = w.did.turns in
@@ -304,7 +300,7 @@ module _ {J U E : Type 0} (board : Board) (trace : Trace) (segment : ℕ) (wj : 
           let g = r.begun in
           omega (arith, a, b, d, f, g)
 
-      abbrev all_answers : List (Vec Placed Global)
+      abbrev all_answers : List (Workplace)
       all_answers = lists plays tones board trace segment wj kj ku au bu r.same v k us
 
       zipped : AllZip (λ j u. Did_part j u × Has_octets j u) js us
@@ -315,13 +311,17 @@ module _ {J U E : Type 0} (board : Board) (trace : Trace) (segment : ℕ) (wj : 
           all_within plays tones board trace segment wj kj ku au bu r.same v k growth it_grew it_grew_by (v.made + 1) 0 js us zipped r.dealt r.fronts
           lo count (low ∙ sym r.begun) (many ∙ sym run_size)
 
+      pub run_many : (count : ℕ) → count ≡ events_before trace.segments (segment + 1) - events_before trace.segments segment → length (all_of all_answers) ≡ count
+      run_many count many = as_many plays tones board trace segment wj kj ku au bu r.same v k (v.made + 1) 0 js us zipped r.dealt whole ∙ (sym size ∙ (run_size ∙ sym many))
+
+      pub run_rising : All IsRising all_answers
+      run_rising = all_rising plays tones board trace segment wj kj ku au bu r.same v k js us zipped
+
       pub run_answered : (lo count : ℕ) → lo ≡ events_before trace.segments segment → count ≡ events_before trace.segments (segment + 1) - events_before trace.segments segment
           → (m : List Answer) → m ≡ filled lo (all_of all_answers) (replicate count nothing) → AreAnswered plays tones board v k m
       run_answered lo count low many m is =
           are_answered plays tones board trace segment wj kj ku au bu r.same v k growth it_grew it_grew_by (v.made + 1) 0 js us zipped r.dealt r.fronts
-          lo count (low ∙ sym r.begun) (many ∙ sym run_size)
-          (as_many plays tones board trace segment wj kj ku au bu r.same v k (v.made + 1) 0 js us zipped r.dealt whole ∙ (sym size ∙ (run_size ∙ sym many)))
-          m is
+          lo count (low ∙ sym r.begun) (many ∙ sym run_size) (run_many count many) m is
 
 -- ---- before the workers start
 

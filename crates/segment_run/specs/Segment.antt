@@ -1,5 +1,5 @@
 -- What a run of a segment does, from what seat 0 knew before it to what it knows afterwards. Source: this exchange's own.
-use Rattle.std.specs.Prelude.{◌≡◌, ℕ, ◌+◌, ◌≤◌, IsTrue, List, ◌++◌, length, map, filter, slice_get, Some, All}
+use Rattle.std.specs.Prelude.{◌≡◌, ℕ, ◌+◌, ◌<◌, ◌≤◌, ◌^◌, IsTrue, List, ◌++◌, length, map, filter, slice_get, Some, All}
 use Rattle.circuit_model.specs.declared.circuit.Kind.{Kind}
 use Rattle.circuit_model.specs.FrameInput.{Input}
 use Rattle.exchange_core.specs.declared.answer.Answer.{Answer}
@@ -8,11 +8,15 @@ use Rattle.exchange_core.specs.declared.trace.Event.TheVariants.{Frame}
 use Rattle.exchange_core.specs.declared.trace.Trace.{Trace}
 use Rattle.exchange_core.specs.Kept.{kept}
 use Rattle.exchange_core.specs.Orders.{Worker, IsEvent, segment_of}
-use Rattle.exchange_core.specs.Seats.{Board, Known, Settled, StartsWith, AnswersAt, before, unseen, world_at}
+use Rattle.exchange_core.specs.Seats.{Board, Known, Settled, StartsWith, AnswersAt, before, turns_of, unseen, world_at}
 use Rattle.exchange_core.specs.Step.{MovesAtMost}
 use Rattle.exchange_core.specs.Working.{Entry, IsNumbered, order_of}
-use Rattle.call_processor.specs.Frames.{Plays, IsPlayed}
+use Rattle.exchange_core.specs.World.{Dimensions}
+use Rattle.tone_rules.specs.Tables.{table_of}
+use Rattle.call_processor.specs.Frames.{Carrying, Plays, IsPlayed, IsReady}
 use Rattle.call_processor.specs.Parts.{is_its, part_of}
+use Rattle.segment_run.specs.declared.answers.SegmentAnswer.{SegmentAnswer}
+use Rattle.segment_run.specs.Segments.{events_before}
 
 -- seat 0 between two segments: it holds the baton, all other seats are joined, and what it has seen is accounted for
 pub record IsChief (turns : ℕ) (v : Known) : Type 0 where
@@ -59,3 +63,18 @@ pub record IsAnswered (plays : Plays) (tones : Kind → List ℕ) (board : Board
 pub record AreAnswered (plays : Plays) (tones : Kind → List ℕ) (board : Board) (v w : Known) (answers : List Answer) : Type 0 where
   pub events : map (λ (a : Answer). a.event) answers ≡ grown v w
   pub each : (i : ℕ) (a : Answer) → slice_get answers i ≡ Some a → IsAnswered plays tones board w.seen (length v.seen + i) a
+
+-- the segment may be run: seat 0 knows v, holds the baton, has numbers left for the seats of the workers, and all events before were done
+pub record MayRun (board : Board) (trace : Trace) (segment : ℕ) (v : Known) : Type 0 where
+  pub trace_is : trace ≡ board.trace
+  pub within : segment < length trace.segments
+  pub chief : IsChief (turns_of board) v
+  pub numbers : v.made + 10 < 2 ^ 32
+  pub begun : length v.seen ≡ events_before trace.segments segment
+
+-- from v to w the segment was run whole, and this is its answer
+pub record IsAnswerOf {E : Type 0} (plays : Plays) (carries : Carrying E) (next : E → ℕ) (sizes : E → Dimensions) (board : Board) (trace : Trace) (segment : ℕ) (v w : Known) (a : SegmentAnswer E) : Type 0 where
+  pub whole : RanWhole trace segment v w
+  pub long : length w.seen ≡ events_before trace.segments (segment + 1)
+  pub answered : AreAnswered plays (table_of trace.tones) board v w a.answers.items
+  pub ready : IsReady carries next sizes board w.seen a.engine a.tool

@@ -1,12 +1,11 @@
 -- The workers of a segment, their seats and their answers. Source: this exchange's own.
-use Rattle.std.specs.Prelude.{◌≡◌, ◌≢◌, ℕ, zero, suc, ◌+◌, ◌-◌, ◌<◌, ◌≤◌, ◌||◌, nat_lt, Bool, false, IsTrue, if◌then◌else◌, List, [], ◌∷◌, ◌++◌, length, slice_set, slice_index, All}
-use Rattle.std.specs.declared.alloc.Global.{Global}
-use Rattle.std.specs.declared.vec.Vec.{Vec}
+use Rattle.std.specs.Prelude.{◌≡◌, ℕ, zero, suc, ◌+◌, ◌-◌, ◌<◌, ◌≤◌, ◌||◌, nat_lt, Bool, false, if◌then◌else◌, List, [], ◌∷◌, ◌++◌, length, slice_set, AllPairs}
 use Rattle.exchange_core.specs.declared.answer.Answer.{Answer}
 use Rattle.exchange_core.specs.declared.trace.Trace.{Trace}
 use Rattle.exchange_core.specs.Orders.{Worker, Processor, Frame_worker}
-use Rattle.exchange_core.specs.Seats.{Board, Known, joining}
+use Rattle.exchange_core.specs.Seats.{Known, joining}
 use Rattle.call_processor.specs.declared.worked.Placed.{Placed}
+use Rattle.call_processor.specs.declared.worked.Workplace.{Workplace}
 use Rattle.call_processor.specs.Parts.{part_of}
 
 -- the workers by number: the call processors by theirs, and behind them the frame worker
@@ -71,7 +70,11 @@ unfoldable pub filled : ℕ → List Placed → List Answer → List Answer
 filled lo [] xs = xs
 filled lo (p ∷ ps) xs = slice_set (filled lo ps xs) (p.place - lo) p.answer
 
--- the answers of all lists
-unfoldable pub all_of : List (Vec Placed Global) → List Placed
+-- the answers at all workplaces
+unfoldable pub all_of : List Workplace → List Placed
 all_of [] = []
-all_of (v ∷ vs) = v.items ++ all_of vs
+all_of (w ∷ ws) = w.answers.items ++ all_of ws
+
+-- each answer at the workplace stands behind the one before it in the history
+abbrev pub IsRising : Workplace → Type 0
+IsRising w = AllPairs (λ (p q : Placed). p.place < q.place) w.answers.items

@@ -1,20 +1,31 @@
-ghost use Rattle.std.specs.Prelude.{◌≡◌, ◌<◌, ◌≤◌, ◌+◌, ◌++◌, ◌∷◌, [], length, All, vec_len, vec_capacity};
+ghost use Rattle.std.specs.Prelude.{◌≡◌, ◌≤◌, ◌<◌, ◌+◌, ◌++◌, ◌∷◌, [], length, All, vec_len, vec_capacity};
 ghost use Rattle.std.specs.List.{AllZip};
 ghost use Rattle.std.specs.Thread.{IsSync};
 ghost use Rattle.exchange_core.specs.Orders.{Processor};
-ghost use Rattle.exchange_core.specs.Sound.{IsSound};
 ghost use Rattle.call_processor.specs.Parts.{part_of};
-ghost use Rattle.call_processor.specs.Work.{Works};
+ghost use Rattle.call_processor.specs.Work.{MayWork};
+ghost use Rattle.call_processor.specs.Workplaces.{HasWorked};
+ghost use Rattle.segment_run.specs.Jobs.{HasProcessed, IsThrough, MayProcess};
 
 use crate::dealing::Job;
-use call_processor::{Worked, process};
+use call_processor::{Finished, process_at};
 use exchange_core::{Switchboard, Trace};
 use gate::Gate;
 use std::alloc::Global;
 use std::sync::Wait;
 use std::thread::{Threads, join};
 
-/// The call processors with these jobs, all at once; the last of them to start is the caller.
+/// The workers of a segment.
+#[derive(Drop)]
+pub struct Crew<T> {
+    /// The jobs that nobody began yet.
+    pub jobs: Vec<Job<T>>,
+    /// What came of the others.
+    pub done: Vec<Finished<T>>,
+}
+
+/// The call processors with this job and those of the crew, all at once; the last of them to start is
+/// the caller. Hands back what came of them, in the order of the jobs.
 pub fn call_processors<B: Switchboard, G: Gate, R: Threads + Wait + Sync>(
     rt: &R,
     alloc: Global,
@@ -22,61 +33,60 @@ pub fn call_processors<B: Switchboard, G: Gate, R: Threads + Wait + Sync>(
     trace: &Trace,
     segment: u32,
     job: Job<B::Seat>,
-    jobs: Vec<Job<B::Seat>>,
+    crew: Crew<B::Seat>,
     gate: &G,
-    done: Vec<Worked<B::Seat>>,
-) -> Vec<Worked<B::Seat>>
-    requires trace { trace.now ≡ (B.board board.now).trace }
-    requires sound { IsSound trace.now }
-    requires segment { segment < length trace.now.segments }
-    requires seated { B.seated board.now job.seat × All (λ j. B.seated board.now j.seat) jobs.items }
-    requires numbers { (job.worker < trace.now.processors) × All (λ j. j.worker < trace.now.processors) jobs.items }
-    requires turn { length (part_of trace.now segment (Processor job.worker)) ≤ (B.known job.seat).left }
-    requires turns { All (λ j. length (part_of trace.now segment (Processor j.worker)) ≤ (B.known j.seat).left) jobs.items }
-    requires room { vec_len jobs + 1 ≤ vec_capacity done }
-    requires empty { done.items ≡ [] }
-    ensures room { vec_capacity done ≤ vec_capacity result }
-    ensures count { length result.items ≡ length jobs.items + 1 }
-    ensures seated { All (λ w. B.seated board.now w.seat) result.items }
-    ensures works { AllZip (λ j w. Works (B.board board.now) (part_of trace.now segment (Processor j.worker)) (B.known j.seat) w.answers.items w.whole (B.known w.seat)) (jobs.items ++ job ∷ []) result.items }
+) -> Crew<B::Seat>
+    requires seated { B.seated board.now job.seat × All (λ j. B.seated board.now j.seat) crew.jobs.items }
+    requires may { MayProcess B.known (B.board board.now) trace.now segment job }
+    requires all_may { All (MayProcess B.known (B.board board.now) trace.now segment) crew.jobs.items }
+    requires room { vec_len crew.jobs + 1 ≤ vec_capacity crew.done }
+    requires empty { crew.done.items ≡ [] }
+    ensures jobs { IsThrough crew result }
+    ensures room { vec_capacity crew.done ≤ vec_capacity result.done }
+    ensures count { length result.done.items ≡ length crew.jobs.items + 1 }
+    ensures seated { All (λ f. B.seated board.now f.seat) result.done.items }
+    ensures works { AllZip (HasProcessed B.known (B.board board.now) trace.now segment) (crew.jobs.items ++ job ∷ []) result.done.items }
 {
-    let mut jobs = jobs;
-    let Job { worker, seat } = job;
-    let Some(next) = jobs.pop() else {
-        let mut done = done;
-        done.push_reserved(process(rt, alloc, board, seat, trace, segment, worker, gate));
-        return done;
+    let mut crew = crew;
+    let Job {
+        worker,
+        seat,
+        workplace,
+    } = job;
+    let Some(next) = crew.jobs.pop() else {
+        crew.done.push_reserved(process_at(
+            rt, alloc, board, seat, trace, segment, worker, workplace, gate,
+        ));
+        return crew;
     };
     let (mine, rest) = join(
         rt,
-        move || -> Worked<B::Seat>
-            requires trace { trace.now ≡ (B.board board.now).trace }
-            requires sound { IsSound trace.now }
-            requires segment { segment < length trace.now.segments }
+        move || -> Finished<B::Seat>
             requires seated { B.seated board.now seat }
             requires number { worker < trace.now.processors }
-            requires turns { length (part_of trace.now segment (Processor worker)) ≤ (B.known seat).left }
+            requires may { MayWork (B.board board.now) trace.now segment (Processor worker) (B.known seat) }
             ensures seated { B.seated board.entry.now result.seat }
-            ensures works { Works (B.board board.entry.now) (part_of trace.entry.now segment (Processor worker)) (B.known seat) result.answers.items result.whole (B.known result.seat) }
-        { process(rt, alloc, board, seat, trace, segment, worker, gate) },
-        move || -> Vec<Worked<B::Seat>>
+            ensures works { HasWorked B.known (B.board board.entry.now) (part_of trace.entry.now segment (Processor worker)) (B.known seat) result }
+        {
+            process_at(
+                rt, alloc, board, seat, trace, segment, worker, workplace, gate,
+            )
+        },
+        move || -> Crew<B::Seat>
             requires threads { IsSync R.row }
-            requires trace { trace.now ≡ (B.board board.now).trace }
-            requires sound { IsSound trace.now }
-            requires segment { segment < length trace.now.segments }
-            requires seated { B.seated board.now next.seat × All (λ j. B.seated board.now j.seat) jobs.items }
-            requires numbers { (next.worker < trace.now.processors) × All (λ j. j.worker < trace.now.processors) jobs.items }
-            requires turn { length (part_of trace.now segment (Processor next.worker)) ≤ (B.known next.seat).left }
-            requires turns { All (λ j. length (part_of trace.now segment (Processor j.worker)) ≤ (B.known j.seat).left) jobs.items }
-            requires room { vec_len jobs + 2 ≤ vec_capacity done }
-            requires empty { done.items ≡ [] }
-            ensures room { vec_capacity done ≤ vec_capacity result }
-            ensures count { length result.items ≡ length jobs.items + 1 }
-            ensures seated { All (λ w. B.seated board.entry.now w.seat) result.items }
-            ensures works { AllZip (λ j w. Works (B.board board.entry.now) (part_of trace.entry.now segment (Processor j.worker)) (B.known j.seat) w.answers.items w.whole (B.known w.seat)) (jobs.items ++ next ∷ []) result.items }
-        { call_processors(rt, alloc, board, trace, segment, next, jobs, gate, done) },
+            requires seated { B.seated board.now next.seat × All (λ j. B.seated board.now j.seat) crew.jobs.items }
+            requires may { MayProcess B.known (B.board board.now) trace.now segment next }
+            requires all_may { All (MayProcess B.known (B.board board.now) trace.now segment) crew.jobs.items }
+            requires room { vec_len crew.jobs + 2 ≤ vec_capacity crew.done }
+            requires empty { crew.done.items ≡ [] }
+            ensures jobs { IsThrough crew result }
+            ensures room { vec_capacity crew.done ≤ vec_capacity result.done }
+            ensures count { length result.done.items ≡ length crew.jobs.items + 1 }
+            ensures seated { All (λ f. B.seated board.entry.now f.seat) result.done.items }
+            ensures works { AllZip (HasProcessed B.known (B.board board.entry.now) trace.entry.now segment) (crew.jobs.items ++ next ∷ []) result.done.items }
+        { call_processors(rt, alloc, board, trace, segment, next, crew, gate) },
     );
     let mut rest = rest;
-    rest.push_reserved(mine);
+    rest.done.push_reserved(mine);
     rest
 }

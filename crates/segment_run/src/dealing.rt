@@ -1,8 +1,10 @@
 ghost use Rattle.std.specs.Prelude.{◌≡◌, ◌≢◌, ℕ, ◌+◌, ◌<◌, ◌≤◌, ◌||◌, ◌^◌, [], IsTrue, length, map, slice_index, All, vec_capacity};
 ghost use Rattle.exchange_core.specs.Sound.{IsSound};
+ghost use Rattle.segment_run.specs.Jobs.{seats_of};
+ghost use Rattle.segment_run.specs.Rooms.{HasRoom};
 ghost use Rattle.segment_run.specs.Team.{AreDealt, HasDealt, any_baton, load, loads_below, turns_left};
 
-use call_processor::{numbers_of, processor_of};
+use call_processor::{Workplace, numbers_of, processor_of};
 use exchange_core::{Switchboard, Trace};
 
 /// A worker's number, and its seat. The call processors count from 0, and the frame worker comes
@@ -13,6 +15,8 @@ pub struct Job<T> {
     pub worker: u32,
     /// Its seat.
     pub seat: T,
+    /// Where it works.
+    pub workplace: Workplace,
 }
 
 /// How many events each worker has to do in a segment, by the worker's number.
@@ -32,8 +36,8 @@ pub fn loads_of(trace: &Trace, segment: u32) -> [u32; 9]
     loads
 }
 
-/// Splits a seat off for each worker that has events, with a turn for each of them. The frame
-/// worker's gets the baton.
+/// Splits a seat off for each worker that has events, with a turn for each of them, and lends it a
+/// workplace. The frame worker's seat gets the baton.
 pub fn deal<B: Switchboard>(
     board: &B,
     seat: &mut B::Seat,
@@ -41,6 +45,7 @@ pub fn deal<B: Switchboard>(
     segment: u32,
     loads: &[u32; 9],
     jobs: Vec<Job<B::Seat>>,
+    workplaces: &mut Vec<Workplace>,
 ) -> Vec<Job<B::Seat>>
     requires seated { B.seated board.now seat.old }
     requires few { trace.now.processors ≤ 8 }
@@ -48,25 +53,35 @@ pub fn deal<B: Switchboard>(
     requires numbers { (B.known seat.old).made + 10 < 2 ^ 32 }
     requires loads { (i : ℕ) → i ≤ trace.now.processors → slice_index loads.now i ≡ load trace.now segment i }
     requires turns { loads_below trace.now segment (trace.now.processors + 1) ≤ (B.known seat.old).left }
-    requires room { 9 ≤ vec_capacity jobs }
-    requires empty { jobs.items ≡ [] }
+    requires room { HasRoom jobs }
+    requires workplaces { length workplaces.old.items ≡ 9 }
     ensures seated { B.seated board.now seat.new × All (λ j. B.seated board.now j.seat) result.items }
     ensures few { length result.items ≤ 9 }
-    ensures dealt { AreDealt trace.now segment (B.known seat.old) ((B.known seat.old).made + 1) 0 (map (λ j. (j.worker, B.known j.seat)) result.items) }
+    ensures room { 9 ≤ vec_capacity result }
+    ensures lent { length workplaces.new.items + length result.items ≡ 9 }
+    ensures kept { vec_capacity workplaces.new ≡ vec_capacity workplaces.old }
+    ensures dealt { AreDealt trace.now segment (B.known seat.old) ((B.known seat.old).made + 1) 0 (seats_of B.known result.items) }
     ensures idle { (i : ℕ) → i ≤ trace.now.processors → All (λ j. j.worker ≢ i) result.items → load trace.now segment i ≡ 0 }
     ensures chief { HasDealt (B.known seat.old) (length result.items) (B.known seat.new) }
-    ensures baton { IsTrue ((B.known seat.new).baton || any_baton (map (λ j. (j.worker, B.known j.seat)) result.items)) }
+    ensures baton { IsTrue ((B.known seat.new).baton || any_baton (seats_of B.known result.items)) }
     ensures frames { All (λ j. j.worker ≡ trace.now.processors → IsTrue (B.known j.seat).baton) result.items }
-    ensures turns { (B.known seat.new).left + turns_left (map (λ j. (j.worker, B.known j.seat)) result.items) ≡ (B.known seat.old).left }
-    ensures all { turns_left (map (λ j. (j.worker, B.known j.seat)) result.items) ≡ loads_below trace.now segment (trace.now.processors + 1) }
+    ensures turns { (B.known seat.new).left + turns_left (seats_of B.known result.items) ≡ (B.known seat.old).left }
+    ensures all { turns_left (seats_of B.known result.items) ≡ loads_below trace.now segment (trace.now.processors + 1) }
 {
     let mut jobs = jobs;
     let processors = u32::from(trace.processors);
     for worker in 0..processors + 1 {
         let turns = loads[worker as usize];
         if turns > 0 {
+            let Some(workplace) = workplaces.pop() else {
+                unreachable!()
+            };
             let mine = board.split(seat, turns, worker == processors);
-            jobs.push_reserved(Job { worker, seat: mine });
+            jobs.push_reserved(Job {
+                worker,
+                seat: mine,
+                workplace,
+            });
         }
     }
     jobs

@@ -1,50 +1,50 @@
-ghost use Rattle.std.specs.Prelude.{◌≡◌, ◌<◌, ◌≤◌, ◌+◌, [], IsTrue, length, map, reverse, All, vec_len, vec_capacity};
+ghost use Rattle.std.specs.Prelude.{◌≡◌, ◌<◌, ◌≤◌, ◌+◌, ◌↔◌, [], IsTrue, length, map, reverse, All, vec_len, vec_capacity};
 ghost use Rattle.exchange_core.specs.Seats.{Settled, StartsWith, turns_of};
+ghost use Rattle.segment_run.specs.Rooms.{HasRoom};
 ghost use Rattle.segment_run.specs.Team.{joined_all};
 
-use call_processor::{Placed, Worked};
+use call_processor::{Finished, Workplace};
 use exchange_core::Switchboard;
 
 /// Whether all workers did their parts whole.
-pub fn all_whole<T>(workers: &[Worked<T>]) -> bool
-    ensures { IsTrue result → All (λ w. IsTrue w.whole) workers.now }
+pub fn all_whole<T>(workers: &[Finished<T>]) -> bool
+    ensures { IsTrue result ↔ All (λ f. IsTrue f.whole) workers.now }
 {
-    for worked in workers {
-        if !worked.whole {
+    for finished in workers {
+        if !finished.whole {
             return false;
         }
     }
     true
 }
 
-/// Joins the seats of all workers, the last first. Their lists of answers come in this order.
+/// Joins the seats of all workers, the last first. Their workplaces come in this order.
 pub fn gather<B: Switchboard>(
     board: &B,
     seat: &mut B::Seat,
-    workers: Vec<Worked<B::Seat>>,
-    lists: Vec<Vec<Placed>>,
-) -> Vec<Vec<Placed>>
-    requires seated { B.seated board.now seat.old × All (λ w. B.seated board.now w.seat) workers.items }
+    workers: &mut Vec<Finished<B::Seat>>,
+    used: &mut Vec<Workplace>,
+)
+    requires seated { B.seated board.now seat.old × All (λ f. B.seated board.now f.seat) workers.old.items }
     requires chief { (B.known seat.old).number ≡ 0 }
-    requires room { vec_len workers ≤ vec_capacity lists }
-    requires empty { lists.items ≡ [] }
+    requires few { length workers.old.items ≤ 9 }
+    requires room { HasRoom used.old }
     ensures seated { B.seated board.now seat.new }
-    ensures seat { B.known seat.new ≡ joined_all (B.known seat.old) (map (λ w. B.known w.seat) workers.items) }
-    ensures lists { result.items ≡ reverse (map (λ w. w.answers) workers.items) }
+    ensures seat { B.known seat.new ≡ joined_all (B.known seat.old) (map (λ f. B.known f.seat) workers.old.items) }
+    ensures workplaces { used.new.items ≡ reverse (map (λ f. f.workplace) workers.old.items) }
     ensures begins { StartsWith (B.known seat.new).seen (B.known seat.old).seen }
-    ensures fronts { All (λ w. StartsWith (B.known seat.new).seen (B.known w.seat).seen) workers.items }
-    ensures settled { 0 < length workers.items → Settled (turns_of (B.board board.now)) (B.known seat.new) }
+    ensures fronts { All (λ f. StartsWith (B.known seat.new).seen (B.known f.seat).seen) workers.old.items }
+    ensures settled { 0 < length workers.old.items → Settled (turns_of (B.board board.now)) (B.known seat.new) }
+    ensures gone { (workers.new.items ≡ []) × (vec_capacity workers.new ≡ vec_capacity workers.old) }
+    ensures kept { vec_capacity used.new ≡ vec_capacity used.old }
 {
-    let mut workers = workers;
-    let mut lists = lists;
-    while let Some(worked) = workers.pop() {
-        let Worked {
+    while let Some(finished) = workers.pop() {
+        let Finished {
             seat: other,
-            answers,
+            workplace,
             whole: _,
-        } = worked;
+        } = finished;
         board.join(seat, other);
-        lists.push_reserved(answers);
+        used.push_reserved(workplace);
     }
-    lists
 }

@@ -6,7 +6,8 @@
 //! where it is answered (`whole`); the answers are the exchange's at their places of the history, with
 //! the octets that the engine plays (`answered`); the engine carries the frames of the history
 //! (`ready`). Segments that are run one after another make a lawful order
-//! (`segments_make_lawful_orders`).
+//! (`segments_make_lawful_orders`). `run_segment_in` does the same in a `Workroom`, which keeps the desks
+//! and lists of the workers from one segment to the next.
 //!
 //! It stands on `circuit_model`, `tone_rules`, `frame_engine`, `exchange_core`, `gate` and
 //! `call_processor`.
@@ -20,7 +21,10 @@ mod laws;
 mod merge;
 mod run;
 mod team;
+mod working;
+mod workroom;
 
 pub use answers::SegmentAnswer;
 pub use laws::{first_seat_is_chief, segments_leave_room, segments_make_lawful_orders};
-pub use run::run_segment;
+pub use run::{run_segment, run_segment_in};
+pub use workroom::Workroom;

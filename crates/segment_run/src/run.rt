@@ -1,42 +1,20 @@
-ghost use Rattle.std.specs.Prelude.{◌≡◌, ◌+◌, ◌<◌, ◌≤◌, ◌^◌, [], IfOk, length, vec_capacity};
+ghost use Rattle.std.specs.Prelude.{◌≡◌, ◌+◌, ◌<◌, ◌≤◌, ◌^◌, IfOk, length};
 ghost use Rattle.exchange_core.specs.Seats.{turns_of};
 ghost use Rattle.tone_rules.specs.Tables.{table_of};
-ghost use Rattle.call_processor.specs.Frames.{IsReady, engine_dimensions};
-ghost use Rattle.segment_run.specs.Segment.{AreAnswered, IsChief, Ran, RanWhole};
+ghost use Rattle.call_processor.specs.Frames.{IsReady, IsReadyFor, engine_dimensions};
+ghost use Rattle.segment_run.specs.Segment.{AreAnswered, IsAnswerOf, IsChief, MayRun, Ran, RanWhole};
 ghost use Rattle.segment_run.specs.Segments.{events_before};
 
 use crate::answers::SegmentAnswer;
-use crate::dealing::{Job, deal, loads_of};
-use crate::gathering::{all_whole, gather};
 use crate::merge::merge;
-use crate::team::{Team, side_by_side};
-use call_processor::{Placed, Worked};
+use crate::working::{Gathered, work_all};
+use crate::workroom::Workroom;
 use exchange_core::{Switchboard, Tool, Trace};
 use frame_engine::Carrier;
 use gate::Gate;
 use std::alloc::{AllocError, Global};
 use std::sync::Wait;
 use std::thread::Threads;
-
-// What a segment's run fills: the jobs, what came of the workers, and their answers.
-#[derive(Drop)]
-struct Room<T> {
-    jobs: Vec<Job<T>>,
-    done: Vec<Worked<T>>,
-    lists: Vec<Vec<Placed>>,
-}
-
-// Room for eight call processors and the frame worker.
-fn room_for_all<T: Drop>(alloc: Global) -> Result<Room<T>, AllocError>
-    ensures jobs { IfOk result (λ r. (9 ≤ vec_capacity r.jobs) × (r.jobs.items ≡ [])) }
-    ensures done { IfOk result (λ r. (9 ≤ vec_capacity r.done) × (r.done.items ≡ [])) }
-    ensures lists { IfOk result (λ r. (9 ≤ vec_capacity r.lists) × (r.lists.items ≡ [])) }
-{
-    let jobs = Vec::with_capacity(alloc, 9)?;
-    let done = Vec::with_capacity(alloc, 9)?;
-    let lists = Vec::with_capacity(alloc, 9)?;
-    Ok(Room { jobs, done, lists })
-}
 
 // The numbers of the events before a segment and up to its end.
 fn ends_of(trace: &Trace, segment: u32) -> (u32, u32)
@@ -86,28 +64,68 @@ pub fn run_segment<B: Switchboard, G: Gate, C: Carrier, R: Threads + Wait + Sync
     ensures whole { IfOk result (λ a. RanWhole trace.now segment (B.known seat.old) (B.known seat.new)) }
     ensures turns { IfOk result (λ a. length (B.known seat.new).seen ≡ events_before trace.now.segments (segment + 1)) }
     ensures answered { IfOk result (λ a. AreAnswered C.plays (table_of trace.now.tones) (B.board board.now) (B.known seat.old) (B.known seat.new) a.answers.items) }
-    ensures ready { IfOk result (λ a. IsReady C.carries C.next (engine_dimensions C.external_lines C.bridge_lines C.depth) (B.board board.now) (B.known seat.new).seen a.engine a.tool) }
+    ensures ready { IfOk result (λ a. IsReadyFor C.carries C.next C.external_lines C.bridge_lines C.depth (B.board board.now) (B.known seat.new) a.engine a.tool) }
 {
-    let Room { jobs, done, lists } = room_for_all(alloc)?;
-    let loads = loads_of(trace, segment);
-    let jobs = deal(board, seat, trace, segment, &loads, jobs);
-    let Team {
-        workers,
+    let workroom = Workroom::new(alloc)?;
+    let (done, _) = run_segment_in(
+        rt, alloc, board, seat, trace, segment, engine, tool, workroom, gate,
+    )?;
+    Ok(done)
+}
+
+/// Runs one segment of a board's trace as [`run_segment`] does, in a workroom that is handed back for the
+/// next segment. Where one worker has all events, the answers alone take memory.
+///
+/// # Errors
+///
+/// [`AllocError`] for want of memory. What was done by then is in the history, and the workroom is gone.
+pub fn run_segment_in<B: Switchboard, G: Gate, C: Carrier, R: Threads + Wait + Sync>(
+    rt: &R,
+    alloc: Global,
+    board: &B,
+    seat: &mut B::Seat,
+    trace: &Trace,
+    segment: u32,
+    engine: C,
+    tool: Tool,
+    workroom: Workroom<B::Seat>,
+    gate: &G,
+) -> Result<(SegmentAnswer<C>, Workroom<B::Seat>), AllocError>
+    requires seated { B.seated board.now seat.old }
+    requires may { MayRun (B.board board.now) trace.now segment (B.known seat.old) }
+    requires ready { IsReadyFor C.carries C.next C.external_lines C.bridge_lines C.depth (B.board board.now) (B.known seat.old) engine tool }
+    ensures seated { B.seated board.now seat.new }
+    ensures chief { IsChief (turns_of (B.board board.now)) (B.known seat.new) }
+    ensures ran { Ran trace.now segment (B.known seat.old) (B.known seat.new) }
+    ensures answer { IfOk result (λ r. IsAnswerOf C.plays C.carries C.next (engine_dimensions C.external_lines C.bridge_lines C.depth) (B.board board.now)
+        trace.now segment (B.known seat.old) (B.known seat.new) r.0) }
+{
+    let gathered = work_all(
+        rt, alloc, board, seat, trace, segment, engine, tool, workroom, gate,
+    );
+    let Gathered {
+        mut workplaces,
+        mut used,
+        crew,
         engine,
         tool,
-    } = side_by_side(
-        rt, alloc, board, trace, segment, jobs, engine, tool, gate, done,
-    );
-    let whole = all_whole(workers.as_slice());
-    let lists = gather(board, seat, workers, lists);
+        whole,
+    } = gathered;
     if !whole {
         return Err(AllocError);
     }
     let (before, last) = ends_of(trace, segment);
-    let answers = merge(alloc, lists, before, (last - before) as usize)?;
-    Ok(SegmentAnswer {
+    let count = (last - before) as usize;
+    let answers = merge(alloc, &mut used, &mut workplaces, before, count)?;
+    let done = SegmentAnswer {
         answers,
         engine,
         tool,
-    })
+    };
+    let workroom = Workroom {
+        workplaces,
+        used,
+        crew,
+    };
+    Ok((done, workroom))
 }

@@ -50,7 +50,7 @@ returns-in_err-reserve-clause-octets g c =
 
 pub do_frame-requires-clause-known : goal.do_frame-requires-clause-known
 do_frame-requires-clause-known g c κs within =
-    subst (λ (t : Trace). IsEvent t c.loop-event.event) c.requires.trace (c.numbers_of-first.ensures.events c.loop-event.event c.loop-event.invariant.from c.loop-event-test.true)
+    subst (λ (t : Trace). IsEvent t c.loop-event.event) c.requires.may.trace_is (c.numbers_of-first.ensures.events c.loop-event.event c.loop-event.invariant.from c.loop-event-test.true)
 
 pub do_frame-requires-clause-turn : goal.do_frame-requires-clause-turn
 do_frame-requires-clause-turn g c κs within =
@@ -61,7 +61,7 @@ do_frame-requires-clause-turn g c κs within =
     let end = c.numbers_of-first.result.1 in
     turn_left part (up_to c.args.trace.now W first c.loop-event.event) (rest_from c.args.trace.now W (c.loop-event.event + 1) end) c.loop-event.event
     (g.B.Switchboard.known c.loop-event.seat).left (g.B.Switchboard.known c.args.seat.now).left
-    (front_next c.args.trace.now W part first c.loop-event.event end (c.numbers_of-first.ensures.parts W) c.loop-event.invariant.from c.loop-event-test.true its) c.requires.turns c.loop-event.invariant.going.did.turns
+    (front_next c.args.trace.now W part first c.loop-event.event end (c.numbers_of-first.ensures.parts W) c.loop-event.invariant.from c.loop-event-test.true its) c.requires.may.turns c.loop-event.invariant.going.did.turns
 
 pub returns-in_err-placed-clause-works : goal.returns-in_err-placed-clause-works
 returns-in_err-placed-clause-works g c =

@@ -13,11 +13,16 @@ use Rattle.exchange_top.proofs.Pending.{on_err}
 use Rattle.exchange_top.proofs.Tellings.{none_front}
 use Rattle.exchange_top.proofs.segments.report_segment.Goals as goal
 
-pub run_segment-requires-clause-numbers : goal.run_segment-requires-clause-numbers
-run_segment-requires-clause-numbers g c lifetimes outlive = numbers_left c.args.trace.now c.args.segment _ c.requires.sound c.requires.segment c.requires.numbers
-
-pub run_segment-requires-clause-turns : goal.run_segment-requires-clause-turns
-run_segment-requires-clause-turns g c lifetimes outlive = let within = c.requires.segment in seen_done c.args.trace.now c.args.segment (g.B.Switchboard.known c.args.seat.now) c.requires.sound (omega (arith, within)) c.requires.done
+pub run_segment_in-requires-clause-may : goal.run_segment_in-requires-clause-may
+run_segment_in-requires-clause-may g c lifetimes outlive =
+    let within = c.requires.segment in
+    record {
+      trace_is = c.requires.trace;
+      within = within;
+      chief = c.requires.chief;
+      numbers = numbers_left c.args.trace.now c.args.segment _ c.requires.sound within c.requires.numbers;
+      begun = seen_done c.args.trace.now c.args.segment (g.B.Switchboard.known c.args.seat.now) c.requires.sound (omega (arith, within)) c.requires.done;
+    }
 
 pub returns-in_err-done-clause-told_front : goal.returns-in_err-done-clause-told_front
 returns-in_err-done-clause-told_front g c = on_err c.from_residual.result (none_front _ _ _ _)
@@ -30,10 +35,10 @@ returns-in_err-tell-clause-told_front g c =
     let K = g.B.Switchboard.known in
     let board = g.B.Switchboard.board c.args.board.now in
     let v = K c.args.seat.now in
-    let w = K c.run_segment.new.seat in
-    let ran = c.run_segment.ensures.ran in
+    let w = K c.run_segment_in.new.seat in
+    let ran = c.run_segment_in.ensures.ran in
     let known = subst (λ (t : Trace). All (IsEvent t) (grown v w)) c.requires.trace (grown_known c.args.trace.now c.args.segment v w ran) in
-    let answered = subst (λ (t : Trace). AreAnswered g.C.Carrier.plays (table_of t.tones) board v w c.in_ok-done.done.answers.items) c.requires.trace c.in_ok-done.ensures.answered in
+    let answered = subst (λ (t : Trace). AreAnswered g.C.Carrier.plays (table_of t.tones) board v w c.in_ok-done.done.answers.items) c.requires.trace c.in_ok-done.ensures.answer.answered in
     on_err c.from_residual-in_err-tell.result
     (subst (AreToldFront _ _ c.args.meters.now.items c.tell.new.meters.items) (ap calls_answered c.as_slice-2.ensures.value ∙ calls_told_of g.C.Carrier.plays (table_of board.trace.tones) board v w c.in_ok-done.done.answers.items answered ran.begins known)
     c.in_err-tell.ensures.front)
@@ -43,10 +48,10 @@ returns-clause-lines g c =
     let K = g.B.Switchboard.known in
     let board = g.B.Switchboard.board c.args.board.now in
     let v = K c.args.seat.now in
-    let w = K c.run_segment.new.seat in
-    let ran = c.run_segment.ensures.ran in
+    let w = K c.run_segment_in.new.seat in
+    let ran = c.run_segment_in.ensures.ran in
     let known = subst (λ (t : Trace). All (IsEvent t) (grown v w)) c.requires.trace (grown_known c.args.trace.now c.args.segment v w ran) in
-    let answered = subst (λ (t : Trace). AreAnswered g.C.Carrier.plays (table_of t.tones) board v w c.in_ok-done.done.answers.items) c.requires.trace c.in_ok-done.ensures.answered in
+    let answered = subst (λ (t : Trace). AreAnswered g.C.Carrier.plays (table_of t.tones) board v w c.in_ok-done.done.answers.items) c.requires.trace c.in_ok-done.ensures.answer.answered in
     c.in_ok-append_answers.ensures.lines
     ∙ ap (λ (l : List _). c.args.out.now.items ++ listed c.args.listing l) (ap lines_of c.as_slice.ensures.value ∙ lines_told g.C.Carrier.plays (table_of board.trace.tones) board v w c.in_ok-done.done.answers.items answered ran.begins known)
 
@@ -55,10 +60,10 @@ returns-clause-few g c =
     let K = g.B.Switchboard.known in
     let board = g.B.Switchboard.board c.args.board.now in
     let v = K c.args.seat.now in
-    let w = K c.run_segment.new.seat in
-    let ran = c.run_segment.ensures.ran in
+    let w = K c.run_segment_in.new.seat in
+    let ran = c.run_segment_in.ensures.ran in
     let known = subst (λ (t : Trace). All (IsEvent t) (grown v w)) c.requires.trace (grown_known c.args.trace.now c.args.segment v w ran) in
-    let answered = subst (λ (t : Trace). AreAnswered g.C.Carrier.plays (table_of t.tones) board v w c.in_ok-done.done.answers.items) c.requires.trace c.in_ok-done.ensures.answered in
+    let answered = subst (λ (t : Trace). AreAnswered g.C.Carrier.plays (table_of t.tones) board v w c.in_ok-done.done.answers.items) c.requires.trace c.in_ok-done.ensures.answer.answered in
     few_told g.C.Carrier.plays (table_of board.trace.tones) board v w c.in_ok-done.done.answers.items answered ran.begins known
 
 pub returns-clause-told : goal.returns-clause-told
@@ -66,9 +71,9 @@ returns-clause-told g c =
     let K = g.B.Switchboard.known in
     let board = g.B.Switchboard.board c.args.board.now in
     let v = K c.args.seat.now in
-    let w = K c.run_segment.new.seat in
-    let ran = c.run_segment.ensures.ran in
+    let w = K c.run_segment_in.new.seat in
+    let ran = c.run_segment_in.ensures.ran in
     let known = subst (λ (t : Trace). All (IsEvent t) (grown v w)) c.requires.trace (grown_known c.args.trace.now c.args.segment v w ran) in
-    let answered = subst (λ (t : Trace). AreAnswered g.C.Carrier.plays (table_of t.tones) board v w c.in_ok-done.done.answers.items) c.requires.trace c.in_ok-done.ensures.answered in
+    let answered = subst (λ (t : Trace). AreAnswered g.C.Carrier.plays (table_of t.tones) board v w c.in_ok-done.done.answers.items) c.requires.trace c.in_ok-done.ensures.answer.answered in
     subst (AreTold _ _ c.args.meters.now.items c.tell.new.meters.items) (ap calls_answered c.as_slice-2.ensures.value ∙ calls_told_of g.C.Carrier.plays (table_of board.trace.tones) board v w c.in_ok-done.done.answers.items answered ran.begins known)
     c.in_ok-tell.ensures.told

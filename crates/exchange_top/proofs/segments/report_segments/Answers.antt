@@ -1,10 +1,11 @@
-use Rattle.std.proofs.Common.{◌≡◌, ◌+◌, ◌≤◌, List, length, ap, sym, ◌∙◌, arith, subst, refl}
+use Rattle.std.proofs.Common.{ℕ, ◌≡◌, ◌+◌, ◌≤◌, List, length, ap, sym, ◌∙◌, arith, subst, refl}
 use Rattle.exchange_core.specs.declared.trace.Trace.{Trace}
 use Rattle.exchange_core.specs.Sound.{IsSound}
 use Rattle.exchange_core.specs.Working.{order_of}
 use Rattle.segment_run.specs.Segment.{Ran, RanWhole}
 use Rattle.segment_run.proofs.Orders.{few_segments}
 use Rattle.std.specs.Io.KnownBytes.{Appends}
+use Rattle.ex_io.specs.Ends.{Rose}
 use Rattle.exchange_top.specs.Outcomes.{IsBegun, IsRunWhole, listed}
 use Rattle.exchange_top.specs.Report.{report}
 use Rattle.exchange_top.specs.Telling.{AreTold, AreToldFront}
@@ -108,3 +109,11 @@ returns-clause-text g c =
     let v = K c.loop-segment.seat in
     subst (λ (t : Trace). Appends (g.K.Sink.written c.args.sink.now) (g.K.Sink.written c.flush.new.sink) (listed c.args.listing (report g.C.Carrier.plays board.slots t (order_of v.seen)))) (sym c.requires.trace)
     (all_written g.C.Carrier.plays c.args.listing board c.loop-segment.segment v _ _ c.loop-segment.out.items c.loop-segment.invariant.underway _ c.in_ok-flush.ensures.whole)
+
+pub returns-in_err-flush_full-clause-cause : goal.returns-in_err-flush_full-clause-cause
+returns-in_err-flush_full-clause-cause g c = λ write.
+    subst (λ (n : ℕ). Rose n (g.K.Sink.faults c.flush_full.new.sink)) c.loop-segment.invariant.steady c.in_err-flush_full.ensures.cause
+
+pub returns-in_err-flush-clause-cause : goal.returns-in_err-flush-clause-cause
+returns-in_err-flush-clause-cause g c = λ write.
+    subst (λ (n : ℕ). Rose n (g.K.Sink.faults c.flush.new.sink)) c.loop-segment.invariant.steady c.in_err-flush.ensures.cause

@@ -7,14 +7,14 @@ use Rattle.std.proofs.lemmas.List.Elements.{All-push}
 use Rattle.exchange_core.specs.Seats.{Known}
 use Rattle.segment_run.specs.declared.dealing.Job.{Job}
 use Rattle.segment_run.proofs.Dealt.{Dealing, enough, none_dealt, none_yet, one_dealt}
-use Rattle.segment_run.proofs.dealing.deal.Goals.{then-turns-gt0, else-turns-gt0}
+use Rattle.segment_run.proofs.dealing.deal.Goals.{then-turns-gt0+in-Some, else-turns-gt0}
 use Rattle.segment_run.proofs.dealing.deal.Goals as goal
 
 pub loop-worker-init : goal.loop-worker-init
 loop-worker-init g c =
     let K = g.B.Switchboard.known in
     let S : Job _ → Type 0 = λ j. g.B.Switchboard.seated c.args.board.now j.seat in
-    let none = c.requires.empty in
+    let none = c.requires.room.1 in
     let d = none_yet (λ (j : Job _). j.worker) (λ (j : Job _). K j.seat) c.args.trace.now c.args.segment (K c.args.seat.now) c.args.jobs.items none c.requires.chief.1 in
     let long = ap length none in
     record {
@@ -30,7 +30,9 @@ loop-worker-init g c =
       frames = d.frames;
       turns = d.turns;
       all = d.all;
-      room = c.requires.room;
+      room = c.requires.room.0;
+      lent = let nine = c.requires.workplaces in omega (arith, long, nine);
+      kept = refl;
     }
 
 pub split-mine-requires-clause-turns : goal.split-mine-requires-clause-turns
@@ -72,8 +74,8 @@ loop-worker-preserved g c =
       all = inv.all;
     } in
     elim c.if-turns-gt0.branch [
-      | then-turns-gt0 w ↦
-          let j : Job _ = record { worker = i; seat = w.split-mine.result } in
+      | then-turns-gt0+in-Some w ↦
+          let j : Job _ = record { worker = i; seat = w.split-mine.result; workplace = w.in-Some.workplace } in
           let h = enough number known trace segment v i js (K c.loop-worker.seat) le inv.turns inv.all c.requires.turns in
           let d : Dealing number known trace segment v (i + 1) (js ++ j ∷ []) (K w.split-mine.new.seat) =
           one_dealt number known trace segment v i (slice_index_or c.args.loads.now i 0) (nat_eq i c.from-processors.result) js j (K c.loop-worker.seat) (K w.split-mine.new.seat) le is refl (omega (arith, h, is)) (ap (nat_eq i) last)
@@ -99,6 +101,8 @@ loop-worker-preserved g c =
             turns = a.turns;
             all = a.all;
             room = subst (λ (l : Vec (Job _) Global). 9 ≤ vec_capacity l) (sym w.jobs-is) (search rules);
+            lent = search rules;
+            kept = search rules;
           }
       | else-turns-gt0 w ↦
           let none = w.if-turns-gt0.false in
@@ -123,5 +127,7 @@ loop-worker-preserved g c =
             turns = a.turns;
             all = a.all;
             room = subst (λ (l : Vec (Job _) Global). 9 ≤ vec_capacity l) (sym w.jobs-is) inv.room;
+            lent = search rules;
+            kept = search rules;
           }
     ]

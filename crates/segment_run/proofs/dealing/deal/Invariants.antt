@@ -19,4 +19,6 @@ invariant-loop-worker g l = record {
   turns : (g.B.Switchboard.known l.seat).left + turns_left (map (λ j. (j.worker, g.B.Switchboard.known j.seat)) l.jobs.items) ≡ (g.B.Switchboard.known l.fn.seat).left;
   all : turns_left (map (λ j. (j.worker, g.B.Switchboard.known j.seat)) l.jobs.items) ≡ loads_below l.trace l.segment l.worker;
   room : 9 ≤ vec_capacity l.jobs;
+  lent : length l.workplaces.items + length l.jobs.items ≡ 9;
+  kept : vec_capacity l.workplaces ≡ vec_capacity l.fn.workplaces;
 }

@@ -1,7 +1,6 @@
-use Rattle.std.proofs.Common.{rules, ◌≡◌, ◌<◌, ◌≤◌, ◌+◌, ◌-◌, ℕ, length, List, slice_index_or, Some, None, sym, subst, ap, ◌∙◌, arith}
+use Rattle.std.proofs.Common.{rules, ◌≡◌, ◌<◌, ◌+◌, ◌-◌, length, List, slice_index_or, subst, ◌∙◌, arith}
 use Rattle.std.proofs.lemmas.List.{length-set}
 use Rattle.exchange_core.specs.declared.trace.Event.{Event}
-use Rattle.call_processor.proofs.Segments.{up_to}
 use Rattle.segment_run.specs.Team.{worker_numbered}
 use Rattle.segment_run.proofs.Lists.{got_read}
 use Rattle.segment_run.proofs.Counting.{up_to_few, number_is, counted_more}

@@ -1,8 +1,8 @@
 use Rattle.std.proofs.Common.{◌<◌, ℕ, IsTrue, slice_index_or}
-use Rattle.call_processor.specs.declared.worked.Worked.{Worked}
+use Rattle.call_processor.specs.declared.worked.Finished.{Finished}
 use Rattle.segment_run.proofs.gathering.all_whole.Given as goal
 
-abbrev pub invariant-loop-worked : goal.invariant-loop-worked
-invariant-loop-worked g l = record {
-  so_far : (k : ℕ) (d : Worked _) → k < l.worked-index → IsTrue (slice_index_or l.fn.workers k d).whole;
+abbrev pub invariant-loop-finished : goal.invariant-loop-finished
+invariant-loop-finished g l = record {
+  so_far : (k : ℕ) (d : Finished _) → k < l.finished-index → IsTrue (slice_index_or l.fn.workers k d).whole;
 }

@@ -6,18 +6,20 @@ use Rattle.exchange_core.specs.Working.{Entry}
 use Rattle.segment_run.specs.Team.{joined_all}
 use Rattle.segment_run.proofs.gathering.gather.Given as goal
 
-abbrev pub invariant-loop-worked : goal.invariant-loop-worked
-invariant-loop-worked g l = record {
+abbrev pub invariant-loop-finished : goal.invariant-loop-finished
+invariant-loop-finished g l = record {
   seated : g.B.Switchboard.seated l.board l.seat;
   others : All (λ w. g.B.Switchboard.seated l.board w.seat) l.workers.items;
   chief : (g.B.Switchboard.known l.seat).number ≡ 0;
-  room : vec_len l.lists + vec_len l.workers ≤ vec_capacity l.lists;
+  room : vec_len l.used + vec_len l.workers ≤ vec_capacity l.used;
+  kept : vec_capacity l.used ≡ vec_capacity l.fn.used;
+  capacity : vec_capacity l.workers ≡ vec_capacity l.fn.workers;
   seat : joined_all (g.B.Switchboard.known l.seat) (map (λ w. g.B.Switchboard.known w.seat) l.workers.items) ≡ joined_all (g.B.Switchboard.known l.fn.seat) (map (λ w. g.B.Switchboard.known w.seat) l.fn.workers.items);
-  lists : l.lists.items ++ reverse (map (λ w. w.answers) l.workers.items) ≡ reverse (map (λ w. w.answers) l.fn.workers.items);
+  workplaces : l.used.items ++ reverse (map (λ w. w.workplace) l.workers.items) ≡ reverse (map (λ w. w.workplace) l.fn.workers.items);
   fronts : (history : List Entry) → StartsWith history (g.B.Switchboard.known l.seat).seen → All (λ w. StartsWith history (g.B.Switchboard.known w.seat).seen) l.workers.items → All (λ w. StartsWith history (g.B.Switchboard.known w.seat).seen) l.fn.workers.items;
   settled : length l.workers.items < length l.fn.workers.items → Settled (turns_of (g.B.Switchboard.board l.board)) (g.B.Switchboard.known l.seat);
   begins : StartsWith (g.B.Switchboard.known l.seat).seen (g.B.Switchboard.known l.fn.seat).seen;
 }
 
-abbrev pub decreases-loop-worked : goal.decreases-loop-worked
-decreases-loop-worked g l = vec_len l.workers
+abbrev pub decreases-loop-finished : goal.decreases-loop-finished
+decreases-loop-finished g l = vec_len l.workers

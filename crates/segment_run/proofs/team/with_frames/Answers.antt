@@ -1,10 +1,9 @@
-use Rattle.std.proofs.Common.{rules, subst, ◌<◌, ◌≤◌, length}
+use Rattle.std.proofs.Common.{rules, subst}
 use Rattle.std.specs.List.{All}
 use denote.Exit.{no}
 use denote.Param.Send.{param_send, param_sync, arg_send, arg_sync}
-use Rattle.exchange_core.specs.Orders.{Processor}
-use Rattle.call_processor.specs.Parts.{part_of}
 use Rattle.segment_run.specs.declared.dealing.Job.{Job}
+use Rattle.segment_run.specs.Jobs.{MayProcess}
 use Rattle.segment_run.proofs.Lists.{all_front, all_last}
 use Rattle.segment_run.proofs.team.with_frames.Goals as goal
 
@@ -14,38 +13,26 @@ join-requires-after_bounds g c lifetimes outlive =
     let next = c.in-Some.next in
     let items = c.in-Some.ensures.items in
     let S : Job _ → Type 0 = λ j. g.B.Switchboard.seated c.args.board.now j.seat in
-    let N : Job _ → Type 0 = λ j. j.worker < c.args.trace.now.processors in
-    let T : Job _ → Type 0 = λ j. length (part_of c.args.trace.now c.args.segment (Processor j.worker)) ≤ (g.B.Switchboard.known j.seat).left in
-    let seated_one : g.B.Switchboard.seated c.args.board.now next.seat = all_last S ps next (subst (All S) items c.requires.seated.1) in
-    let seated_all : All (λ j. g.B.Switchboard.seated c.args.board.now j.seat) ps = all_front S ps next (subst (All S) items c.requires.seated.1) in
-    let number_one : next.worker < c.args.trace.now.processors = all_last N ps next (subst (All N) items c.requires.numbers) in
-    let number_all : All (λ j. j.worker < c.args.trace.now.processors) ps = all_front N ps next (subst (All N) items c.requires.numbers) in
-    let turn_one : length (part_of c.args.trace.now c.args.segment (Processor next.worker)) ≤ (g.B.Switchboard.known next.seat).left = all_last T ps next (subst (All T) items c.requires.turns) in
-    let turn_all : All (λ j. length (part_of c.args.trace.now c.args.segment (Processor j.worker)) ≤ (g.B.Switchboard.known j.seat).left) ps = all_front T ps next (subst (All T) items c.requires.turns) in
+    let M : Job _ → Type 0 = MayProcess g.B.Switchboard.known (g.B.Switchboard.board c.args.board.now) c.args.trace.now c.args.segment in
+    let seated_one : S next = all_last S ps next (subst (All S) items c.requires.seated.1) in
+    let seated_all : All S ps = all_front S ps next (subst (All S) items c.requires.seated.1) in
+    let may_one : M next = all_last M ps next (subst (All M) items c.requires.all_may) in
+    let may_all : All M ps = all_front M ps next (subst (All M) items c.requires.all_may) in
     let bounds = c.type_bounds in (
       (
-        c.requires.trace,
+        c.requires.seated.0,
         (
-          c.requires.sound,
+          c.requires.frames,
           (
-            c.requires.segment,
+            c.requires.baton,
             (
-              c.requires.seated.0,
+              c.requires.ready,
               (
-                c.requires.frames,
-                (
-                  c.requires.baton,
-                  (
-                    c.requires.ready,
-                    (
-                      param_send _ _ (arg_send _ no _ bounds.send-C),
-                      param_send _ _ (arg_send _ no _ bounds.send-B-Seat),
-                      param_sync _ _ (arg_sync _ no _ bounds.sync-B),
-                      param_sync _ _ (arg_sync _ no _ bounds.sync-G),
-                      param_sync _ _ (arg_sync _ no _ bounds.sync-R),
-                    ),
-                  ),
-                ),
+                param_send _ _ (arg_send _ no _ bounds.send-C),
+                param_send _ _ (arg_send _ no _ bounds.send-B-Seat),
+                param_sync _ _ (arg_sync _ no _ bounds.sync-B),
+                param_sync _ _ (arg_sync _ no _ bounds.sync-G),
+                param_sync _ _ (arg_sync _ no _ bounds.sync-R),
               ),
             ),
           ),
@@ -54,32 +41,20 @@ join-requires-after_bounds g c lifetimes outlive =
       (
         param_sync _ _ (arg_sync _ no _ bounds.sync-R),
         (
-          c.requires.trace,
+          (seated_one, seated_all),
           (
-            c.requires.sound,
+            may_one,
             (
-              c.requires.segment,
+              may_all,
               (
-                (seated_one, seated_all),
+                search rules,
                 (
-                  (number_one, number_all),
+                  c.requires.empty,
                   (
-                    turn_one,
-                    (
-                      turn_all,
-                      (
-                        search rules,
-                        (
-                          c.requires.empty,
-                          (
-                            param_send _ _ (arg_send _ no _ bounds.send-B-Seat),
-                            param_sync _ _ (arg_sync _ no _ bounds.sync-B),
-                            param_sync _ _ (arg_sync _ no _ bounds.sync-G),
-                            param_sync _ _ (arg_sync _ no _ bounds.sync-R),
-                          ),
-                        ),
-                      ),
-                    ),
+                    param_send _ _ (arg_send _ no _ bounds.send-B-Seat),
+                    param_sync _ _ (arg_sync _ no _ bounds.sync-B),
+                    param_sync _ _ (arg_sync _ no _ bounds.sync-G),
+                    param_sync _ _ (arg_sync _ no _ bounds.sync-R),
                   ),
                 ),
               ),

@@ -4,7 +4,7 @@ use Rattle.exchange_core.specs.declared.tool.Tool.TheVariants.{Nothing}
 use Rattle.exchange_core.specs.Orders.{Processor}
 use Rattle.call_processor.specs.Parts.{is_its}
 use Rattle.call_processor.proofs.Done.{Going}
-use Rattle.call_processor.proofs.processing.process.Given as goal
+use Rattle.call_processor.proofs.processing.do_events.Given as goal
 
 abbrev pub invariant-loop-event : goal.invariant-loop-event
 invariant-loop-event g l = record {

@@ -1,0 +1,51 @@
+-- The jobs of a segment's workers, and what came of them. Source: this exchange's own.
+use Rattle.std.specs.Prelude.{◌≡◌, ℕ, ◌<◌, List, [], map, All, vec_capacity}
+use Rattle.std.specs.List.{AllZip}
+use Rattle.circuit_model.specs.declared.circuit.Kind.{Kind}
+use Rattle.exchange_core.specs.declared.tool.Tool.{Tool}
+use Rattle.exchange_core.specs.declared.trace.Trace.{Trace}
+use Rattle.exchange_core.specs.Orders.{Processor}
+use Rattle.exchange_core.specs.Seats.{Board, Known}
+use Rattle.exchange_core.specs.World.{Dimensions}
+use Rattle.call_processor.specs.declared.worked.Finished.{Finished}
+use Rattle.call_processor.specs.Frames.{Carrying, Plays, IsReady}
+use Rattle.call_processor.specs.Parts.{part_of}
+use Rattle.call_processor.specs.Work.{MayWork}
+use Rattle.call_processor.specs.Workplaces.{HasFrames, HasWorked}
+use Rattle.segment_run.specs.declared.crew.Crew.{Crew}
+use Rattle.segment_run.specs.declared.dealing.Job.{Job}
+use Rattle.segment_run.specs.declared.team.Team.{Team}
+use Rattle.segment_run.specs.Team.{part_numbered}
+
+-- the call processor with this job may do its part
+abbrev pub MayProcess : {T : Type 0} → (T → Known) → Board → Trace → ℕ → Job T → Type 0
+MayProcess known board trace segment j = (j.worker < trace.processors) × MayWork board trace segment (Processor j.worker) (known j.seat)
+
+-- the call processor with this job did its part
+abbrev pub HasProcessed : {T : Type 0} → (T → Known) → Board → Trace → ℕ → Job T → Finished T → Type 0
+HasProcessed known board trace segment j f = HasWorked known board (part_of trace segment (Processor j.worker)) (known j.seat) f
+
+-- the worker with this job, be it a call processor or the frame worker, did its part
+abbrev pub HasDone : {T : Type 0} → (T → Known) → Board → Trace → ℕ → Job T → Finished T → Type 0
+HasDone known board trace segment j f = HasWorked known board (part_numbered trace segment j.worker) (known j.seat) f
+
+-- where it is the frame worker, its answers have the octets that the engine plays
+abbrev pub HasPlayed : {T : Type 0} → Plays → (Kind → List ℕ) → (T → Known) → Board → Trace → Job T → Finished T → Type 0
+HasPlayed plays tones known board trace j f = j.worker ≡ trace.processors → HasFrames plays tones known board f
+
+-- no job is left, and the list has the room that it had
+abbrev pub IsThrough : {T : Type 0} → Crew T → Crew T → Type 0
+IsThrough before after = (after.jobs.items ≡ []) × (vec_capacity after.jobs ≡ vec_capacity before.jobs)
+
+-- whichever of these jobs is the frame worker's, the engine and the tool are ready for its next frame
+abbrev pub AreReady : {T E : Type 0} → Carrying E → (E → ℕ) → (E → Dimensions) → (T → Known) → Board → E → Tool → List (Job T) → Type 0
+AreReady carries next sizes known board engine tool jobs = All (λ j. IsReady carries next sizes board (known j.seat).seen engine tool) jobs
+
+-- and so once it is done
+abbrev pub StayReady : {T E : Type 0} → Carrying E → (E → ℕ) → (E → Dimensions) → (T → Known) → Board → Trace → List (Job T) → Team T E → Type 0
+StayReady carries next sizes known board trace jobs team =
+    AllZip (λ j f. j.worker ≡ trace.processors → IsReady carries next sizes board (known f.seat).seen team.engine team.tool) jobs team.crew.done.items
+
+-- the workers' numbers, with what their seats know
+abbrev pub seats_of : {T : Type 0} → (T → Known) → List (Job T) → List (ℕ × Known)
+seats_of known jobs = map (λ j. (j.worker, known j.seat)) jobs

@@ -1,0 +1,93 @@
+ghost use Rattle.std.specs.Prelude.{◌≡◌, IsTrue};
+ghost use Rattle.exchange_core.specs.Seats.{turns_of};
+ghost use Rattle.call_processor.specs.Frames.{IsReadyFor, engine_dimensions};
+ghost use Rattle.segment_run.specs.Gathered.{AllDone, IsComplete};
+ghost use Rattle.segment_run.specs.Segment.{IsChief, MayRun, Ran};
+
+use crate::crew::Crew;
+use crate::dealing::{deal, loads_of};
+use crate::gathering::{all_whole, gather};
+use crate::team::{Team, side_by_side};
+use crate::workroom::Workroom;
+use call_processor::Workplace;
+use exchange_core::{Switchboard, Tool, Trace};
+use frame_engine::Carrier;
+use gate::Gate;
+use std::alloc::Global;
+use std::sync::Wait;
+use std::thread::Threads;
+
+/// What came of all workers of a segment, once their seats are joined.
+#[derive(Drop)]
+pub struct Gathered<T, C> {
+    /// The workplaces that nobody worked at.
+    pub workplaces: Vec<Workplace>,
+    /// Those where the answers lie.
+    pub used: Vec<Workplace>,
+    /// No job and no worker any more.
+    pub crew: Crew<T>,
+    /// The engine.
+    pub engine: C,
+    /// The control memory for the next frame.
+    pub tool: Tool,
+    /// Whether all parts were done and answered. False only for want of memory.
+    pub whole: bool,
+}
+
+/// Has the events of one segment done by its workers, all at once, and joins their seats again.
+pub fn work_all<B: Switchboard, G: Gate, C: Carrier, R: Threads + Wait + Sync>(
+    rt: &R,
+    alloc: Global,
+    board: &B,
+    seat: &mut B::Seat,
+    trace: &Trace,
+    segment: u32,
+    engine: C,
+    tool: Tool,
+    workroom: Workroom<B::Seat>,
+    gate: &G,
+) -> Gathered<B::Seat, C>
+    requires seated { B.seated board.now seat.old }
+    requires may { MayRun (B.board board.now) trace.now segment (B.known seat.old) }
+    requires ready { IsReadyFor C.carries C.next C.external_lines C.bridge_lines C.depth (B.board board.now) (B.known seat.old) engine tool }
+    ensures seated { B.seated board.now seat.new }
+    ensures chief { IsChief (turns_of (B.board board.now)) (B.known seat.new) }
+    ensures ran { Ran trace.now segment (B.known seat.old) (B.known seat.new) }
+    ensures complete { IsComplete result }
+    ensures done { IsTrue result.whole → AllDone C.plays C.carries C.next (engine_dimensions C.external_lines C.bridge_lines C.depth) (B.board board.now)
+        trace.now segment (B.known seat.old) (B.known seat.new) result }
+{
+    let Workroom {
+        mut workplaces,
+        mut used,
+        crew,
+    } = workroom;
+    let Crew { jobs, done } = crew;
+    let loads = loads_of(trace, segment);
+    let jobs = deal(board, seat, trace, segment, &loads, jobs, &mut workplaces);
+    let Team {
+        mut crew,
+        engine,
+        tool,
+    } = side_by_side(
+        rt,
+        alloc,
+        board,
+        trace,
+        segment,
+        Crew { jobs, done },
+        engine,
+        tool,
+        gate,
+    );
+    let whole = all_whole(crew.done.as_slice());
+    gather(board, seat, &mut crew.done, &mut used);
+    Gathered {
+        workplaces,
+        used,
+        crew,
+        engine,
+        tool,
+        whole,
+    }
+}
