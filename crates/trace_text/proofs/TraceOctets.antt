@@ -21,7 +21,7 @@ pub in_range : (low high n : ℕ) → between low high n ≡ true → (low ≤ n
 in_range low high n h = grind (arith, nat_tests)
 
 -- a property of a digit's value, shown for each kind of digit
-by_kind : (octet : ℕ) (P : ℕ → Type 0) → (48 ≤ octet → octet ≤ 57 → P (octet - 48)) → (65 ≤ octet → octet ≤ 70 → P (octet - 55))
+pub by_kind : (octet : ℕ) (P : ℕ → Type 0) → (48 ≤ octet → octet ≤ 57 → P (octet - 48)) → (65 ≤ octet → octet ≤ 70 → P (octet - 55))
     → (97 ≤ octet → octet ≤ 102 → P (octet - 87)) → IfSome (digit_value octet) P
 by_kind octet P numeral upper lower =
     let Q : Option ℕ → Type 0 = λ o. IfSome o P in

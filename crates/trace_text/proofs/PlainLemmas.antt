@@ -1,0 +1,197 @@
+-- Lines as most are written, against the definitions of words and numerals.
+use Rattle.std.proofs.Common.{◌≡◌, ◌≢◌, ℕ, zero, suc, ◌+◌, ◌*◌, ◌-◌, ◌%◌, ◌<◌, ◌≤◌, Bool, true, false, ◌&&◌, eqb, List, [], ◌∷◌, ◌++◌, length, get_or, set, take, drop, Option, Some, None, is_some, Ok, refl, sym, ap, ◌∙◌, arith, append_assoc, length-append, length-take, length-drop}
+use Rattle.std.specs.Prelude.{not, filter, position, IfSome}
+use Rattle.std.specs.List.{list_all, slice_split, prefix_len}
+use Rattle.std.specs.Char.{is_ascii_digit}
+use Rattle.std.proofs.lemmas.Bool.{eq-eqb, ne_eqb, eqb-true, lt-ltb}
+use Rattle.std.proofs.lemmas.Bool.Decides.{nat_tests}
+use Rattle.std.proofs.lemmas.List.{append-nil, take_all, take-append-drop, take_at, drop_at, drop-drop, length-take-le}
+use Rattle.std.proofs.lemmas.List.Folds.{list_all-append}
+use Rattle.circuit_model.specs.FrameInput.{Input}
+use Rattle.trace_text.specs.TraceWords.{words, cut_at, numeral, is_octet, is_empty, is_printable}
+use Rattle.trace_text.specs.TraceFields.{digit_value, is_digit, octets_written, thirty, external_line}
+use Rattle.trace_text.specs.TraceLines.{frame, reads, SoFar}
+use Rattle.trace_text.specs.TracePlain.{ends_word, NumberAt, PartAt, TakesPart, GivesPlainly}
+use Rattle.exchange_core.specs.declared.trace.Event.{Event}
+use Rattle.trace_text.specs.declared.said.Sizes.{Sizes}
+use Rattle.trace_text.specs.declared.said.Said.TheVariants as Said
+use Rattle.trace_text.proofs.TraceOctets.{by_kind, all_digits}
+use Rattle.trace_text.proofs.TraceParts.{part_given, reads_by_kind}
+
+pub and_both : (a b : Bool) → (a && b) ≡ true → (a ≡ true) × (b ≡ true)
+and_both true true h = (refl, refl)
+and_both true false h = absurd cc
+and_both false b h = absurd cc
+
+pub weaker : (p q : ℕ → Bool) → ((x : ℕ) → p x ≡ true → q x ≡ true) → (xs : List ℕ) → list_all p xs ≡ true → list_all q xs ≡ true
+weaker p q f [] h = refl
+weaker p q f (x ∷ xs) h = let both = and_both (p x) (list_all p xs) h in rw (f x both.0, weaker p q f xs both.1) refl
+
+-- the octet is another one
+abbrev pub is_other : ℕ → ℕ → Bool
+is_other mark octet = not (eqb octet mark)
+
+other : (mark x : ℕ) → x ≢ mark → is_other mark x ≡ true
+other mark x h = rw (ne_eqb x mark h) refl
+
+not_true : (b : Bool) → not b ≡ true → b ≡ false
+not_true true h = absurd cc
+not_true false h = refl
+
+-- ---- digits
+
+decimal_seen : (x : ℕ) → is_ascii_digit x ≡ true → (48 ≤ x) × (x ≤ 57)
+decimal_seen x h = grind (arith, nat_tests)
+
+held : (o : Option ℕ) (P : Type 0) → IfSome o (λ v. P) → is_some o ≡ true → P
+held None P p h = absurd cc
+held (Some v) P p h = p
+
+hex_seen : (x : ℕ) → is_digit x ≡ true → (48 ≤ x) × (x ≤ 102)
+hex_seen x h =
+    held (digit_value x) ((48 ≤ x) × (x ≤ 102)) (by_kind x (λ v. (48 ≤ x) × (x ≤ 102)) (λ l h. (omega arith, omega arith)) (λ l h. (omega arith, omega arith)) (λ l h. (omega arith, omega arith))) h
+
+printable : (x : ℕ) → 32 ≤ x → x ≤ 126 → is_printable x ≡ true
+printable x low high = grind (arith, nat_tests)
+
+-- decimal digits are none of the marks between words and fields
+pub decimal_other : (mark : ℕ) → mark < 48 → (xs : List ℕ) → list_all is_ascii_digit xs ≡ true → list_all (is_other mark) xs ≡ true
+decimal_other mark below = weaker is_ascii_digit (is_other mark) (λ x h. let seen = decimal_seen x h in other mark x (λ e. omega (arith, seen, e)))
+
+pub decimal_other_above : (mark : ℕ) → 57 < mark → (xs : List ℕ) → list_all is_ascii_digit xs ≡ true → list_all (is_other mark) xs ≡ true
+decimal_other_above mark above = weaker is_ascii_digit (is_other mark) (λ x h. let seen = decimal_seen x h in other mark x (λ e. omega (arith, seen, e)))
+
+pub decimal_text : (xs : List ℕ) → list_all is_ascii_digit xs ≡ true → list_all is_printable xs ≡ true
+decimal_text = weaker is_ascii_digit is_printable (λ x h. let seen = decimal_seen x h in printable x (omega (arith, seen)) (omega (arith, seen)))
+
+pub hex_other : (mark : ℕ) → mark < 48 → (xs : List ℕ) → list_all is_digit xs ≡ true → list_all (is_other mark) xs ≡ true
+hex_other mark below = weaker is_digit (is_other mark) (λ x h. let seen = hex_seen x h in other mark x (λ e. omega (arith, seen, e)))
+
+pub hex_text : (xs : List ℕ) → list_all is_digit xs ≡ true → list_all is_printable xs ≡ true
+hex_text = weaker is_digit is_printable (λ x h. let seen = hex_seen x h in printable x (omega (arith, seen)) (omega (arith, seen)))
+
+-- ---- words
+
+split_front : (word others : List ℕ) → list_all (is_other 32) word ≡ true → slice_split (is_octet 32) (word ++ 32 ∷ others) ≡ word ∷ slice_split (is_octet 32) others
+split_front [] others h = refl
+split_front (x ∷ xs) others h =
+    let both = and_both (is_other 32 x) (list_all (is_other 32) xs) h in
+    let e : eqb x 32 ≡ false = not_true (eqb x 32) both.0 in
+    rw (e, split_front xs others both.1) refl
+
+split_alone : (word : List ℕ) → list_all (is_other 32) word ≡ true → slice_split (is_octet 32) word ≡ word ∷ []
+split_alone [] h = refl
+split_alone (x ∷ xs) h =
+    let both = and_both (is_other 32 x) (list_all (is_other 32) xs) h in
+    let e : eqb x 32 ≡ false = not_true (eqb x 32) both.0 in
+    rw (e, split_alone xs both.1) refl
+
+-- a word that ends where the others begin
+pub words_front : (word others : List ℕ) → 0 < length word → list_all (is_other 32) word ≡ true → ends_word others ≡ true → words (word ++ others) ≡ word ∷ words others
+words_front [] others some h ends = absurd (omega arith)
+words_front (x ∷ xs) [] some h ends =
+    ap words (append-nil (x ∷ xs)) ∙ ap (λ runs. filter (λ run. not (is_empty run)) runs) (split_alone (x ∷ xs) h)
+words_front (x ∷ xs) (y ∷ ys) some h ends =
+    let space : y ≡ 32 = eqb-true y 32 ends in
+    rw space (ap (λ runs. filter (λ run. not (is_empty run)) runs) (split_front (x ∷ xs) ys h))
+
+-- ---- the mark within a word
+
+mark_found : (mark : ℕ) (front tail : List ℕ) → list_all (is_other mark) front ≡ true → prefix_len (λ x. not (is_octet mark x)) (front ++ mark ∷ tail) ≡ length front
+mark_found mark [] tail h = let e : eqb mark mark ≡ true = eq-eqb mark mark refl in rw e refl
+mark_found mark (x ∷ xs) tail h =
+    let both = and_both (is_other mark x) (list_all (is_other mark) xs) h in
+    let e : eqb x mark ≡ false = not_true (eqb x mark) both.0 in
+    rw (e, mark_found mark xs tail both.1) (omega arith)
+
+pub cut_front : (mark : ℕ) (front tail : List ℕ) → list_all (is_other mark) front ≡ true → cut_at mark (front ++ mark ∷ tail) ≡ Some (front, tail)
+cut_front mark front tail h =
+    let whole = front ++ mark ∷ tail in
+    let first = take_at front (mark ∷ tail) (length front) refl in
+    let second : drop (length front + 1) whole ≡ tail = sym (drop-drop 1 (length front) whole) ∙ ap (drop 1) (drop_at front (mark ∷ tail) (length front) refl) in
+    let inside = lt-ltb (length front) (length whole) (omega (arith, length-append front (mark ∷ tail))) in
+    rw (mark_found mark front tail h, inside, first, second) refl
+
+-- ---- numerals of one or two digits
+
+one_numeral : (d : ℕ) → d < 10 → numeral ((48 + d) ∷ []) ≡ Some d
+one_numeral d small =
+    let e : is_ascii_digit (48 + d) ≡ true = grind (arith, nat_tests) in
+    let v : 0 * 10 + (48 + d - 48) ≡ d = omega arith in
+    rw e (ap (λ (n : ℕ). Some n) v)
+
+two_numeral : (t d : ℕ) → 0 < t → t < 10 → d < 10 → numeral ((48 + t) ∷ (48 + d) ∷ []) ≡ Some (10 * t + d)
+two_numeral t d some less small =
+    let e : is_ascii_digit (48 + t) ≡ true = grind (arith, nat_tests) in
+    let f : is_ascii_digit (48 + d) ≡ true = grind (arith, nat_tests) in
+    let g : eqb (48 + t) 48 ≡ false = ne_eqb (48 + t) 48 (λ h. omega (arith, h)) in
+    let v : (0 * 10 + (48 + t - 48)) * 10 + (48 + d - 48) ≡ 10 * t + d = omega arith in
+    rw (e, f, g) (ap (λ (n : ℕ). Some n) v)
+
+pub one_at : (octets others : List ℕ) (d : ℕ) → octets ≡ (48 + d) ∷ others → d < 10 → NumberAt octets d others
+one_at octets others d parts small =
+    let e : is_ascii_digit (48 + d) ≡ true = grind (arith, nat_tests) in
+    record { front = (48 + d) ∷ []; digits = rw e refl; number = one_numeral d small; parts = parts }
+
+pub two_at : (octets behind others : List ℕ) (t d : ℕ) → octets ≡ (48 + t) ∷ behind → t < 10 → behind ≡ (48 + d) ∷ others → d < 10 → 0 < t → NumberAt octets (10 * t + d) others
+two_at octets behind others t d parts less more small some =
+    let e : is_ascii_digit (48 + t) ≡ true = grind (arith, nat_tests) in
+    let f : is_ascii_digit (48 + d) ≡ true = grind (arith, nat_tests) in
+    record { front = (48 + t) ∷ (48 + d) ∷ []; digits = rw (e, f) refl; number = two_numeral t d some less small; parts = parts ∙ ap (λ (l : List ℕ). (48 + t) ∷ l) more }
+
+-- octets by their first and the others, as a pattern finds them
+pub first_is : (xs : List ℕ) (x : ℕ) → 1 ≤ length xs → get_or xs 0 0 ≡ x → xs ≡ x ∷ take (length xs - 1) (drop 1 xs)
+first_is [] x some is = absurd (omega arith)
+first_is (y ∷ ys) x some is = let all : take (suc (length ys) - 1) ys ≡ ys = take_all (suc (length ys) - 1) ys (omega arith) in rw (all, is) refl
+
+-- ---- a part of a frame
+
+pub part_found : (rest behind others : List ℕ) (line : ℕ) → 1 ≤ length rest → get_or rest 0 0 ≡ 32 → NumberAt (take (length rest - 1) (drop 1 rest)) line behind
+    → 1 ≤ length behind → get_or behind 0 0 ≡ 58 → 60 ≤ length (take (length behind - 1) (drop 1 behind)) → others ≡ drop 60 (take (length behind - 1) (drop 1 behind)) → ends_word others ≡ true
+    → PartAt rest line (take 60 (take (length behind - 1) (drop 1 behind))) others
+part_found rest behind others line some space number more mark room left ends =
+    let after : List ℕ = take (length behind - 1) (drop 1 behind) in
+    let sixty : List ℕ = take 60 after in
+    let cut : after ≡ sixty ++ others = sym (take-append-drop 60 after) ∙ ap (λ (l : List ℕ). sixty ++ l) (sym left) in
+    record {
+      front = number.front;
+      digits = number.digits;
+      number = number.number;
+      parts = first_is rest 32 some space ∙ ap (λ (l : List ℕ). 32 ∷ l) (number.parts ∙ ap (λ (l : List ℕ). number.front ++ l) (first_is behind 58 more mark ∙ ap (λ (l : List ℕ). 58 ∷ l) cut));
+      whole = length-take-le 60 after room;
+      ends = ends;
+    }
+
+some_written : (o : Option (List ℕ)) (octets : List ℕ) → thirty o ≡ Ok octets → is_some o ≡ true
+some_written None octets h = absurd cc
+some_written (Some written) octets h = refl
+
+pub takes_part : (given : Input) (rest sixty others octets : List ℕ) (line : ℕ) → PartAt rest line sixty others → line < length given → is_some (get_or given line None) ≡ false
+    → thirty (octets_written sixty) ≡ Ok octets → TakesPart given (set given line (Some octets)) rest others
+takes_part given rest sixty others octets line at within free read =
+    let even : length sixty % 2 ≡ 0 = omega (arith, at.whole) in
+    let digits : list_all is_digit sixty ≡ true = sym (all_digits sixty even) ∙ some_written (octets_written sixty) octets read in
+    let tail : List ℕ = 58 ∷ sixty in
+    let word : List ℕ = at.front ++ tail in
+    let parts : rest ≡ 32 ∷ (word ++ others) = at.parts ∙ ap (λ (l : List ℕ). 32 ∷ l) (sym (append_assoc at.front tail others)) in
+    let plain : list_all (is_other 32) word ≡ true = list_all-append (is_other 32) at.front tail ∙ rw (decimal_other 32 (omega arith) at.front at.digits, hex_other 32 (omega arith) sixty digits) refl in
+    let named : external_line (length given) at.front ≡ Some line = let lt = lt-ltb line (length given) within in rw (at.number, lt) refl in
+    record {
+      word = word;
+      cut = ap words parts ∙ words_front word others (omega (arith, length-append at.front tail)) plain at.ends;
+      shorter = omega (arith, ap length parts, length-append word others);
+      put = part_given (length given) given word (at.front, sixty) line octets (cut_front 58 at.front sixty (decimal_other_above 58 (omega arith) at.front at.digits)) named free read;
+      text = λ h. ap (list_all is_printable) parts ∙ list_all-append is_printable word others ∙ rw (h, list_all-append is_printable at.front tail, decimal_text at.front at.digits, hex_text sixty digits) refl;
+    }
+
+-- ---- lines
+
+-- a frame's line
+pub frame_reads : (s : SoFar) (sizes : Sizes) (rest : List ℕ) (event : Event) → s.sizes ≡ Some sizes → ends_word rest ≡ true → GivesPlainly (frame sizes.external (words rest)) rest event
+    → reads s (70 ∷ rest) ≡ Ok (Said.Happens event)
+frame_reads s sizes rest event known ends plain =
+    reads_by_kind s sizes (70 ∷ rest) (70 ∷ []) (words rest) known refl (words_front (70 ∷ []) rest (omega arith) refl ends) (rw plain.text refl) ∙ rw plain.reads refl
+
+pub some_weaker : {A : Type 0} (o : Option A) (P Q : A → Type 0) → ((x : A) → P x → Q x) → IfSome o P → IfSome o Q
+some_weaker None P Q f h = tt
+some_weaker (Some x) P Q f h = f x h
