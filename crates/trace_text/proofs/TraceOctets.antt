@@ -288,22 +288,48 @@ are_octets (x ∷ y ∷ rest) =
 
 -- ---- digits, and more behind them
 
--- one more pair of digits is read
-pub octet_read : (digits octets : List ℕ) (i h l high low : ℕ) → high ≡ h → low ≡ l → 2 * i + 1 < length digits → i < length octets
-    → digit_value (get_or digits (2 * i) 0) ≡ Some h → digit_value (get_or digits (2 * i + 1) 0) ≡ Some l
-    → behind (take i octets) (octets_written (drop (2 * i) digits)) ≡ octets_written digits
-    → behind (take (i + 1) (set octets i ((high * 16 % 256 + low) % 256))) (octets_written (drop (2 * (i + 1)) digits)) ≡ octets_written digits
-octet_read digits octets i h l high low first second lt room e f so_far =
-    let small = digit_small (get_or digits (2 * i) 0) h e in
-    let small_low = digit_small (get_or digits (2 * i + 1) 0) l f in
-    let whole : (high * 16 % 256 + low) % 256 ≡ h * 16 + l = omega (arith, first, second, small, small_low) in
-    rw whole (pair_read digits octets i h l lt room e f so_far)
+abbrev pub AreValues : List ℕ → List ℕ → Type 0
+AreValues values digits = map digit_value digits ≡ map (λ v. Some v) values
 
--- all pairs of digits are read
-pub octets_all : (digits octets : List ℕ) → length digits ≡ 64 → length octets ≡ 32
+-- the value of one of the digits
+pub value_at : (values digits : List ℕ) (k : ℕ) → AreValues values digits → k < length values → digit_value (get_or digits k 0) ≡ Some (get_or values k 0)
+value_at [] digits k same lt = absurd (omega arith)
+value_at (v ∷ values) [] k same lt = absurd cc
+value_at (v ∷ values) (d ∷ digits) zero same lt = cc
+value_at (v ∷ values) (d ∷ digits) (suc k) same lt = let rest : AreValues values digits = cc in value_at values digits k rest (omega arith)
+
+-- as many digits as values
+pub as_many : (values digits : List ℕ) → AreValues values digits → length digits ≡ length values
+as_many values digits same = sym (length-map digits digit_value) ∙ ap length same ∙ length-map values (λ v. Some v)
+
+-- one more digit has its value
+pub value_more : (values digits : List ℕ) (k v : ℕ) → k < length values → k < length digits → digit_value (get_or digits k 0) ≡ Some v
+    → AreValues (take k values) (take k digits) → AreValues (take (k + 1) (set values k v)) (take (k + 1) digits)
+value_more values digits k v room within e so_far =
+    rw (take_more_set values k v room, take_more digits k 0 within, map-append, map-append, e, so_far) refl
+
+-- one more pair of digits with these values is read
+pub values_read : (digits values octets : List ℕ) (i octet : ℕ) → AreValues values digits → 2 * i + 1 < length values → i < length octets
+    → octet ≡ ((get_or values (2 * i) 0 + 256 * get_or values (2 * i + 1) 0) * 16 % 65536 + (get_or values (2 * i) 0 + 256 * get_or values (2 * i + 1) 0) / 256) % 65536 % 256
+    → behind (take i octets) (octets_written (drop (2 * i) digits)) ≡ octets_written digits
+    → behind (take (i + 1) (set octets i octet)) (octets_written (drop (2 * (i + 1)) digits)) ≡ octets_written digits
+values_read digits values octets i octet same lt room e so_far =
+    let h = get_or values (2 * i) 0 in
+    let l = get_or values (2 * i + 1) 0 in
+    let high : digit_value (get_or digits (2 * i) 0) ≡ Some h = value_at values digits (2 * i) same (omega arith) in
+    let low : digit_value (get_or digits (2 * i + 1) 0) ≡ Some l = value_at values digits (2 * i + 1) same lt in
+    let small = digit_small (get_or digits (2 * i) 0) h high in
+    let small_low = digit_small (get_or digits (2 * i + 1) 0) l low in
+    let whole : octet ≡ h * 16 + l = omega (arith, e, small, small_low) in
+    let many = as_many values digits same in
+    rw whole (pair_read digits octets i h l (omega (arith, many)) room high low so_far)
+
+-- all pairs of digits with these values are read
+pub values_done : (digits values octets : List ℕ) → AreValues values digits → length values ≡ 64 → length octets ≡ 32
     → behind (take 32 octets) (octets_written (drop 64 digits)) ≡ octets_written digits → octets_written digits ≡ Some octets
-octets_all digits octets d o so_far =
-    sym so_far ∙ rw (drop_all 64 digits (omega (arith, d)), take_all 32 octets (omega (arith, o))) (ap (λ (l : List ℕ). Some l) (append-nil octets))
+values_done digits values octets same v o so_far =
+    let many = as_many values digits same in
+    sym so_far ∙ rw (drop_all 64 digits (omega (arith, many, v)), take_all 32 octets (omega (arith, o))) (ap (λ (l : List ℕ). Some l) (append-nil octets))
 
 -- what digits write does not depend on digits behind them
 tail_of : (h : ℕ) (o : Option (List ℕ)) (octet : ℕ) (octets : List ℕ) → behind (h ∷ []) o ≡ Some (octet ∷ octets) → (h ≡ octet) × (o ≡ Some octets)
@@ -395,3 +421,7 @@ pub letter_digit : (octet : ℕ) → octet < 256 → ltb ((octet + 208) % 256) 1
 letter_digit octet small none =
     let same : by_ranges octet ≡ is_digit octet = agree_below_at by_ranges is_digit 256 octet refl small in
     rw none at same
+
+-- all digits have their values
+pub values_all : (values digits : List ℕ) (k : ℕ) → 64 ≤ k → length values ≡ 64 → length digits ≡ 64 → AreValues (take k values) (take k digits) → AreValues values digits
+values_all values digits k all v d so_far = rw (take_all k values (omega arith), take_all k digits (omega arith)) at so_far

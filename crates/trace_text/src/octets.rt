@@ -2,7 +2,7 @@
 //
 // Digits are read sixty-four at a time, by loops of fixed length, without a table and with one test at
 // their end, so that many are read at once. Where there are fewer, more behind them fill whole vectors.
-ghost use Rattle.std.specs.Prelude.{◌≡◌, ◌++◌, ◌*◌, ◌-◌, ◌%◌, ◌<◌, ◌≤◌, ◌^◌, ℕ, length, take, true, Some, is_some, option_map, replicate, ok_or, IfOk, IfErr, OnOk, Ok};
+ghost use Rattle.std.specs.Prelude.{◌≡◌, ◌++◌, ◌*◌, ◌-◌, ◌%◌, ◌<◌, ◌≤◌, ◌^◌, ℕ, List, length, take, true, Some, is_some, option_map, map, replicate, ok_or, IfOk, IfErr, OnOk, Ok};
 ghost use Rattle.std.specs.List.{list_all};
 ghost use Rattle.trace_text.specs.TraceFields.{digit_value, is_digit, octets_written, thirty, at_most, longest_message, of_tone};
 ghost use Rattle.trace_text.specs.TraceLines.{Fails, Gives};
@@ -62,16 +62,27 @@ fn are_digits(text: &[u8; 64]) -> bool
     all
 }
 
-// The octets that digits write.
-fn octets_of(digits: &[u8; 64]) -> [u8; 32]
+// The values of digits.
+fn values_of(digits: &[u8; 64]) -> [u8; 64]
     requires { list_all is_digit digits.now ≡ true }
-    ensures { octets_written digits.now ≡ Some result }
+    ensures { map digit_value digits.now ≡ map Some result }
+{
+    let mut values = [0; 64];
+    for place in 0..64 {
+        values[place] = value(digits[place]);
+    }
+    values
+}
+
+// The octets that digits with these values write. The two values of an octet are looked at as one number,
+// so that eight of them are one vector.
+fn octets_of(values: &[u8; 64]) -> [u8; 32]
+    ensures { (digits : List ℕ) → map digit_value digits ≡ map Some values.now → octets_written digits ≡ Some result }
 {
     let mut octets = [0; 32];
     for place in 0..32 {
-        let high = value(digits[2 * place]);
-        let low = value(digits[2 * place + 1]);
-        octets[place] = high.wrapping_mul(16).wrapping_add(low);
+        let pair = u16::from(values[2 * place]) + 256 * u16::from(values[2 * place + 1]);
+        octets[place] = (pair.wrapping_mul(16).wrapping_add(pair / 256) % 256) as u8;
     }
     octets
 }
@@ -100,7 +111,7 @@ pub(crate) fn thirty_octets(digits: &[u8]) -> Result<[u8; 30], Reason>
     if !are_digits(&text) {
         return Err(Reason::Hex);
     }
-    Ok(front(&octets_of(&text)))
+    Ok(front(&octets_of(&values_of(&text))))
 }
 
 // Puts the octets that at most sixty-four digits write behind others.
@@ -113,7 +124,7 @@ fn push_octets(octets: &mut Vec<u8>, digits: &[u8]) -> Result<(), LineFault>
     if !are_digits(&text) {
         return Err(LineFault::Refused(Reason::Hex));
     }
-    let read = octets_of(&text);
+    let read = octets_of(&values_of(&text));
     octets.extend_from_slice(&read[..digits.len() / 2])?;
     Ok(())
 }

@@ -14,6 +14,6 @@ returns-clause-read c =
     let more : List ℕ = replicate (64 - length digits) 48 in
     let read : List ℕ = c.octets_of-read.result in
     let half : length digits ≡ 2 * (length digits / 2) = omega (arith, c.requires.1) in
-    let all : octets_written (digits ++ more) ≡ Some read = ap octets_written (sym c.wide-text.ensures) ∙ c.octets_of-read.ensures in
+    let all : octets_written (digits ++ more) ≡ Some read = ap octets_written (sym c.wide-text.ensures) ∙ c.octets_of-read.ensures _ c.values_of.ensures in
     let pushed : c.extend_from_slice.new.self.items ≡ c.args.octets.now.items ++ take (length digits / 2) read = grind arith in
     rw (front_written (length digits / 2) digits more read half all, pushed) refl

@@ -19,4 +19,4 @@ returns-then-not-are_digits c =
 
 pub returns : goal.returns
 returns c =
-    rw c.front.ensures (sym (thirty_wide c.args.digits.now c.octets_of.result c.if-digits-ne60.false (ap octets_written (sym c.wide-text.ensures) ∙ c.octets_of.ensures)))
+    rw c.front.ensures (sym (thirty_wide c.args.digits.now c.octets_of.result c.if-digits-ne60.false (ap octets_written (sym c.wide-text.ensures) ∙ c.octets_of.ensures _ c.values_of.ensures)))
