@@ -1,6 +1,6 @@
 -- Lines as most are written, against the definitions of words and numerals.
 use Rattle.std.proofs.Common.{◌≡◌, ◌≢◌, ℕ, zero, suc, ◌+◌, ◌*◌, ◌-◌, ◌%◌, ◌<◌, ◌≤◌, Bool, true, false, ◌&&◌, eqb, List, [], ◌∷◌, ◌++◌, length, get_or, set, take, drop, Option, Some, None, is_some, Ok, refl, sym, ap, ◌∙◌, arith, append_assoc, length-append, length-take, length-drop}
-use Rattle.std.specs.Prelude.{not, filter, position, IfSome}
+use Rattle.std.specs.Prelude.{codes, not, filter, position, IfSome}
 use Rattle.std.specs.List.{list_all, slice_split, prefix_len}
 use Rattle.std.specs.Char.{is_ascii_digit}
 use Rattle.std.proofs.lemmas.Bool.{eq-eqb, ne_eqb, eqb-true, lt-ltb}
@@ -8,11 +8,15 @@ use Rattle.std.proofs.lemmas.Bool.Decides.{nat_tests}
 use Rattle.std.proofs.lemmas.List.{append-nil, take_all, take-append-drop, take_at, drop_at, drop-drop, length-take-le}
 use Rattle.std.proofs.lemmas.List.Folds.{list_all-append}
 use Rattle.circuit_model.specs.FrameInput.{Input}
-use Rattle.trace_text.specs.TraceWords.{words, cut_at, numeral, is_octet, is_empty, is_printable}
+use Rattle.trace_text.specs.TraceWords.{words, cut_at, numeral, is_octet, is_empty, is_printable, is_comment}
 use Rattle.trace_text.specs.TraceFields.{digit_value, is_digit, octets_written, thirty, external_line}
-use Rattle.trace_text.specs.TraceLines.{frame, reads, SoFar}
-use Rattle.trace_text.specs.TracePlain.{ends_word, NumberAt, PartAt, TakesPart, GivesPlainly}
+use Rattle.trace_text.specs.TraceLines.{frame, nail, free, reads, SoFar}
+use Rattle.trace_text.specs.TracePlain.{ends_word, NumberAt, PartAt, SlotAt, TakesPart, GivesPlainly, IsPlain}
 use Rattle.exchange_core.specs.declared.trace.Event.{Event}
+use Rattle.exchange_core.specs.declared.trace.Event.TheVariants as happening
+use Rattle.circuit_model.specs.Channels.{place_of}
+use Rattle.circuit_model.specs.Circuits.{same_slot}
+use Rattle.circuit_model.specs.declared.channel.Slot.{Slot}
 use Rattle.trace_text.specs.declared.said.Sizes.{Sizes}
 use Rattle.trace_text.specs.declared.said.Said.TheVariants as Said
 use Rattle.trace_text.proofs.TraceOctets.{by_kind, all_digits}
@@ -195,3 +199,72 @@ frame_reads s sizes rest event known ends plain =
 pub some_weaker : {A : Type 0} (o : Option A) (P Q : A → Type 0) → ((x : A) → P x → Q x) → IfSome o P → IfSome o Q
 some_weaker None P Q f h = tt
 some_weaker (Some x) P Q f h = f x h
+
+-- ---- slots
+
+-- octets that a pattern finds behind their first
+pub behind_first : (xs ys : List ℕ) (x : ℕ) → 1 ≤ length xs → get_or xs 0 0 ≡ x → ys ≡ take (length xs - 1) (drop 1 xs) → xs ≡ x ∷ ys
+behind_first xs ys x some is e = rw e (first_is xs x some is)
+
+pub slot_found : (external : ℕ) (octets behind others : List ℕ) (line channel place : ℕ) → NumberAt octets line behind → 1 ≤ length behind → get_or behind 0 0 ≡ 47
+    → NumberAt (take (length behind - 1) (drop 1 behind)) channel others → line < external → place_of channel ≡ Some place → SlotAt external octets (record { line = line; place = place }) others
+slot_found external octets behind others line channel place first some mark second within found =
+    let tail : List ℕ = 47 ∷ second.front in
+    let word : List ℕ = first.front ++ tail in
+    let cut = cut_front 47 first.front second.front (decimal_other 47 (omega arith) first.front first.digits) in
+    let named : external_line external first.front ≡ Some line = let lt = lt-ltb line external within in rw (first.number, lt) refl in
+    record {
+      word = word;
+      some = omega (arith, length-append first.front tail);
+      whole = list_all-append (is_other 32) first.front tail ∙ rw (decimal_other 32 (omega arith) first.front first.digits, decimal_other 32 (omega arith) second.front second.digits) refl;
+      text = list_all-append is_printable first.front tail ∙ rw (decimal_text first.front first.digits, decimal_text second.front second.digits) refl;
+      names = rw (cut, named, second.number, found) refl;
+      parts = first.parts ∙ ap (λ (l : List ℕ). first.front ++ l) (first_is behind 47 some mark ∙ ap (λ (l : List ℕ). 47 ∷ l) second.parts) ∙ sym (append_assoc first.front tail others);
+    }
+
+-- a word at the end of a line
+last_word : (word : List ℕ) → 0 < length word → list_all (is_other 32) word ≡ true → words (32 ∷ word) ≡ word ∷ []
+last_word word some whole = ap (λ l. words (32 ∷ l)) (sym (append-nil word)) ∙ words_front word [] some whole refl
+
+five_are : (xs : List ℕ) (a b c d e : ℕ) → 5 ≤ length xs → get_or xs 0 0 ≡ a → get_or xs 1 0 ≡ b → get_or xs 2 0 ≡ c → get_or xs 3 0 ≡ d → get_or xs 4 0 ≡ e
+    → xs ≡ a ∷ b ∷ c ∷ d ∷ e ∷ take (length xs - 5) (drop 5 xs)
+five_are [] a b c d e some p q r s t = absurd (omega arith)
+five_are (u ∷ []) a b c d e some p q r s t = absurd (omega arith)
+five_are (u ∷ v ∷ []) a b c d e some p q r s t = absurd (omega arith)
+five_are (u ∷ v ∷ w ∷ []) a b c d e some p q r s t = absurd (omega arith)
+five_are (u ∷ v ∷ w ∷ x ∷ []) a b c d e some p q r s t = absurd (omega arith)
+five_are (u ∷ v ∷ w ∷ x ∷ y ∷ ys) a b c d e some p q r s t =
+    let all : take (length (u ∷ v ∷ w ∷ x ∷ y ∷ ys) - 5) ys ≡ ys = take_all (length (u ∷ v ∷ w ∷ x ∷ y ∷ ys) - 5) ys (omega arith) in
+    rw (all, p, q, r, s, t) refl
+
+pub free_gives : (external : ℕ) (line others : List ℕ) (at : Slot) → 5 ≤ length line → get_or line 0 0 ≡ 102 → get_or line 1 0 ≡ 114 → get_or line 2 0 ≡ 101 → get_or line 3 0 ≡ 101 → get_or line 4 0 ≡ 32
+    → SlotAt external (take (length line - 5) (drop 5 line)) at others → length others ≡ 0 → IsPlain (codes "free") (free external) line (happening.Free at)
+free_gives external line [] at some p q r u v s none =
+    let same : line ≡ codes "free" ++ 32 ∷ s.word = five_are line 102 114 101 101 32 some p q r u v ∙ ap (λ (l : List ℕ). codes "free" ++ 32 ∷ l) (s.parts ∙ append-nil s.word) in
+    record {
+      others = s.word ∷ [];
+      cut = ap words same ∙ words_front (codes "free") (32 ∷ s.word) (omega arith) refl refl ∙ ap (λ (l : List (List ℕ)). codes "free" ∷ l) (last_word s.word s.some s.whole);
+      reads = rw s.names refl;
+      text = ap (list_all is_printable) same ∙ s.text;
+      said = ap is_comment same;
+    }
+free_gives external line (x ∷ others) at some p q r u v s none = absurd (omega arith)
+
+pub nail_gives : (external : ℕ) (line rest others : List ℕ) (one other : Slot) → 5 ≤ length line → get_or line 0 0 ≡ 110 → get_or line 1 0 ≡ 97 → get_or line 2 0 ≡ 105 → get_or line 3 0 ≡ 108 → get_or line 4 0 ≡ 32
+    → SlotAt external (take (length line - 5) (drop 5 line)) one rest → 1 ≤ length rest → get_or rest 0 0 ≡ 32 → SlotAt external (take (length rest - 1) (drop 1 rest)) other others → length others ≡ 0
+    → same_slot one other ≡ false → IsPlain (codes "nail") (nail external) line (happening.Nail one other)
+nail_gives external line rest [] one other some p q r u v s more space t none apart =
+    let second : rest ≡ 32 ∷ t.word = first_is rest 32 more space ∙ ap (λ (l : List ℕ). 32 ∷ l) (t.parts ∙ append-nil t.word) in
+    let ends : ends_word rest ≡ true = rw second refl in
+    let same : line ≡ codes "nail" ++ 32 ∷ (s.word ++ rest) = five_are line 110 97 105 108 32 some p q r u v ∙ ap (λ (l : List ℕ). codes "nail" ++ 32 ∷ l) s.parts in
+    let slots : words (32 ∷ (s.word ++ rest)) ≡ s.word ∷ t.word ∷ [] =
+    words_front s.word rest s.some s.whole ends ∙ ap (λ (l : List (List ℕ)). s.word ∷ l) (ap words second ∙ last_word t.word t.some t.whole) in
+    let printed : list_all is_printable (s.word ++ rest) ≡ true = list_all-append is_printable s.word rest ∙ rw (s.text, second, t.text) refl in
+    record {
+      others = s.word ∷ t.word ∷ [];
+      cut = ap words same ∙ words_front (codes "nail") (32 ∷ (s.word ++ rest)) (omega arith) refl refl ∙ ap (λ (l : List (List ℕ)). codes "nail" ∷ l) slots;
+      reads = rw (s.names, t.names, apart) refl;
+      text = ap (list_all is_printable) same ∙ printed;
+      said = ap is_comment same;
+    }
+nail_gives external line rest (x ∷ others) one other some p q r u v s more space t none apart = absurd (omega arith)

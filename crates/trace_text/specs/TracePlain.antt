@@ -1,12 +1,14 @@
 -- Lines as most are written: single spaces, and numerals of one or two digits. Source: this exchange's own.
-use Rattle.std.specs.Prelude.{◌≡◌, ℕ, ◌<◌, Bool, true, ◌==◌, List, [], ◌∷◌, ◌++◌, length, slice_index_or, Option, Some, None, Result, Ok}
+use Rattle.std.specs.Prelude.{◌≡◌, ℕ, ◌<◌, Bool, true, false, not, ◌==◌, List, [], ◌∷◌, ◌++◌, length, slice_index_or, Option, Some, None, Result, Ok}
 use Rattle.std.specs.List.{list_all}
 use Rattle.std.specs.Char.{is_ascii_digit}
 use Rattle.circuit_model.specs.FrameInput.{Input}
 use Rattle.exchange_core.specs.declared.trace.Event.{Event}
 use Rattle.trace_text.specs.declared.fault.Reason.{Reason}
-use Rattle.trace_text.specs.TraceWords.{words, numeral, is_printable}
+use Rattle.trace_text.specs.TraceWords.{words, numeral, is_printable, is_comment}
+use Rattle.trace_text.specs.TraceFields.{slot}
 use Rattle.trace_text.specs.TraceLines.{with_part}
+use Rattle.circuit_model.specs.declared.channel.Slot.{Slot}
 
 -- a word ends here: with its line, or at a space
 abbrev pub ends_word : List ℕ → Bool
@@ -40,3 +42,20 @@ pub record TakesPart (given now : Input) (rest others : List ℕ) : Type 0 where
 pub record GivesPlainly (reading : Result Event Reason) (line : List ℕ) (event : Event) : Type 0 where
   pub reads : reading ≡ Ok event
   pub text : list_all is_printable line ≡ true
+
+-- a slot stands before other octets
+pub record SlotAt (external : ℕ) (octets : List ℕ) (at : Slot) (others : List ℕ) : Type 0 where
+  pub word : List ℕ
+  pub some : 0 < length word
+  pub whole : list_all (λ octet. not (octet == 32)) word ≡ true
+  pub text : list_all is_printable word ≡ true
+  pub names : slot external word ≡ Some at
+  pub parts : octets ≡ word ++ others
+
+-- the line begins with a word, is printable, and its other words give the event
+pub record IsPlain (first : List ℕ) (reading : List (List ℕ) → Result Event Reason) (line : List ℕ) (event : Event) : Type 0 where
+  pub others : List (List ℕ)
+  pub cut : words line ≡ first ∷ others
+  pub reads : reading others ≡ Ok event
+  pub text : list_all is_printable line ≡ true
+  pub said : is_comment line ≡ false

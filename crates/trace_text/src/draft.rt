@@ -7,7 +7,7 @@ use crate::fields::header_of;
 use crate::line::{
     frame_of, free_of, kind_of, message_of, nail_of, number_of, seat_of, sync_of, tone_of,
 };
-use crate::plain::{ends_word, plain_frame};
+use crate::plain::{ends_word, plain_frame, plain_free, plain_nail};
 use crate::said::{GivenTone, Kind, Said, Sizes};
 use circuit_model::Kind as Tone;
 use exchange_core::{Event, Events, Segments, Trace};
@@ -155,10 +155,13 @@ impl Draft {
     fn plain_event(&self, alloc: Global, line: &[u8]) -> Result<Option<Event>, AllocError>
         ensures { IfOk result (λ found. IfSome found (λ event. reads (kept self.now) line.now ≡ Ok (Said.Happens event))) }
     {
-        match (self.sizes, line) {
-            (Some(sizes), [b'F', rest @ ..]) if ends_word(rest) => {
-                plain_frame(alloc, sizes.external, rest)
-            }
+        let Some(sizes) = self.sizes else {
+            return Ok(None);
+        };
+        match line {
+            [b'F', rest @ ..] if ends_word(rest) => plain_frame(alloc, sizes.external, rest),
+            [b'n', ..] => Ok(plain_nail(sizes.external, line)),
+            [b'f', ..] => Ok(plain_free(sizes.external, line)),
             _ => Ok(None),
         }
     }

@@ -1,11 +1,12 @@
 // Lines as most are written: single spaces, and numerals of one or two digits. Each octet of such a line
 // is looked at once. Any other line is read word by word.
-ghost use Rattle.std.specs.Prelude.{◌≡◌, ◌<◌, ◌+◌, ◌∷◌, length, IfOk, IfSome};
+ghost use Rattle.std.specs.Prelude.{◌≡◌, ◌<◌, ◌+◌, ◌∷◌, codes, length, IfOk, IfSome};
 ghost use Rattle.trace_text.specs.TraceWords.{words};
-ghost use Rattle.trace_text.specs.TraceLines.{frame};
-ghost use Rattle.trace_text.specs.TracePlain.{ends_word, NumberAt, PartAt, TakesPart, GivesPlainly};
+ghost use Rattle.trace_text.specs.TraceLines.{frame, nail, free};
+ghost use Rattle.trace_text.specs.TracePlain.{ends_word, NumberAt, PartAt, SlotAt, TakesPart, GivesPlainly, IsPlain};
 
 use crate::octets::thirty_octets;
+use circuit_model::{Slot, slot_of_channel};
 use exchange_core::{Event, Input};
 use std::alloc::{AllocError, Global};
 
@@ -91,4 +92,52 @@ pub(crate) fn plain_frame(
         rest = others;
     }
     Ok(Some(Event::Frame(Input::of(input))))
+}
+
+// The slot before other octets, where the exchange has it.
+fn slot_at(external: u8, octets: &[u8]) -> Option<(Slot, &[u8])>
+    ensures { IfSome result (λ found. SlotAt external octets.now found.0 found.1.now) }
+{
+    let (line, behind) = number_at(octets)?;
+    let [b'/', behind @ ..] = behind else {
+        return None;
+    };
+    let (channel, others) = number_at(behind)?;
+    if line >= external {
+        return None;
+    }
+    let place = slot_of_channel(channel)?;
+    Some((Slot { line, place }, others))
+}
+
+/// The nail that a line gives, where it is written as most are.
+pub(crate) fn plain_nail(external: u8, line: &[u8]) -> Option<Event>
+    ensures { IfSome result (λ event. IsPlain (codes "nail") (nail external) line.now event) }
+{
+    let [b'n', b'a', b'i', b'l', b' ', behind @ ..] = line else {
+        return None;
+    };
+    let (one, behind) = slot_at(external, behind)?;
+    let [b' ', behind @ ..] = behind else {
+        return None;
+    };
+    let (other, others) = slot_at(external, behind)?;
+    if !others.is_empty() || one == other {
+        return None;
+    }
+    Some(Event::Nail(one, other))
+}
+
+/// The free that a line gives, where it is written as most are.
+pub(crate) fn plain_free(external: u8, line: &[u8]) -> Option<Event>
+    ensures { IfSome result (λ event. IsPlain (codes "free") (free external) line.now event) }
+{
+    let [b'f', b'r', b'e', b'e', b' ', behind @ ..] = line else {
+        return None;
+    };
+    let (slot, others) = slot_at(external, behind)?;
+    if !others.is_empty() {
+        return None;
+    }
+    Some(Event::Free(slot))
 }
