@@ -9,8 +9,8 @@ use Rattle.std.proofs.lemmas.List.{append-nil, take_all, take-append-drop, take_
 use Rattle.std.proofs.lemmas.List.Folds.{list_all-append}
 use Rattle.circuit_model.specs.FrameInput.{Input}
 use Rattle.trace_text.specs.TraceWords.{words, cut_at, numeral, is_octet, is_empty, is_printable, is_comment}
-use Rattle.trace_text.specs.TraceFields.{digit_value, is_digit, octets_written, thirty, external_line}
-use Rattle.trace_text.specs.TraceLines.{frame, nail, free, reads, SoFar}
+use Rattle.trace_text.specs.TraceFields.{digit_value, is_digit, octets_written, thirty, at_most, longest_message, external_line}
+use Rattle.trace_text.specs.TraceLines.{frame, nail, free, message, reads, SoFar}
 use Rattle.trace_text.specs.TracePlain.{ends_word, NumberAt, PartAt, SlotAt, TakesPart, GivesPlainly, IsPlain}
 use Rattle.exchange_core.specs.declared.trace.Event.{Event}
 use Rattle.exchange_core.specs.declared.trace.Event.TheVariants as happening
@@ -19,7 +19,7 @@ use Rattle.circuit_model.specs.Circuits.{same_slot}
 use Rattle.circuit_model.specs.declared.channel.Slot.{Slot}
 use Rattle.trace_text.specs.declared.said.Sizes.{Sizes}
 use Rattle.trace_text.specs.declared.said.Said.TheVariants as Said
-use Rattle.trace_text.proofs.TraceOctets.{by_kind, all_digits}
+use Rattle.trace_text.proofs.TraceOctets.{by_kind, all_digits, odd_digits}
 use Rattle.trace_text.proofs.TraceParts.{part_given, reads_by_kind}
 
 pub and_both : (a b : Bool) → (a && b) ≡ true → (a ≡ true) × (b ≡ true)
@@ -268,3 +268,50 @@ nail_gives external line rest [] one other some p q r u v s more space t none ap
       said = ap is_comment same;
     }
 nail_gives external line rest (x ∷ others) one other some p q r u v s more space t none apart = absurd (omega arith)
+
+-- ---- messages
+
+two_are : (xs : List ℕ) (a b : ℕ) → 2 ≤ length xs → get_or xs 0 0 ≡ a → get_or xs 1 0 ≡ b → xs ≡ a ∷ b ∷ take (length xs - 2) (drop 2 xs)
+two_are [] a b some p q = absurd (omega arith)
+two_are (u ∷ []) a b some p q = absurd (omega arith)
+two_are (u ∷ v ∷ ys) a b some p q =
+    let all : take (length (u ∷ v ∷ ys) - 2) ys ≡ ys = take_all (length (u ∷ v ∷ ys) - 2) ys (omega arith) in
+    rw (all, p, q) refl
+
+written_few : (most : ℕ) (o : Option (List ℕ)) (octets : List ℕ) → at_most most o ≡ Ok octets → is_some o ≡ true
+written_few most None octets h = absurd cc
+written_few most (Some written) octets h = refl
+
+odd_none : (digits : List ℕ) → length digits % 2 ≢ 0 → is_some (octets_written digits) ≡ false
+odd_none digits odd = rw (odd_digits digits odd) refl
+
+both_ways : (digits : List ℕ) → is_some (octets_written digits) ≡ true → (n : ℕ) → n ≡ length digits % 2 → list_all is_digit digits ≡ true
+both_ways digits some zero e = sym (all_digits digits (sym e)) ∙ some
+both_ways digits some (suc n) e = let none = odd_none digits (λ h. omega (arith, e, h)) in absurd cc
+
+-- a numeral has a digit
+number_filled : (front : List ℕ) (n : ℕ) → numeral front ≡ Some n → 0 < length front
+number_filled [] n e = absurd cc
+number_filled (x ∷ xs) n e = omega arith
+
+pub message_gives : (external : ℕ) (line rest octets : List ℕ) (number : ℕ) → 2 ≤ length line → get_or line 0 0 ≡ 77 → get_or line 1 0 ≡ 32
+    → NumberAt (take (length line - 2) (drop 2 line)) number rest → 1 ≤ length rest → get_or rest 0 0 ≡ 32 → number < external → 0 < length (take (length rest - 1) (drop 1 rest))
+    → at_most longest_message (octets_written (take (length rest - 1) (drop 1 rest))) ≡ Ok octets → IsPlain (codes "M") (message external) line (happening.Message number octets)
+message_gives external line rest octets number some p q s more space within filled read =
+    let digits : List ℕ = take (length rest - 1) (drop 1 rest) in
+    let all : list_all is_digit digits ≡ true = both_ways digits (written_few longest_message (octets_written digits) octets read) (length digits % 2) refl in
+    let second : rest ≡ 32 ∷ digits = first_is rest 32 more space in
+    let ends : ends_word rest ≡ true = rw second refl in
+    let filled_front : 0 < length s.front = number_filled s.front number s.number in
+    let same : line ≡ codes "M" ++ 32 ∷ (s.front ++ rest) = two_are line 77 32 some p q ∙ ap (λ (l : List ℕ). 77 ∷ 32 ∷ l) s.parts in
+    let fields : words (32 ∷ (s.front ++ rest)) ≡ s.front ∷ digits ∷ [] =
+    words_front s.front rest filled_front (decimal_other 32 (omega arith) s.front s.digits) ends ∙ ap (λ (l : List (List ℕ)). s.front ∷ l) (ap words second ∙ last_word digits filled (hex_other 32 (omega arith) digits all)) in
+    let printed : list_all is_printable (s.front ++ rest) ≡ true = list_all-append is_printable s.front rest ∙ rw (decimal_text s.front s.digits, second, hex_text digits all) refl in
+    let named : external_line external s.front ≡ Some number = let lt = lt-ltb number external within in rw (s.number, lt) refl in
+    record {
+      others = s.front ∷ digits ∷ [];
+      cut = ap words same ∙ words_front (codes "M") (32 ∷ (s.front ++ rest)) (omega arith) refl refl ∙ ap (λ (l : List (List ℕ)). codes "M" ∷ l) fields;
+      reads = rw (named, read) refl;
+      text = ap (list_all is_printable) same ∙ printed;
+      said = ap is_comment same;
+    }

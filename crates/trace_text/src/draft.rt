@@ -7,7 +7,7 @@ use crate::fields::header_of;
 use crate::line::{
     frame_of, free_of, kind_of, message_of, nail_of, number_of, seat_of, sync_of, tone_of,
 };
-use crate::plain::{ends_word, plain_frame, plain_free, plain_nail};
+use crate::plain::{ends_word, plain_frame, plain_free, plain_message, plain_nail};
 use crate::said::{GivenTone, Kind, Said, Sizes};
 use circuit_model::Kind as Tone;
 use exchange_core::{Event, Events, Segments, Trace};
@@ -160,6 +160,7 @@ impl Draft {
         };
         match line {
             [b'F', rest @ ..] if ends_word(rest) => plain_frame(alloc, sizes.external, rest),
+            [b'M', ..] => Ok(plain_message(alloc, sizes.external, line)),
             [b'n', ..] => Ok(plain_nail(sizes.external, line)),
             [b'f', ..] => Ok(plain_free(sizes.external, line)),
             _ => Ok(None),

@@ -2,10 +2,10 @@
 // is looked at once. Any other line is read word by word.
 ghost use Rattle.std.specs.Prelude.{◌≡◌, ◌<◌, ◌+◌, ◌∷◌, codes, length, IfOk, IfSome};
 ghost use Rattle.trace_text.specs.TraceWords.{words};
-ghost use Rattle.trace_text.specs.TraceLines.{frame, nail, free};
+ghost use Rattle.trace_text.specs.TraceLines.{frame, nail, free, message};
 ghost use Rattle.trace_text.specs.TracePlain.{ends_word, NumberAt, PartAt, SlotAt, TakesPart, GivesPlainly, IsPlain};
 
-use crate::octets::thirty_octets;
+use crate::octets::{message_octets, thirty_octets};
 use circuit_model::{Slot, slot_of_channel};
 use exchange_core::{Event, Input};
 use std::alloc::{AllocError, Global};
@@ -140,4 +140,22 @@ pub(crate) fn plain_free(external: u8, line: &[u8]) -> Option<Event>
         return None;
     }
     Some(Event::Free(slot))
+}
+
+/// The message that a line gives, where it is written as most are.
+pub(crate) fn plain_message(alloc: Global, external: u8, line: &[u8]) -> Option<Event>
+    ensures { IfSome result (λ event. IsPlain (codes "M") (message external) line.now event) }
+{
+    let [b'M', b' ', behind @ ..] = line else {
+        return None;
+    };
+    let (number, behind) = number_at(behind)?;
+    let [b' ', digits @ ..] = behind else {
+        return None;
+    };
+    if number >= external || digits.is_empty() {
+        return None;
+    }
+    let octets = message_octets(alloc, digits).ok()?;
+    Some(Event::Message(number, octets))
 }
