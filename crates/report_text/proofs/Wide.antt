@@ -1,17 +1,12 @@
--- Rows with idle octets behind the thirty of a line.
-use Rattle.std.proofs.Common.{◌≡◌, ℕ, ◌*◌, Bool, true, false, ◌&&◌, eqb, List, [], ◌∷◌, ◌++◌, length, length-append, take, replicate, refl, ap, sym, ◌∙◌, arith}
+-- Rows with idle octets behind those of a line or a message.
+use Rattle.std.proofs.Common.{◌≡◌, ℕ, ◌+◌, ◌*◌, ◌-◌, ◌/◌, ◌%◌, ◌<◌, ◌≤◌, Bool, true, false, ◌&&◌, eqb, List, [], ◌∷◌, ◌++◌, length, take, drop, set, slice_index, replicate, refl, ap, sym, ◌∙◌, arith, append_assoc}
 use Rattle.std.specs.List.{list_all}
-use Rattle.std.proofs.lemmas.List.{take-append-le, take_all}
+use Rattle.std.proofs.lemmas.List.{append-nil, take-append-le, take_all, take-append-drop, drop_all, drop_at, length-set, length-take-le}
 use Rattle.std.proofs.lemmas.List.Folds.{list_all-append}
 use Rattle.circuit_model.specs.FrameInput.{idle_octet}
 use Rattle.hex.specs.Hex.{encode_with, encode_upper, upper_digits}
 use Rattle.hex.proofs.HexLemmas.{length-encode_with}
-use Rattle.std.specs.Cmp.Lexicographic.{pointwise}
-
--- a row that equals one of the same octet throughout
-pub all_same : (row : List ℕ) (octet : ℕ) → pointwise eqb row (replicate (length row) octet) ≡ list_all (λ x. eqb x octet) row
-all_same [] octet = refl
-all_same (x ∷ row) octet = ap (λ b. eqb x octet && b) (all_same row octet)
+use Rattle.hex.proofs.Pairs.{take-two_writes, encode_with-drop}
 
 with_true : (b : Bool) → (b && true) ≡ b
 with_true true = refl
@@ -20,6 +15,10 @@ with_true false = refl
 -- idle octets behind a row don't tell whether it is idle
 pub idle_wide : (octets more : List ℕ) (p : ℕ → Bool) → list_all p more ≡ true → list_all p (octets ++ more) ≡ list_all p octets
 idle_wide octets more p all = list_all-append p octets more ∙ ap (λ b. list_all p octets && b) all ∙ with_true (list_all p octets)
+
+-- the idle octets behind the thirty of a line
+pub more_idle : (n : ℕ) → n ≡ 30 → list_all (λ octet. eqb octet idle_octet) (replicate (32 - n) idle_octet) ≡ true
+more_idle n thirty = rw thirty refl
 
 pub encode-append : (t xs ys : List ℕ) → encode_with t (xs ++ ys) ≡ encode_with t xs ++ encode_with t ys
 unfolding encode_with
@@ -34,15 +33,25 @@ encode_front t xs ys =
     ∙ take-append-le (2 * length xs) (encode_with t xs) (encode_with t ys) (omega (arith, len))
     ∙ take_all (2 * length xs) (encode_with t xs) (omega (arith, len))
 
-pub digits_front : (octets row : List ℕ) → length octets ≡ 30 → row ≡ octets ++ replicate 2 idle_octet → take 60 (encode_upper row) ≡ encode_upper octets
-digits_front octets row thirty wide =
-    let sixty : 60 ≡ 2 * length octets = omega (arith, thirty) in
-    ap (λ r. take 60 (encode_upper r)) wide ∙ ap (λ n. take n (encode_upper (octets ++ replicate 2 idle_octet))) sixty ∙ encode_front upper_digits octets (replicate 2 idle_octet)
+-- one octet more is written, behind so many others
+pub encode_step_at : (front input text : List ℕ) (o i x y : ℕ) → i < length input → o + 2 * i + 1 < length text
+    → x ≡ slice_index upper_digits (slice_index input i / 16) → y ≡ slice_index upper_digits (slice_index input i % 16)
+    → take (o + 2 * i) text ++ encode_upper (drop i input) ≡ front ++ encode_upper input
+    → take (o + 2 * (i + 1)) (set (set text (o + 2 * i) x) (o + 2 * i + 1) y) ++ encode_upper (drop (i + 1) input) ≡ front ++ encode_upper input
+encode_step_at front input text o i x y within fits high low so_far =
+    let two : o + 2 * (i + 1) ≡ o + 2 * i + 2 = omega arith in
+    let written = take-two_writes text (o + 2 * i) x y fits in
+    let rest = encode_with-drop upper_digits input i within in
+    rw (two, written, append_assoc, high, low) (rw rest at so_far)
 
--- a line is idle where its row is that of idle octets
-pub is_same_row : (octets : List ℕ) → length octets ≡ 30 → (row : List ℕ) (same : Bool) → row ≡ octets ++ replicate 2 idle_octet
-    → same ≡ pointwise eqb row (replicate 32 idle_octet) → same ≡ list_all (λ octet. eqb octet idle_octet) octets
-is_same_row octets thirty row same wide e =
-    let long : length row ≡ 32 = ap length wide ∙ length-append octets (replicate 2 idle_octet) ∙ omega (arith, thirty) in
-    e ∙ ap (λ n. pointwise eqb row (replicate n idle_octet)) (sym long) ∙ all_same row idle_octet
-    ∙ ap (λ r. list_all (λ octet. eqb octet idle_octet) r) wide ∙ idle_wide octets (replicate 2 idle_octet) (λ octet. eqb octet idle_octet) refl
+-- every octet is written
+pub encode_done_at : (front input text : List ℕ) (o i : ℕ) → length input ≤ i → length text ≡ o + 2 * i → length front ≡ o
+    → take (o + 2 * i) text ++ encode_upper (drop i input) ≡ front ++ encode_upper input → drop o text ≡ encode_upper input
+unfolding encode_with
+encode_done_at front input text o i over long before so_far =
+    let whole : text ≡ front ++ encode_upper input = rw (drop_all i input over, take_all (o + 2 * i) text (omega (arith, long)), append-nil) at so_far in
+    ap (drop o) whole ∙ drop_at front (encode_upper input) o before
+
+-- the digits of the octets that count in a row
+pub wide_digits : (octets more row : List ℕ) → row ≡ octets ++ more → take (2 * length octets) (encode_upper row) ≡ encode_upper octets
+wide_digits octets more row wide = ap (λ r. take (2 * length octets) (encode_upper r)) wide ∙ encode_front upper_digits octets more

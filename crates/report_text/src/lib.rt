@@ -6,9 +6,11 @@
 //! It stands on `circuit_model` and `exchange_core`, and on the kit's `arrayvec`, `hex` and `itoa`.
 #![tactic(auto)]
 
+mod digits;
 mod message;
 mod report;
 #[cfg(test)]
 mod tests;
+mod text;
 
 pub use report::append_answer;

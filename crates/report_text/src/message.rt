@@ -1,9 +1,11 @@
 // The line of a message.
-ghost use Rattle.std.specs.Prelude.{◌≡◌, ◌++◌, length, take, OnOk};
+ghost use Rattle.std.specs.Prelude.{◌≡◌, ◌++◌, ◌≤◌, length, take, OnOk};
 ghost use Rattle.hex.specs.Hex.{encode_upper};
 ghost use Rattle.report_text.specs.Report.{message_line, messages, moves, on_line};
 
-use crate::report::{digit, put_line, put_number};
+use crate::digits::{put_row_digits, wide_row};
+use crate::report::{put_sent, put_word};
+use crate::text::{put_before, put_number_before};
 use exchange_core::Signal;
 use std::alloc::AllocError;
 
@@ -17,8 +19,7 @@ pub(crate) fn put_message(
     ensures line { OnOk result (out.new.items ≡ out.old.items ++ message_line event moved sends.now) }
     ensures front { take (length out.old.items) out.new.items ≡ out.old.items }
 {
-    put_number(out, event)?;
-    out.extend_from_slice(b" message")?;
+    put_word(out, event, b" message")?;
     put_moves(out, moved)?;
     put_signals(out, sends)?;
     out.extend_from_slice(b"\n")
@@ -32,10 +33,12 @@ fn put_moves(out: &mut Vec<u8>, moved: Option<(u32, u32)>) -> Result<(), AllocEr
     let Some((a, b)) = moved else {
         return Ok(());
     };
-    out.extend_from_slice(b" moved ")?;
-    put_number(out, a)?;
-    out.extend_from_slice(b" ")?;
-    put_number(out, b)
+    let mut text = [0; 32];
+    let start = put_number_before(&mut text, 32, b);
+    let start = put_before(&mut text, start, b" ");
+    let start = put_number_before(&mut text, start, a);
+    let start = put_before(&mut text, start, b" moved ");
+    out.extend_from_slice(&text[start..])
 }
 
 // The messages that were sent, in order.
@@ -54,8 +57,19 @@ fn put_signal(out: &mut Vec<u8>, sent: &Signal) -> Result<(), AllocError>
     ensures message { OnOk result (out.new.items ≡ out.old.items ++ on_line sent.now.line sent.now.octets) }
     ensures front { take (length out.old.items) out.new.items ≡ out.old.items }
 {
-    put_line(out, usize::from(sent.line))?;
-    put_octets(out, sent.octets.as_slice())
+    let octets = sent.octets.as_slice();
+    let (first, others) = octets.split_at(octets.len().min(32));
+    put_first(out, usize::from(sent.line), first)?;
+    put_octets(out, others)
+}
+
+// The first octets of a message that was sent, at most thirty-two, behind the number of its line.
+fn put_first(out: &mut Vec<u8>, line: usize, octets: &[u8]) -> Result<(), AllocError>
+    requires { length octets.now ≤ 32 }
+    ensures first { OnOk result (out.new.items ≡ out.old.items ++ on_line line octets.now) }
+    ensures front { take (length out.old.items) out.new.items ≡ out.old.items }
+{
+    put_sent(out, line, &wide_row(octets), octets.len())
 }
 
 // Octets as hexadecimal digits, two each.
@@ -63,10 +77,22 @@ fn put_octets(out: &mut Vec<u8>, octets: &[u8]) -> Result<(), AllocError>
     ensures digits { OnOk result (out.new.items ≡ out.old.items ++ encode_upper octets.now) }
     ensures front { take (length out.old.items) out.new.items ≡ out.old.items }
 {
-    out.reserve(octets.len().checked_mul(2).ok_or(AllocError)?)?;
-    for octet in octets {
-        out.push_reserved(digit(*octet >> 4));
-        out.push_reserved(digit(*octet & 0x0F));
+    let mut rest = octets;
+    while !rest.is_empty() {
+        let (front, others) = rest.split_at(rest.len().min(32));
+        put_few(out, front)?;
+        rest = others;
     }
     Ok(())
+}
+
+// At most thirty-two octets as hexadecimal digits, two each.
+fn put_few(out: &mut Vec<u8>, octets: &[u8]) -> Result<(), AllocError>
+    requires { length octets.now ≤ 32 }
+    ensures digits { OnOk result (out.new.items ≡ out.old.items ++ encode_upper octets.now) }
+    ensures front { take (length out.old.items) out.new.items ≡ out.old.items }
+{
+    let mut text = [0; 86];
+    put_row_digits(&mut text, &wide_row(octets));
+    out.extend_from_slice(&text[22..22 + 2 * octets.len()])
 }

@@ -1,18 +1,16 @@
-ghost use Rattle.std.specs.Prelude.{◌≡◌, ◌==◌, ℕ, ◌++◌, ◌<◌, length, take, codes, decimal, slice_index, replicate, [], OnOk, OnErr};
-ghost use Rattle.std.specs.List.{list_all};
-ghost use Rattle.hex.specs.Hex.{encode_upper, upper_digits};
-ghost use Rattle.circuit_model.specs.FrameInput.{idle_octet};
+ghost use Rattle.std.specs.Prelude.{◌≡◌, ℕ, ◌++◌, ◌*◌, ◌≤◌, length, take, codes, decimal, slice_index, [], OnOk, OnErr};
+ghost use Rattle.hex.specs.Hex.{encode_upper};
 ghost use Rattle.exchange_core.specs.declared.answer.Kept.TheVariants.{Granted, Busy, Seated, NoPort, Freed, NotNailed};
 ghost use Rattle.report_text.specs.Report.{answer_line, frame_line, line_octets, lines_sent, octet_of, part, parts, report_line};
 
+use crate::digits::{is_idle, put_row_digits, wide_row};
 use crate::message::put_message;
-use circuit_model::IDLE;
+use crate::text::{put_before, put_line_before, put_number_before};
 use exchange_core::{Answer, Kept};
-use itoa::Buffer;
 use std::alloc::AllocError;
 
-// A row of idle octets.
-const IDLE_ROW: [u8; 32] = [IDLE; 32];
+// Room for the words and numbers of a line: three numbers of ten digits, and what stands between them.
+const ROOM: usize = 48;
 
 /// Appends a report's line for one event: its number and what it was answered, for a message what
 /// was sent for it, and for a frame the thirty octets of each line that sends an octet other than
@@ -62,8 +60,7 @@ fn put_busy(out: &mut Vec<u8>, event: u32) -> Result<(), AllocError>
     ensures line { OnOk result (out.new.items ≡ out.old.items ++ report_line [] event Busy) }
     ensures front { take (length out.old.items) out.new.items ≡ out.old.items }
 {
-    put_number(out, event)?;
-    out.extend_from_slice(b" busy\n")
+    put_word(out, event, b" busy\n")
 }
 
 fn put_seated(out: &mut Vec<u8>, event: u32, a: u32, b: u32) -> Result<(), AllocError>
@@ -77,37 +74,61 @@ fn put_no_port(out: &mut Vec<u8>, event: u32) -> Result<(), AllocError>
     ensures line { OnOk result (out.new.items ≡ out.old.items ++ report_line [] event NoPort) }
     ensures front { take (length out.old.items) out.new.items ≡ out.old.items }
 {
-    put_number(out, event)?;
-    out.extend_from_slice(b" noport\n")
+    put_word(out, event, b" noport\n")
 }
 
 fn put_freed(out: &mut Vec<u8>, event: u32) -> Result<(), AllocError>
     ensures line { OnOk result (out.new.items ≡ out.old.items ++ report_line [] event Freed) }
     ensures front { take (length out.old.items) out.new.items ≡ out.old.items }
 {
-    put_number(out, event)?;
-    out.extend_from_slice(b" freed\n")
+    put_word(out, event, b" freed\n")
 }
 
 fn put_not_nailed(out: &mut Vec<u8>, event: u32) -> Result<(), AllocError>
     ensures line { OnOk result (out.new.items ≡ out.old.items ++ report_line [] event NotNailed) }
     ensures front { take (length out.old.items) out.new.items ≡ out.old.items }
 {
-    put_number(out, event)?;
-    out.extend_from_slice(b" notnailed\n")
+    put_word(out, event, b" notnailed\n")
+}
+
+// A number and the word behind it.
+pub(crate) fn put_word(out: &mut Vec<u8>, number: u32, word: &[u8]) -> Result<(), AllocError>
+    requires { length word.now ≤ 16 }
+    ensures word { OnOk result (out.new.items ≡ out.old.items ++ decimal number ++ word.now) }
+    ensures front { take (length out.old.items) out.new.items ≡ out.old.items }
+{
+    let mut text = [0; ROOM];
+    let start = put_before(&mut text, ROOM, word);
+    let start = put_number_before(&mut text, start, number);
+    out.extend_from_slice(&text[start..])
+}
+
+// A number, the word behind it, and a second number.
+fn put_pair(out: &mut Vec<u8>, number: u32, word: &[u8], other: u32) -> Result<(), AllocError>
+    requires { length word.now ≤ 16 }
+    ensures pair { OnOk result (out.new.items ≡ out.old.items ++ decimal number ++ word.now ++ decimal other) }
+    ensures front { take (length out.old.items) out.new.items ≡ out.old.items }
+{
+    let mut text = [0; ROOM];
+    let start = put_number_before(&mut text, ROOM, other);
+    let start = put_before(&mut text, start, word);
+    let start = put_number_before(&mut text, start, number);
+    out.extend_from_slice(&text[start..])
 }
 
 // A line that ends with two numbers, each behind a space.
 fn put_numbers(out: &mut Vec<u8>, event: u32, word: &[u8], a: u32, b: u32) -> Result<(), AllocError>
+    requires { length word.now ≤ 16 }
     ensures line { OnOk result (out.new.items ≡ out.old.items ++ decimal event ++ word.now ++ decimal a ++ codes " " ++ decimal b ++ codes "\n") }
     ensures front { take (length out.old.items) out.new.items ≡ out.old.items }
 {
-    put_number(out, event)?;
-    out.extend_from_slice(word)?;
-    put_number(out, a)?;
-    out.extend_from_slice(b" ")?;
-    put_number(out, b)?;
-    out.extend_from_slice(b"\n")
+    let mut text = [b'\n'; ROOM];
+    let start = put_number_before(&mut text, ROOM - 1, b);
+    let start = put_before(&mut text, start, b" ");
+    let start = put_number_before(&mut text, start, a);
+    let start = put_before(&mut text, start, word);
+    let start = put_number_before(&mut text, start, event);
+    out.extend_from_slice(&text[start..])
 }
 
 fn put_frame(
@@ -119,9 +140,7 @@ fn put_frame(
     ensures line { OnOk result (out.new.items ≡ out.old.items ++ frame_line (lines_sent (octet_of octets.now) (length octets.now)) event number) }
     ensures front { take (length out.old.items) out.new.items ≡ out.old.items }
 {
-    put_number(out, event)?;
-    out.extend_from_slice(b" frame ")?;
-    put_number(out, number)?;
+    put_pair(out, event, b" frame ", number)?;
     put_parts(out, octets)?;
     out.extend_from_slice(b"\n")
 }
@@ -150,79 +169,26 @@ fn put_part(out: &mut Vec<u8>, line: usize, octets: &[u8; 30]) -> Result<(), All
     ensures part { OnOk result (out.new.items ≡ out.old.items ++ part line octets.now) }
     ensures front { take (length out.old.items) out.new.items ≡ out.old.items }
 {
-    if is_idle(octets) {
+    let row = wide_row(octets);
+    if is_idle(&row) {
         return Ok(());
     }
-    put_line(out, line)?;
-    put_digits(out, octets)
+    put_sent(out, line, &row, 30)
 }
 
-// The number of a line, before its octets.
-pub(crate) fn put_line(out: &mut Vec<u8>, line: usize) -> Result<(), AllocError>
-    ensures line { OnOk result (out.new.items ≡ out.old.items ++ codes " " ++ decimal line ++ codes ":") }
+// The first octets of a row, behind the number of their line.
+pub(crate) fn put_sent(
+    out: &mut Vec<u8>,
+    line: usize,
+    row: &[u8; 32],
+    count: usize,
+) -> Result<(), AllocError>
+    requires { count ≤ 32 }
+    ensures sent { OnOk result (out.new.items ≡ out.old.items ++ (codes " " ++ decimal line ++ codes ":" ++ take (2 * count) (encode_upper row.now))) }
     ensures front { take (length out.old.items) out.new.items ≡ out.old.items }
 {
-    let mut buffer = Buffer::new();
-    out.extend_from_slice(b" ")?;
-    out.extend_from_slice(buffer.format(line).as_bytes())?;
-    out.extend_from_slice(b":")
-}
-
-// The thirty octets of a line and two idle ones, so that whole vectors are worked on.
-fn wide_row(octets: &[u8; 30]) -> [u8; 32]
-    ensures { result ≡ octets.now ++ replicate 2 idle_octet }
-{
-    let mut row = IDLE_ROW;
-    row[..30].copy_from_slice(octets);
-    row
-}
-
-// Whether a line sends nothing but idle octets.
-fn is_idle(octets: &[u8; 30]) -> bool
-    ensures { result ≡ list_all (λ octet. octet == idle_octet) octets.now }
-{
-    wide_row(octets) == IDLE_ROW
-}
-
-fn put_digits(out: &mut Vec<u8>, octets: &[u8; 30]) -> Result<(), AllocError>
-    ensures digits { OnOk result (out.new.items ≡ out.old.items ++ encode_upper octets.now) }
-    ensures front { take (length out.old.items) out.new.items ≡ out.old.items }
-{
-    out.extend_from_slice(front(&hex_digits(&wide_row(octets))))
-}
-
-// The digits of a line's own octets.
-fn front(digits: &[u8; 64]) -> &[u8]
-    ensures { result.now ≡ take 60 digits.now }
-{
-    &digits[..60]
-}
-
-// The octets as hexadecimal digits, two each.
-fn hex_digits(row: &[u8; 32]) -> [u8; 64]
-    ensures { result ≡ encode_upper row.now }
-{
-    let mut digits = [0; 64];
-    for place in 0..32 {
-        let octet = row[place];
-        digits[2 * place] = digit(octet >> 4);
-        digits[2 * place + 1] = digit(octet & 0x0F);
-    }
-    digits
-}
-
-// The hexadecimal digit of a value, in upper case. It is reckoned: a table would be read digit by digit.
-pub(crate) fn digit(value: u8) -> u8
-    requires { value < 16 }
-    ensures { result ≡ slice_index upper_digits value }
-{
-    value + if value > 9 { b'A' - 10 } else { b'0' }
-}
-
-pub(crate) fn put_number(out: &mut Vec<u8>, number: u32) -> Result<(), AllocError>
-    ensures number { OnOk result (out.new.items ≡ out.old.items ++ decimal number) }
-    ensures front { take (length out.old.items) out.new.items ≡ out.old.items }
-{
-    let mut buffer = Buffer::new();
-    out.extend_from_slice(buffer.format(number).as_bytes())
+    let mut text = [0; 86];
+    put_row_digits(&mut text, row);
+    let start = put_line_before(&mut text, line);
+    out.extend_from_slice(&text[start..22 + 2 * count])
 }

@@ -7,3 +7,4 @@ pub mod TraceReadings
 pub mod TraceAnswers
 pub mod SegmentLemmas
 pub mod SoundLemmas
+pub mod PlainLemmas

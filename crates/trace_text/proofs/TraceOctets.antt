@@ -1,14 +1,17 @@
 -- Hexadecimal digits in pairs.
-use Rattle.std.proofs.Common.{◌≡◌, ◌≢◌, ℕ, zero, suc, ◌+◌, ◌*◌, ◌-◌, ◌/◌, ◌%◌, ◌<◌, ◌≤◌, Bool, true, false, cond, ◌&&◌, eqb, List, [], ◌∷◌, ◌++◌, length, get_or, set, take, drop, map, replicate, Option, Some, None, is_some, option_map, ok_or, All, leb, Ok, Err, refl, sym, ap, subst, ◌∙◌, arith, ◌⊎◌, inl, inr, append_assoc}
+use Rattle.std.proofs.Common.{◌≡◌, ◌≢◌, ℕ, zero, suc, ◌+◌, ◌*◌, ◌-◌, ◌/◌, ◌%◌, ◌<◌, ◌≤◌, Bool, true, false, cond, ◌&&◌, ◌||◌, eqb, ltb, bit_or, List, [], ◌∷◌, ◌++◌, length, get_or, set, take, drop, map, replicate, Option, Some, None, is_some, option_map, ok_or, All, leb, Ok, Err, refl, sym, ap, subst, ◌∙◌, arith, ◌⊎◌, inl, inr, append_assoc}
 use Rattle.std.specs.Prelude.{option_and_then, IfSome}
 use Rattle.std.specs.List.{list_all}
-use Rattle.std.proofs.lemmas.Bool.{eq-eqb, ne_eqb, le-leb}
-use Rattle.std.proofs.lemmas.List.{append-nil, take_more, take_more_set, drop_more, drop_all, take_all, length-map, map-append}
+use Rattle.std.proofs.lemmas.Bool.{eq-eqb, ne_eqb, le-leb, agree_below_at}
+use Rattle.std.proofs.lemmas.List.{append-nil, take-append-drop, take_more, take_more_set, drop_more, drop_all, take_all, length-map, map-append}
 use Rattle.std.proofs.lemmas.List.Elements.{All-nil, All-cons}
 use Rattle.std.proofs.lemmas.List.Folds.{list_all-append, list_all_at}
 use Rattle.std.proofs.lemmas.Bool.Decides.{nat_tests}
 use Rattle.circuit_model.specs.Channels.{between}
 use Rattle.trace_text.specs.declared.fault.Reason.TheVariants.{Hex, Length}
+use Rattle.trace_text.specs.declared.fault.LineFault.{LineFault}
+use Rattle.trace_text.specs.declared.fault.LineFault.TheVariants.{Memory, Refused}
+use Rattle.trace_text.specs.TraceLines.{Fails}
 use Rattle.trace_text.specs.TraceFields.{digit_value, is_digit, octets_written, thirty, at_most}
 
 -- ---- one digit
@@ -21,7 +24,7 @@ pub in_range : (low high n : ℕ) → between low high n ≡ true → (low ≤ n
 in_range low high n h = grind (arith, nat_tests)
 
 -- a property of a digit's value, shown for each kind of digit
-by_kind : (octet : ℕ) (P : ℕ → Type 0) → (48 ≤ octet → octet ≤ 57 → P (octet - 48)) → (65 ≤ octet → octet ≤ 70 → P (octet - 55))
+pub by_kind : (octet : ℕ) (P : ℕ → Type 0) → (48 ≤ octet → octet ≤ 57 → P (octet - 48)) → (65 ≤ octet → octet ≤ 70 → P (octet - 55))
     → (97 ≤ octet → octet ≤ 102 → P (octet - 87)) → IfSome (digit_value octet) P
 by_kind octet P numeral upper lower =
     let Q : Option ℕ → Type 0 = λ o. IfSome o P in
@@ -181,58 +184,62 @@ pub behind_nothing : (o : Option (List ℕ)) → behind [] o ≡ o
 behind_nothing None = refl
 behind_nothing (Some octets) = refl
 
--- ---- pair by pair
+-- ---- some digits before others
 
--- what a pair writes, before those that follow
-pair_first : (high low : ℕ) (rest : List ℕ) (o : Option ℕ) → option_map (λ octet. octet ∷ []) o ≡ octets_written (high ∷ low ∷ [])
-    → octets_written (high ∷ low ∷ rest) ≡ option_and_then (λ octet. behind (octet ∷ []) (octets_written rest)) o
-pair_first high low rest None e =
-    elim (either high) [
-      | inr lost ↦ none_first high low rest lost.1
-      | inl found ↦ elim (either low) [
-        | inr lost ↦ none_second high low rest lost.1
-        | inl both ↦ let some = pair_then high low [] found.1.0 both.1.0 found.1.1 both.1.1 in absurd cc
+behind_then : (h : ℕ) (o written : Option (List ℕ)) → behind (h ∷ []) (option_and_then (λ octets. behind octets written) o) ≡ option_and_then (λ octets. behind octets written) (behind (h ∷ []) o)
+behind_then h None written = refl
+behind_then h (Some octets) None = refl
+behind_then h (Some octets) (Some more) = refl
+
+-- the octets of digits, and those of the digits that follow
+pub written_both : (digits others : List ℕ) → length digits % 2 ≡ 0 → octets_written (digits ++ others) ≡ option_and_then (λ octets. behind octets (octets_written others)) (octets_written digits)
+written_both [] others even = sym (behind_nothing (octets_written others))
+written_both (x ∷ []) others even = absurd (omega arith)
+written_both (x ∷ y ∷ digits) others even =
+    let written = octets_written others in
+    elim (either x) [
+      | inr lost ↦ none_first x y (digits ++ others) lost.1 ∙ sym (ap (option_and_then (λ octets. behind octets written)) (none_first x y digits lost.1))
+      | inl high ↦ elim (either y) [
+        | inr lost ↦ none_second x y (digits ++ others) lost.1 ∙ sym (ap (option_and_then (λ octets. behind octets written)) (none_second x y digits lost.1))
+        | inl low ↦
+            let octet = high.1.0 * 16 + low.1.0 in
+            pair_then x y (digits ++ others) high.1.0 low.1.0 high.1.1 low.1.1
+            ∙ ap (behind (octet ∷ [])) (written_both digits others (omega arith))
+            ∙ behind_then octet (octets_written digits) written
+            ∙ sym (ap (option_and_then (λ octets. behind octets written)) (pair_then x y digits high.1.0 low.1.0 high.1.1 low.1.1))
       ]
     ]
-pair_first high low rest (Some octet) e =
-    elim (either high) [
-      | inr lost ↦ let none = none_first high low [] lost.1 in absurd cc
-      | inl found ↦ elim (either low) [
-        | inr lost ↦ let none = none_second high low [] lost.1 in absurd cc
-        | inl both ↦
-            let some = pair_then high low [] found.1.0 both.1.0 found.1.1 both.1.1 in
-            let same : found.1.0 * 16 + both.1.0 ≡ octet = cc in
-            rw (← same) (pair_then high low rest found.1.0 both.1.0 found.1.1 both.1.1)
-      ]
-    ]
 
--- one more octet is read
-pub pair_next : (high low octet : ℕ) (octets rest : List ℕ) (written : Option (List ℕ)) → Some (octet ∷ []) ≡ octets_written (high ∷ low ∷ [])
-    → behind octets (octets_written (high ∷ low ∷ rest)) ≡ written → behind (octets ++ octet ∷ []) (octets_written rest) ≡ written
-pair_next high low octet octets rest written e so_far =
-    sym (behind-behind octets octet (octets_written rest)) ∙ ap (behind octets) (sym (pair_first high low rest (Some octet) e)) ∙ so_far
+behind_all : (front octets : List ℕ) (o : Option (List ℕ)) → behind front (behind octets o) ≡ behind (front ++ octets) o
+behind_all front octets None = refl
+behind_all front octets (Some more) = ap (λ (l : List ℕ). Some l) (sym (append_assoc front octets more))
 
-pub pair_step : (digits octets : List ℕ) (octet : ℕ) (written : Option (List ℕ)) → 2 ≤ length digits → Some (octet ∷ []) ≡ octets_written (get_or digits 0 0 ∷ get_or digits 1 0 ∷ [])
-    → behind octets (octets_written digits) ≡ written → behind (octets ++ octet ∷ []) (octets_written (take (length digits - 2) (drop 2 digits))) ≡ written
-pair_step [] octets octet written two e so_far = absurd (omega arith)
-pair_step (x ∷ []) octets octet written two e so_far = absurd (omega arith)
-pair_step (x ∷ y ∷ rest) octets octet written two e so_far =
-    rw (take_all (length (x ∷ y ∷ rest) - 2) rest (omega arith)) (pair_next x y octet octets rest written e so_far)
+pushed_on : (front now : List ℕ) (o written : Option (List ℕ)) → behind front o ≡ Some now → behind front (option_and_then (λ octets. behind octets written) o) ≡ behind now written
+pushed_on front now None written e = absurd cc
+pushed_on front now (Some octets) written e = let same : front ++ octets ≡ now = cc in behind_all front octets written ∙ ap (λ l. behind l written) same
 
--- a pair that writes no octet
-pub pair_lost : (high low : ℕ) (octets rest : List ℕ) (written : Option (List ℕ)) → None ≡ octets_written (high ∷ low ∷ [])
-    → behind octets (octets_written (high ∷ low ∷ rest)) ≡ written → ok_or written Hex ≡ Err Hex
-pair_lost high low octets rest written e so_far = let none = pair_first high low rest None e in rw (← so_far, none) refl
+-- some digits more are read
+pub octets_pushed : (n : ℕ) (digits before now : List ℕ) (all : Option (List ℕ)) → length (take n digits) % 2 ≡ 0 → behind before (octets_written (take n digits)) ≡ Some now
+    → behind before (octets_written digits) ≡ all → behind now (octets_written (drop n digits)) ≡ all
+octets_pushed n digits before now all even read so_far =
+    let both = ap octets_written (sym (take-append-drop n digits)) ∙ written_both (take n digits) (drop n digits) even in
+    sym (pushed_on before now (octets_written (take n digits)) (octets_written (drop n digits)) read) ∙ sym (ap (behind before) both) ∙ so_far
 
--- the end of pairs, and a digit left over
-pub pairs_end : (octets rest : List ℕ) (written : Option (List ℕ)) → length rest ≡ 0 → behind octets (octets_written rest) ≡ written → ok_or written Hex ≡ Ok octets
-pairs_end octets [] written empty so_far = rw (← so_far) (ap (λ (l : List ℕ). Ok l) (append-nil octets))
-pairs_end octets (x ∷ rest) written empty so_far = absurd (omega arith)
+lost_in : (o written : Option (List ℕ)) (front : List ℕ) → ok_or o Hex ≡ Err Hex → ok_or (behind front (option_and_then (λ octets. behind octets written) o)) Hex ≡ Err Hex
+lost_in None written front e = refl
+lost_in (Some octets) written front e = absurd cc
 
-pub digit_left : (octets rest : List ℕ) (written : Option (List ℕ)) → length rest ≡ 1 → behind octets (octets_written rest) ≡ written → ok_or written Hex ≡ Err Hex
-digit_left octets [] written one so_far = absurd (omega arith)
-digit_left octets (x ∷ []) written one so_far = rw (← so_far) refl
-digit_left octets (x ∷ y ∷ rest) written one so_far = absurd (omega arith)
+-- some digits that write nothing
+pub octets_lost : (n : ℕ) (digits before : List ℕ) (all : Option (List ℕ)) → length (take n digits) % 2 ≡ 0 → ok_or (octets_written (take n digits)) Hex ≡ Err Hex
+    → behind before (octets_written digits) ≡ all → ok_or all Hex ≡ Err Hex
+octets_lost n digits before all even lost so_far =
+    let both = ap octets_written (sym (take-append-drop n digits)) ∙ written_both (take n digits) (drop n digits) even in
+    ap (λ o. ok_or o Hex) (sym so_far ∙ ap (behind before) both) ∙ lost_in (octets_written (take n digits)) (octets_written (drop n digits)) before lost
+
+-- no digits are left
+pub octets_end : (octets rest : List ℕ) (written : Option (List ℕ)) → length rest ≡ 0 → behind octets (octets_written rest) ≡ written → written ≡ Some octets
+octets_end octets [] written empty so_far = sym so_far ∙ ap (λ (l : List ℕ). Some l) (append-nil octets)
+octets_end octets (x ∷ rest) written empty so_far = absurd (omega arith)
 
 -- ---- at most so many octets
 
@@ -279,7 +286,7 @@ are_octets (x ∷ y ∷ rest) =
       ]
     ]
 
--- ---- sixty digits, and four behind them
+-- ---- digits, and more behind them
 
 abbrev pub AreValues : List ℕ → List ℕ → Type 0
 AreValues values digits = map digit_value digits ≡ map (λ v. Some v) values
@@ -303,7 +310,7 @@ value_more values digits k v room within e so_far =
 
 -- one more pair of digits with these values is read
 pub values_read : (digits values octets : List ℕ) (i octet : ℕ) → AreValues values digits → 2 * i + 1 < length values → i < length octets
-    → octet ≡ (get_or values (2 * i) 0 * 16 % 256 + get_or values (2 * i + 1) 0) % 256
+    → octet ≡ ((get_or values (2 * i) 0 + 256 * get_or values (2 * i + 1) 0) * 16 % 65536 + (get_or values (2 * i) 0 + 256 * get_or values (2 * i + 1) 0) / 256) % 65536 % 256
     → behind (take i octets) (octets_written (drop (2 * i) digits)) ≡ octets_written digits
     → behind (take (i + 1) (set octets i octet)) (octets_written (drop (2 * (i + 1)) digits)) ≡ octets_written digits
 values_read digits values octets i octet same lt room e so_far =
@@ -366,15 +373,20 @@ value_found digits k all within =
       | inr lost ↦ let none = list_all_at is_digit digits k 0 within lost.0 in absurd cc
     ]
 
-abbrev pub four_more : List ℕ → List ℕ
-four_more digits = digits ++ replicate 4 48
+-- so many digits, and more behind them up to sixty-four
+abbrev pub widened : List ℕ → List ℕ
+widened digits = digits ++ replicate (64 - length digits) 48
+
+zeros_are : (n : ℕ) → list_all is_digit (replicate n 48) ≡ true
+zeros_are zero = refl
+zeros_are (suc n) = zeros_are n
 
 -- digits behind others don't tell whether these are digits
-pub lost_wide : (digits : List ℕ) → length digits ≡ 60 → list_all is_digit (four_more digits) ≡ false → thirty (octets_written digits) ≡ Err Hex
-lost_wide digits sixty lost =
-    let front : (list_all is_digit digits && true) ≡ false = sym (list_all-append is_digit digits (replicate 4 48)) ∙ lost in
-    let some : is_some (octets_written digits) ≡ false = all_digits digits (omega arith) ∙ and_false (list_all is_digit digits) front in
-    refused_digits digits some
+pub lost_wide : (digits : List ℕ) → length digits % 2 ≡ 0 → list_all is_digit (widened digits) ≡ false → is_some (octets_written digits) ≡ false
+lost_wide digits even lost =
+    let more = replicate (64 - length digits) 48 in
+    let front : (list_all is_digit digits && true) ≡ false = sym (ap (λ b. list_all is_digit digits && b) (zeros_are (64 - length digits))) ∙ sym (list_all-append is_digit digits more) ∙ lost in
+    all_digits digits even ∙ and_false (list_all is_digit digits) front
 
 is_thirty : (digits octets : List ℕ) (o : Option (List ℕ)) → o ≡ Some octets → length digits ≡ 60 → IfSome o (λ octets. length digits ≡ 2 * length octets) → thirty o ≡ Ok octets
 is_thirty digits octets None e sixty half = absurd cc
@@ -384,9 +396,31 @@ is_thirty digits octets (Some others) e sixty half =
     rw (full, same) refl
 
 -- the first thirty of the octets that sixty digits and four more write
-pub thirty_wide : (digits octets : List ℕ) → length digits ≡ 60 → octets_written (four_more digits) ≡ Some octets → thirty (octets_written digits) ≡ Ok (take 30 octets)
+pub thirty_wide : (digits octets : List ℕ) → length digits ≡ 60 → octets_written (widened digits) ≡ Some octets → thirty (octets_written digits) ≡ Ok (take 30 octets)
 thirty_wide digits octets sixty e =
-    is_thirty digits (take 30 octets) (octets_written digits) (front_written 30 digits (replicate 4 48) octets (omega arith) e) sixty (written_length digits)
+    is_thirty digits (take 30 octets) (octets_written digits) (front_written 30 digits (replicate (64 - length digits) 48) octets (omega arith) e) sixty (written_length digits)
+
+-- digits in pairs that are none
+pub hex_lost : (o : Option (List ℕ)) → is_some o ≡ false → ok_or o Hex ≡ Err Hex
+hex_lost None h = refl
+hex_lost (Some octets) h = absurd cc
+
+-- a fault of some digits is one of all
+pub fails_lost : (e : LineFault) (o all : Option (List ℕ)) → (ok_or o Hex ≡ Err Hex → ok_or all Hex ≡ Err Hex) → Fails e (ok_or o Hex) → Fails e (ok_or all Hex)
+fails_lost Memory o all lost fails = tt
+fails_lost (Refused why) None all lost fails = lost refl ∙ fails
+fails_lost (Refused why) (Some octets) all lost fails = absurd cc
+
+-- ---- whether an octet is a digit
+
+abbrev by_ranges : ℕ → Bool
+by_ranges octet = ltb ((octet + 208) % 256) 10 || ltb ((bit_or octet 32 + 159) % 256) 6
+
+-- an octet that is no decimal digit is one where it's a letter of either case
+pub letter_digit : (octet : ℕ) → octet < 256 → ltb ((octet + 208) % 256) 10 ≡ false → ltb ((bit_or octet 32 + 159) % 256) 6 ≡ is_digit octet
+letter_digit octet small none =
+    let same : by_ranges octet ≡ is_digit octet = agree_below_at by_ranges is_digit 256 octet refl small in
+    rw none at same
 
 -- all digits have their values
 pub values_all : (values digits : List ℕ) (k : ℕ) → 64 ≤ k → length values ≡ 64 → length digits ≡ 64 → AreValues (take k values) (take k digits) → AreValues values digits

@@ -3,3 +3,4 @@ pub mod TraceFields
 pub mod TraceLines
 pub mod TraceGrammar
 pub mod TraceDraft
+pub mod TracePlain

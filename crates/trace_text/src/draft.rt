@@ -7,6 +7,7 @@ use crate::fields::header_of;
 use crate::line::{
     frame_of, free_of, kind_of, message_of, nail_of, number_of, seat_of, sync_of, tone_of,
 };
+use crate::plain::{ends_word, plain_frame, plain_free, plain_message, plain_nail};
 use crate::said::{GivenTone, Kind, Said, Sizes};
 use circuit_model::Kind as Tone;
 use exchange_core::{Event, Events, Segments, Trace};
@@ -44,7 +45,7 @@ fn give(tones: &mut Tones, given: GivenTone)
 }
 
 impl Draft {
-    ghost use Rattle.std.specs.Prelude.{◌≡◌, ◌<◌, ◌++◌, ◌∷◌, [], List, length, Ok, OnOk, IfOk, IfErr, vec_len};
+    ghost use Rattle.std.specs.Prelude.{◌≡◌, ◌<◌, ◌++◌, ◌∷◌, [], List, length, Ok, OnOk, IfOk, IfErr, IfSome, vec_len};
     ghost use Rattle.trace_text.specs.TraceWords.{words};
     ghost use Rattle.trace_text.specs.TraceLines.{number, numbered, tone, toned, before_events, by_kind, reads, joins, says, Fails, Gives};
     ghost use Rattle.trace_text.specs.TraceGrammar.{ended, IsTold};
@@ -150,6 +151,22 @@ impl Draft {
         }
     }
 
+    // The event that a line gives, where it is written as most are.
+    fn plain_event(&self, alloc: Global, line: &[u8]) -> Result<Option<Event>, AllocError>
+        ensures { IfOk result (λ found. IfSome found (λ event. reads (kept self.now) line.now ≡ Ok (Said.Happens event))) }
+    {
+        let Some(sizes) = self.sizes else {
+            return Ok(None);
+        };
+        match line {
+            [b'F', rest @ ..] if ends_word(rest) => plain_frame(alloc, sizes.external, rest),
+            [b'M', ..] => Ok(plain_message(alloc, sizes.external, line)),
+            [b'n', ..] => Ok(plain_nail(sizes.external, line)),
+            [b'f', ..] => Ok(plain_free(sizes.external, line)),
+            _ => Ok(None),
+        }
+    }
+
     // What a line says by its octets and words.
     fn reads(&self, alloc: Global, line: &[u8]) -> Result<Said, LineFault>
         ensures reads { Gives result (reads (kept self.now) line.now) }
@@ -161,6 +178,9 @@ impl Draft {
         // Most lines of a trace of messages are this one.
         if self.sizes.is_some() && line == b"sync".as_slice() {
             return Ok(Said::Sync);
+        }
+        if let Some(event) = self.plain_event(alloc, line)? {
+            return Ok(Said::Happens(event));
         }
         let Some((kind, rest)) = first_word(line) else {
             return Ok(Said::Nothing);

@@ -18,6 +18,7 @@ mod fields;
 mod laws;
 mod line;
 mod octets;
+mod plain;
 mod reader;
 mod said;
 #[cfg(test)]

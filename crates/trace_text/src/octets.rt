@@ -1,8 +1,8 @@
 // Octets, written as hexadecimal digits.
 //
-// Sixty digits are read by loops of fixed length, without a table and with one test at their end, so
-// that many are read at once. Four more digits behind them fill whole vectors.
-ghost use Rattle.std.specs.Prelude.{◌≡◌, ◌++◌, ◌*◌, ◌<◌, ◌^◌, ◌∷◌, [], ℕ, List, length, take, true, Some, is_some, option_map, map, replicate, ok_or, IfOk, IfErr, Ok};
+// Digits are read sixty-four at a time, by loops of fixed length, without a table and with one test at
+// their end, so that many are read at once. Where there are fewer, more behind them fill whole vectors.
+ghost use Rattle.std.specs.Prelude.{◌≡◌, ◌++◌, ◌*◌, ◌-◌, ◌%◌, ◌<◌, ◌≤◌, ◌^◌, ℕ, List, length, take, true, Some, is_some, option_map, map, replicate, ok_or, IfOk, IfErr, OnOk, Ok};
 ghost use Rattle.std.specs.List.{list_all};
 ghost use Rattle.trace_text.specs.TraceFields.{digit_value, is_digit, octets_written, thirty, at_most, longest_message, of_tone};
 ghost use Rattle.trace_text.specs.TraceLines.{Fails, Gives};
@@ -22,7 +22,8 @@ const LONGEST_TONE: usize = 8000;
 fn is_digit(octet: u8) -> bool
     ensures { result ≡ is_digit octet }
 {
-    matches!(octet, b'0'..=b'9' | b'A'..=b'F' | b'a'..=b'f')
+    // A letter of either case is looked at as one of lower case.
+    octet.wrapping_sub(b'0') < 10 || (octet | 0x20).wrapping_sub(b'a') < 6
 }
 
 // The value of a digit: the low half of its octet, and nine more for a letter. That of any other octet
@@ -40,13 +41,13 @@ fn are_pairs(digits: &[u8]) -> bool
     digits.len() % 2 == 0 && digits.iter().all(|octet| is_digit(*octet))
 }
 
-// Sixty digits, and four behind them.
+// At most sixty-four digits, and more behind them.
 fn wide(digits: &[u8]) -> [u8; 64]
-    requires { length digits.now ≡ 60 }
-    ensures { result ≡ digits.now ++ replicate 4 48 }
+    requires { length digits.now ≤ 64 }
+    ensures { result ≡ digits.now ++ replicate (64 - length digits.now) 48 }
 {
     let mut text = [b'0'; 64];
-    text[..60].copy_from_slice(digits);
+    text[..digits.len()].copy_from_slice(digits);
     text
 }
 
@@ -73,15 +74,15 @@ fn values_of(digits: &[u8; 64]) -> [u8; 64]
     values
 }
 
-// The octets that digits with these values write.
+// The octets that digits with these values write. The two values of an octet are looked at as one number,
+// so that eight of them are one vector.
 fn octets_of(values: &[u8; 64]) -> [u8; 32]
     ensures { (digits : List ℕ) → map digit_value digits ≡ map Some values.now → octets_written digits ≡ Some result }
 {
     let mut octets = [0; 32];
     for place in 0..32 {
-        let high = values[2 * place];
-        let low = values[2 * place + 1];
-        octets[place] = high.wrapping_mul(16).wrapping_add(low);
+        let pair = u16::from(values[2 * place]) + 256 * u16::from(values[2 * place + 1]);
+        octets[place] = (pair.wrapping_mul(16).wrapping_add(pair / 256) % 256) as u8;
     }
     octets
 }
@@ -113,15 +114,19 @@ pub(crate) fn thirty_octets(digits: &[u8]) -> Result<[u8; 30], Reason>
     Ok(front(&octets_of(&values_of(&text))))
 }
 
-// The octet that two digits write.
-fn octet_of(high: u8, low: u8) -> Option<u8>
-    ensures { option_map (λ octet. octet ∷ []) result ≡ octets_written (high ∷ low ∷ []) }
+// Puts the octets that at most sixty-four digits write behind others.
+fn push_octets(octets: &mut Vec<u8>, digits: &[u8]) -> Result<(), LineFault>
+    requires { (length digits.now ≤ 64) × (length digits.now % 2 ≡ 0) }
+    ensures read { OnOk result (option_map (λ written. octets.old.items ++ written) (octets_written digits.now) ≡ Some octets.new.items) }
+    ensures refused { IfErr result (λ e. Fails e (ok_or (octets_written digits.now) Reason.Hex)) }
 {
-    if is_digit(high) && is_digit(low) {
-        Some(value(high).wrapping_mul(16).wrapping_add(value(low)))
-    } else {
-        None
+    let text = wide(digits);
+    if !are_digits(&text) {
+        return Err(LineFault::Refused(Reason::Hex));
     }
+    let read = octets_of(&values_of(&text));
+    octets.extend_from_slice(&read[..digits.len() / 2])?;
+    Ok(())
 }
 
 // The octets that digits write.
@@ -129,14 +134,15 @@ fn octets_read(alloc: Global, digits: &[u8]) -> Result<Vec<u8>, LineFault>
     ensures read { IfOk result (λ octets. octets_written digits.now ≡ Some octets.items) }
     ensures refused { IfErr result (λ e. Fails e (ok_or (octets_written digits.now) Reason.Hex)) }
 {
+    if digits.len() % 2 != 0 {
+        return Err(LineFault::Refused(Reason::Hex));
+    }
     let mut octets = Vec::with_capacity(alloc, digits.len() / 2)?;
     let mut rest = digits;
-    while let [high, low, others @ ..] = rest {
-        octets.push(octet_of(*high, *low).ok_or(Reason::Hex)?)?;
+    while !rest.is_empty() {
+        let (front, others) = rest.split_at(rest.len().min(64));
+        push_octets(&mut octets, front)?;
         rest = others;
-    }
-    if !rest.is_empty() {
-        return Err(LineFault::Refused(Reason::Hex));
     }
     Ok(octets)
 }

@@ -1,17 +1,22 @@
-use Rattle.std.proofs.Common.{◌∙◌, ℕ, arith, ap, slice_index}
-use Rattle.std.proofs.lemmas.Nat.{and_mask}
-use Rattle.hex.specs.Hex.{upper_digits}
-use Rattle.report_text.proofs.Digits.{front_stays, digits_step, digits_done}
+use Rattle.std.proofs.Common.{◌≡◌, ◌++◌, List, ℕ, length, take, drop, arith}
+use Rattle.std.proofs.Transfers.{starts_with_trans}
+use Rattle.hex.specs.Hex.{encode_upper}
+use Rattle.report_text.proofs.Texts.{octets_more, octets_done}
 use Rattle.report_text.proofs.message.put_octets.Goals as goal
 
-pub loop-octet-preserved : goal.loop-octet-preserved
-loop-octet-preserved c =
-    let octet : ℕ = slice_index c.args.octets.now c.loop-octet.octet-index in
+pub loop-rest-preserved : goal.loop-rest-preserved
+loop-rest-preserved c =
+    let rest : List ℕ = c.loop-rest.rest.now in
+    let out : List ℕ = c.loop-rest.out.items in
+    let now : List ℕ = c.put_few.new.out.items in
+    let front : c.split_at.result.0.now ≡ take c.min.result rest = grind arith in
+    let others : c.split_at.result.1.now ≡ drop c.min.result rest = grind arith in
+    let pushed : now ≡ out ++ encode_upper (take c.min.result rest) = rw (← front) (grind arith) in
     record {
-      front = front_stays _ _ _ _ _ _ c.push_reserved.ensures.items c.push_reserved-in-loop-octet.ensures.items c.loop-octet.invariant.front;
-      room = omega (arith, c.loop-octet.invariant.room, c.loop-octet-test.true, c.push_reserved.ensures.len, c.push_reserved.ensures.capacity, c.push_reserved-in-loop-octet.ensures.len, c.push_reserved-in-loop-octet.ensures.capacity);
-      done = digits_step c.args.octets.now c.loop-octet.out.items _ _ _ c.loop-octet.octet-index _ _ (omega (arith, c.loop-octet-test.true)) c.digit.ensures (c.digit-in-loop-octet.ensures ∙ ap (λ (k : ℕ). slice_index upper_digits k) (and_mask octet 4)) c.push_reserved.ensures.items c.push_reserved-in-loop-octet.ensures.items c.loop-octet.invariant.done;
+      front = starts_with_trans now out c.args.out.now.items c.put_few.ensures.front c.loop-rest.invariant.front;
+      done = rw others (octets_more out now rest (c.args.out.now.items ++ encode_upper c.args.octets.now) c.min.result pushed c.loop-rest.invariant.done);
     }
 
 pub returns-clause-digits : goal.returns-clause-digits
-returns-clause-digits c = digits_done c.args.octets.now c.loop-octet.out.items _ c.loop-octet.octet-index (omega (arith, c.loop-octet-test.false)) c.loop-octet.invariant.done
+returns-clause-digits c =
+    octets_done c.loop-rest.out.items c.loop-rest.rest.now (c.args.out.now.items ++ encode_upper c.args.octets.now) (grind arith) c.loop-rest.invariant.done

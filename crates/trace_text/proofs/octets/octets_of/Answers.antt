@@ -15,7 +15,7 @@ loop-place-preserved c =
     let room = c.loop-place.invariant.room in
     record {
       room = length-set _ _ _ ∙ room;
-      read = λ digits same. values_read digits values c.loop-place.octets place _ same (omega (arith, long)) (omega (arith, room)) refl (c.loop-place.invariant.read digits same);
+      read = λ digits same. values_read digits values c.loop-place.octets place _ same (omega (arith, long)) (omega (arith, room)) (rw (c.from.ensures, c.from-in-loop-place.ensures) refl) (c.loop-place.invariant.read digits same);
     }
 
 pub returns : goal.returns

@@ -1,14 +1,33 @@
-use Rattle.std.proofs.Common.{◌≡◌, ◌∷◌, ◌++◌, [], Some, arith}
-use Rattle.trace_text.proofs.TraceOctets.{behind_nothing, pair_step}
+use Rattle.std.proofs.Common.{◌≡◌, ◌≢◌, ◌%◌, List, ℕ, length, take, drop, refl, rules, arith}
+use Rattle.std.specs.Prelude.{ok_or}
+use Rattle.trace_text.specs.declared.fault.Reason.TheVariants.{Hex}
+use Rattle.trace_text.specs.TraceLines.{Fails}
+use Rattle.std.proofs.lemmas.Bool.Decides.{nat_tests}
 use Rattle.trace_text.specs.TraceFields.{octets_written}
+use Rattle.trace_text.proofs.TraceOctets.{odd_digits, octets_pushed, octets_lost, fails_lost}
 use Rattle.trace_text.proofs.octets.octets_read.Goals as goal
 
-pub loop-rest-init : goal.loop-rest-init
-loop-rest-init c = let empty : c.in_ok-octets.octets.items ≡ [] = grind arith in rw empty (behind_nothing (octets_written c.args.digits.now))
+pub returns-then-digits-ne0-clause-refused : goal.returns-then-digits-ne0-clause-refused
+returns-then-digits-ne0-clause-refused c = rw (odd_digits c.args.digits.now (grind (arith, nat_tests))) refl
+
+pub returns-in_err-push_octets-clause-refused : goal.returns-in_err-push_octets-clause-refused
+returns-in_err-push_octets-clause-refused c =
+    let rest : List ℕ = c.loop-rest.rest.now in
+    let n : ℕ = c.min.result in
+    let front : c.split_at.result.0.now ≡ take n rest = c.split_at.ensures.front in
+    let even : length (take n rest) % 2 ≡ 0 = rw (← front) (grind arith) in
+    let fails : Fails c.in_err-push_octets.field-0.0 (ok_or (octets_written c.args.digits.now) Hex) = fails_lost c.in_err-push_octets.field-0.0 (octets_written (take n rest)) (octets_written c.args.digits.now)
+    (λ lost. octets_lost n rest c.loop-rest.octets.items (octets_written c.args.digits.now) even lost c.loop-rest.invariant.read) (rw front at c.in_err-push_octets.ensures.refused) in
+    search (rules, fails)
 
 pub loop-rest-preserved : goal.loop-rest-preserved
 loop-rest-preserved c =
-    let octet = c.in_ok-ok_or.field-0 in
-    let found : c.octet_of.result ≡ Some octet = grind arith in
-    let pushed : c.push.new.self.items ≡ c.loop-rest.octets.items ++ octet ∷ [] = grind arith in
-    rw pushed (pair_step c.loop-rest.rest.now c.loop-rest.octets.items octet _ c.in-len2-up.len_at_least (rw found at c.octet_of.ensures) c.loop-rest.invariant)
+    let rest : List ℕ = c.loop-rest.rest.now in
+    let n : ℕ = c.min.result in
+    let front : c.split_at.result.0.now ≡ take n rest = c.split_at.ensures.front in
+    let others : c.split_at.result.1.now ≡ drop n rest = c.split_at.ensures.back in
+    let even : length (take n rest) % 2 ≡ 0 = rw (← front) (grind arith) in
+    record {
+      even = grind arith;
+      read = rw others (octets_pushed n rest c.loop-rest.octets.items c.push_octets.new.octets.items (octets_written c.args.digits.now) even (rw front at c.in_ok-push_octets.ensures.read) c.loop-rest.invariant.read);
+    }

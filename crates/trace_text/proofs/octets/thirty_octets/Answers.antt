@@ -1,4 +1,4 @@
-use Rattle.std.proofs.Common.{◌≡◌, Some, ap, ◌∙◌, sym}
+use Rattle.std.proofs.Common.{◌≡◌, length, ap, ◌∙◌, sym, arith}
 use Rattle.std.specs.List.{list_all}
 use Rattle.trace_text.specs.TraceFields.{is_digit, octets_written}
 use Rattle.trace_text.proofs.TraceOctets.{refused_length, refused_digits, lost_wide, thirty_wide}
@@ -12,9 +12,11 @@ returns-else-are_pairs c = sym (refused_digits c.args.digits.now (sym c.are_pair
 
 pub returns-then-not-are_digits : goal.returns-then-not-are_digits
 returns-then-not-are_digits c =
-    sym (lost_wide c.args.digits.now c.if-digits-ne60.false (ap (λ ds. list_all is_digit ds) (sym c.wide-text.ensures) ∙ sym c.are_digits.ensures ∙ c.if-not-are_digits.true))
+    let digits = c.args.digits.now in
+    let sixty : length digits ≡ 60 = c.if-digits-ne60.false in
+    let lost = lost_wide digits (omega (arith, sixty)) (ap (λ ds. list_all is_digit ds) (sym c.wide-text.ensures) ∙ sym c.are_digits.ensures ∙ c.if-not-are_digits.true) in
+    sym (refused_digits digits lost)
 
 pub returns : goal.returns
 returns c =
-    let written : octets_written c.wide-text.result ≡ Some c.octets_of.result = c.octets_of.ensures _ c.values_of.ensures in
-    rw c.front.ensures (sym (thirty_wide c.args.digits.now c.octets_of.result c.if-digits-ne60.false (ap octets_written (sym c.wide-text.ensures) ∙ written)))
+    rw c.front.ensures (sym (thirty_wide c.args.digits.now c.octets_of.result c.if-digits-ne60.false (ap octets_written (sym c.wide-text.ensures) ∙ c.octets_of.ensures _ c.values_of.ensures)))

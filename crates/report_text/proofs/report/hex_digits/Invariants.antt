@@ -1,9 +1,0 @@
-use Rattle.std.proofs.Common.{◌≡◌, ◌*◌, ◌++◌, take, drop, length}
-use Rattle.hex.specs.Hex.{encode_upper}
-use Rattle.report_text.proofs.report.hex_digits.Given as goal
-
-abbrev pub invariant-loop-place : goal.invariant-loop-place
-invariant-loop-place l = record {
-  wide : length l.digits ≡ 64;
-  done : take (2 * l.place) l.digits ++ encode_upper (drop l.place l.row) ≡ encode_upper l.row;
-}

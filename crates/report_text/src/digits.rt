@@ -1,0 +1,50 @@
+// Rows of octets, and their hexadecimal digits.
+//
+// The octets of a line are worked on as a row of thirty-two, so that loops of fixed length become
+// vector code.
+ghost use Rattle.std.specs.Prelude.{◌≡◌, ◌==◌, ◌++◌, ◌-◌, ◌<◌, ◌≤◌, length, drop, slice_index, replicate};
+ghost use Rattle.std.specs.List.{list_all};
+ghost use Rattle.hex.specs.Hex.{encode_upper, upper_digits};
+ghost use Rattle.circuit_model.specs.FrameInput.{idle_octet};
+
+use circuit_model::IDLE;
+
+// At most thirty-two octets, and idle ones behind them.
+pub(crate) fn wide_row(octets: &[u8]) -> [u8; 32]
+    requires { length octets.now ≤ 32 }
+    ensures { result ≡ octets.now ++ replicate (32 - length octets.now) idle_octet }
+{
+    let mut row = [IDLE; 32];
+    row[..octets.len()].copy_from_slice(octets);
+    row
+}
+
+// Whether a row holds nothing but idle octets. Every octet is looked at.
+pub(crate) fn is_idle(row: &[u8; 32]) -> bool
+    ensures { result ≡ list_all (λ octet. octet == idle_octet) row.now }
+{
+    let mut all = true;
+    for octet in row {
+        all &= *octet == IDLE;
+    }
+    all
+}
+
+// Puts the digits of a row into a text, two for each octet, behind room for the number of a line.
+pub(crate) fn put_row_digits(text: &mut [u8; 86], row: &[u8; 32])
+    ensures { drop 22 text.new ≡ encode_upper row.now }
+{
+    for place in 0..32 {
+        let octet = row[place];
+        text[22 + 2 * place] = digit(octet >> 4);
+        text[22 + 2 * place + 1] = digit(octet & 0x0F);
+    }
+}
+
+// The hexadecimal digit of a value, in upper case. It is reckoned: a table would be read digit by digit.
+fn digit(value: u8) -> u8
+    requires { value < 16 }
+    ensures { result ≡ slice_index upper_digits value }
+{
+    value + if value > 9 { b'A' - 10 } else { b'0' }
+}

@@ -1,0 +1,161 @@
+// Lines as most are written: single spaces, and numerals of one or two digits. Each octet of such a line
+// is looked at once. Any other line is read word by word.
+ghost use Rattle.std.specs.Prelude.{◌≡◌, ◌<◌, ◌+◌, ◌∷◌, codes, length, IfOk, IfSome};
+ghost use Rattle.trace_text.specs.TraceWords.{words};
+ghost use Rattle.trace_text.specs.TraceLines.{frame, nail, free, message};
+ghost use Rattle.trace_text.specs.TracePlain.{ends_word, NumberAt, PartAt, SlotAt, TakesPart, GivesPlainly, IsPlain};
+
+use crate::octets::{message_octets, thirty_octets};
+use circuit_model::{Slot, slot_of_channel};
+use exchange_core::{Event, Input};
+use std::alloc::{AllocError, Global};
+
+/// Whether a word ends before these octets.
+pub(crate) fn ends_word(octets: &[u8]) -> bool
+    ensures { result ≡ ends_word octets.now }
+{
+    match octets {
+        [] => true,
+        [first, ..] => *first == b' ',
+    }
+}
+
+// The value of the decimal digit before other octets.
+fn digit_at(octets: &[u8]) -> Option<(u8, &[u8])>
+    ensures { IfSome result (λ found. (octets.now ≡ (48 + found.0) ∷ found.1.now) × (found.0 < 10)) }
+{
+    let (first, others) = octets.split_first()?;
+    if !first.is_ascii_digit() {
+        return None;
+    }
+    Some((*first - b'0', others))
+}
+
+// The numeral of one or two digits before other octets.
+fn number_at(octets: &[u8]) -> Option<(u8, &[u8])>
+    ensures { IfSome result (λ found. NumberAt octets.now found.0 found.1.now) }
+{
+    let (first, behind) = digit_at(octets)?;
+    match digit_at(behind) {
+        Some((ones, others)) if first > 0 => Some((10 * first + ones, others)),
+        _ => Some((first, behind)),
+    }
+}
+
+// The number of a line and the sixty octets behind it at the front of what is left of a frame's line.
+fn part_at(rest: &[u8]) -> Option<(u8, &[u8; 60], &[u8])>
+    ensures { IfSome result (λ found. PartAt rest.now found.0 found.1.now found.2.now) }
+{
+    let [b' ', behind @ ..] = rest else {
+        return None;
+    };
+    let (line, behind) = number_at(behind)?;
+    let [b':', behind @ ..] = behind else {
+        return None;
+    };
+    let (sixty, others) = behind.split_first_chunk::<60>()?;
+    if !ends_word(others) {
+        return None;
+    }
+    Some((line, sixty, others))
+}
+
+// Puts the first word of what is left of a frame's line into the frame, and answers what follows it.
+fn plain_part<'a>(given: &mut [Option<[u8; 30]>], rest: &'a [u8]) -> Option<&'a [u8]>
+    requires { length given.old < 256 }
+    ensures { IfSome result (λ others. TakesPart given.old given.new rest.now others.now) }
+{
+    let (line, sixty, others) = part_at(rest)?;
+    let place = usize::from(line);
+    if place >= given.len() || given[place].is_some() {
+        return None;
+    }
+    let octets = thirty_octets(sixty).ok()?;
+    given[place] = Some(octets);
+    Some(others)
+}
+
+/// The frame that the words of a line give, where the line is written as most are.
+pub(crate) fn plain_frame(
+    alloc: Global,
+    external: u8,
+    line: &[u8],
+) -> Result<Option<Event>, AllocError>
+    ensures { IfOk result (λ found. IfSome found (λ event. GivesPlainly (frame external (words line.now)) line.now event)) }
+{
+    let mut input = vec![in alloc; None; usize::from(external)]?;
+    let mut rest = line;
+    while !rest.is_empty() {
+        let Some(others) = plain_part(&mut input, rest) else {
+            return Ok(None);
+        };
+        rest = others;
+    }
+    Ok(Some(Event::Frame(Input::of(input))))
+}
+
+// The slot before other octets, where the exchange has it.
+fn slot_at(external: u8, octets: &[u8]) -> Option<(Slot, &[u8])>
+    ensures { IfSome result (λ found. SlotAt external octets.now found.0 found.1.now) }
+{
+    let (line, behind) = number_at(octets)?;
+    let [b'/', behind @ ..] = behind else {
+        return None;
+    };
+    let (channel, others) = number_at(behind)?;
+    if line >= external {
+        return None;
+    }
+    let place = slot_of_channel(channel)?;
+    Some((Slot { line, place }, others))
+}
+
+/// The nail that a line gives, where it is written as most are.
+pub(crate) fn plain_nail(external: u8, line: &[u8]) -> Option<Event>
+    ensures { IfSome result (λ event. IsPlain (codes "nail") (nail external) line.now event) }
+{
+    let [b'n', b'a', b'i', b'l', b' ', behind @ ..] = line else {
+        return None;
+    };
+    let (one, behind) = slot_at(external, behind)?;
+    let [b' ', behind @ ..] = behind else {
+        return None;
+    };
+    let (other, others) = slot_at(external, behind)?;
+    if !others.is_empty() || one == other {
+        return None;
+    }
+    Some(Event::Nail(one, other))
+}
+
+/// The free that a line gives, where it is written as most are.
+pub(crate) fn plain_free(external: u8, line: &[u8]) -> Option<Event>
+    ensures { IfSome result (λ event. IsPlain (codes "free") (free external) line.now event) }
+{
+    let [b'f', b'r', b'e', b'e', b' ', behind @ ..] = line else {
+        return None;
+    };
+    let (slot, others) = slot_at(external, behind)?;
+    if !others.is_empty() {
+        return None;
+    }
+    Some(Event::Free(slot))
+}
+
+/// The message that a line gives, where it is written as most are.
+pub(crate) fn plain_message(alloc: Global, external: u8, line: &[u8]) -> Option<Event>
+    ensures { IfSome result (λ event. IsPlain (codes "M") (message external) line.now event) }
+{
+    let [b'M', b' ', behind @ ..] = line else {
+        return None;
+    };
+    let (number, behind) = number_at(behind)?;
+    let [b' ', digits @ ..] = behind else {
+        return None;
+    };
+    if number >= external || digits.is_empty() {
+        return None;
+    }
+    let octets = message_octets(alloc, digits).ok()?;
+    Some(Event::Message(number, octets))
+}
