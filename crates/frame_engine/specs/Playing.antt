@@ -24,6 +24,12 @@ hears_path f (Tone kind since) = false
 abbrev pub by_path : ℕ → ℕ → Heard → ℕ
 by_path f octet heard = if hears_path f heard then octet else idle_octet
 
+-- what is played where the paths gave an octet: that one, or the octet of a tone
+abbrev pub with_tone : (Kind → List ℕ) → ℕ → ℕ → Heard → ℕ
+with_tone tones f octet Silent = octet
+with_tone tones f octet (Path since) = octet
+with_tone tones f octet (Tone kind since) = tone_octet (tones kind) (f - since)
+
 -- on each slot, given the tones, the control memory of the frame and the octets that were read out
 abbrev pub played_at : (Kind → List ℕ) → Control → (Slot → ℕ) → Slot → ℕ
 played_at tones m octet at = played_as tones m.frame (octet at) (heard_at m at)

@@ -6,9 +6,8 @@ ghost use Rattle.control_memory.specs.declared.heard.Heard.TheVariants.{Silent, 
 ghost use Rattle.control_memory.specs.Image.{lines_of, heard_at};
 ghost use Rattle.tone_rules.specs.Tables.{table_of, IsGiven};
 ghost use Rattle.frame_engine.specs.Frames.{PlaysOut, TonesGiven};
-ghost use Rattle.frame_engine.specs.Playing.{HasLine, by_path, played_as, played_at};
+ghost use Rattle.frame_engine.specs.Playing.{HasLine, by_path, played_as, played_at, with_tone};
 
-use crate::age::is_through;
 use circuit_model::IDLE;
 use control_memory::{Heard, HeardWord, Image};
 use frame_buffer::FrameBuffer;
@@ -52,10 +51,9 @@ fn play_heard(read: &[u8], heard: &[HeardWord], tones: &Tones, frame: u32, octet
     requires tones { (place : ℕ) (kind : Kind) (since : ℕ) → place < 30 → slice_index_or heard.now place Silent ≡ Tone kind since → IsGiven tones.now kind }
     ensures { (place : ℕ) → place < 30 → slice_index octets.new place ≡ played_as (table_of tones.now) frame (slice_index read.now place) (slice_index_or heard.now place Silent) }
 {
-    if gives_none(tones) {
-        play_paths(read, heard, frame, octets);
-    } else {
-        play_all(read, heard, tones, frame, octets);
+    play_paths(read, heard, frame, octets);
+    if !gives_none(tones) {
+        play_tones(heard, tones, frame, octets);
     }
 }
 
@@ -84,27 +82,15 @@ fn play_paths(read: &[u8], heard: &[HeardWord], frame: u32, octets: &mut [u8; 30
     }
 }
 
-// Writes what a line sends by its paths and tones.
-fn play_all(read: &[u8], heard: &[HeardWord], tones: &Tones, frame: u32, octets: &mut [u8; 30])
-    requires read { length read.now ≡ 30 }
+// Writes the octets of the tones that are heard over what the paths gave.
+fn play_tones(heard: &[HeardWord], tones: &Tones, frame: u32, octets: &mut [u8; 30])
     requires heard { length heard.now ≡ 30 }
     requires tones { (place : ℕ) (kind : Kind) (since : ℕ) → place < 30 → slice_index_or heard.now place Silent ≡ Tone kind since → IsGiven tones.now kind }
-    ensures { (place : ℕ) → place < 30 → slice_index octets.new place ≡ played_as (table_of tones.now) frame (slice_index read.now place) (slice_index_or heard.now place Silent) }
+    ensures { (place : ℕ) → place < 30 → slice_index octets.new place ≡ with_tone (table_of tones.now) frame (slice_index octets.old place) (slice_index_or heard.now place Silent) }
 {
     for (place, octet) in octets.iter_mut().enumerate() {
-        *octet = play_octet(heard[place].heard(), read[place], tones, frame);
-    }
-}
-
-// What is heard of an octet that was read out, or the octet of a tone.
-fn play_octet(heard: Heard, octet: u8, tones: &Tones, frame: u32) -> u8
-    requires { (kind : Kind) (since : ℕ) → heard ≡ Tone kind since → IsGiven tones.now kind }
-    ensures { result ≡ played_as (table_of tones.now) frame octet heard }
-{
-    match heard {
-        Heard::Silent => IDLE,
-        Heard::Path { since } if is_through(since, frame) => octet,
-        Heard::Path { .. } => IDLE,
-        Heard::Tone { kind, since } => octet_of(tones, kind, frame.saturating_sub(since)),
+        if let Heard::Tone { kind, since } = heard[place].heard() {
+            *octet = octet_of(tones, kind, frame.saturating_sub(since));
+        }
     }
 }
