@@ -86,7 +86,7 @@ fn play_paths(read: &[u8], heard: &[HeardWord], frame: u32, octets: &mut [u8; 30
 fn play_tones(heard: &[HeardWord], tones: &Tones, frame: u32, octets: &mut [u8; 30])
     requires heard { length heard.now ≡ 30 }
     requires tones { (place : ℕ) (kind : Kind) (since : ℕ) → place < 30 → slice_index_or heard.now place Silent ≡ Tone kind since → IsGiven tones.now kind }
-    ensures { (place : ℕ) → place < 30 → slice_index octets.new place ≡ with_tone (table_of tones.now) frame (slice_index octets.old place) (slice_index_or heard.now place Silent) }
+    ensures { (at : ℕ) → at < 30 → slice_index octets.new at ≡ with_tone (table_of tones.now) frame (slice_index octets.old at) (slice_index_or heard.now at Silent) }
 {
     for (place, octet) in octets.iter_mut().enumerate() {
         if let Heard::Tone { kind, since } = heard[place].heard() {
