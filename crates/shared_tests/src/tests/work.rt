@@ -211,7 +211,10 @@ pub fn side_by_side<B: Switchboard, R: Threads + Wait + Sync>(
     let ((odd, mut seat), (even, other)) = join(
         rt,
         move || -> (u32, B::Seat)
-            requires { (trace.now ≡ (B.board board.now).trace) × B.seated board.now seat × (30 ≤ (B.known seat).left) × ((B.known seat).number ≡ 0) × ((B.known seat).made ≡ 1) × (length (B.known seat).kept ≡ 0) }
+            requires trace { trace.now ≡ (B.board board.now).trace }
+            requires seated { B.seated board.now seat }
+            requires turns { 30 ≤ (B.known seat).left }
+            requires chief { ((B.known seat).number ≡ 0) × ((B.known seat).made ≡ 1) × (length (B.known seat).kept ≡ 0) }
             ensures { B.seated board.entry.now result.1 × ((B.known result.1).number ≡ 0) × ((B.known result.1).made ≡ 1) × (length (B.known result.1).kept ≡ 0) }
         {
             let odd = every_second(rt, board, trace, &mut seat, 1, 30);
