@@ -11,16 +11,17 @@ use Rattle.q931_codec.specs.Contents.{channel_in}
 use Rattle.number_plan.specs.declared.plan.Number.{Number}
 use Rattle.number_plan.specs.Plan.{all_targets}
 use Rattle.number_plan.specs.declared.target.Found.TheVariants.{Line, Room, More, Nothing}
-use Rattle.exchange_core.specs.declared.signal.Signal.{Signal}
+use Rattle.exchange_events.specs.declared.signal.Signal.{Signal}
 use Rattle.exchange_core.specs.IdleSlots.{lowest_idle_beside}
 use Rattle.exchange_core.specs.LegStanding.{CallsStand}
 use Rattle.exchange_core.specs.Legs.{Legs, leg_at, new_reference}
 use Rattle.exchange_core.specs.Operations.{Operation, Making, begun, performed_all}
 use Rattle.exchange_core.specs.Permitted.{CanSeat}
-use Rattle.exchange_core.specs.Setup.{Setting, Check, checks, first_cause, refusal, caller_slot, called_slot, target_of, call, call_line, call_room, accept, is_room_full}
-use Rattle.exchange_core.specs.Sound.{IsPlanned, is_reached}
+use Rattle.exchange_events.specs.Sizes.{Setting, Dimensions}
+use Rattle.exchange_core.specs.Setup.{Check, checks, first_cause, refusal, caller_slot, called_slot, target_of, call, call_line, call_room, accept, is_room_full}
+use Rattle.exchange_events.specs.Sound.{IsPlanned, is_reached}
 use Rattle.exchange_core.specs.Standing.{Holds, Makes, dimensions_of}
-use Rattle.exchange_core.specs.World.{Dimensions, World, is_full}
+use Rattle.exchange_core.specs.World.{World, is_full}
 use Rattle.exchange_core.proofs.Commands.{both_true, not_full}
 use Rattle.exchange_core.proofs.Setups.{all_pass, all_from, caller_is}
 

@@ -25,15 +25,15 @@ use Rattle.call_states.specs.declared.leg.Leg.{Leg}
 use Rattle.call_states.specs.declared.leg.Peer.{Peer}
 use Rattle.call_states.specs.declared.leg.Peer.TheVariants as peer
 use Rattle.call_states.proofs.Causes.{cause_fits}
-use Rattle.exchange_core.specs.declared.leg_table.Held.{Held}
+use Rattle.call_states.specs.declared.leg.Held.{Held}
 use Rattle.exchange_core.specs.Acts.{announced, course_of, peer_of, tone_of, with_peer, clear_with, in_state, released, disconnected, message_to, disconnect, alerting, answer}
 use Rattle.exchange_core.specs.LegStanding.{CallsStand, LegStands, LegsStand, HasPeer}
 use Rattle.exchange_core.specs.Legs.{Legs, leg_at}
 use Rattle.exchange_core.specs.Operations.{Making, begun}
 use Rattle.exchange_core.specs.Peers.{IsThere, PeerIsThere}
 use Rattle.exchange_core.specs.Permitted.{CanPair, CanSound, ArePermitted}
-use Rattle.exchange_core.specs.Setup.{Setting}
-use Rattle.exchange_core.specs.World.{Dimensions, World, obey}
+use Rattle.exchange_events.specs.Sizes.{Setting, Dimensions}
+use Rattle.exchange_core.specs.World.{World, obey}
 use Rattle.exchange_core.proofs.Answering.{ringing, caller_of, silent_by, cleared_idle, silent_idle}
 use Rattle.exchange_core.proofs.Advancing.{waiting, silent_waiting}
 use Rattle.exchange_core.proofs.Clears.{held_there, peers_apart}

@@ -20,7 +20,8 @@ use Rattle.exchange_core.specs.Acts.{in_state, tone_of, alerting, answer}
 use Rattle.exchange_core.specs.LegStanding.{LegsStand, MayHear, AreOneCall, are_matched}
 use Rattle.exchange_core.specs.Legs.{leg_at}
 use Rattle.exchange_core.specs.Operations.{Put, begun, performed_all}
-use Rattle.exchange_core.specs.World.{Dimensions, World}
+use Rattle.exchange_events.specs.Sizes.{Dimensions}
+use Rattle.exchange_core.specs.World.{World}
 use Rattle.exchange_core.proofs.Answering.{cleared_idle, silent_idle}
 use Rattle.exchange_core.proofs.Beside.{entry_here, entry_else}
 use Rattle.exchange_core.proofs.Clearing.{clear_keeps, connect_keeps}

@@ -26,13 +26,13 @@ use Rattle.call_states.specs.declared.leg.Side.{Side}
 use Rattle.call_states.specs.declared.leg.Side.TheVariants.{Caller, Called}
 use Rattle.tone_rules.specs.declared.tones.Tones.{Tones}
 use Rattle.exchange_core.specs.LegStanding.{LegsStand, HasPeer, MayHear, IsInCall, AreOneCall}
-use Rattle.exchange_core.specs.declared.leg_table.Held.{Held}
+use Rattle.call_states.specs.declared.leg.Held.{Held}
 use Rattle.exchange_core.specs.Acts.{course_of, answer}
 use Rattle.exchange_core.specs.Answered.{AreConnected}
 use Rattle.exchange_core.specs.Calls.{Received, For_leg, received, done_for, after_message}
 use Rattle.exchange_core.specs.Legs.{Legs, leg_at, held_at}
 use Rattle.exchange_core.specs.Operations.{Operation, begun, performed_all}
-use Rattle.exchange_core.specs.Setup.{Setting}
+use Rattle.exchange_events.specs.Sizes.{Setting}
 use Rattle.exchange_core.specs.World.{World}
 use Rattle.exchange_core.proofs.Sounding.{no_tone}
 use Rattle.exchange_core.proofs.Named.{received_stands}

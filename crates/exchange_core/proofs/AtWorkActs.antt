@@ -10,16 +10,16 @@ use Rattle.call_states.specs.Acts.{act_on, clearing_cause, is_null}
 use Rattle.call_states.proofs.Causes.{cause_fits}
 use Rattle.q931_codec.specs.Contents.{call_state_in}
 use Rattle.call_states.specs.declared.act.Act.TheVariants as act
-use Rattle.exchange_core.specs.declared.leg_table.Held.{Held}
+use Rattle.call_states.specs.declared.leg.Held.{Held}
 use Rattle.exchange_core.specs.Acts.{course_of, peer_of}
 use Rattle.exchange_core.specs.AtWork.{IsAtWork}
 use Rattle.exchange_core.specs.Calls.{done_by}
 use Rattle.exchange_core.specs.EndedCalls.{records_of_act}
 use Rattle.exchange_core.specs.Legs.{Legs, leg_at}
 use Rattle.exchange_core.specs.Peers.{IsThere, PeerIsThere, IsSilent}
-use Rattle.exchange_core.specs.Setup.{Setting}
+use Rattle.exchange_events.specs.Sizes.{Setting, Dimensions}
 use Rattle.exchange_core.specs.Standing.{Holds}
-use Rattle.exchange_core.specs.World.{Dimensions, World}
+use Rattle.exchange_core.specs.World.{World}
 use Rattle.exchange_core.proofs.ActPermits.{is_there, peer_there_too, rings_silent, caller_silent}
 use Rattle.exchange_core.proofs.Answering.{answers_among, cleared_by}
 use Rattle.exchange_core.proofs.EndedByActs.{leg_records}

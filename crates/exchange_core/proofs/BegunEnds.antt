@@ -7,8 +7,8 @@ use Rattle.exchange_core.specs.CallRecords.{records}
 use Rattle.exchange_core.specs.Calls.{New_call, On_no_call, answer_back, done_for, made_by}
 use Rattle.exchange_core.specs.Course.{only}
 use Rattle.exchange_core.specs.LegStanding.{CallsStand}
-use Rattle.exchange_core.specs.Setup.{Setting}
-use Rattle.exchange_core.specs.Sound.{IsPlanned}
+use Rattle.exchange_events.specs.Sizes.{Setting}
+use Rattle.exchange_events.specs.Sound.{IsPlanned}
 use Rattle.exchange_core.specs.World.{World}
 use Rattle.exchange_core.proofs.Refusals.{no_records}
 use Rattle.exchange_core.proofs.SetupEnds.{setup_ends_none}

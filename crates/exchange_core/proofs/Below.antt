@@ -4,7 +4,8 @@ use Rattle.clearing_rules.specs.declared.scope.Restart.{Restart}
 use Rattle.tone_rules.specs.declared.tones.Tones.{Tones}
 use Rattle.exchange_core.specs.Operations.{begun}
 use Rattle.exchange_core.specs.Restarts.{Done, slot_done, restarted_below}
-use Rattle.exchange_core.specs.World.{Dimensions, World}
+use Rattle.exchange_events.specs.Sizes.{Dimensions}
+use Rattle.exchange_core.specs.World.{World}
 
 pub below_none : (d : Dimensions) (tones : Tones) (r : Restart) (line : ℕ) (w : World) → restarted_below d tones r line w 0 ≡ record { making = begun w; told = [] }
 unfolding restarted_below

@@ -13,14 +13,14 @@ use Rattle.call_states.specs.declared.leg.Peer.TheVariants as peer
 use Rattle.call_states.specs.declared.leg.Side.{Side}
 use Rattle.call_states.specs.declared.leg.Side.TheVariants.{Caller, Called}
 use Rattle.tone_rules.specs.declared.tones.Tones.{Tones}
-use Rattle.exchange_core.specs.declared.leg_table.Held.{Held}
+use Rattle.call_states.specs.declared.leg.Held.{Held}
 use Rattle.exchange_core.specs.Acts.{course_of, released, disconnected, tone_of, peer_of, with_peer, clear_with, disconnecting, releasing, removing}
 use Rattle.exchange_core.specs.Calls.{made_by}
 use Rattle.exchange_core.specs.LegStanding.{LegsStand, HasPeer, IsInCall}
 use Rattle.exchange_core.specs.Legs.{Legs, leg_at, held_at}
 use Rattle.exchange_core.specs.Operations.{Making, begun, performed_all, sounding}
-use Rattle.exchange_core.specs.Setup.{Setting}
-use Rattle.exchange_core.specs.World.{Dimensions, World}
+use Rattle.exchange_events.specs.Sizes.{Setting, Dimensions}
+use Rattle.exchange_core.specs.World.{World}
 use Rattle.exchange_core.proofs.Beside.{peer_there, peer_back}
 use Rattle.exchange_core.proofs.Cleared.{IsLeft, alone_left}
 use Rattle.exchange_core.proofs.ClearedBoth.{ArePeers, both_cleared}

@@ -10,15 +10,15 @@ use Rattle.circuit_model.proofs.Slots.{true_or_false}
 use Rattle.circuit_model.proofs.Validity.{valid-clear, valid-connect, valid-seat, valid-frame}
 use Rattle.call_states.specs.declared.leg.Leg.{Leg}
 use Rattle.tone_rules.specs.declared.tones.Tones.{Tones}
-use Rattle.exchange_core.specs.declared.trace.Event.TheVariants.{Nail, Seat, Free, Frame}
-use Rattle.exchange_core.specs.Setup.{Setting}
+use Rattle.exchange_events.specs.declared.trace.Event.TheVariants.{Nail, Seat, Free, Frame}
+use Rattle.exchange_events.specs.Sizes.{Setting, Dimensions}
 use Rattle.exchange_core.specs.Step.{may_nail, may_seat, next}
 use Rattle.circuit_model.specs.FrameInput.{Input}
 use Rattle.exchange_core.specs.IdleSlots.{idle, nailed}
 use Rattle.exchange_core.specs.LegStanding.{LegStands, LegsStand, HasPeer, MayHear}
 use Rattle.exchange_core.specs.Legs.{Legs, leg_at}
-use Rattle.exchange_core.specs.Sound.{Fits}
-use Rattle.exchange_core.specs.World.{Dimensions, World, obey, is_full}
+use Rattle.exchange_events.specs.Sound.{Fits}
+use Rattle.exchange_core.specs.World.{World, obey, is_full}
 use Rattle.exchange_core.proofs.Clearing.{IsStrange, clear_keeps, connect_keeps, seat_keeps}
 use Rattle.exchange_core.proofs.Clears.{Kept}
 

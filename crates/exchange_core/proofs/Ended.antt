@@ -10,7 +10,7 @@ use Rattle.control_memory.specs.Layout.{number_of, slot_numbered}
 use Rattle.control_memory.proofs.Lookups.{number_numbered, numbered_number}
 use Rattle.control_memory.proofs.Steps.{number_inside}
 use Rattle.call_states.specs.declared.leg.Leg.{Leg}
-use Rattle.exchange_core.specs.declared.record.CallRecord.{CallRecord}
+use Rattle.exchange_events.specs.declared.record.CallRecord.{CallRecord}
 use Rattle.exchange_core.specs.CallRecords.{is_calling, record_at, record_of, records}
 use Rattle.exchange_core.specs.EndedCalls.{record_calling}
 use Rattle.exchange_core.specs.Legs.{Legs, leg_at, held_at}

@@ -19,8 +19,8 @@ use Rattle.call_states.specs.declared.leg.Side.{Side}
 use Rattle.call_states.specs.declared.leg.Side.TheVariants.{Caller, Called}
 use Rattle.call_states.proofs.Causes.{cause_fits}
 use Rattle.tone_rules.specs.declared.tones.Tones.{Tones}
-use Rattle.exchange_core.specs.declared.leg_table.Held.{Held}
-use Rattle.exchange_core.specs.declared.record.CallRecord.{CallRecord}
+use Rattle.call_states.specs.declared.leg.Held.{Held}
+use Rattle.exchange_events.specs.declared.record.CallRecord.{CallRecord}
 use Rattle.exchange_core.specs.Acts.{course_of, released, disconnected, in_state, peer_of, with_peer, clear_with, disconnecting, releasing, removing, alerting, answer}
 use Rattle.exchange_core.specs.CallRecords.{is_calling, records}
 use Rattle.exchange_core.specs.Calls.{made_by}
@@ -28,8 +28,8 @@ use Rattle.exchange_core.specs.EndedCalls.{caller_in, record_calling, record_end
 use Rattle.exchange_core.specs.LegStanding.{LegsStand, HasPeer, IsInCall, AreOneCall}
 use Rattle.exchange_core.specs.Legs.{Legs, leg_at}
 use Rattle.exchange_core.specs.Operations.{Operation, Making, begun, performed_all}
-use Rattle.exchange_core.specs.Setup.{Setting}
-use Rattle.exchange_core.specs.World.{Dimensions, World}
+use Rattle.exchange_events.specs.Sizes.{Setting, Dimensions}
+use Rattle.exchange_core.specs.World.{World}
 use Rattle.exchange_core.proofs.Answering.{ringing, caller_of}
 use Rattle.exchange_core.proofs.Beside.{entry_here, entry_else, same_or_apart}
 use Rattle.exchange_core.proofs.Cleared.{IsLeft}

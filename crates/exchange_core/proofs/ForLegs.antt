@@ -20,13 +20,13 @@ use Rattle.call_states.specs.declared.leg.Peer.{Peer}
 use Rattle.call_states.specs.declared.leg.Peer.TheVariants as peer
 use Rattle.call_states.specs.declared.leg.Side.{Side}
 use Rattle.call_states.proofs.Causes.{cause_fits}
-use Rattle.exchange_core.specs.declared.leg_table.Held.{Held}
+use Rattle.call_states.specs.declared.leg.Held.{Held}
 use Rattle.exchange_core.specs.Acts.{course_of, peer_of, with_peer, alerting, answer}
 use Rattle.exchange_core.specs.Calls.{made_by}
 use Rattle.exchange_core.specs.LegStanding.{LegsStand, IsInCall, AreOneCall}
 use Rattle.exchange_core.specs.Legs.{Legs, leg_at}
 use Rattle.exchange_core.specs.Operations.{Operation, begun, performed_all}
-use Rattle.exchange_core.specs.Setup.{Setting}
+use Rattle.exchange_events.specs.Sizes.{Setting}
 use Rattle.exchange_core.specs.World.{World}
 use Rattle.exchange_core.proofs.Advancing.{proceeding_kept, alerting_kept, answer_kept}
 use Rattle.exchange_core.proofs.Answering.{ringing, silent_by, caller_of}

@@ -13,15 +13,15 @@ use Rattle.q931_codec.proofs.Messages.{read_message}
 use Rattle.clearing_rules.specs.UnknownReference.{answer_without_call}
 use Rattle.exchange_core.specs.Calls.{Received, For_leg, New_call, On_no_call, Restarts, Unanswered, received, answer_back, done_for, made_by}
 use Rattle.exchange_core.specs.Course.{only}
-use Rattle.exchange_core.specs.declared.trace.Event.{Event}
-use Rattle.exchange_core.specs.declared.trace.Event.TheVariants.{Nail, Seat, Free, Message, Frame}
-use Rattle.exchange_core.specs.Sound.{Fits, IsPlanned}
+use Rattle.exchange_events.specs.declared.trace.Event.{Event}
+use Rattle.exchange_events.specs.declared.trace.Event.TheVariants.{Nail, Seat, Free, Message, Frame}
+use Rattle.exchange_events.specs.Sound.{Fits, IsPlanned}
 use Rattle.exchange_core.specs.Step.{next, world}
 use Rattle.exchange_core.specs.LegStanding.{LegsStand, CallsStand}
 use Rattle.control_memory.specs.Layout.{number_of}
 use Rattle.call_states.specs.declared.leg.Leg.{Leg}
 use Rattle.exchange_core.specs.Legs.{Legs, leg_at, no_legs}
-use Rattle.exchange_core.specs.Setup.{Setting}
+use Rattle.exchange_events.specs.Sizes.{Setting}
 use Rattle.exchange_core.specs.World.{World, start}
 use Rattle.exchange_core.proofs.Clears.{Kept}
 use Rattle.exchange_core.proofs.Commands.{nail_kept, seat_kept, free_kept, frame_kept}

@@ -16,8 +16,8 @@ use Rattle.circuit_model.proofs.Recorded.{after_all-append, frames-boundary, fra
 use Rattle.circuit_model.proofs.Slots.{true_or_false}
 use Rattle.circuit_model.proofs.Validity.{valid-empty}
 use Rattle.tone_rules.specs.declared.tones.Tones.{Tones}
-use Rattle.exchange_core.specs.declared.trace.Event.{Event}
-use Rattle.exchange_core.specs.declared.trace.Event.TheVariants.{Nail, Seat as Seat_event, Free, Message, Frame as Frame_event}
+use Rattle.exchange_events.specs.declared.trace.Event.{Event}
+use Rattle.exchange_events.specs.declared.trace.Event.TheVariants.{Nail, Seat as Seat_event, Free, Message, Frame as Frame_event}
 use Rattle.call_states.specs.Acts.{act_on}
 use Rattle.clearing_rules.specs.declared.scope.Restart.{Restart}
 use Rattle.clearing_rules.specs.UnknownReference.{answer_without_call}
@@ -30,11 +30,12 @@ use Rattle.exchange_core.specs.Operations.{Operation, Making, begun, performed, 
 use Rattle.exchange_core.specs.Operations as op
 use Rattle.exchange_core.specs.Permitted.{CanPair, CanSeat, CanSound, IsPermitted, ArePermitted}
 use Rattle.exchange_core.specs.Restarts.{Done, restart_slot, restarted_below}
-use Rattle.exchange_core.specs.Setup.{Setting, course_of_setup}
-use Rattle.exchange_core.specs.Sound.{Fits, IsPlanned}
+use Rattle.exchange_events.specs.Sizes.{Setting, Dimensions}
+use Rattle.exchange_core.specs.Setup.{course_of_setup}
+use Rattle.exchange_events.specs.Sound.{Fits, IsPlanned}
 use Rattle.exchange_core.specs.Standing.{IsMade, HasOctets, ports_after_all}
 use Rattle.exchange_core.specs.Step.{may_nail, may_seat, next, world}
-use Rattle.exchange_core.specs.World.{Dimensions, World, start, obey, pass, is_full}
+use Rattle.exchange_core.specs.World.{World, start, obey, pass, is_full}
 use Rattle.exchange_core.proofs.Clears.{Kept}
 use Rattle.exchange_core.proofs.Commands.{both_true}
 use Rattle.exchange_core.proofs.Happened.{start_stands, happened_kept}

@@ -1,4 +1,3 @@
-pub mod FileOrder
 pub mod Steps
 pub mod Obeying
 pub mod Taken

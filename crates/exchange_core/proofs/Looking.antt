@@ -4,7 +4,7 @@ use Rattle.std.specs.Prelude.{find, filter_map}
 use Rattle.std.specs.List.{range_with_len, position_or_len}
 use Rattle.circuit_model.specs.declared.channel.Slot.{Slot}
 use Rattle.call_states.specs.declared.leg.Leg.{Leg}
-use Rattle.exchange_core.specs.declared.leg_table.Held.{Held}
+use Rattle.call_states.specs.declared.leg.Held.{Held}
 use Rattle.exchange_core.specs.Legs.{Legs, leg_at, held_at, slots_of, is_for, leg_named, is_unused, new_reference}
 
 -- the slots of a line from a place on

@@ -10,13 +10,14 @@ use Rattle.q931_codec.specs.CallStates.{active, call_delivered, call_received}
 use Rattle.q931_codec.specs.Outgoing.{OutgoingMessage, encoding}
 use Rattle.call_states.specs.declared.leg.Leg.{Leg}
 use Rattle.tone_rules.specs.declared.tones.Tones.{Tones}
-use Rattle.exchange_core.specs.declared.leg_table.Held.{Held}
-use Rattle.exchange_core.specs.declared.signal.Signal.{Signal}
+use Rattle.call_states.specs.declared.leg.Held.{Held}
+use Rattle.exchange_events.specs.declared.signal.Signal.{Signal}
 use Rattle.exchange_core.specs.Acts.{announced, message_to, disconnect, in_state, disconnected, tone_of, with_peer, clear_with, alerting, answer}
 use Rattle.exchange_core.specs.Legs.{Legs, with_leg}
 use Rattle.exchange_core.specs.Operations.{Making, Clear, Pair, Sound, Put, performed, performed_all, moves_for, sounding}
 use Rattle.exchange_core.specs.Standing.{Holds, Makes}
-use Rattle.exchange_core.specs.World.{Dimensions, World, obey}
+use Rattle.exchange_events.specs.Sizes.{Dimensions}
+use Rattle.exchange_core.specs.World.{World, obey}
 use Rattle.exchange_core.proofs.Makings.{makes_clear, makes_put, makes_sound, makes_send}
 
 -- a slot is cleared, and connected with another

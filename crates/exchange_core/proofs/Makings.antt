@@ -6,12 +6,13 @@ use Rattle.circuit_model.specs.Holding.{Seat as Take_seat, Clear as Clear_slot}
 use Rattle.circuit_map.specs.Connections.{Connections}
 use Rattle.q931_codec.specs.Outgoing.{OutgoingMessage, encoding}
 use Rattle.call_states.specs.declared.leg.Leg.{Leg}
-use Rattle.exchange_core.specs.declared.signal.Signal.{Signal}
+use Rattle.exchange_events.specs.declared.signal.Signal.{Signal}
 use Rattle.exchange_core.specs.Legs.{Legs, with_leg}
 use Rattle.exchange_core.specs.Operations.{Clear, Seat, Sound, Put, Send, Making, moves_of_seat, performed, sounding}
 use Rattle.exchange_core.specs.Permitted.{CanSeat}
 use Rattle.exchange_core.specs.Standing.{Holds, Makes}
-use Rattle.exchange_core.specs.World.{Dimensions, World, obey}
+use Rattle.exchange_events.specs.Sizes.{Dimensions}
+use Rattle.exchange_core.specs.World.{World, obey}
 
 -- the legs are others
 pub holds_with : (d : Dimensions) (map map' : Connections) (legs legs' : Legs) (w : World) → Holds d map legs w → map' ≡ map → Holds d map' legs' (record w { legs = legs' })

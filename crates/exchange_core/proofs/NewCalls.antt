@@ -21,7 +21,8 @@ use Rattle.exchange_core.specs.LegStanding.{LegStands, LegsStand, MayHear, AreOn
 use Rattle.exchange_core.specs.Legs.{Legs, leg_at, leg_named}
 use Rattle.exchange_core.specs.Operations.{begun, performed_all}
 use Rattle.exchange_core.specs.Setup.{caller_leg, called_leg, call_line, call_room}
-use Rattle.exchange_core.specs.World.{Dimensions, World, is_full}
+use Rattle.exchange_events.specs.Sizes.{Dimensions}
+use Rattle.exchange_core.specs.World.{World, is_full}
 use Rattle.exchange_core.proofs.Beside.{entry_here, entry_else, same_or_apart, Beside, each_stands}
 use Rattle.exchange_core.proofs.Clearing.{seat_keeps}
 use Rattle.exchange_core.proofs.Clears.{Kept}

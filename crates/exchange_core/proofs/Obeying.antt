@@ -12,8 +12,9 @@ use Rattle.exchange_core.specs.Legs.{Legs}
 use Rattle.exchange_core.specs.Operations.{moves_for, moves_of_seat}
 use Rattle.exchange_core.specs.Permitted.{CanSeat}
 use Rattle.exchange_core.specs.Standing.{StandsFor, Holds, dimensions_of}
-use Rattle.exchange_core.specs.declared.reply.Reply.TheVariants.{Seated}
-use Rattle.exchange_core.specs.World.{Dimensions, World, obey, is_full, seated}
+use Rattle.exchange_events.specs.declared.reply.Reply.TheVariants.{Seated}
+use Rattle.exchange_events.specs.Sizes.{Dimensions}
+use Rattle.exchange_core.specs.World.{World, obey, is_full, seated}
 use Rattle.exchange_core.proofs.Steps as Steps
 use Rattle.exchange_core.proofs.Steps.{nail_stands, tone_stands, clear_stands, seat_stands, has_port}
 

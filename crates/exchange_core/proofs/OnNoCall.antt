@@ -13,7 +13,7 @@ use Rattle.tone_rules.specs.declared.tones.Tones.{Tones}
 use Rattle.exchange_core.specs.Calls.{New_call, On_no_call, answer_back, asks_for_call, on_global_reference, without_leg}
 use Rattle.exchange_core.specs.Operations.{Making}
 use Rattle.exchange_core.specs.Permitted.{ArePermitted}
-use Rattle.exchange_core.specs.World.{Dimensions}
+use Rattle.exchange_events.specs.Sizes.{Dimensions}
 
 pub differs : (n k : ℕ) → (n ≡ k → ⊥) → (n == k) ≡ false
 differs n k apart = elim (true_or_false (n == k)) [

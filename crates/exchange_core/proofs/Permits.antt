@@ -4,16 +4,17 @@ use Rattle.clearing_rules.specs.UnknownReference.{answer_without_call}
 use Rattle.q931_codec.specs.declared.message.Message.{Message as Q931}
 use Rattle.q931_codec.specs.Reading.{reading}
 use Rattle.q931_codec.proofs.Messages.{read_message}
-use Rattle.exchange_core.specs.declared.trace.Event.TheVariants.{Message}
+use Rattle.exchange_events.specs.declared.trace.Event.TheVariants.{Message}
 use Rattle.call_states.specs.Acts.{act_on}
-use Rattle.exchange_core.specs.declared.leg_table.Held.{Held}
+use Rattle.call_states.specs.declared.leg.Held.{Held}
 use Rattle.exchange_core.specs.Acts.{course_of}
 use Rattle.exchange_core.specs.Calls.{For_leg, New_call, On_no_call, received, answer_back}
 use Rattle.exchange_core.specs.LegStanding.{CallsStand}
 use Rattle.exchange_core.specs.Operations.{begun}
 use Rattle.exchange_core.specs.Permitted.{ArePermitted}
-use Rattle.exchange_core.specs.Setup.{Setting, course_of_setup}
-use Rattle.exchange_core.specs.Sound.{Fits, IsPlanned}
+use Rattle.exchange_events.specs.Sizes.{Setting}
+use Rattle.exchange_core.specs.Setup.{course_of_setup}
+use Rattle.exchange_events.specs.Sound.{Fits, IsPlanned}
 use Rattle.exchange_core.specs.World.{World}
 use Rattle.exchange_core.proofs.ActPermits.{act_permitted}
 use Rattle.exchange_core.proofs.Happened.{octets_small}

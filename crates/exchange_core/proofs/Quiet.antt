@@ -2,8 +2,8 @@
 use Rattle.std.proofs.Common.{◌≡◌, ℕ, Bool, true, false, List, [], ◌∷◌, refl, ◌∙◌, arith, if◌then◌else◌}
 use Rattle.circuit_model.specs.FrameInput.{Input}
 use Rattle.circuit_model.specs.Holding.{Connect, Seat as Take_seat, Clear}
-use Rattle.exchange_core.specs.declared.trace.Event.{Event}
-use Rattle.exchange_core.specs.declared.trace.Event.TheVariants.{Nail, Seat, Free, Message, Frame}
+use Rattle.exchange_events.specs.declared.trace.Event.{Event}
+use Rattle.exchange_events.specs.declared.trace.Event.TheVariants.{Nail, Seat, Free, Message, Frame}
 use Rattle.call_states.specs.Acts.{act_on}
 use Rattle.clearing_rules.specs.UnknownReference.{answer_without_call}
 use Rattle.exchange_core.specs.Acts.{course_of}
@@ -12,9 +12,10 @@ use Rattle.exchange_core.specs.IdleSlots.{nailed}
 use Rattle.exchange_core.specs.Operations as op
 use Rattle.exchange_core.specs.Operations.{Operation, Making, begun, performed, performed_all}
 use Rattle.exchange_core.specs.Restarts.{restart_slot}
-use Rattle.exchange_core.specs.Setup.{Setting, course_of_setup}
+use Rattle.exchange_events.specs.Sizes.{Setting, Dimensions}
+use Rattle.exchange_core.specs.Setup.{course_of_setup}
 use Rattle.exchange_core.specs.Step.{next, may_nail, may_seat}
-use Rattle.exchange_core.specs.World.{Dimensions, World, obey}
+use Rattle.exchange_core.specs.World.{World, obey}
 use Rattle.exchange_core.proofs.Below.{each_below}
 use Rattle.exchange_core.proofs.Sounding.{sounding_next}
 

@@ -10,19 +10,20 @@ use Rattle.call_states.specs.Acts.{act_on}
 use Rattle.clearing_rules.specs.declared.scope.Restart.{Restart}
 use Rattle.clearing_rules.specs.Restarting.{acknowledgement}
 use Rattle.clearing_rules.specs.UnknownReference.{answer_without_call}
-use Rattle.exchange_core.specs.declared.record.CallRecord.{CallRecord}
+use Rattle.exchange_events.specs.declared.record.CallRecord.{CallRecord}
 use Rattle.exchange_core.specs.Acts.{course_of}
 use Rattle.exchange_core.specs.CallRecords.{record_at, records, is_ended, is_calling}
 use Rattle.exchange_core.specs.Calls.{Received, For_leg, New_call, On_no_call, Restarts, Unanswered, received, answer_back, done_for, done, refusal_for, after_message, answer_to, refused_with}
 use Rattle.exchange_core.specs.Legs.{leg_at}
 use Rattle.exchange_core.specs.Operations.{Operation, Clear, Pair, Seat, Sound, Put, Remove, Send, Making, begun, performed, performed_all, sounding}
 use Rattle.exchange_core.specs.Restarts.{Done, slot_done, restart_slot, restarted_below, restarted}
-use Rattle.exchange_core.specs.declared.trace.Event.{Event}
-use Rattle.exchange_core.specs.declared.trace.Event.TheVariants.{Nail, Seat as Seat_event, Free, Message, Frame}
+use Rattle.exchange_events.specs.declared.trace.Event.{Event}
+use Rattle.exchange_events.specs.declared.trace.Event.TheVariants.{Nail, Seat as Seat_event, Free, Message, Frame}
 use Rattle.exchange_core.specs.IdleSlots.{nailed}
-use Rattle.exchange_core.specs.Setup.{Setting, course_of_setup}
+use Rattle.exchange_events.specs.Sizes.{Setting, Dimensions}
+use Rattle.exchange_core.specs.Setup.{course_of_setup}
 use Rattle.exchange_core.specs.Step.{is_refused, next, may_nail, may_seat}
-use Rattle.exchange_core.specs.World.{Dimensions, World}
+use Rattle.exchange_core.specs.World.{World}
 use Rattle.exchange_core.proofs.Below.{below_none, below_more}
 
 -- ---- what is told where nothing has changed

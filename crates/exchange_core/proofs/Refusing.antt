@@ -13,9 +13,10 @@ use Rattle.number_plan.specs.declared.target.Target.TheVariants as target
 use Rattle.number_plan.specs.Plan.{found, all_targets}
 use Rattle.number_plan.proofs.Meanings.{found_passes}
 use Rattle.exchange_core.specs.Choices.{IsReached, called_checks}
-use Rattle.exchange_core.specs.Setup.{Setting, Check, first_cause, digits_in, target_of, caller_slot, is_taken, element_checks, number_checks, slot_checks, refusal}
-use Rattle.exchange_core.specs.Sound.{is_reached}
-use Rattle.exchange_core.specs.World.{Dimensions, World}
+use Rattle.exchange_events.specs.Sizes.{Setting, Dimensions}
+use Rattle.exchange_core.specs.Setup.{Check, first_cause, digits_in, target_of, caller_slot, is_taken, element_checks, number_checks, slot_checks, refusal}
+use Rattle.exchange_events.specs.Sound.{is_reached}
+use Rattle.exchange_core.specs.World.{World}
 
 -- ---- of two lists of checks the first decides, where one of its checks fails; else the second
 

@@ -19,9 +19,9 @@ use Rattle.clearing_rules.specs.declared.scope.Restart.{Restart}
 use Rattle.clearing_rules.specs.Restarting.{is_restarted, acknowledgement, IsOnLine}
 use Rattle.clearing_rules.specs.declared.scope.Restart.TheVariants.{Channel, Interface}
 use Rattle.tone_rules.specs.declared.tones.Tones.{Tones}
-use Rattle.exchange_core.specs.declared.leg_table.Held.{Held}
-use Rattle.exchange_core.specs.declared.record.CallRecord.{CallRecord}
-use Rattle.exchange_core.specs.declared.signal.Signal.{Signal}
+use Rattle.call_states.specs.declared.leg.Held.{Held}
+use Rattle.exchange_events.specs.declared.record.CallRecord.{CallRecord}
+use Rattle.exchange_events.specs.declared.signal.Signal.{Signal}
 use Rattle.exchange_core.specs.Acts.{disconnected, peer_of, with_peer, clear_with, removing}
 use Rattle.exchange_core.specs.CallRecords.{records}
 use Rattle.exchange_core.specs.EndedCalls.{caller_in, record_calling, record_ended, slot_records}
@@ -32,7 +32,8 @@ use Rattle.exchange_core.specs.Peers.{IsThere, PeerIsThere}
 use Rattle.exchange_core.specs.Permitted.{ArePermitted}
 use Rattle.exchange_core.specs.Restarts.{restarts_slot, restart_peer, restart_leg, restart_slot, slot_done, restarted_below, Done}
 use Rattle.exchange_core.specs.Standing.{Holds, Makes}
-use Rattle.exchange_core.specs.World.{Dimensions, World}
+use Rattle.exchange_events.specs.Sizes.{Dimensions}
+use Rattle.exchange_core.specs.World.{World}
 use Rattle.exchange_core.proofs.ActPermits.{clear_permitted, peer_there_too}
 use Rattle.exchange_core.proofs.Below.{each_below, below_none, below_more}
 use Rattle.exchange_core.proofs.Beside.{entry_here}

@@ -13,8 +13,9 @@ use Rattle.exchange_core.specs.Calls.{made_by}
 use Rattle.exchange_core.specs.LegStanding.{CallsStand}
 use Rattle.exchange_core.specs.Legs.{leg_at, new_reference}
 use Rattle.exchange_core.specs.Operations.{begun, performed_all}
-use Rattle.exchange_core.specs.Setup.{Setting, caller_leg, called_leg, caller_slot, called_slot, target_of, call_line, call_room, call, accept, setup, refusal, course_of_setup}
-use Rattle.exchange_core.specs.Sound.{IsPlanned}
+use Rattle.exchange_events.specs.Sizes.{Setting}
+use Rattle.exchange_core.specs.Setup.{caller_leg, called_leg, caller_slot, called_slot, target_of, call_line, call_room, call, accept, setup, refusal, course_of_setup}
+use Rattle.exchange_events.specs.Sound.{IsPlanned}
 use Rattle.exchange_core.specs.World.{World}
 use Rattle.exchange_core.proofs.Beside.{entry_else}
 use Rattle.exchange_core.proofs.Commands.{not_empty}

@@ -21,8 +21,9 @@ use Rattle.exchange_core.specs.LegStanding.{CallsStand}
 use Rattle.exchange_core.specs.Legs.{leg_named, new_reference}
 use Rattle.exchange_core.specs.Operations.{begun}
 use Rattle.exchange_core.specs.Permitted.{CanSeat, ArePermitted}
-use Rattle.exchange_core.specs.Setup.{Setting, checks, refusal, setup, accept, call, call_line, call_room, proceeding, offer, caller_slot, called_slot, target_of, is_unreadable, course_of_setup}
-use Rattle.exchange_core.specs.Sound.{IsPlanned}
+use Rattle.exchange_events.specs.Sizes.{Setting}
+use Rattle.exchange_core.specs.Setup.{checks, refusal, setup, accept, call, call_line, call_room, proceeding, offer, caller_slot, called_slot, target_of, is_unreadable, course_of_setup}
+use Rattle.exchange_events.specs.Sound.{IsPlanned}
 use Rattle.exchange_core.specs.World.{World}
 use Rattle.exchange_core.proofs.Accepted.{can_seat, refusal_small}
 use Rattle.exchange_core.proofs.ActPermits.{message_writable}

@@ -18,15 +18,16 @@ use Rattle.number_plan.specs.declared.target.Found.{Found}
 use Rattle.number_plan.specs.declared.target.Found.TheVariants.{Line, Room, More, Nothing}
 use Rattle.number_plan.specs.declared.target.Target.TheVariants as target
 use Rattle.number_plan.proofs.Meanings.{found_passes}
-use Rattle.exchange_core.specs.declared.leg_table.Held.{Held}
+use Rattle.call_states.specs.declared.leg.Held.{Held}
 use Rattle.clearing_rules.specs.declared.scope.Restart.{Restart}
 use Rattle.exchange_core.specs.Calls.{New_call, On_no_call, on_global_reference, is_setup, made_by, received_from, with_leg_named, without_leg as unnamed}
 use Rattle.exchange_core.specs.IdleSlots.{idle, lowest_idle, lowest_idle_beside}
 use Rattle.exchange_core.specs.LegStanding.{LegsStand}
-use Rattle.exchange_core.specs.Sound.{IsPlanned, is_reached}
+use Rattle.exchange_events.specs.Sound.{IsPlanned, is_reached}
 use Rattle.exchange_core.specs.Legs.{Legs, leg_named, new_reference}
 use Rattle.exchange_core.specs.Operations.{begun, performed_all}
-use Rattle.exchange_core.specs.Setup.{Setting, Check, checks, is_room_full, first_cause, refusal, setup, accept, call, slot_asked, if_idle, caller_slot, called_slot, target_of, course_of_setup}
+use Rattle.exchange_events.specs.Sizes.{Setting}
+use Rattle.exchange_core.specs.Setup.{Check, checks, is_room_full, first_cause, refusal, setup, accept, call, slot_asked, if_idle, caller_slot, called_slot, target_of, course_of_setup}
 use Rattle.exchange_core.specs.World.{World, is_full}
 use Rattle.exchange_core.proofs.Clears.{Kept}
 use Rattle.exchange_core.proofs.Commands.{both_true}

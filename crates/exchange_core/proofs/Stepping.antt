@@ -8,9 +8,9 @@ use Rattle.std.proofs.lemmas.List.Elements.{filter_map-append, All-nil, All-cons
 use Rattle.circuit_model.specs.Holding.{empty}
 use Rattle.circuit_model.specs.Ports.{free_ports}
 use Rattle.circuit_map.specs.Connections.{Connections, Represents}
-use Rattle.exchange_core.specs.declared.trace.Event.{Event}
-use Rattle.exchange_core.specs.declared.trace.Event.TheVariants.{Nail, Seat, Free, Message, Frame}
-use Rattle.exchange_core.specs.declared.trace.Trace.{Trace}
+use Rattle.exchange_events.specs.declared.trace.Event.{Event}
+use Rattle.exchange_events.specs.declared.trace.Event.TheVariants.{Nail, Seat, Free, Message, Frame}
+use Rattle.exchange_events.specs.declared.trace.Trace.{Trace}
 use Rattle.exchange_core.specs.AtWork.{IsAtWork}
 use Rattle.call_states.specs.Acts.{act_on}
 use Rattle.clearing_rules.specs.UnknownReference.{answer_without_call}
@@ -20,14 +20,15 @@ use Rattle.exchange_core.specs.IdleSlots.{nailed}
 use Rattle.exchange_core.specs.Legs.{Legs, no_legs}
 use Rattle.exchange_core.specs.Operations as op
 use Rattle.exchange_core.specs.Operations.{Operation, Making, begun, performed, performed_all}
-use Rattle.exchange_core.specs.Orders.{IsEvent}
+use Rattle.exchange_events.specs.Orders.{IsEvent}
 use Rattle.exchange_core.specs.Restarts.{restart_slot}
-use Rattle.exchange_core.specs.Setup.{Setting, course_of_setup}
-use Rattle.exchange_core.specs.Sound.{Fits, IsSound, setting_of}
+use Rattle.exchange_events.specs.Sizes.{Setting, Dimensions}
+use Rattle.exchange_core.specs.Setup.{course_of_setup}
+use Rattle.exchange_events.specs.Sound.{Fits, IsSound, setting_of}
 use Rattle.exchange_core.specs.Standing.{Holds}
 use Rattle.exchange_core.specs.Step.{next, world, events_of, may_nail, may_seat}
 use Rattle.exchange_core.specs.Working.{Entry, Working, IsWorking, IsNumbered, order_of, setting, world_of}
-use Rattle.exchange_core.specs.World.{Dimensions, World, start}
+use Rattle.exchange_core.specs.World.{World, start}
 use Rattle.exchange_core.proofs.Happened.{start_stands, run_stands}
 use Rattle.exchange_core.proofs.Below.{each_below}
 use Rattle.exchange_core.proofs.Sounding.{sounding_next}

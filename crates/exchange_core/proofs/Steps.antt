@@ -12,7 +12,7 @@ use Rattle.circuit_model.proofs.Validity.{count_by-append}
 use Rattle.control_memory.specs.Connecting.{moved}
 use Rattle.circuit_map.specs.Connections.{Connections, Represents, seats, joined_one, joined_both, parted, without_both, partner}
 use Rattle.circuit_map.proofs.Sockets.{ported}
-use Rattle.exchange_core.specs.declared.reply.Reply.TheVariants.{Granted, Seated}
+use Rattle.exchange_events.specs.declared.reply.Reply.TheVariants.{Granted, Seated}
 use Rattle.exchange_core.specs.Standing.{StandsFor, dimensions_of}
 use Rattle.exchange_core.specs.World.{World, granted, seated, obey, both_ways, with_port}
 

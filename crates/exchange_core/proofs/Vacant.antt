@@ -10,7 +10,7 @@ use Rattle.circuit_model.proofs.Slots.{true_or_false}
 use Rattle.call_states.specs.declared.leg.Leg.{Leg}
 use Rattle.call_states.specs.declared.leg.Side.{Side}
 use Rattle.call_states.specs.declared.leg.Side.TheVariants.{Caller, Called}
-use Rattle.exchange_core.specs.declared.leg_table.Held.{Held}
+use Rattle.call_states.specs.declared.leg.Held.{Held}
 use Rattle.exchange_core.specs.Legs.{Legs, leg_at, held_at, slots_of, legs_of, is_for, leg_named, is_unused, new_reference, side_named, same_side}
 use Rattle.exchange_core.proofs.Looking.{unused_from, unused_all, unused_here, unused_other}
 use Rattle.exchange_core.proofs.Named.{IsOn, slots_on}

@@ -15,7 +15,7 @@ use Rattle.call_states.specs.declared.leg.Peer.TheVariants as peer
 use Rattle.call_states.specs.Status.{flag_to, status, unexpected_cause}
 use Rattle.tone_rules.specs.declared.tones.Tones.{Tones}
 use Rattle.tone_rules.specs.CallTones.{tone_given}
-use Rattle.exchange_core.specs.declared.leg_table.Held.{Held}
+use Rattle.call_states.specs.declared.leg.Held.{Held}
 use Rattle.exchange_core.specs.Course.{Course, only, nothing}
 use Rattle.exchange_core.specs.Legs.{Legs, held_at}
 use Rattle.exchange_core.specs.Operations.{Operation, Clear, Pair, Sound, Put, Remove, Send}

@@ -8,10 +8,10 @@ use Rattle.q931_codec.specs.declared.message.Message.{Message}
 use Rattle.call_states.specs.Acts.{act_on}
 use Rattle.call_states.specs.declared.act.Act.TheVariants as act
 use Rattle.call_states.specs.declared.leg.Peer.TheVariants as peer
-use Rattle.exchange_core.specs.declared.leg_table.Held.{Held}
+use Rattle.call_states.specs.declared.leg.Held.{Held}
 use Rattle.exchange_core.specs.Calls.{For_leg, received, after_message}
 use Rattle.exchange_core.specs.LegStanding.{LegsStand}
-use Rattle.exchange_core.specs.Setup.{Setting}
+use Rattle.exchange_events.specs.Sizes.{Setting}
 use Rattle.exchange_core.specs.World.{World}
 
 -- once the caller's slot is cleared it and the called slot can be connected, and afterwards they are, both ways, since the next frame

@@ -5,8 +5,8 @@ use Rattle.tone_rules.specs.declared.tones.Tones.{Tones}
 use Rattle.circuit_map.specs.Connections.{Connections}
 use Rattle.exchange_core.specs.Legs.{Legs}
 use Rattle.exchange_core.specs.LegStanding.{CallsStand}
-use Rattle.exchange_core.specs.Setup.{Setting}
-use Rattle.exchange_core.specs.Sound.{IsPlanned}
+use Rattle.exchange_events.specs.Sizes.{Setting}
+use Rattle.exchange_events.specs.Sound.{IsPlanned}
 use Rattle.exchange_core.specs.Standing.{Holds}
 use Rattle.exchange_core.specs.World.{World}
 

@@ -11,10 +11,10 @@ use Rattle.call_states.specs.declared.leg.Peer.{Peer}
 use Rattle.call_states.specs.declared.leg.Peer.TheVariants as peer
 use Rattle.call_states.specs.declared.leg.Side.TheVariants.{Caller}
 use Rattle.call_states.specs.Acts.{is_among}
-use Rattle.exchange_core.specs.declared.leg_table.Held.{Held}
-use Rattle.exchange_core.specs.declared.record.CallRecord.{CallRecord}
-use Rattle.exchange_core.specs.declared.record.Party.{Party}
-use Rattle.exchange_core.specs.declared.record.Party.TheVariants as party
+use Rattle.call_states.specs.declared.leg.Held.{Held}
+use Rattle.exchange_events.specs.declared.record.CallRecord.{CallRecord}
+use Rattle.exchange_events.specs.declared.record.Party.{Party}
+use Rattle.exchange_events.specs.declared.record.Party.TheVariants as party
 use Rattle.exchange_core.specs.Legs.{leg_at, held_at, same_side}
 use Rattle.exchange_core.specs.World.{World}
 

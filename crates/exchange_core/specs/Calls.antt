@@ -10,16 +10,17 @@ use Rattle.call_states.specs.Acts.{act_on}
 use Rattle.clearing_rules.specs.declared.scope.Restart.{Restart}
 use Rattle.clearing_rules.specs.Restarting.{global_call_reference, restart_asked}
 use Rattle.clearing_rules.specs.UnknownReference.{answer_without_call}
-use Rattle.exchange_core.specs.declared.record.CallRecord.{CallRecord}
-use Rattle.exchange_core.specs.declared.signal.Signal.{Signal}
-use Rattle.exchange_core.specs.declared.leg_table.Held.{Held}
+use Rattle.exchange_events.specs.declared.record.CallRecord.{CallRecord}
+use Rattle.exchange_events.specs.declared.signal.Signal.{Signal}
+use Rattle.call_states.specs.declared.leg.Held.{Held}
 use Rattle.exchange_core.specs.Acts.{course_of}
 use Rattle.exchange_core.specs.CallRecords.{records}
 use Rattle.exchange_core.specs.Course.{Course, only, nothing}
 use Rattle.exchange_core.specs.Legs.{Legs, leg_named}
 use Rattle.exchange_core.specs.Operations.{Operation, Send, Making, begun, performed_all}
 use Rattle.exchange_core.specs.Restarts.{Done, restarted}
-use Rattle.exchange_core.specs.Setup.{Setting, refusal, course_of_setup}
+use Rattle.exchange_events.specs.Sizes.{Setting}
+use Rattle.exchange_core.specs.Setup.{refusal, course_of_setup}
 use Rattle.exchange_core.specs.World.{World}
 
 -- ---- what is asked for

@@ -9,8 +9,9 @@ use Rattle.q931_codec.specs.Contents.{channel_in}
 use Rattle.q931_codec.specs.Causes.{no_channel_available, switching_equipment_congestion}
 use Rattle.exchange_core.specs.IdleSlots.{idle}
 use Rattle.exchange_core.specs.Operations.{Operation}
-use Rattle.exchange_core.specs.Setup.{Setting, Check, is_line_full, is_room_full, caller_slot, accept}
-use Rattle.exchange_core.specs.World.{Dimensions, World}
+use Rattle.exchange_events.specs.Sizes.{Setting, Dimensions}
+use Rattle.exchange_core.specs.Setup.{Check, is_line_full, is_room_full, caller_slot, accept}
+use Rattle.exchange_core.specs.World.{World}
 
 -- a line that is called is one of so many
 abbrev pub IsReached : ℕ → Found → Type 0

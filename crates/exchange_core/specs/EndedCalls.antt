@@ -9,8 +9,8 @@ use Rattle.call_states.specs.declared.leg.Side.{Side}
 use Rattle.call_states.specs.declared.leg.Side.TheVariants.{Caller, Called}
 use Rattle.clearing_rules.specs.declared.scope.Restart.{Restart}
 use Rattle.clearing_rules.specs.Restarting.{is_restarted}
-use Rattle.exchange_core.specs.declared.leg_table.Held.{Held}
-use Rattle.exchange_core.specs.declared.record.CallRecord.{CallRecord}
+use Rattle.call_states.specs.declared.leg.Held.{Held}
+use Rattle.exchange_events.specs.declared.record.CallRecord.{CallRecord}
 use Rattle.exchange_core.specs.Acts.{peer_of}
 use Rattle.exchange_core.specs.CallRecords.{is_calling, record_of}
 use Rattle.exchange_core.specs.Legs.{held_at}

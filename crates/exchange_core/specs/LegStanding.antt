@@ -16,7 +16,7 @@ use Rattle.call_states.specs.declared.leg.Side.TheVariants.{Caller, Called}
 use Rattle.tone_rules.specs.declared.tones.Tones.{Tones}
 use Rattle.exchange_core.specs.Acts.{tone_of}
 use Rattle.exchange_core.specs.Legs.{Legs, leg_at}
-use Rattle.exchange_core.specs.Setup.{Setting}
+use Rattle.exchange_events.specs.Sizes.{Setting}
 use Rattle.exchange_core.specs.World.{World}
 
 -- the states of a caller's leg and of its called leg

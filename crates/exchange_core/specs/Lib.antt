@@ -1,8 +1,4 @@
-pub mod Limits
-pub mod Kept
 pub mod Legs
-pub mod Sound
-pub mod Orders
 pub mod World
 pub mod IdleSlots
 pub mod Standing
@@ -22,6 +18,5 @@ pub mod AtWork
 pub mod EndedCalls
 pub mod Peers
 pub mod Working
-pub mod Responses
 pub mod Answered
 pub mod Seats

@@ -8,9 +8,10 @@ use Rattle.control_memory.specs.Layout.{Layout}
 use Rattle.control_memory.specs.Connecting.{moved}
 use Rattle.q931_codec.specs.Outgoing.{OutgoingMessage, encoding}
 use Rattle.call_states.specs.declared.leg.Leg.{Leg}
-use Rattle.exchange_core.specs.declared.signal.Signal.{Signal}
+use Rattle.exchange_events.specs.declared.signal.Signal.{Signal}
 use Rattle.exchange_core.specs.Legs.{with_leg, without_leg}
-use Rattle.exchange_core.specs.World.{Dimensions, World, obey, one_way, both_ways}
+use Rattle.exchange_events.specs.Sizes.{Dimensions}
+use Rattle.exchange_core.specs.World.{World, obey, one_way, both_ways}
 
 pub data Operation : Type 0 where
   -- every circuit that names the slot is taken down

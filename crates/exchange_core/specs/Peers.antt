@@ -3,7 +3,7 @@ use Rattle.std.specs.Prelude.{◌≡◌, ◌≢◌, IfSome, ℕ, Option, Some, N
 use Rattle.circuit_model.specs.Extent.{IsExternal}
 use Rattle.call_states.specs.Status.{IsTold}
 use Rattle.circuit_map.specs.Connections.{Connections, hears_at}
-use Rattle.exchange_core.specs.declared.leg_table.Held.{Held}
+use Rattle.call_states.specs.declared.leg.Held.{Held}
 
 -- a leg of an external slot that can be told
 pub record IsThere (external : ℕ) (h : Held) : Type 0 where

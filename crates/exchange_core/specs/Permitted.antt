@@ -9,7 +9,8 @@ use Rattle.call_states.specs.Status.{IsTold}
 use Rattle.tone_rules.specs.declared.tones.Tones.{Tones}
 use Rattle.tone_rules.specs.Tables.{IsGiven}
 use Rattle.exchange_core.specs.Operations.{Operation, Clear, Pair, Seat, Sound, Put, Remove, Send, Making, performed}
-use Rattle.exchange_core.specs.World.{Dimensions, World}
+use Rattle.exchange_events.specs.Sizes.{Dimensions}
+use Rattle.exchange_core.specs.World.{World}
 
 -- two different slots that no circuit names
 pub record CanPair (d : Dimensions) (w : World) (x y : Slot) : Type 0 where

@@ -5,13 +5,14 @@ use Rattle.q931_codec.specs.Causes.{temporary_failure}
 use Rattle.clearing_rules.specs.declared.scope.Restart.{Restart}
 use Rattle.clearing_rules.specs.Restarting.{is_restarted, acknowledgement}
 use Rattle.tone_rules.specs.declared.tones.Tones.{Tones}
-use Rattle.exchange_core.specs.declared.leg_table.Held.{Held}
-use Rattle.exchange_core.specs.declared.record.CallRecord.{CallRecord}
+use Rattle.call_states.specs.declared.leg.Held.{Held}
+use Rattle.exchange_events.specs.declared.record.CallRecord.{CallRecord}
 use Rattle.exchange_core.specs.Acts.{peer_of, with_peer, clear_with, removing}
 use Rattle.exchange_core.specs.CallRecords.{records}
 use Rattle.exchange_core.specs.Legs.{Legs, held_at}
 use Rattle.exchange_core.specs.Operations.{Operation, Making, begun, performed, performed_all, Send}
-use Rattle.exchange_core.specs.World.{Dimensions, World}
+use Rattle.exchange_events.specs.Sizes.{Dimensions}
+use Rattle.exchange_core.specs.World.{World}
 
 -- ---- one slot
 

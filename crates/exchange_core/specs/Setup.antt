@@ -20,21 +20,14 @@ use Rattle.call_states.specs.declared.leg.Peer.TheVariants as peer
 use Rattle.call_states.specs.declared.leg.Side.TheVariants.{Caller, Called}
 use Rattle.number_plan.specs.declared.target.Found.{Found}
 use Rattle.number_plan.specs.declared.target.Found.TheVariants.{Line, Room, More, Nothing}
-use Rattle.number_plan.specs.declared.plan.Number.{Number}
 use Rattle.number_plan.specs.Plan.{found}
-use Rattle.tone_rules.specs.declared.tones.Tones.{Tones}
 use Rattle.exchange_core.specs.Acts.{message_to}
 use Rattle.exchange_core.specs.Course.{Course, only}
 use Rattle.exchange_core.specs.IdleSlots.{idle, lowest_idle, lowest_idle_beside}
 use Rattle.exchange_core.specs.Legs.{new_reference}
 use Rattle.exchange_core.specs.Operations.{Operation, Seat, Put, Send}
-use Rattle.exchange_core.specs.World.{Dimensions, World, is_full}
-
--- what an exchange is built with: how large it is, its plan of numbers, and the octets of its tones
-pub record Setting : Type 0 where
-  pub dimensions : Dimensions
-  pub plan : List Number
-  pub tones : Tones
+use Rattle.exchange_events.specs.Sizes.{Setting, Dimensions}
+use Rattle.exchange_core.specs.World.{World, is_full}
 
 -- ---- what is read of a SETUP
 

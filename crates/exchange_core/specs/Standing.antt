@@ -8,10 +8,11 @@ use Rattle.circuit_model.specs.Extent.{AreWithin}
 use Rattle.circuit_map.specs.Connections.{Connections, Represents}
 use Rattle.tone_rules.specs.declared.tones.Tones.{Tones}
 use Rattle.tone_rules.specs.Tables.{IsGiven}
-use Rattle.exchange_core.specs.declared.signal.Signal.{Signal}
+use Rattle.exchange_events.specs.declared.signal.Signal.{Signal}
 use Rattle.exchange_core.specs.Legs.{Legs}
 use Rattle.exchange_core.specs.Operations.{Making}
-use Rattle.exchange_core.specs.World.{Dimensions, World}
+use Rattle.exchange_events.specs.Sizes.{Dimensions}
+use Rattle.exchange_core.specs.World.{World}
 
 -- the dimensions of a map of circuits
 abbrev pub dimensions_of : Connections → Dimensions

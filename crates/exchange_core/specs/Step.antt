@@ -3,14 +3,14 @@ use Rattle.std.specs.Prelude.{ℕ, ◌-◌, ◌≤◌, ◌&&◌, not, Bool, fals
 use Rattle.circuit_model.specs.declared.channel.Slot.{Slot}
 use Rattle.circuit_model.specs.Holding.{Connect, Seat as Take_seat, Clear}
 use Rattle.circuit_model.specs.Ports.{port_of, given}
-use Rattle.exchange_core.specs.declared.trace.Event.{Event}
-use Rattle.exchange_core.specs.declared.trace.Event.TheVariants.{Nail, Seat, Free, Message, Frame}
-use Rattle.exchange_core.specs.declared.reply.Reply.{Reply}
-use Rattle.exchange_core.specs.declared.reply.Reply.TheVariants.{Granted, Busy, Seated, NoPort, Freed, NotNailed, Sent as Sent_reply, Frame as Frame_reply}
+use Rattle.exchange_events.specs.declared.trace.Event.{Event}
+use Rattle.exchange_events.specs.declared.trace.Event.TheVariants.{Nail, Seat, Free, Message, Frame}
+use Rattle.exchange_events.specs.declared.reply.Reply.{Reply}
+use Rattle.exchange_events.specs.declared.reply.Reply.TheVariants.{Granted, Busy, Seated, NoPort, Freed, NotNailed, Sent as Sent_reply, Frame as Frame_reply}
 use Rattle.exchange_core.specs.Calls.{Sent, after_message, answer_to, refused_with}
 use Rattle.exchange_core.specs.IdleSlots.{idle, nailed}
-use Rattle.exchange_core.specs.Setup.{Setting}
-use Rattle.exchange_core.specs.World.{Dimensions, World, obey, pass, is_full, granted, seated}
+use Rattle.exchange_events.specs.Sizes.{Setting, Dimensions}
+use Rattle.exchange_core.specs.World.{World, obey, pass, is_full, granted, seated}
 
 -- two slots can be nailed together where both are idle; one can be seated where it is idle and a port is free
 abbrev pub may_nail : World → Slot → Slot → Bool

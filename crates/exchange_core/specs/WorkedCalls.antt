@@ -7,15 +7,15 @@ use Rattle.circuit_model.specs.declared.circuit.Circuit.TheVariants.{Pair, Tone}
 use Rattle.circuit_model.specs.declared.circuit.Kind.TheVariants.{Ringback, Busy}
 use Rattle.number_plan.specs.declared.target.Target.TheVariants as target
 use Rattle.tone_rules.specs.declared.tones.Tones.{Tones}
-use Rattle.exchange_core.specs.declared.record.CallRecord.{CallRecord}
-use Rattle.exchange_core.specs.declared.record.Party.TheVariants as party
-use Rattle.exchange_core.specs.declared.reply.Reply.{Reply}
-use Rattle.exchange_core.specs.declared.reply.Reply.TheVariants.{Granted, Sent as Sent_reply, Frame as Frame_reply}
-use Rattle.exchange_core.specs.declared.signal.Signal.{Signal}
-use Rattle.exchange_core.specs.declared.trace.Event.{Event}
-use Rattle.exchange_core.specs.declared.trace.Event.TheVariants.{Nail, Message, Frame}
+use Rattle.exchange_events.specs.declared.record.CallRecord.{CallRecord}
+use Rattle.exchange_events.specs.declared.record.Party.TheVariants as party
+use Rattle.exchange_events.specs.declared.reply.Reply.{Reply}
+use Rattle.exchange_events.specs.declared.reply.Reply.TheVariants.{Granted, Sent as Sent_reply, Frame as Frame_reply}
+use Rattle.exchange_events.specs.declared.signal.Signal.{Signal}
+use Rattle.exchange_events.specs.declared.trace.Event.{Event}
+use Rattle.exchange_events.specs.declared.trace.Event.TheVariants.{Nail, Message, Frame}
 use Rattle.exchange_core.specs.Step.{run, world}
-use Rattle.exchange_core.specs.Setup.{Setting}
+use Rattle.exchange_events.specs.Sizes.{Setting}
 use Rattle.exchange_core.specs.World.{start}
 
 -- no tone is given

@@ -9,15 +9,10 @@ use Rattle.circuit_model.specs.Ports.{Ports, free_ports, ports_after, port_of, g
 use Rattle.control_memory.specs.Layout.{Layout}
 use Rattle.control_memory.specs.Connecting.{connect, moved}
 use Rattle.circuit_map.specs.Connections.{without_both, partner}
+use Rattle.exchange_events.specs.Sizes.{Dimensions}
 use Rattle.exchange_core.specs.Legs.{Legs, no_legs}
-use Rattle.exchange_core.specs.declared.reply.Reply.{Reply}
-use Rattle.exchange_core.specs.declared.reply.Reply.TheVariants.{Granted, Seated, NoPort}
-
--- how many external lines, bridge lines and internal slots an exchange has
-pub record Dimensions : Type 0 where
-  pub external : ℕ
-  pub bridges : ℕ
-  pub slots : ℕ
+use Rattle.exchange_events.specs.declared.reply.Reply.{Reply}
+use Rattle.exchange_events.specs.declared.reply.Reply.TheVariants.{Granted, Seated, NoPort}
 
 abbrev pub lines_of : Dimensions → ℕ
 lines_of d = d.external + d.bridges

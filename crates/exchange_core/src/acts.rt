@@ -10,19 +10,19 @@ ghost use Rattle.exchange_core.specs.Acts.{announced, course_of, peer_of, with_p
 ghost use Rattle.exchange_core.specs.AtWork.{IsAtWork};
 ghost use Rattle.exchange_core.specs.Calls.{made_by, done_by};
 ghost use Rattle.exchange_core.specs.Legs.{leg_at};
-ghost use Rattle.exchange_core.specs.Limits.{most_sends};
+ghost use Rattle.exchange_events.specs.Limits.{most_sends};
 ghost use Rattle.exchange_core.specs.Operations.{Clear, Pair, Making, performed_all};
 ghost use Rattle.exchange_core.specs.Peers.{IsThere, PeerIsThere, IsSilent};
-ghost use Rattle.exchange_core.specs.Setup.{Setting};
+ghost use Rattle.exchange_events.specs.Sizes.{Setting, Dimensions};
 ghost use Rattle.exchange_core.specs.Standing.{Holds, Makes};
-ghost use Rattle.exchange_core.specs.World.{Dimensions, World};
+ghost use Rattle.exchange_core.specs.World.{World};
 
 use crate::call_control::CallControl;
-use crate::leg_table::Held;
-use crate::outbox::Outbox;
-use call_states::{Act, Leg, Peer, on_message, status, unexpected};
+use crate::sending::{message_to, record_only, send, send_bare};
+use call_states::{Act, Held, Leg, Peer, on_message, status, unexpected};
 use circuit_model::{Kind, Slot};
 use control_memory::PathMap;
+use exchange_events::Outbox;
 use q931_codec::causes::RESPONSE_TO_STATUS_ENQUIRY;
 use q931_codec::states::{
     ACTIVE, CALL_DELIVERED, CALL_RECEIVED, DISCONNECT_INDICATION, INCOMING_CALL_PROCEEDING,
@@ -50,7 +50,7 @@ impl<P: PathMap> CallControl<P> {
         let peer = self.peer_of(held.leg.peer);
         let told = self.record_of_act(held, peer, act);
         self.perform(out, tones, held, peer, act, message);
-        out.records.keep(told);
+        record_only(&mut out.records, told);
     }
 
     /// The other leg of a call.
@@ -93,9 +93,10 @@ impl<P: PathMap> CallControl<P> {
     {
         match act {
             Act::Nothing => {}
-            Act::Unexpected => out.send(held.slot.line, &unexpected(&held.leg, message)),
+            Act::Unexpected => send(out, held.slot.line, &unexpected(&held.leg, message)),
             Act::Enquiry => {
-                out.send(
+                send(
+                    out,
                     held.slot.line,
                     &status(&held.leg, RESPONSE_TO_STATUS_ENQUIRY),
                 )
@@ -140,7 +141,7 @@ impl<P: PathMap> CallControl<P> {
         self.put(caller.slot, waits);
         self.sound(caller.slot, tone);
         let alerting = message_to(&caller.leg, MessageKind::Alerting);
-        out.send(caller.slot.line, &announced(tone, alerting));
+        send(out, caller.slot.line, &announced(tone, alerting));
     }
 
     // The called user has answered: the two slots are connected.
@@ -163,8 +164,8 @@ impl<P: PathMap> CallControl<P> {
         out.moved = Some(self.connect(caller.slot, held.slot));
         self.put(held.slot, in_state(ACTIVE, held.leg));
         self.put(caller.slot, in_state(ACTIVE, caller.leg));
-        tell(out, held, MessageKind::ConnectAcknowledge);
-        tell(out, caller, MessageKind::Connect);
+        send_bare(out, held, MessageKind::ConnectAcknowledge);
+        send_bare(out, caller, MessageKind::Connect);
     }
 
     // Takes down whatever a caller hears, connects it with the called slot, and answers how many live
@@ -206,7 +207,7 @@ impl<P: PathMap> CallControl<P> {
                 ..held.leg
             },
         );
-        tell(out, held, MessageKind::Release);
+        send_bare(out, held, MessageKind::Release);
     }
 
     // The user of the leg has released its channel, or its call reference too.
@@ -222,7 +223,7 @@ impl<P: PathMap> CallControl<P> {
         ensures sizes { SameSizes self.old.map self.new.map }
     {
         self.forget(held);
-        tell(out, held, MessageKind::ReleaseComplete);
+        send_bare(out, held, MessageKind::ReleaseComplete);
     }
 
     /// The leg is gone, and every circuit that names its slot.
@@ -266,7 +267,7 @@ impl<P: PathMap> CallControl<P> {
         self.put(other.slot, alone);
         self.sound(other.slot, tone);
         let disconnect = disconnect_message(&other.leg, cause);
-        out.send(other.slot.line, &announced(tone, disconnect));
+        send(out, other.slot.line, &announced(tone, disconnect));
     }
 }
 
@@ -306,13 +307,6 @@ fn announced(tone: Option<Kind>, message: Outgoing<'static>) -> Outgoing<'static
     }
 }
 
-// A message of a type, without elements, to the user of a leg.
-pub(crate) fn message_to(leg: &Leg, kind: MessageKind) -> Outgoing<'static>
-    ensures { outgoing_of result ≡ message_to leg.now kind }
-{
-    Outgoing::new(leg.side.flag(), leg.reference, kind)
-}
-
 // The DISCONNECT with a cause to the user of a leg.
 fn disconnect_message(leg: &Leg, cause: u8) -> Outgoing<'static>
     ensures { outgoing_of result ≡ disconnect leg.now cause }
@@ -321,15 +315,4 @@ fn disconnect_message(leg: &Leg, cause: u8) -> Outgoing<'static>
         cause: Some(cause),
         ..message_to(leg, MessageKind::Disconnect)
     }
-}
-
-// Sends a message of a type, without elements, to the user of a leg.
-fn tell(out: &mut Outbox, held: Held, kind: MessageKind)
-    requires room { length out.old.sends < most_sends }
-    requires told { IsTold held.leg }
-    requires named { IsNamed kind }
-    ensures sends { out.new.sends ≡ out.old.sends ++ record { line = held.slot.line; octets = encoding (message_to held.leg kind) } ∷ [] }
-    ensures moved { out.new.moved ≡ out.old.moved }
-{
-    out.send(held.slot.line, &message_to(&held.leg, kind));
 }

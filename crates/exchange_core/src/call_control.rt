@@ -5,12 +5,13 @@ ghost use Rattle.circuit_model.specs.Holding.{Connect, Seat as Take_seat, Clear}
 ghost use Rattle.circuit_map.specs.Connections.{SameSizes, hears_at, hears_after};
 ghost use Rattle.q931_codec.specs.Outgoing.{IsWritable, encoding, outgoing_of};
 ghost use Rattle.call_states.specs.Status.{IsTold};
-ghost use Rattle.exchange_core.specs.Limits.{most_sends};
+ghost use Rattle.exchange_events.specs.Limits.{most_sends};
 ghost use Rattle.exchange_core.specs.Legs.{with_leg, without_leg};
 ghost use Rattle.exchange_core.specs.Operations.{moves_for, moves_of_seat, sounding};
 ghost use Rattle.exchange_core.specs.Permitted.{CanSeat};
 ghost use Rattle.exchange_core.specs.Standing.{Holds};
-ghost use Rattle.exchange_core.specs.World.{Dimensions, World, obey};
+ghost use Rattle.exchange_events.specs.Sizes.{Dimensions};
+ghost use Rattle.exchange_core.specs.World.{World, obey};
 
 use crate::leg_table::LegTable;
 use call_states::Leg;

@@ -3,11 +3,11 @@ ghost use Rattle.std.specs.Prelude.{◌≡◌, [], ℕ, List, All, Some, None, t
 ghost use Rattle.control_memory.specs.Layout.{Layout};
 ghost use Rattle.exchange_core.specs.Answered.{IsAnswered, GetsBothPaths, relaid};
 ghost use Rattle.exchange_core.specs.Calls.{after_message, answer_to, refused_with};
-ghost use Rattle.exchange_core.specs.declared.trace.Event.{Event};
+ghost use Rattle.exchange_events.specs.declared.trace.Event.{Event};
 ghost use Rattle.exchange_core.specs.LegStanding.{CallsStand};
-ghost use Rattle.exchange_core.specs.declared.leg_table.Held.{Held};
-ghost use Rattle.exchange_core.specs.Setup.{Setting};
-ghost use Rattle.exchange_core.specs.Sound.{Fits, IsPlanned};
+ghost use Rattle.call_states.specs.declared.leg.Held.{Held};
+ghost use Rattle.exchange_events.specs.Sizes.{Setting};
+ghost use Rattle.exchange_events.specs.Sound.{Fits, IsPlanned};
 ghost use Rattle.exchange_core.specs.Step.{is_refused, next, world};
 ghost use Rattle.exchange_core.specs.World.{World, start};
 ghost use Rattle.exchange_core.specs.WorkedCalls.{two_lines, one_line, answers, whole_call, whole_call_answered, refused_or_moved, refused_or_moved_answered, clear_collision, clear_collision_answered, on_no_call, on_no_call_answered, own_line, restart_of_called, restart_of_called_answered, restart_of_both, restart_of_both_answered, restart_of_one, restart_of_one_answered, lenient_reading, lenient_reading_answered, call_to_room, call_to_room_answered, no_port_answered, unexpected, unexpected_answered, line_full, line_full_answered, sounding_lines, standing, rings, rings_answered, ringing_tone, found_busy, found_busy_answered, busy_tone, found_gone, found_gone_answered, found_there, conversation};

@@ -1,20 +1,21 @@
 ghost use Rattle.std.specs.Prelude.{◌≡◌, ◌<◌, ◌≤◌, ◌^◌, ℕ, [], None, Ok, IfSome};
 ghost use Rattle.circuit_map.specs.Connections.{SameSizes};
-ghost use Rattle.exchange_core.specs.declared.trace.Event.TheVariants as event;
+ghost use Rattle.exchange_events.specs.declared.trace.Event.TheVariants as event;
 ghost use Rattle.clearing_rules.specs.Restarting.{restart_asked};
 ghost use Rattle.exchange_core.specs.AtWork.{IsAtWork, EachAtWork};
-ghost use Rattle.exchange_core.specs.Calls.{with_leg_named, received_from, done, done_for, on_global_reference, answer_to};
+ghost use Rattle.exchange_core.specs.Calls.{asks_for_call, with_leg_named, received_from, done, done_for, on_global_reference, answer_to};
 ghost use Rattle.exchange_core.specs.Legs.{leg_named};
-ghost use Rattle.exchange_core.specs.Responses.{reply_of};
-ghost use Rattle.exchange_core.specs.Setup.{Setting};
+ghost use Rattle.exchange_events.specs.Responses.{reply_of};
+ghost use Rattle.exchange_events.specs.Sizes.{Setting};
 ghost use Rattle.exchange_core.specs.Standing.{Holds, Makes};
 ghost use Rattle.exchange_core.specs.Step.{reply, next, MovesAtMost};
 ghost use Rattle.exchange_core.specs.World.{World};
 
 use crate::call_control::CallControl;
-use crate::outbox::{Outbox, Response};
-use clearing_rules::{GLOBAL_CALL_REFERENCE, restart, unknown_reference};
+use crate::sending::answer_on_no_call;
+use clearing_rules::{GLOBAL_CALL_REFERENCE, restart};
 use control_memory::PathMap;
+use exchange_events::{Outbox, Response};
 use number_plan::Plan;
 use q931_codec::{Message, MessageKind, read};
 use tone_rules::Tones;
@@ -105,7 +106,7 @@ impl<P: PathMap> CallControl<P> {
             out.records.clear();
             return;
         }
-        out.answer_on_no_call(line, message);
+        answer_on_no_call(out, line, message);
         out.records.clear();
     }
 
@@ -127,32 +128,6 @@ impl<P: PathMap> CallControl<P> {
         }
     }
 }
-
-impl Outbox {
-    ghost use Rattle.std.specs.Prelude.{◌<◌, length, Option};
-    ghost use Rattle.circuit_map.specs.Connections.{Connections};
-    ghost use Rattle.clearing_rules.specs.UnknownReference.{answer_without_call};
-    ghost use Rattle.exchange_core.specs.Calls.{answer_back};
-    ghost use Rattle.exchange_core.specs.Legs.{Legs};
-    ghost use Rattle.exchange_core.specs.Limits.{most_sends};
-    ghost use Rattle.exchange_core.specs.Operations.{Making, performed_all};
-    ghost use Rattle.exchange_core.specs.World.{Dimensions};
-
-    // Answers a message on the call reference of no call, where there is an answer.
-    fn answer_on_no_call(&mut self, line: u8, message: &Message)
-        requires room { length self.old.sends < most_sends }
-        requires reference { message.now.reference < 2 ^ 15 }
-        ensures makes { (d : Dimensions) (map : Connections) (legs : Legs) (m : Making) → Makes d map legs self.old.sends self.old.moved m
-            → Makes d map legs self.new.sends self.new.moved (performed_all d m (answer_back line (answer_without_call message.now))) }
-        ensures moved { self.new.moved ≡ self.old.moved }
-    {
-        if let Some(answer) = unknown_reference(message) {
-            self.send(line, &answer);
-        }
-    }
-}
-
-ghost use Rattle.exchange_core.specs.Calls.{asks_for_call};
 
 // Whether the message is a SETUP from the side that chose the call reference.
 fn asks_for_call(message: &Message) -> bool

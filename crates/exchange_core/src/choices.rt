@@ -5,10 +5,11 @@ ghost use Rattle.circuit_model.specs.Extent.{IsExternal};
 ghost use Rattle.number_plan.specs.Plan.{all_targets};
 ghost use Rattle.exchange_core.specs.Choices.{IsReached, idle_beside, called_checks};
 ghost use Rattle.exchange_core.specs.IdleSlots.{lowest_idle, lowest_idle_beside};
-ghost use Rattle.exchange_core.specs.Setup.{Setting, caller_slot, is_taken, slot_checks, first_cause, refusal};
-ghost use Rattle.exchange_core.specs.Sound.{is_reached};
+ghost use Rattle.exchange_events.specs.Sizes.{Setting, Dimensions};
+ghost use Rattle.exchange_core.specs.Setup.{caller_slot, is_taken, slot_checks, first_cause, refusal};
+ghost use Rattle.exchange_events.specs.Sound.{is_reached};
 ghost use Rattle.exchange_core.specs.Standing.{Holds};
-ghost use Rattle.exchange_core.specs.World.{Dimensions, World};
+ghost use Rattle.exchange_core.specs.World.{World};
 
 use crate::asked::{element_cause, number_cause, slot_asked, target_of};
 use crate::call_control::CallControl;

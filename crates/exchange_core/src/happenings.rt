@@ -1,21 +1,20 @@
 ghost use Rattle.std.specs.Prelude.{◌≡◌, ◌<◌, [], None};
 ghost use Rattle.circuit_model.specs.FrameInput.{Input};
 ghost use Rattle.circuit_map.specs.Connections.{SameSizes};
-ghost use Rattle.exchange_core.specs.declared.trace.Event.TheVariants as event;
+ghost use Rattle.exchange_events.specs.declared.trace.Event.TheVariants as event;
 ghost use Rattle.exchange_core.specs.AtWork.{IsAtWork, EachAtWork, SomeAtWork};
-ghost use Rattle.exchange_core.specs.Responses.{reply_of};
-ghost use Rattle.exchange_core.specs.Setup.{Setting};
-ghost use Rattle.exchange_core.specs.Sound.{Fits};
+ghost use Rattle.exchange_events.specs.Responses.{reply_of};
+ghost use Rattle.exchange_events.specs.Sizes.{Setting, Dimensions};
+ghost use Rattle.exchange_events.specs.Sound.{Fits};
 ghost use Rattle.exchange_core.specs.Standing.{Holds};
 ghost use Rattle.exchange_core.specs.Step.{reply, next, MovesAtMost};
 ghost use Rattle.exchange_core.specs.Working.{IsToolFor, ShowsWorld};
-ghost use Rattle.exchange_core.specs.World.{Dimensions, World, pass};
+ghost use Rattle.exchange_core.specs.World.{World, pass};
 
 use crate::call_control::CallControl;
-use crate::outbox::{Outbox, Response};
 use crate::tool::Tool;
-use crate::trace::Event;
 use control_memory::PathMap;
+use exchange_events::{Event, Outbox, Response};
 use number_plan::Plan;
 use tone_rules::Tones;
 

@@ -1,24 +1,16 @@
-//! Laws of traces, of the orders of their events, and of the worlds that they make.
-ghost use Rattle.std.specs.Prelude.{◌≡◌, ℕ, ◌≤◌, ◌<◌, ◌++◌, All, List, length};
+//! Laws of the worlds that events make, and of their frames.
+ghost use Rattle.std.specs.Prelude.{◌≡◌, ℕ, ◌<◌, ◌++◌, All, List, length};
 ghost use Rattle.circuit_model.specs.declared.channel.Slot.{Slot};
 ghost use Rattle.circuit_model.specs.declared.circuit.Circuit.{Circuit};
 ghost use Rattle.circuit_model.specs.declared.circuit.Kind.{Kind};
 ghost use Rattle.circuit_model.specs.FrameInput.{Input};
 ghost use Rattle.circuit_model.specs.Hears.{hears};
-ghost use Rattle.exchange_core.specs.declared.trace.Event.{Event};
-ghost use Rattle.exchange_core.specs.declared.trace.Trace.{Trace};
-ghost use Rattle.exchange_core.specs.Orders.{IsLawful, IsLawfulPrefix, file_order};
-ghost use Rattle.exchange_core.specs.Setup.{Setting};
-ghost use Rattle.exchange_core.specs.Sound.{Fits, IsPlanned};
+ghost use Rattle.exchange_events.specs.declared.trace.Event.{Event};
+ghost use Rattle.exchange_events.specs.Sizes.{Setting};
+ghost use Rattle.exchange_events.specs.Sound.{Fits, IsPlanned};
 ghost use Rattle.exchange_core.specs.Standing.{IsMade};
 ghost use Rattle.exchange_core.specs.Step.{world};
 ghost use Rattle.exchange_core.specs.World.{start};
-
-/// The order of the file is lawful, and so is each of its beginnings.
-pub fn file_order_is_lawful()
-    ensures whole { (t : Trace) → IsLawful t (file_order (length t.events)) }
-    ensures begun { (t : Trace) (count : ℕ) → count ≤ length t.events → IsLawfulPrefix t (file_order count) }
-{}
 
 /// Whatever events happen, the circuits and ports of each frame come of one list of commands, each
 /// of which was allowed when its turn came.

@@ -3,19 +3,10 @@ ghost use Rattle.control_memory.specs.Layout.{number_of};
 ghost use Rattle.call_states.specs.Status.{IsTold};
 ghost use Rattle.exchange_core.specs.Legs.{no_legs, leg_at, with_leg, without_leg, leg_named, new_reference, is_for};
 
-use call_states::{Leg, Side};
+use call_states::{Held, Leg, Side};
 use circuit_model::{PLACES, Slot};
 use std::alloc::{AllocError, Global};
 use std::marker::Model;
-
-/// A leg and the slot that it holds.
-#[derive(Clone, Copy, Debug, PartialEq, Eq)]
-pub struct Held {
-    /// The slot.
-    pub slot: Slot,
-    /// The leg.
-    pub leg: Leg,
-}
 
 /// The legs of all calls, by the slots that they hold. Contracts see for each external slot, by its
 /// number, the leg that holds it.

@@ -12,11 +12,11 @@
 //!   implements it.
 //!
 //! It stands on `circuit_model`, `control_memory`, `circuit_map`, `q931_elements`, `q931_codec`,
-//! `call_states`, `clearing_rules` and `number_plan`, and on the kit's `arrayvec`.
+//! `call_states`, `clearing_rules`, `tone_rules`, `number_plan` and `exchange_events`, and on the kit's
+//! `arrayvec`.
 #![tactic(auto)]
 
 mod acts;
-mod answer;
 mod asked;
 mod call_control;
 mod call_laws;
@@ -28,31 +28,21 @@ mod laws;
 mod leg_table;
 mod nails;
 mod new_call;
-mod outbox;
-mod record;
 mod records;
-mod reply;
 mod restarting;
+mod sending;
 mod setup;
-mod signal;
 mod step;
 mod switchboard;
 mod tool;
-mod trace;
 
-pub use answer::{Answer, Kept, RecordList, Rows, SignalList};
 pub use call_laws::{
     law_of_answered_calls, law_of_legs, law_of_paths, law_of_refusals, law_of_refused_calls,
     worked_calls,
 };
 pub use desk::Desk;
-pub use laws::{file_order_is_lawful, later_frames_change_nothing, worlds_are_made};
-pub use leg_table::{Held, LegTable};
-pub use outbox::{Outbox, Response};
-pub use record::{CallRecord, MOST_RECORDS, Party, Records};
-pub use reply::Reply;
-pub use signal::{Encoded, MOST_SENDS, Signal, Signals};
+pub use laws::{later_frames_change_nothing, worlds_are_made};
+pub use leg_table::LegTable;
 pub use step::Core;
 pub use switchboard::Switchboard;
 pub use tool::Tool;
-pub use trace::{Event, Events, Input, Octets, Segments, Trace};

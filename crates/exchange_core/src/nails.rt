@@ -4,21 +4,21 @@ ghost use Rattle.circuit_model.specs.Extent.{IsExternal};
 ghost use Rattle.control_memory.specs.Image.{SameSizes as SameImageSizes};
 ghost use Rattle.control_memory.specs.Shown.{Shows};
 ghost use Rattle.circuit_map.specs.Connections.{SameSizes, hears_at};
-ghost use Rattle.exchange_core.specs.declared.trace.Event.TheVariants as event;
+ghost use Rattle.exchange_events.specs.declared.trace.Event.TheVariants as event;
 ghost use Rattle.exchange_core.specs.IdleSlots.{idle};
 ghost use Rattle.exchange_core.specs.Legs.{leg_at};
-ghost use Rattle.exchange_core.specs.Responses.{reply_of};
-ghost use Rattle.exchange_core.specs.Setup.{Setting};
-ghost use Rattle.exchange_core.specs.declared.outbox.Outbox.{Outbox};
-ghost use Rattle.exchange_core.specs.Sound.{Fits};
+ghost use Rattle.exchange_events.specs.Responses.{reply_of};
+ghost use Rattle.exchange_events.specs.Sizes.{Setting, Dimensions};
+ghost use Rattle.exchange_events.specs.declared.outbox.Outbox.{Outbox};
+ghost use Rattle.exchange_events.specs.Sound.{Fits};
 ghost use Rattle.exchange_core.specs.Standing.{Holds};
 ghost use Rattle.exchange_core.specs.Step.{reply, next, may_nail, MovesAtMost};
-ghost use Rattle.exchange_core.specs.World.{Dimensions, World, pass};
+ghost use Rattle.exchange_core.specs.World.{World, pass};
 
 use crate::call_control::CallControl;
-use crate::outbox::Response;
 use circuit_model::Slot;
 use control_memory::{Image, PathMap};
+use exchange_events::Response;
 
 impl<P: PathMap> CallControl<P> {
     /// Whether no circuit names a slot and no leg holds it.

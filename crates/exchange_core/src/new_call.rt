@@ -1,23 +1,22 @@
 //! What a SETUP makes: the legs of a new call, and what is sent to their users.
-ghost use Rattle.std.specs.Prelude.{◌≡◌, ◌*◌, ◌^◌, ◌<◌, ◌≤◌, true, Some, length, IfSome};
+ghost use Rattle.std.specs.Prelude.{◌≡◌, ◌*◌, ◌^◌, ◌<◌, ◌≤◌, length, IfSome};
 ghost use Rattle.circuit_model.specs.Extent.{IsExternal};
-ghost use Rattle.circuit_map.specs.Connections.{Connections, SameSizes};
+ghost use Rattle.circuit_map.specs.Connections.{SameSizes};
 ghost use Rattle.q931_codec.specs.Contents.{bearer_in};
-ghost use Rattle.q931_codec.specs.declared.kind.MessageKind.TheVariants as kind;
-ghost use Rattle.q931_codec.specs.Outgoing.{outgoing_of, bare};
-ghost use Rattle.exchange_core.specs.Legs.{Legs};
+ghost use Rattle.q931_codec.specs.Outgoing.{outgoing_of};
 ghost use Rattle.exchange_core.specs.Operations.{Making, performed_all};
 ghost use Rattle.exchange_core.specs.Permitted.{CanSeat};
-ghost use Rattle.exchange_core.specs.Setup.{caller_leg, called_leg, proceeding, offer, refuse, call_line, call_room};
+ghost use Rattle.exchange_core.specs.Setup.{caller_leg, called_leg, proceeding, offer, call_line, call_room};
 ghost use Rattle.exchange_core.specs.Standing.{Holds, Makes};
-ghost use Rattle.exchange_core.specs.World.{Dimensions, World};
+ghost use Rattle.exchange_events.specs.Sizes.{Dimensions};
+ghost use Rattle.exchange_core.specs.World.{World};
 
-use crate::acts::message_to;
 use crate::call_control::CallControl;
-use crate::outbox::Outbox;
+use crate::sending::{message_to, send};
 use call_states::{Leg, Peer, Side};
 use circuit_model::{Slot, channel_of};
 use control_memory::PathMap;
+use exchange_events::Outbox;
 use q931_codec::states::{ACTIVE, CALL_PRESENT, OUTGOING_CALL_PROCEEDING};
 use q931_codec::{Message, MessageKind, Outgoing};
 
@@ -44,16 +43,6 @@ fn called_leg(reference: u16, caller: Slot) -> Leg
         side: Side::Called,
         peer: Peer::Leg(caller),
         cause: 0,
-    }
-}
-
-// The RELEASE COMPLETE that refuses a SETUP with this call reference.
-fn release_complete(reference: u16, cause: u8) -> Outgoing<'static>
-    ensures { outgoing_of result ≡ record (bare true reference kind.ReleaseComplete) { cause = Some cause } }
-{
-    Outgoing {
-        cause: Some(cause),
-        ..Outgoing::new(true, reference, MessageKind::ReleaseComplete)
     }
 }
 
@@ -85,20 +74,6 @@ fn offer<'a>(message: &Message<'a>, y: Slot, leg: &Leg) -> Outgoing<'a>
     }
 }
 
-impl Outbox {
-    /// Refuses a SETUP with a cause.
-    pub(crate) fn refuse(&mut self, line: u8, reference: u16, cause: u8)
-        requires room { length self.old.sends ≤ 60 }
-        requires reference { reference < 2 ^ 15 }
-        requires cause { cause < 128 }
-        ensures makes { (d : Dimensions) (map : Connections) (legs : Legs) (m : Making) → Makes d map legs self.old.sends self.old.moved m
-            → Makes d map legs self.new.sends self.new.moved (performed_all d m (refuse line reference cause)) }
-        ensures moved { self.new.moved ≡ self.old.moved }
-    {
-        self.send(line, &release_complete(reference, cause));
-    }
-}
-
 impl<P: PathMap> CallControl<P> {
     /// Makes a call to a line: the caller waits, and the called user is offered the call with this
     /// reference.
@@ -126,8 +101,8 @@ impl<P: PathMap> CallControl<P> {
         let called = called_leg(reference, x);
         self.put(x, caller);
         self.put(y, called);
-        out.send(x.line, &proceeding(x, &caller));
-        out.send(y.line, &offer(message, y, &called));
+        send(out, x.line, &proceeding(x, &caller));
+        send(out, y.line, &offer(message, y, &called));
     }
 
     /// Makes a call to a conference room, which is answered at once.
@@ -145,7 +120,7 @@ impl<P: PathMap> CallControl<P> {
         let caller = caller_leg(ACTIVE, message.reference, Peer::Room(room));
         self.put(x, caller);
         out.moved = Some(self.seat(x, room));
-        out.send(x.line, &proceeding(x, &caller));
-        out.send(x.line, &message_to(&caller, MessageKind::Connect));
+        send(out, x.line, &proceeding(x, &caller));
+        send(out, x.line, &message_to(&caller, MessageKind::Connect));
     }
 }

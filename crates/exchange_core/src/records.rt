@@ -6,14 +6,14 @@ ghost use Rattle.exchange_core.specs.Acts.{peer_of};
 ghost use Rattle.exchange_core.specs.CallRecords.{is_calling, party_of, began};
 ghost use Rattle.exchange_core.specs.EndedCalls.{record_calling, record_ended, record_of_act};
 ghost use Rattle.exchange_core.specs.Standing.{Holds};
-ghost use Rattle.exchange_core.specs.World.{Dimensions, World};
+ghost use Rattle.exchange_events.specs.Sizes.{Dimensions};
+ghost use Rattle.exchange_core.specs.World.{World};
 
 use crate::call_control::CallControl;
-use crate::leg_table::Held;
-use crate::record::{CallRecord, Party};
-use call_states::{Act, Leg, Peer, Side};
+use call_states::{Act, Held, Leg, Peer, Side};
 use circuit_model::Circuit;
 use control_memory::PathMap;
+use exchange_events::{CallRecord, Party};
 use q931_codec::states::{ACTIVE, CALL_DELIVERED, OUTGOING_CALL_PROCEEDING};
 
 impl<P: PathMap> CallControl<P> {

@@ -7,21 +7,21 @@ ghost use Rattle.exchange_core.specs.Acts.{with_peer};
 ghost use Rattle.exchange_core.specs.AtWork.{IsAtWork};
 ghost use Rattle.exchange_core.specs.EndedCalls.{slot_records};
 ghost use Rattle.exchange_core.specs.LegStanding.{LegsStand};
-ghost use Rattle.exchange_core.specs.Limits.{most_records, most_sends};
+ghost use Rattle.exchange_events.specs.Limits.{most_records, most_sends};
 ghost use Rattle.exchange_core.specs.Operations.{Making, performed_all};
 ghost use Rattle.exchange_core.specs.Peers.{IsThere};
 ghost use Rattle.exchange_core.specs.Restarts.{restart_peer, restart_slot, restarts_slot, restarted};
-ghost use Rattle.exchange_core.specs.Setup.{Setting};
+ghost use Rattle.exchange_events.specs.Sizes.{Setting, Dimensions};
 ghost use Rattle.exchange_core.specs.Standing.{Holds, Makes};
-ghost use Rattle.exchange_core.specs.World.{Dimensions, World};
+ghost use Rattle.exchange_core.specs.World.{World};
 
 use crate::call_control::CallControl;
-use crate::leg_table::Held;
-use crate::outbox::Outbox;
-use crate::record::Records;
+use crate::sending::{record_also, send};
+use call_states::Held;
 use circuit_model::{PLACES, Slot};
 use clearing_rules::{Restart, acknowledgement};
 use control_memory::PathMap;
+use exchange_events::{Outbox, Records};
 use q931_codec::causes::TEMPORARY_FAILURE;
 use tone_rules::Tones;
 
@@ -49,7 +49,7 @@ impl<P: PathMap> CallControl<P> {
         for place in 0..PLACES {
             self.restart_slot(out, tones, &mut records, asked, Slot { line, place });
         }
-        out.send(line, &acknowledgement(asked));
+        send(out, line, &acknowledgement(asked));
         records
     }
 
@@ -81,7 +81,7 @@ impl<P: PathMap> CallControl<P> {
         let held = Held { slot: x, leg };
         let peer = self.peer_of(leg.peer);
         let told = self.record_ended(held, peer, TEMPORARY_FAILURE);
-        records.extend(told);
+        record_also(records, told);
         self.forget(held);
         self.restart_peer(out, tones, asked, x.line, peer);
     }

@@ -5,14 +5,16 @@ ghost use Rattle.exchange_core.specs.Calls.{made_by};
 ghost use Rattle.exchange_core.specs.Choices.{accepted};
 ghost use Rattle.exchange_core.specs.Legs.{leg_named};
 ghost use Rattle.exchange_core.specs.Operations.{begun, performed_all};
-ghost use Rattle.exchange_core.specs.Setup.{Setting, course_of_setup, refusal};
+ghost use Rattle.exchange_events.specs.Sizes.{Setting};
+ghost use Rattle.exchange_core.specs.Setup.{course_of_setup, refusal};
 ghost use Rattle.exchange_core.specs.Standing.{Makes};
 ghost use Rattle.exchange_core.specs.World.{World};
 
 use crate::asked::target_of;
 use crate::call_control::CallControl;
-use crate::outbox::Outbox;
+use crate::sending::refuse;
 use control_memory::PathMap;
+use exchange_events::Outbox;
 use number_plan::{Found, Plan};
 use q931_codec::Message;
 
@@ -31,7 +33,7 @@ impl<P: PathMap> CallControl<P> {
         ensures sizes { SameSizes self.old.map self.new.map }
     {
         match self.refusal(plan, line, message) {
-            Some(cause) => out.refuse(line, message.reference, cause),
+            Some(cause) => refuse(out, line, message.reference, cause),
             None => self.accept(out, plan, line, message),
         }
     }

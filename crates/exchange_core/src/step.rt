@@ -1,20 +1,18 @@
 ghost use Rattle.std.specs.Prelude.{◌≡◌, ◌+◌, ◌<◌, ◌++◌, [], ◌∷◌, length, IfOk};
-ghost use Rattle.exchange_core.specs.declared.trace.Event.{Event as An_event};
-ghost use Rattle.exchange_core.specs.Orders.{IsEvent};
-ghost use Rattle.exchange_core.specs.Responses.{reply_of};
-ghost use Rattle.exchange_core.specs.Sound.{IsSound, setting_of};
+ghost use Rattle.exchange_events.specs.declared.trace.Event.{Event as An_event};
+ghost use Rattle.exchange_events.specs.Orders.{IsEvent};
+ghost use Rattle.exchange_events.specs.Responses.{reply_of};
+ghost use Rattle.exchange_events.specs.Sound.{IsSound, setting_of};
 ghost use Rattle.exchange_core.specs.Step.{reply, next, MovesAtMost};
 ghost use Rattle.exchange_core.specs.Working.{IsNumbered, IsToolFor, ShowsWorld, setting, world_of};
 ghost use Rattle.exchange_core.specs.World.{start};
 
 use crate::call_control::CallControl;
 use crate::leg_table::LegTable;
-use crate::outbox::{Outbox, Response};
-use crate::reply::Reply;
 use crate::tool::Tool;
-use crate::trace::Trace;
 use circuit_map::CircuitMap;
 use control_memory::PathMap;
+use exchange_events::{Outbox, Reply, Response, Trace};
 use std::alloc::{AllocError, Global};
 use std::marker::Model;
 

@@ -7,7 +7,7 @@ use Rattle.exchange_core.specs.Step.{run, events_of, MovesAtMost}
 use Rattle.segment_run.specs.Segment.{grown}
 use Rattle.call_processor.specs.Frames.{Plays}
 use Rattle.exchange_top.specs.Outcomes.{Fabric}
-use Rattle.exchange_core.specs.declared.record.CallRecord.{CallRecord}
+use Rattle.exchange_events.specs.declared.record.CallRecord.{CallRecord}
 use Rattle.exchange_top.specs.Report.{event_lines}
 use Rattle.exchange_top.specs.Telling.{Telling, calls_ended}
 

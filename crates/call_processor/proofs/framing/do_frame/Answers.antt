@@ -1,10 +1,10 @@
 use Rattle.std.proofs.Common.{rules, ◌≡◌, ◌+◌, ℕ, [], ◌∷◌, ◌++◌, length, sym, ap, ◌∙◌, subst, arith, length-take-le}
 use Rattle.circuit_model.specs.FrameInput.{Input}
-use Rattle.exchange_core.specs.Responses.{reply_of}
+use Rattle.exchange_events.specs.Responses.{reply_of}
 use Rattle.exchange_core.specs.Seats.{AnswersAt, before, world_at, setting_at}
 use Rattle.exchange_core.specs.Working.{IsNumbered}
-use Rattle.exchange_core.specs.World.{Dimensions}
-use Rattle.exchange_core.specs.declared.trace.Event.TheVariants.{Frame}
+use Rattle.exchange_events.specs.Sizes.{Dimensions}
+use Rattle.exchange_events.specs.declared.trace.Event.TheVariants.{Frame}
 use Rattle.frame_engine.specs.Frames.{PlaysOut}
 use Rattle.tone_rules.specs.Tables.{table_of}
 use Rattle.call_processor.proofs.Done.{Next, answer_next}

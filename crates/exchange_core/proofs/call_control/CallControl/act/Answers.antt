@@ -51,7 +51,7 @@ perform-requires-clause-waiting g c alerts =
 pub returns-clause-records : goal.returns-clause-records
 returns-clause-records g c s w work =
     let now = c.args.self.now in
-    c.keep.ensures
+    c.record_only.ensures
     ∙ ap (λ told. cons_option told []) (c.record_of_act-told.ensures s.dimensions w work.holds)
     ∙ ap (records_of_act w c.args.held) c.on_message-act.ensures
     ∙ known_records s now.map now.legs w work c.args.held c.requires.external c.requires.held c.args.message.now

@@ -15,6 +15,6 @@ returns-clause-makes g c d m made =
     let caller = c.in-Some.caller in
     let called_goes = c.put.ensures.legs ∙ ap (λ (leg : Leg). with_leg connected.legs held.slot leg) c.in_state.ensures in
     let caller_goes = c.put-2.ensures.legs ∙ ap (λ (leg : Leg). with_leg one.legs caller.slot leg) c.in_state-2.ensures in
-    answered_makes d start.map connected.map one.map both.map start.legs connected.legs one.legs both.legs out.sends c.tell.new.out.sends c.tell-2.new.out.sends out.moved c.tell-2.new.out.moved
-    c.connect.result c.args.peer held caller c.in-Some.is (c.connect.ensures.makes d) c.put.ensures.map c.put-2.ensures.map called_goes caller_goes c.tell.ensures.sends c.tell-2.ensures.sends
-    (c.tell-2.ensures.moved ∙ c.tell.ensures.moved) m made
+    answered_makes d start.map connected.map one.map both.map start.legs connected.legs one.legs both.legs out.sends c.send_bare.new.out.sends c.send_bare-2.new.out.sends out.moved c.send_bare-2.new.out.moved
+    c.connect.result c.args.peer held caller c.in-Some.is (c.connect.ensures.makes d) c.put.ensures.map c.put-2.ensures.map called_goes caller_goes c.send_bare.ensures.sends c.send_bare-2.ensures.sends
+    (c.send_bare-2.ensures.moved ∙ c.send_bare.ensures.moved) m made

@@ -2,7 +2,7 @@ use Rattle.std.proofs.Common.{◌≡◌, ◌<◌, true, false, sym, ◌∙◌, s
 use Rattle.exchange_core.specs.Calls.{Received, asks_for_call, done_for}
 use Rattle.exchange_core.specs.Operations.{begun}
 use Rattle.exchange_core.specs.Standing.{Makes}
-use Rattle.exchange_core.specs.World.{Dimensions}
+use Rattle.exchange_events.specs.Sizes.{Dimensions}
 use Rattle.exchange_core.proofs.BegunEnds.{call_ends_none, answer_ends_none}
 use Rattle.exchange_core.proofs.OnNoCall.{asks, asks_not}
 use Rattle.exchange_core.proofs.call_control.CallControl.begin.Goals as goal
@@ -26,7 +26,7 @@ pub returns-clause-makes : goal.returns-clause-makes
 returns-clause-makes g c s w plan tones work =
     let m = c.args.message.now in
     let is : asks_for_call m ≡ false = sym c.asks_for_call.ensures ∙ c.if-asks_for_call.false in
-    subst (λ (r : Received). Makes s.dimensions c.args.self.now.map c.args.self.now.legs c.answer_on_no_call.new.self.sends c.answer_on_no_call.new.self.moved (done_for s w c.args.line r).making)
+    subst (λ (r : Received). Makes s.dimensions c.args.self.now.map c.args.self.now.legs c.answer_on_no_call.new.out.sends c.answer_on_no_call.new.out.moved (done_for s w c.args.line r).making)
     (sym (asks_not m c.if-message-eq-GLOBAL_CALL_REFERENCE.false is))
     (c.answer_on_no_call.ensures.makes s.dimensions _ _ (begun w) (record { holds = work.holds; sent = c.requires.fresh.0; moves = c.requires.fresh.1 }))
 

@@ -31,7 +31,7 @@ returns-clause-makes g c d m makes =
     let m2 = performed d m1 (Seat x c.args.room) in
     let map = c.seat.new.self.map in
     let legs = c.seat.new.self.legs in
-    let first = makes_send d map map legs legs out.sends c.send.new.self.sends (Some c.seat.result) c.send.new.self.moved m2 seated x.line (outgoing_of c.proceeding.result) (proceeding x leg) c.proceeding.ensures c.send.ensures.sends c.send.ensures.moved in
+    let first = makes_send d map map legs legs out.sends c.send.new.out.sends (Some c.seat.result) c.send.new.out.moved m2 seated x.line (outgoing_of c.proceeding.result) (proceeding x leg) c.proceeding.ensures c.send.ensures.sends c.send.ensures.moved in
     let m3 = performed d m2 (Send x.line (proceeding x leg)) in
-    let second = makes_send d map map legs legs c.send.new.self.sends c.send-2.new.self.sends c.send.new.self.moved c.send-2.new.self.moved m3 first x.line (outgoing_of c.message_to.result) (message_to leg kind.Connect) c.message_to.ensures c.send-2.ensures.sends c.send-2.ensures.moved in
-    subst (λ (l : Leg). Makes d map legs c.send-2.new.self.sends c.send-2.new.self.moved (performed_all d m (Put x l ∷ Seat x c.args.room ∷ Send x.line (proceeding x l) ∷ Send x.line (message_to l kind.Connect) ∷ []))) c.caller_leg-caller.ensures second
+    let second = makes_send d map map legs legs c.send.new.out.sends c.send-2.new.out.sends c.send.new.out.moved c.send-2.new.out.moved m3 first x.line (outgoing_of c.message_to.result) (message_to leg kind.Connect) c.message_to.ensures c.send-2.ensures.sends c.send-2.ensures.moved in
+    subst (λ (l : Leg). Makes d map legs c.send-2.new.out.sends c.send-2.new.out.moved (performed_all d m (Put x l ∷ Seat x c.args.room ∷ Send x.line (proceeding x l) ∷ Send x.line (message_to l kind.Connect) ∷ []))) c.caller_leg-caller.ensures second

@@ -1,7 +1,8 @@
 use Rattle.std.proofs.Common.{◌≡◌}
 use Rattle.exchange_core.specs.IdleSlots.{idle, lowest_idle}
 use Rattle.exchange_core.specs.Standing.{Holds}
-use Rattle.exchange_core.specs.World.{Dimensions, World}
+use Rattle.exchange_events.specs.Sizes.{Dimensions}
+use Rattle.exchange_core.specs.World.{World}
 use Rattle.exchange_core.proofs.Choosing.{first_from}
 use Rattle.exchange_core.proofs.call_control.CallControl.lowest_idle.Given as goal
 

@@ -2,7 +2,8 @@ use Rattle.std.proofs.Common.{◌≡◌}
 use Rattle.exchange_core.specs.Choices.{idle_beside}
 use Rattle.exchange_core.specs.IdleSlots.{lowest_idle_beside}
 use Rattle.exchange_core.specs.Standing.{Holds}
-use Rattle.exchange_core.specs.World.{Dimensions, World}
+use Rattle.exchange_events.specs.Sizes.{Dimensions}
+use Rattle.exchange_core.specs.World.{World}
 use Rattle.exchange_core.proofs.Choosing.{first_from}
 use Rattle.exchange_core.proofs.call_control.CallControl.lowest_idle_beside.Given as goal
 

@@ -3,13 +3,13 @@ use Rattle.q931_codec.specs.Outgoing.{IsWritable, outgoing_of}
 use Rattle.clearing_rules.specs.Restarting.{acknowledgement}
 use Rattle.circuit_model.specs.declared.channel.Slot.{Slot}
 use Rattle.tone_rules.specs.declared.tones.Tones.{Tones}
-use Rattle.exchange_core.specs.declared.record.CallRecord.{CallRecord}
-use Rattle.exchange_core.specs.declared.signal.Signal.{Signal}
+use Rattle.exchange_events.specs.declared.record.CallRecord.{CallRecord}
+use Rattle.exchange_events.specs.declared.signal.Signal.{Signal}
 use Rattle.exchange_core.specs.LegStanding.{LegsStand}
 use Rattle.exchange_core.specs.Operations.{performed_all}
 use Rattle.exchange_core.specs.Restarts.{restart_slot, restarted_below}
 use Rattle.exchange_core.specs.Standing.{Makes}
-use Rattle.exchange_core.specs.World.{Dimensions}
+use Rattle.exchange_events.specs.Sizes.{Dimensions}
 use Rattle.exchange_core.proofs.Makings.{makes_send}
 use Rattle.exchange_core.proofs.RestartKeeps.{acknowledgement_writable, below_kept, none_done, same_sizes, sizes_then, step_done}
 use Rattle.exchange_core.proofs.call_control.CallControl.restart_line.Goals as goal
@@ -68,6 +68,6 @@ returns-clause-makes g c s w tones work =
     let end : c.loop-place.place ≡ 30 = omega (arith, c.loop-place-test.false, c.loop-place.auto.place-end) in
     let made = subst (λ n. Makes s.dimensions c.loop-place.self.map c.loop-place.self.legs c.loop-place.out.sends c.loop-place.out.moved
     (restarted_below s.dimensions s.tones c.args.asked c.args.line w n).making) end (c.loop-place.invariant.0 s w tones work).0 in
-    makes_send s.dimensions c.loop-place.self.map c.loop-place.self.map c.loop-place.self.legs c.loop-place.self.legs c.loop-place.out.sends c.send.new.self.sends
-    c.loop-place.out.moved c.send.new.self.moved (restarted_below s.dimensions s.tones c.args.asked c.args.line w 30).making made c.args.line (outgoing_of c.acknowledgement.result) (acknowledgement c.args.asked)
+    makes_send s.dimensions c.loop-place.self.map c.loop-place.self.map c.loop-place.self.legs c.loop-place.self.legs c.loop-place.out.sends c.send.new.out.sends
+    c.loop-place.out.moved c.send.new.out.moved (restarted_below s.dimensions s.tones c.args.asked c.args.line w 30).making made c.args.line (outgoing_of c.acknowledgement.result) (acknowledgement c.args.asked)
     c.acknowledgement.ensures c.send.ensures.sends c.send.ensures.moved

@@ -2,7 +2,7 @@ use Rattle.std.proofs.Common.{◌≡◌, ◌≤◌, None, length}
 use Rattle.circuit_map.specs.Connections.{SameSizes}
 use Rattle.exchange_core.specs.AtWork.{IsAtWork}
 use Rattle.exchange_core.specs.Restarts.{restarted_below}
-use Rattle.exchange_core.specs.Setup.{Setting}
+use Rattle.exchange_events.specs.Sizes.{Setting}
 use Rattle.exchange_core.specs.Standing.{Makes}
 use Rattle.exchange_core.specs.World.{World}
 use Rattle.exchange_core.proofs.call_control.CallControl.restart_line.Given as goal

@@ -2,7 +2,7 @@ use Rattle.std.proofs.Common.{rules, ◌≡◌, ◌++◌, [], true, Option, Some
 use Rattle.std.specs.Prelude.{IfSome}
 use Rattle.std.specs.List.{cons_option}
 use Rattle.clearing_rules.specs.Restarting.{is_restarted}
-use Rattle.exchange_core.specs.declared.record.CallRecord.{CallRecord}
+use Rattle.exchange_events.specs.declared.record.CallRecord.{CallRecord}
 use Rattle.exchange_core.specs.Legs.{Legs, leg_at}
 use Rattle.exchange_core.specs.Peers.{IsThere}
 use Rattle.exchange_core.proofs.RestartKeeps.{peer_there, external_of, slot_is}
@@ -28,6 +28,6 @@ pub returns-clause-records : goal.returns-clause-records
 returns-clause-records g c d w holds =
     let at : leg_at w.legs c.args.x ≡ Some c.in-Some.leg = ap (λ (ls : Legs). leg_at ls c.args.x) (sym holds.legs_are) ∙ sym c.at.ensures.found ∙ c.in-Some.is in
     let restarted : is_restarted c.args.asked c.args.x.place ≡ true = search rules in
-    c.extend.ensures.all
+    c.record_also.ensures.all
     ∙ ap (λ (o : Option CallRecord). c.args.records.now ++ cons_option o []) (c.record_ended-told.ensures d w holds)
     ∙ ap (λ list. c.args.records.now ++ list) (sym (slot_is c.args.asked w c.args.x c.in-Some.leg restarted at))

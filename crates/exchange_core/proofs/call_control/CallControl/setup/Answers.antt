@@ -14,5 +14,5 @@ returns-in-Some-clause-makes g c s w plan work =
     let m = c.args.message.now in
     let cause = c.in-Some.cause in
     let refused = sym (c.refusal.ensures s w plan work.holds) ∙ c.in-Some.is in
-    makes_same s.dimensions c.args.self.now.map c.args.self.now.legs c.refuse.new.self.sends c.refuse.new.self.moved (begun w) (refuse c.args.line m.reference cause) (setup s w c.args.line m (refusal s w c.args.line m)) (ap (setup s w c.args.line m) refused)
+    makes_same s.dimensions c.args.self.now.map c.args.self.now.legs c.refuse.new.out.sends c.refuse.new.out.moved (begun w) (refuse c.args.line m.reference cause) (setup s w c.args.line m (refusal s w c.args.line m)) (ap (setup s w c.args.line m) refused)
     (c.refuse.ensures.makes s.dimensions c.args.self.now.map c.args.self.now.legs (begun w) (makes_begun s.dimensions c.args.self.now.map c.args.self.now.legs c.args.out.now.sends c.args.out.now.moved w work.holds c.requires.fresh))

@@ -1,6 +1,6 @@
 use Rattle.std.proofs.Common.{◌≡◌, ◌<◌, ◌++◌, ◌∷◌, [], List, length, refl, sym, ◌∙◌, ap, subst}
-use Rattle.exchange_core.specs.declared.trace.Event.{Event}
-use Rattle.exchange_core.specs.Responses.{reply_of}
+use Rattle.exchange_events.specs.declared.trace.Event.{Event}
+use Rattle.exchange_events.specs.Responses.{reply_of}
 use Rattle.exchange_core.specs.Step.{reply, next}
 use Rattle.exchange_core.specs.Working.{Entry, Working, IsWorking, IsNumbered, IsToolFor, ShowsWorld, order_of, setting, world_of, world_after}
 use Rattle.exchange_core.specs.World.{World}

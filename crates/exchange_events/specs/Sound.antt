@@ -5,11 +5,11 @@ use Rattle.circuit_model.specs.Extent.{IsExternal}
 use Rattle.number_plan.specs.declared.target.Target.{Target}
 use Rattle.number_plan.specs.declared.target.Target.TheVariants as target
 use Rattle.number_plan.specs.Plan.{all_targets}
-use Rattle.exchange_core.specs.declared.trace.Event.{Event}
-use Rattle.exchange_core.specs.declared.trace.Event.TheVariants.{Nail, Seat, Free, Message, Frame}
-use Rattle.exchange_core.specs.declared.trace.Trace.{Trace}
-use Rattle.exchange_core.specs.Limits.{most_events}
-use Rattle.exchange_core.specs.Setup.{Setting}
+use Rattle.exchange_events.specs.declared.trace.Event.{Event}
+use Rattle.exchange_events.specs.declared.trace.Event.TheVariants.{Nail, Seat, Free, Message, Frame}
+use Rattle.exchange_events.specs.declared.trace.Trace.{Trace}
+use Rattle.exchange_events.specs.Limits.{most_events}
+use Rattle.exchange_events.specs.Sizes.{Setting}
 
 -- two slots that can be nailed together
 pub record IsNail (external : ℕ) (x y : Slot) : Type 0 where

@@ -1,5 +1,5 @@
 ghost use Rattle.std.specs.Prelude.{◌≡◌, ◌<◌, [], ◌∷◌, ◌++◌, length};
-ghost use Rattle.exchange_core.specs.Limits.{most_records};
+ghost use Rattle.exchange_events.specs.Limits.{most_records};
 
 use arrayvec::ArrayVec;
 use circuit_model::Slot;
@@ -55,7 +55,7 @@ pub struct Records {
 
 impl Model for Records {
     ghost use Rattle.std.specs.Prelude.{List};
-    ghost use Rattle.exchange_core.specs.declared.record.CallRecord.{CallRecord};
+    ghost use Rattle.exchange_events.specs.declared.record.CallRecord.{CallRecord};
 
     ghost Value = { List CallRecord };
 
@@ -99,27 +99,5 @@ impl Records {
         ensures { self.new ≡ self.old ++ told ∷ [] }
     {
         self.items.push(told);
-    }
-
-    ghost use Rattle.std.specs.Prelude.{◌+◌, ◌≤◌};
-    ghost use Rattle.std.specs.List.{cons_option};
-
-    /// This record where there is one, in place of all.
-    pub(crate) fn keep(&mut self, told: Option<CallRecord>)
-        ensures { self.new ≡ cons_option told [] }
-    {
-        self.clear();
-        self.extend(told);
-    }
-
-    /// One record more, where there is one.
-    pub(crate) fn extend(&mut self, told: Option<CallRecord>)
-        requires { length self.old < most_records }
-        ensures all { self.new ≡ self.old ++ cons_option told [] }
-        ensures few { length self.new ≤ length self.old + 1 }
-    {
-        if let Some(told) = told {
-            self.push(told);
-        }
     }
 }

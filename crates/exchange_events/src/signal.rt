@@ -1,5 +1,5 @@
 ghost use Rattle.std.specs.Prelude.{◌≡◌, ◌<◌, ◌≤◌, ◌+◌, [], ◌∷◌, ◌++◌, length};
-ghost use Rattle.exchange_core.specs.Limits.{most_sends};
+ghost use Rattle.exchange_events.specs.Limits.{most_sends};
 
 use arrayvec::ArrayVec;
 use q931_elements::LONGEST_MESSAGE;
@@ -55,7 +55,7 @@ pub struct Signals {
 
 impl Model for Signals {
     ghost use Rattle.std.specs.Prelude.{List};
-    ghost use Rattle.exchange_core.specs.declared.signal.Signal.{Signal};
+    ghost use Rattle.exchange_events.specs.declared.signal.Signal.{Signal};
 
     ghost Value = { List Signal };
 

@@ -1,5 +1,5 @@
 ghost use Rattle.std.specs.Prelude.{◌≡◌, List, ℕ};
-ghost use Rattle.exchange_core.specs.declared.trace.Event.{Event};
+ghost use Rattle.exchange_events.specs.declared.trace.Event.{Event};
 
 use circuit_model::Slot;
 use number_plan::Plan;
@@ -90,7 +90,7 @@ pub struct Events {
 
 impl Model for Events {
     ghost use Rattle.std.specs.Prelude.{List};
-    ghost use Rattle.exchange_core.specs.declared.trace.Event.{Event};
+    ghost use Rattle.exchange_events.specs.declared.trace.Event.{Event};
 
     ghost Value = { List Event };
 

@@ -4,9 +4,9 @@ use Rattle.std.specs.List.{range_with_len}
 use Rattle.std.proofs.lemmas.Bool.{ltb-true, le-leb, cases_lt}
 use Rattle.std.proofs.lemmas.List.Sums.{sum_by-cons}
 use Rattle.std.proofs.lemmas.List.FromFn.{length-range_with_len, get_or-range_with_len}
-use Rattle.exchange_core.specs.declared.trace.Trace.{Trace}
+use Rattle.exchange_events.specs.declared.trace.Trace.{Trace}
 use Rattle.circuit_model.proofs.Slots.{true_or_false}
-use Rattle.exchange_core.specs.Orders.{IsLawful, IsLawfulPrefix, Precedes, segment_of, file_order}
+use Rattle.exchange_events.specs.Orders.{IsLawful, IsLawfulPrefix, Precedes, segment_of, file_order}
 
 -- whether a segment ends before event n, as a number
 abbrev ended_before : ℕ → ℕ → ℕ

@@ -1,5 +1,5 @@
-use Rattle.exchange_core.proofs.FileOrder.{lawful_whole, lawful_begun}
-use Rattle.exchange_core.proofs.laws.file_order_is_lawful.Goals as goal
+use Rattle.exchange_events.proofs.FileOrder.{lawful_whole, lawful_begun}
+use Rattle.exchange_events.proofs.laws.file_order_is_lawful.Goals as goal
 
 pub returns-clause-whole : goal.returns-clause-whole
 returns-clause-whole c t = lawful_whole t

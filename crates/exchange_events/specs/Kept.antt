@@ -1,8 +1,8 @@
 -- What is kept of a reply until it is reported. Source: this exchange's own.
-use Rattle.exchange_core.specs.declared.answer.Kept.{Kept}
-use Rattle.exchange_core.specs.declared.answer.Kept.TheVariants as k
-use Rattle.exchange_core.specs.declared.reply.Reply.{Reply}
-use Rattle.exchange_core.specs.declared.reply.Reply.TheVariants as r
+use Rattle.exchange_events.specs.declared.answer.Kept.{Kept}
+use Rattle.exchange_events.specs.declared.answer.Kept.TheVariants as k
+use Rattle.exchange_events.specs.declared.reply.Reply.{Reply}
+use Rattle.exchange_events.specs.declared.reply.Reply.TheVariants as r
 
 -- all of it
 abbrev pub kept : Reply → Kept

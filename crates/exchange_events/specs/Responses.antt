@@ -1,9 +1,9 @@
 -- What a step answers, told by a short response and the outbox that it was lent. Source: this exchange's own.
-use Rattle.exchange_core.specs.declared.outbox.Outbox.{Outbox}
-use Rattle.exchange_core.specs.declared.outbox.Response.{Response}
-use Rattle.exchange_core.specs.declared.outbox.Response.TheVariants as response
-use Rattle.exchange_core.specs.declared.reply.Reply.{Reply}
-use Rattle.exchange_core.specs.declared.reply.Reply.TheVariants.{Granted, Busy, Seated, NoPort, Freed, NotNailed, Sent, Frame}
+use Rattle.exchange_events.specs.declared.outbox.Outbox.{Outbox}
+use Rattle.exchange_events.specs.declared.outbox.Response.{Response}
+use Rattle.exchange_events.specs.declared.outbox.Response.TheVariants as response
+use Rattle.exchange_events.specs.declared.reply.Reply.{Reply}
+use Rattle.exchange_events.specs.declared.reply.Reply.TheVariants.{Granted, Busy, Seated, NoPort, Freed, NotNailed, Sent, Frame}
 
 -- the reply: the response, and where it has lists those of the outbox
 abbrev pub reply_of : Response → Outbox → Reply

@@ -1,6 +1,6 @@
 ghost use Rattle.std.specs.Prelude.{◌≡◌, IfOk};
-ghost use Rattle.exchange_core.specs.Kept.{kept};
-ghost use Rattle.exchange_core.specs.Responses.{reply_of};
+ghost use Rattle.exchange_events.specs.Kept.{kept};
+ghost use Rattle.exchange_events.specs.Responses.{reply_of};
 
 use crate::outbox::{Outbox, Response};
 use crate::record::CallRecord;
@@ -17,7 +17,7 @@ pub struct SignalList {
 
 impl Model for SignalList {
     ghost use Rattle.std.specs.Prelude.{List};
-    ghost use Rattle.exchange_core.specs.declared.signal.Signal.{Signal};
+    ghost use Rattle.exchange_events.specs.declared.signal.Signal.{Signal};
 
     ghost Value = { List Signal };
 
@@ -48,7 +48,7 @@ pub struct RecordList {
 
 impl Model for RecordList {
     ghost use Rattle.std.specs.Prelude.{List};
-    ghost use Rattle.exchange_core.specs.declared.record.CallRecord.{CallRecord};
+    ghost use Rattle.exchange_events.specs.declared.record.CallRecord.{CallRecord};
 
     ghost Value = { List CallRecord };
 

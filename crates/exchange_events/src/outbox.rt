@@ -1,12 +1,9 @@
-ghost use Rattle.std.specs.Prelude.{◌≡◌, ◌<◌, ◌++◌, [], ◌∷◌, length, None};
-ghost use Rattle.q931_codec.specs.Outgoing.{IsWritable, encoding, outgoing_of};
-ghost use Rattle.exchange_core.specs.Limits.{most_sends};
-ghost use Rattle.exchange_core.specs.Responses.{reply_of};
+ghost use Rattle.std.specs.Prelude.{◌≡◌, [], None};
+ghost use Rattle.exchange_events.specs.Responses.{reply_of};
 
 use crate::record::Records;
 use crate::reply::Reply;
-use crate::signal::{Encoded, Signal, Signals};
-use q931_codec::{Outgoing, write};
+use crate::signal::Signals;
 
 /// What a step sends, moves and tells. It is lent to each step anew, so that no step pays for its room.
 #[derive(Drop)]
@@ -34,7 +31,7 @@ impl Outbox {
     }
 
     /// Nothing any more.
-    pub(crate) fn clear(&mut self)
+    pub fn clear(&mut self)
         ensures sends { self.new.sends ≡ [] }
         ensures moved { self.new.moved ≡ None }
         ensures records { self.new.records ≡ [] }
@@ -42,20 +39,6 @@ impl Outbox {
         self.sends.clear();
         self.moved = None;
         self.records.clear();
-    }
-
-    /// Sends a message to the user of a line.
-    pub(crate) fn send(&mut self, line: u8, message: &Outgoing)
-        requires room { length self.old.sends < most_sends }
-        requires writable { IsWritable (outgoing_of message.now) }
-        ensures sends { self.new.sends ≡ self.old.sends ++ record { line = line; octets = encoding (outgoing_of message.now) } ∷ [] }
-        ensures moved { self.new.moved ≡ self.old.moved }
-        ensures records { self.new.records ≡ self.old.records }
-    {
-        self.sends.push(Signal {
-            line,
-            octets: Encoded::of(write(message)),
-        });
     }
 }
 

@@ -3,7 +3,7 @@ use Rattle.std.specs.Prelude.{IfSome, option_map}
 use Rattle.q931_codec.specs.Outgoing.{OutgoingMessage, IsWritable, outgoing_of}
 use Rattle.clearing_rules.specs.UnknownReference.{answer_without_call}
 use Rattle.exchange_core.proofs.OnNoCall.{answer_writable}
-use Rattle.exchange_core.proofs.outbox.Outbox.answer_on_no_call.Goals as goal
+use Rattle.exchange_core.proofs.sending.answer_on_no_call.Goals as goal
 
 pub send-requires-clause-writable : goal.send-requires-clause-writable
 send-requires-clause-writable c =
