@@ -9,7 +9,7 @@ use lib.Seq.{take-append-le}
 use Rattle.exchange_events.specs.declared.reply.Reply.{Reply}
 use Rattle.exchange_events.specs.Kept.{kept}
 use Rattle.exchange_core.specs.Seats.{Board, Known, StartsWith, AnswersAt, before, entries_of, handling, world_at}
-use Rattle.exchange_core.specs.Step.{MovesAtMost}
+use Rattle.call_profile.specs.Step.{MovesAtMost}
 use Rattle.exchange_core.specs.Working.{Entry}
 use Rattle.call_processor.specs.declared.worked.Placed.{Placed}
 use Rattle.call_processor.specs.Frames.{Plays, HasFrame, IsPlayed}

@@ -20,12 +20,12 @@ use Rattle.exchange_core.specs.declared.tool.Tool.TheVariants.{Image}
 use Rattle.exchange_core.specs.Seats.{Board, StartsWith, IsFrame, NoFrames, IsToolAt, ShowsAt, setting_at, unseen, world_at}
 use Rattle.exchange_events.specs.Sizes.{Setting, Dimensions}
 use Rattle.exchange_events.specs.Sound.{Fits, IsSound}
-use Rattle.exchange_core.specs.Standing.{IsMade}
-use Rattle.exchange_core.specs.Step.{next, world, events_of}
+use Rattle.call_profile.specs.IsMade.{IsMade}
+use Rattle.call_profile.specs.Step.{next, world, events_of}
 use Rattle.exchange_core.specs.Working.{Entry, IsNumbered, IsOfSize, IsToolFor, ShowsWorld, order_of}
-use Rattle.exchange_core.specs.World.{World, start, pass}
-use Rattle.exchange_core.proofs.Histories.{made, made_pass}
-use Rattle.exchange_core.proofs.Quiet.{SameFrames, same_self, then_same as same_then, quiet}
+use Rattle.call_profile.specs.World.{World, start, pass}
+use Rattle.call_profile.proofs.Histories.{made, made_pass}
+use Rattle.call_profile.proofs.Quiet.{SameFrames, same_self, then_same as same_then, quiet}
 use Rattle.exchange_core.proofs.Stepping.{world_more}
 use Rattle.call_processor.specs.Frames.{Plays, Carrying, CarriesFrames, IsReady, IsPlayed}
 

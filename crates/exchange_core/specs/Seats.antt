@@ -10,9 +10,9 @@ use Rattle.exchange_events.specs.declared.trace.Event.TheVariants.{Frame}
 use Rattle.exchange_events.specs.declared.trace.Trace.{Trace}
 use Rattle.exchange_events.specs.Sizes.{Setting}
 use Rattle.exchange_events.specs.Sound.{setting_of}
-use Rattle.exchange_core.specs.Step.{reply}
+use Rattle.call_profile.specs.Step.{reply}
 use Rattle.exchange_core.specs.Working.{Entry, IsNumbered, IsToolFor, ShowsWorld, order_of, world_after}
-use Rattle.exchange_core.specs.World.{World}
+use Rattle.call_profile.specs.World.{World}
 
 -- ---- histories: who did which event, in the order in which they were done
 

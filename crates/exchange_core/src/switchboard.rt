@@ -3,7 +3,7 @@ ghost use Rattle.exchange_events.specs.Orders.{IsEvent};
 ghost use Rattle.exchange_events.specs.Responses.{reply_of};
 ghost use Rattle.exchange_core.specs.Seats.{Board, Known, Settled, StartsWith, NoFrames, IsFrame, IsToolAt, AnswersAt, ShowsAt, before, unseen, entries_of, giving, getting, handling, joining, turns_of};
 ghost use Rattle.exchange_events.specs.Sound.{IsSound};
-ghost use Rattle.exchange_core.specs.Step.{MovesAtMost};
+ghost use Rattle.call_profile.specs.Step.{MovesAtMost};
 
 use crate::desk::Desk;
 use crate::tool::Tool;

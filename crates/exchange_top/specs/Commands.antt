@@ -14,7 +14,7 @@ use Rattle.command_words.specs.declared.command.Command.TheVariants.{Run, Genera
 use Rattle.exchange_events.specs.Sound.{setting_of}
 use Rattle.exchange_core.specs.Working.{world_after}
 use Rattle.exchange_events.specs.Sizes.{Dimensions}
-use Rattle.exchange_core.specs.World.{World}
+use Rattle.call_profile.specs.World.{World}
 use Rattle.call_processor.specs.Frames.{Plays}
 use Rattle.exchange_top.specs.declared.listing.Listing.{Listing}
 use Rattle.exchange_top.specs.declared.listing.Listing.TheVariants as listing

@@ -12,8 +12,8 @@ use Rattle.exchange_events.specs.declared.trace.Trace.{Trace}
 use Rattle.exchange_events.specs.Kept.{kept}
 use Rattle.exchange_events.specs.Sizes.{Setting, Dimensions}
 use Rattle.exchange_events.specs.Sound.{setting_of}
-use Rattle.exchange_core.specs.Step.{next, reply, events_of}
-use Rattle.exchange_core.specs.World.{World, start}
+use Rattle.call_profile.specs.Step.{next, reply, events_of}
+use Rattle.call_profile.specs.World.{World, start}
 use Rattle.call_processor.specs.Frames.{Plays, Carrying, CarriesFrames}
 use Rattle.report_text.specs.Report.{answer_line, lines_sent, report_line}
 

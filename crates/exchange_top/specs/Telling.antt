@@ -9,8 +9,8 @@ use Rattle.exchange_events.specs.declared.reply.Reply.{Reply}
 use Rattle.exchange_events.specs.declared.trace.Trace.{Trace}
 use Rattle.exchange_events.specs.Kept.{kept}
 use Rattle.exchange_events.specs.Sound.{setting_of}
-use Rattle.exchange_core.specs.Step.{run, events_of}
-use Rattle.exchange_core.specs.World.{start}
+use Rattle.call_profile.specs.Step.{run, events_of}
+use Rattle.call_profile.specs.World.{start}
 use Rattle.meters.specs.Telling.{IsTold, IsToldFront}
 
 -- the calls that ended with what is kept of a reply

@@ -9,7 +9,7 @@ use Rattle.exchange_events.specs.declared.trace.Trace.{Trace}
 use Rattle.exchange_events.specs.Kept.{kept}
 use Rattle.exchange_events.specs.Orders.{Worker, IsEvent, segment_of}
 use Rattle.exchange_core.specs.Seats.{Board, Known, Settled, StartsWith, AnswersAt, before, turns_of, unseen, world_at}
-use Rattle.exchange_core.specs.Step.{MovesAtMost}
+use Rattle.call_profile.specs.Step.{MovesAtMost}
 use Rattle.exchange_core.specs.Working.{Entry, IsNumbered, order_of}
 use Rattle.exchange_events.specs.Sizes.{Dimensions}
 use Rattle.tone_rules.specs.Tables.{table_of}
