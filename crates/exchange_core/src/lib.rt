@@ -18,7 +18,14 @@ mod step;
 mod switchboard;
 mod tool;
 
+pub use call_profile::{
+    law_of_answered_calls, law_of_legs, law_of_paths, law_of_refusals, law_of_refused_calls,
+};
 pub use desk::Desk;
+pub use exchange_events::{
+    Answer, CallRecord, Encoded, Event, Events, Input, Kept, Octets, Outbox, Party, RecordList,
+    Records, Reply, Response, Rows, Segments, Signal, SignalList, Signals, Trace,
+};
 pub use step::Core;
 pub use switchboard::Switchboard;
 pub use tool::Tool;
