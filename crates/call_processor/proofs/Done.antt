@@ -6,10 +6,10 @@ use Rattle.std.proofs.lemmas.List.{map-append, get_or_append_left, get_or_push, 
 use Rattle.std.proofs.lemmas.List.Elements.{All-nil, All-push, All-weaker}
 use Rattle.std.proofs.lemmas.Option.{slice_get_within}
 use lib.Seq.{take-append-le}
-use Rattle.exchange_core.specs.declared.reply.Reply.{Reply}
-use Rattle.exchange_core.specs.Kept.{kept}
+use Rattle.exchange_events.specs.declared.reply.Reply.{Reply}
+use Rattle.exchange_events.specs.Kept.{kept}
 use Rattle.exchange_core.specs.Seats.{Board, Known, StartsWith, AnswersAt, before, entries_of, handling, world_at}
-use Rattle.exchange_core.specs.Step.{MovesAtMost}
+use Rattle.call_profile.specs.Step.{MovesAtMost}
 use Rattle.exchange_core.specs.Working.{Entry}
 use Rattle.call_processor.specs.declared.worked.Placed.{Placed}
 use Rattle.call_processor.specs.Frames.{Plays, HasFrame, IsPlayed}

@@ -12,20 +12,20 @@ use Rattle.control_memory.specs.Image.{Control, SameSizes}
 use Rattle.control_memory.specs.Shown.{Shows}
 use Rattle.tone_rules.specs.declared.tones.Tones.{Tones}
 use Rattle.frame_engine.specs.Frames.{Boundary, Come, IsNext, PlaysOut}
-use Rattle.exchange_core.specs.declared.trace.Event.{Event}
-use Rattle.exchange_core.specs.declared.trace.Event.TheVariants.{Nail, Seat, Free, Message, Frame}
-use Rattle.exchange_core.specs.declared.trace.Trace.{Trace}
+use Rattle.exchange_events.specs.declared.trace.Event.{Event}
+use Rattle.exchange_events.specs.declared.trace.Event.TheVariants.{Nail, Seat, Free, Message, Frame}
+use Rattle.exchange_events.specs.declared.trace.Trace.{Trace}
 use Rattle.exchange_core.specs.declared.tool.Tool.{Tool}
 use Rattle.exchange_core.specs.declared.tool.Tool.TheVariants.{Image}
 use Rattle.exchange_core.specs.Seats.{Board, StartsWith, IsFrame, NoFrames, IsToolAt, ShowsAt, setting_at, unseen, world_at}
-use Rattle.exchange_core.specs.Setup.{Setting}
-use Rattle.exchange_core.specs.Sound.{Fits, IsSound}
-use Rattle.exchange_core.specs.Standing.{IsMade}
-use Rattle.exchange_core.specs.Step.{next, world, events_of}
+use Rattle.exchange_events.specs.Sizes.{Setting, Dimensions}
+use Rattle.exchange_events.specs.Sound.{Fits, IsSound}
+use Rattle.call_profile.specs.IsMade.{IsMade}
+use Rattle.call_profile.specs.Step.{next, world, events_of}
 use Rattle.exchange_core.specs.Working.{Entry, IsNumbered, IsOfSize, IsToolFor, ShowsWorld, order_of}
-use Rattle.exchange_core.specs.World.{Dimensions, World, start, pass}
-use Rattle.exchange_core.proofs.Histories.{made, made_pass}
-use Rattle.exchange_core.proofs.Quiet.{SameFrames, same_self, then_same as same_then, quiet}
+use Rattle.call_profile.specs.World.{World, start, pass}
+use Rattle.call_profile.proofs.Histories.{made, made_pass}
+use Rattle.call_profile.proofs.Quiet.{SameFrames, same_self, then_same as same_then, quiet}
 use Rattle.exchange_core.proofs.Stepping.{world_more}
 use Rattle.call_processor.specs.Frames.{Plays, Carrying, CarriesFrames, IsReady, IsPlayed}
 

@@ -5,9 +5,9 @@ use Rattle.std.proofs.lemmas.Bool.{le-leb, cases_lt}
 use Rattle.std.proofs.lemmas.Bool.Decides.{nat_tests}
 use Rattle.std.proofs.lemmas.List.Elements.{filter-append}
 use Rattle.std.proofs.lemmas.List.Sums.{sum_by-cons}
-use Rattle.exchange_core.specs.declared.trace.Trace.{Trace}
-use Rattle.exchange_core.specs.Orders.{Worker, segment_of}
-use Rattle.exchange_core.specs.Sound.{AreSegments, last_of}
+use Rattle.exchange_events.specs.declared.trace.Trace.{Trace}
+use Rattle.exchange_events.specs.Orders.{Worker, segment_of}
+use Rattle.exchange_events.specs.Sound.{AreSegments, last_of}
 use Rattle.call_processor.specs.Parts.{is_its, part_of}
 
 -- whether a segment ends before event n, as a number

@@ -2,13 +2,13 @@
 use Rattle.std.proofs.Common.{rules, ◌≡◌, ℕ, ◌-◌, true, Option, Some, None, slice_get, refl, sym, subst}
 use Rattle.exchange_core.specs.declared.tool.Tool.{Tool}
 use Rattle.exchange_core.specs.declared.tool.Tool.TheVariants.{Nothing, Image}
-use Rattle.exchange_core.specs.declared.trace.Event.{Event}
-use Rattle.exchange_core.specs.declared.trace.Event.TheVariants.{Nail, Seat, Free, Message, Frame}
-use Rattle.exchange_core.specs.declared.trace.Trace.{Trace}
-use Rattle.exchange_core.specs.Orders.{Processor, worker_of}
+use Rattle.exchange_events.specs.declared.trace.Event.{Event}
+use Rattle.exchange_events.specs.declared.trace.Event.TheVariants.{Nail, Seat, Free, Message, Frame}
+use Rattle.exchange_events.specs.declared.trace.Trace.{Trace}
+use Rattle.exchange_events.specs.Orders.{Processor, worker_of}
 use Rattle.exchange_core.specs.Seats.{Board, IsToolAt, setting_at}
 use Rattle.exchange_core.specs.Working.{IsToolFor}
-use Rattle.exchange_core.specs.World.{Dimensions}
+use Rattle.exchange_events.specs.Sizes.{Dimensions}
 use Rattle.call_processor.specs.Parts.{does, is_its, is_worker}
 
 -- what a call processor does asks for no tool

@@ -7,10 +7,11 @@ use Rattle.circuit_model.specs.FrameInput.{Input}
 use Rattle.circuit_model.specs.Ports.{Ports}
 use Rattle.frame_engine.specs.Frames.{PlaysOut}
 use Rattle.exchange_core.specs.declared.tool.Tool.{Tool}
-use Rattle.exchange_core.specs.declared.trace.Event.TheVariants.{Frame}
+use Rattle.exchange_events.specs.declared.trace.Event.TheVariants.{Frame}
 use Rattle.exchange_core.specs.Seats.{Board, Known, before, setting_at, world_at}
 use Rattle.exchange_core.specs.Working.{Entry, IsNumbered, IsToolFor}
-use Rattle.exchange_core.specs.World.{Dimensions, World, pass}
+use Rattle.exchange_events.specs.Sizes.{Dimensions}
+use Rattle.call_profile.specs.World.{World, pass}
 use Rattle.call_processor.specs.declared.worked.Placed.{Placed}
 
 -- what an engine plays on a slot in a frame, given the tones and each frame's input and circuits

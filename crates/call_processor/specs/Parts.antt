@@ -1,8 +1,8 @@
 -- Which events of a segment a worker does. Source: this exchange's own.
 use Rattle.std.specs.Prelude.{ℕ, ◌-◌, ◌&&◌, nat_eq, Bool, true, false, List, length, filter, slice_get, Option, Some, None}
-use Rattle.exchange_core.specs.declared.trace.Event.{Event}
-use Rattle.exchange_core.specs.declared.trace.Trace.{Trace}
-use Rattle.exchange_core.specs.Orders.{Worker, Processor, Frame_worker, worker_of, segment_of, file_order}
+use Rattle.exchange_events.specs.declared.trace.Event.{Event}
+use Rattle.exchange_events.specs.declared.trace.Trace.{Trace}
+use Rattle.exchange_events.specs.Orders.{Worker, Processor, Frame_worker, worker_of, segment_of, file_order}
 
 -- the two are one worker
 abbrev pub is_worker : Worker → Worker → Bool

@@ -1,11 +1,11 @@
 -- What a worker has done of its part of a segment. Source: this exchange's own.
 use Rattle.std.specs.Prelude.{◌≡◌, ℕ, ◌+◌, ◌<◌, ◌≤◌, Bool, IsTrue, List, ◌++◌, length, map, slice_get, Some, All, AllPairs}
-use Rattle.exchange_core.specs.declared.reply.Reply.{Reply}
-use Rattle.exchange_core.specs.declared.trace.Trace.{Trace}
-use Rattle.exchange_core.specs.Kept.{kept}
-use Rattle.exchange_core.specs.Orders.{Worker}
+use Rattle.exchange_events.specs.declared.reply.Reply.{Reply}
+use Rattle.exchange_events.specs.declared.trace.Trace.{Trace}
+use Rattle.exchange_events.specs.Kept.{kept}
+use Rattle.exchange_events.specs.Orders.{Worker}
 use Rattle.exchange_core.specs.Seats.{Board, Known, StartsWith, AnswersAt, before, entries_of, handling}
-use Rattle.exchange_core.specs.Step.{MovesAtMost}
+use Rattle.call_profile.specs.Step.{MovesAtMost}
 use Rattle.exchange_core.specs.Working.{Entry}
 use Rattle.call_processor.specs.declared.worked.Placed.{Placed}
 use Rattle.call_processor.specs.Parts.{part_of}

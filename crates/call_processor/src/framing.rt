@@ -1,6 +1,6 @@
 ghost use Rattle.std.specs.Prelude.{◌≡◌, ◌<◌, ◌≤◌, ◌+◌, [], IfOk, IsTrue, All, OnOk, is_ok, length};
-ghost use Rattle.exchange_core.specs.declared.trace.Event.TheVariants.{Frame};
-ghost use Rattle.exchange_core.specs.Orders.{Frame_worker, IsEvent};
+ghost use Rattle.exchange_events.specs.declared.trace.Event.TheVariants.{Frame};
+ghost use Rattle.exchange_events.specs.Orders.{Frame_worker, IsEvent};
 ghost use Rattle.exchange_core.specs.Working.{IsNumbered};
 ghost use Rattle.tone_rules.specs.Tables.{table_of};
 ghost use Rattle.call_processor.specs.Frames.{IsReady, IsReadyFor, HasFrame, engine_dimensions};
@@ -11,7 +11,8 @@ ghost use Rattle.call_processor.specs.Workplaces.{EndsReady, FinishesReady, HasF
 use crate::segment::{input_of, numbers_of};
 use crate::worked::{Finished, FinishedFrames, Framed, Placed, Worked, Workplace};
 use circuit_model::IDLE;
-use exchange_core::{Answer, Desk, Input, Switchboard, Tool, Trace};
+use exchange_core::{Desk, Switchboard, Tool};
+use exchange_events::{Answer, Input, Trace};
 use frame_engine::Carrier;
 use gate::Gate;
 use std::alloc::{AllocError, Global};

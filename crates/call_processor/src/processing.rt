@@ -1,13 +1,14 @@
 ghost use Rattle.std.specs.Prelude.{◌≡◌, ◌<◌, ◌≤◌, [], All, is_ok, length};
 ghost use Rattle.exchange_core.specs.declared.tool.Tool.TheVariants.{Nothing};
-ghost use Rattle.exchange_core.specs.Orders.{Processor};
+ghost use Rattle.exchange_events.specs.Orders.{Processor};
 ghost use Rattle.call_processor.specs.Parts.{part_of};
 ghost use Rattle.call_processor.specs.Work.{MayWork, Works};
 ghost use Rattle.call_processor.specs.Workplaces.{HasWorked};
 
 use crate::segment::{is_of_processor, numbers_of};
 use crate::worked::{Finished, Placed, Worked, Workplace};
-use exchange_core::{Answer, Desk, Switchboard, Tool, Trace};
+use exchange_core::{Desk, Switchboard, Tool};
+use exchange_events::{Answer, Trace};
 use gate::Gate;
 use std::alloc::{AllocError, Global};
 use std::sync::Wait;

@@ -1,12 +1,12 @@
 ghost use Rattle.std.specs.Prelude.{◌≡◌, ℕ, ◌+◌, ◌-◌, ◌<◌, ◌≤◌, length, filter, is_some, IfSome};
 ghost use Rattle.std.specs.List.{range_with_len};
-ghost use Rattle.exchange_core.specs.Orders.{Worker, Processor, Frame_worker, IsEvent, worker_of};
-ghost use Rattle.exchange_core.specs.Sound.{IsSound};
+ghost use Rattle.exchange_events.specs.Orders.{Worker, Processor, Frame_worker, IsEvent, worker_of};
+ghost use Rattle.exchange_events.specs.Sound.{IsSound};
 ghost use Rattle.exchange_core.specs.Working.{IsNumbered};
-ghost use Rattle.exchange_core.specs.declared.trace.Event.TheVariants.{Frame};
+ghost use Rattle.exchange_events.specs.declared.trace.Event.TheVariants.{Frame};
 ghost use Rattle.call_processor.specs.Parts.{is_its, part_of, worker_at};
 
-use exchange_core::{Event, Input, Trace};
+use exchange_events::{Event, Input, Trace};
 
 /// The numbers of a segment's events: from the first of the two on, up to before the second.
 /// Segments are counted from 0, events from 1.

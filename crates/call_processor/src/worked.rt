@@ -1,4 +1,5 @@
-use exchange_core::{Answer, Desk, Tool};
+use exchange_core::{Desk, Tool};
+use exchange_events::Answer;
 use std::alloc::{AllocError, Global};
 
 /// An answer, and the place of its entry in the history, counted from 0.

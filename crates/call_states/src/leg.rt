@@ -47,3 +47,12 @@ pub struct Leg {
     /// The cause value (4.5.12) that the leg was cleared with, 0 until then.
     pub cause: u8,
 }
+
+/// A leg and the slot that it holds.
+#[derive(Clone, Copy, Debug, PartialEq, Eq)]
+pub struct Held {
+    /// The slot.
+    pub slot: Slot,
+    /// The leg.
+    pub leg: Leg,
+}

@@ -20,7 +20,7 @@ mod table;
 
 pub use act::Act;
 pub use laws::{law_of_causes, law_of_channels, law_of_status};
-pub use leg::{Leg, Peer, Side};
+pub use leg::{Held, Leg, Peer, Side};
 pub use status_message::{status, unexpected};
 pub use table::on_message;
 

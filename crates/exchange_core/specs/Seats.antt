@@ -3,16 +3,16 @@
 use Rattle.std.specs.Prelude.{◌≡◌, ◌≢◌, ℕ, ◌+◌, ◌-◌, ◌≤◌, ◌||◌, nat_lt, nat_eq, Bool, true, false, IsTrue, if◌then◌else◌, List, [], ◌∷◌, ◌++◌, map, length, take, drop, filter, All, AllPairs}
 use Rattle.std.specs.List.{list_any}
 use Rattle.circuit_model.specs.FrameInput.{Input}
-use Rattle.exchange_core.specs.declared.reply.Reply.{Reply}
+use Rattle.exchange_events.specs.declared.reply.Reply.{Reply}
 use Rattle.exchange_core.specs.declared.tool.Tool.{Tool}
-use Rattle.exchange_core.specs.declared.trace.Event.{Event}
-use Rattle.exchange_core.specs.declared.trace.Event.TheVariants.{Frame}
-use Rattle.exchange_core.specs.declared.trace.Trace.{Trace}
-use Rattle.exchange_core.specs.Setup.{Setting}
-use Rattle.exchange_core.specs.Sound.{setting_of}
-use Rattle.exchange_core.specs.Step.{reply}
+use Rattle.exchange_events.specs.declared.trace.Event.{Event}
+use Rattle.exchange_events.specs.declared.trace.Event.TheVariants.{Frame}
+use Rattle.exchange_events.specs.declared.trace.Trace.{Trace}
+use Rattle.exchange_events.specs.Sizes.{Setting}
+use Rattle.exchange_events.specs.Sound.{setting_of}
+use Rattle.call_profile.specs.Step.{reply}
 use Rattle.exchange_core.specs.Working.{Entry, IsNumbered, IsToolFor, ShowsWorld, order_of, world_after}
-use Rattle.exchange_core.specs.World.{World}
+use Rattle.call_profile.specs.World.{World}
 
 -- ---- histories: who did which event, in the order in which they were done
 

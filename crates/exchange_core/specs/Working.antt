@@ -3,18 +3,18 @@ use Rattle.std.specs.Prelude.{◌≡◌, ℕ, ◌-◌, ◌≤◌, List, length, 
 use Rattle.circuit_map.specs.Connections.{Connections}
 use Rattle.control_memory.specs.Image.{Control}
 use Rattle.control_memory.specs.Shown.{Shows}
-use Rattle.exchange_core.specs.declared.trace.Event.{Event}
-use Rattle.exchange_core.specs.declared.trace.Event.TheVariants.{Frame}
-use Rattle.exchange_core.specs.declared.trace.Trace.{Trace}
+use Rattle.exchange_events.specs.declared.trace.Event.{Event}
+use Rattle.exchange_events.specs.declared.trace.Event.TheVariants.{Frame}
+use Rattle.exchange_events.specs.declared.trace.Trace.{Trace}
 use Rattle.exchange_core.specs.declared.tool.Tool.{Tool}
 use Rattle.exchange_core.specs.declared.tool.Tool.TheVariants as tool
-use Rattle.exchange_core.specs.Legs.{Legs}
-use Rattle.exchange_core.specs.Orders.{IsEvent}
-use Rattle.exchange_core.specs.Setup.{Setting}
-use Rattle.exchange_core.specs.Sound.{IsSound, setting_of}
-use Rattle.exchange_core.specs.Standing.{Holds}
-use Rattle.exchange_core.specs.Step.{events_of, world}
-use Rattle.exchange_core.specs.World.{Dimensions, World, start}
+use Rattle.call_profile.specs.Legs.{Legs}
+use Rattle.exchange_events.specs.Orders.{IsEvent}
+use Rattle.exchange_events.specs.Sizes.{Setting, Dimensions}
+use Rattle.exchange_events.specs.Sound.{IsSound, setting_of}
+use Rattle.call_control.specs.Standing.{Holds}
+use Rattle.call_profile.specs.Step.{events_of, world}
+use Rattle.call_profile.specs.World.{World, start}
 
 -- who did an event, and the event's number
 abbrev pub Entry : Type 0

@@ -1,7 +1,7 @@
 ghost use Rattle.std.specs.Prelude.{◌≡◌, [], None};
 
-use crate::outbox::Outbox;
 use crate::tool::Tool;
+use exchange_events::Outbox;
 
 /// What a step is lent: the control memory of a frame, and the outbox for what is sent and told. A
 /// worker keeps one for all its events.

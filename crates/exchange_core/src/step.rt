@@ -1,22 +1,29 @@
-ghost use Rattle.std.specs.Prelude.{◌≡◌, ◌+◌, ◌<◌, ◌++◌, [], ◌∷◌, length, IfOk};
-ghost use Rattle.exchange_core.specs.declared.trace.Event.{Event as An_event};
-ghost use Rattle.exchange_core.specs.Orders.{IsEvent};
-ghost use Rattle.exchange_core.specs.Responses.{reply_of};
-ghost use Rattle.exchange_core.specs.Sound.{IsSound, setting_of};
-ghost use Rattle.exchange_core.specs.Step.{reply, next, MovesAtMost};
+//! The core, and one step of it.
+ghost use Rattle.std.specs.Prelude.{◌≡◌, ◌+◌, ◌<◌, ◌++◌, [], ◌∷◌, length, IfOk, None};
+ghost use Rattle.exchange_events.specs.declared.trace.Event.{Event as An_event};
+ghost use Rattle.exchange_events.specs.Orders.{IsEvent};
+ghost use Rattle.exchange_events.specs.Responses.{reply_of};
+ghost use Rattle.exchange_events.specs.Sound.{IsSound, setting_of, Fits};
+ghost use Rattle.call_profile.specs.Step.{reply, next, MovesAtMost};
 ghost use Rattle.exchange_core.specs.Working.{IsNumbered, IsToolFor, ShowsWorld, setting, world_of};
-ghost use Rattle.exchange_core.specs.World.{start};
+ghost use Rattle.call_profile.specs.World.{start, World, pass};
+ghost use Rattle.circuit_model.specs.FrameInput.{Input};
+ghost use Rattle.circuit_map.specs.Connections.{SameSizes};
+ghost use Rattle.call_control.specs.AtWork.{IsAtWork, EachAtWork, SomeAtWork};
+ghost use Rattle.exchange_events.specs.Sizes.{Setting, Dimensions};
+ghost use Rattle.call_control.specs.Standing.{Holds};
+ghost use Rattle.exchange_events.specs.declared.trace.Event.TheVariants as event;
 
-use crate::call_control::CallControl;
-use crate::leg_table::LegTable;
-use crate::outbox::{Outbox, Response};
-use crate::reply::Reply;
+use crate::commands::{boundary, free, nail, take_seat};
 use crate::tool::Tool;
-use crate::trace::Trace;
+use call_control::{CallControl, LegTable};
 use circuit_map::CircuitMap;
 use control_memory::PathMap;
+use exchange_events::{Event, Outbox, Reply, Response, Trace};
+use number_plan::Plan;
 use std::alloc::{AllocError, Global};
 use std::marker::Model;
+use tone_rules::Tones;
 
 /// The exchange without its octets, at work on a trace: the circuits that stand with their live paths and
 /// conference ports, the legs of the calls, and the journal of the events that were done.
@@ -115,9 +122,14 @@ impl<'t, P: PathMap> Core<'t, P> {
         out.clear();
         let trace = self.trace;
         let event_done = &trace.events.as_slice()[event as usize - 1];
-        let response = self
-            .control
-            .happen(&trace.plan, &trace.tones, event_done, tool, out);
+        let response = happen(
+            &mut self.control,
+            &trace.plan,
+            &trace.tones,
+            event_done,
+            tool,
+            out,
+        );
         self.journal.push_reserved((by, event));
         response
     }
@@ -135,5 +147,52 @@ impl<'t, P: PathMap> Core<'t, P> {
         ensures { result.now ≡ self.now.journal }
     {
         self.journal.as_slice()
+    }
+}
+
+// Does an event, whichever it is. A frame's boundary is written into the tool.
+fn happen<P: PathMap>(
+    control: &mut CallControl<P>,
+    plan: &Plan,
+    tones: &Tones,
+    event: &Event,
+    tool: &mut Tool,
+    out: &mut Outbox,
+) -> Response
+    requires work { SomeAtWork plan.now tones.now control.old.map control.old.legs (λ s w. IsToolFor s.dimensions event.now tool.old) }
+    requires fits { Fits control.old.map.external event.now }
+    requires room { control.old.map.next < 65535 }
+    requires fresh { (out.old.sends ≡ []) × (out.old.moved ≡ None) × (out.old.records ≡ []) }
+    ensures reply { EachAtWork plan.now tones.now control.old.map control.old.legs (λ s w. reply_of result out.new ≡ reply s w event.now) }
+    ensures world { EachAtWork plan.now tones.now control.old.map control.old.legs (λ s w. Holds s.dimensions control.new.map control.new.legs (next s w event.now)) }
+    ensures few { MovesAtMost control.old.map.bound (reply_of result out.new) }
+    ensures shows { (d : Dimensions) (w : World) → Holds d control.old.map control.old.legs w → ShowsWorld w event.now tool.new }
+    ensures tool { (d : Dimensions) → IsToolFor d event.now tool.old → IsToolFor d event.now tool.new }
+    ensures sizes { SameSizes control.old.map control.new.map }
+{
+    match event {
+        Event::Nail(x, y) => nail(control, *x, *y),
+        Event::Seat(x, room) => take_seat(control, *x, *room),
+        Event::Free(x) => free(control, *x),
+        Event::Message(line, octets) => {
+            control.message(plan, tones, *line, octets.as_slice(), out)
+        }
+        Event::Frame(_) => Response::Frame(frame(control, tool)),
+    }
+}
+
+// The boundary of a frame; its number.
+fn frame<P: PathMap>(control: &mut CallControl<P>, tool: &mut Tool) -> u32
+    requires tool { (d : Dimensions) × (w : World) × Holds d control.old.map control.old.legs w × IsToolFor d (event.Frame []) tool.old }
+    requires room { control.old.map.next < 65535 }
+    ensures number { (d : Dimensions) (w : World) → Holds d control.old.map control.old.legs w → result ≡ w.holding.next }
+    ensures world { (d : Dimensions) (w : World) (input : Input) → Holds d control.old.map control.old.legs w → Holds d control.new.map control.new.legs (pass w input) }
+    ensures shows { (d : Dimensions) (w : World) → Holds d control.old.map control.old.legs w → ShowsWorld w (event.Frame []) tool.new }
+    ensures tool { (d : Dimensions) → IsToolFor d (event.Frame []) tool.old → IsToolFor d (event.Frame []) tool.new }
+    ensures sizes { SameSizes control.old.map control.new.map }
+{
+    match tool {
+        Tool::Image(image) => boundary(control, image),
+        Tool::Nothing => unreachable!(),
     }
 }

@@ -1,14 +1,13 @@
 ghost use Rattle.std.specs.Prelude.{◌≡◌, ◌+◌, ◌<◌, ◌≤◌, ◌^◌, length, IsTrue};
-ghost use Rattle.exchange_core.specs.Orders.{IsEvent};
-ghost use Rattle.exchange_core.specs.Responses.{reply_of};
+ghost use Rattle.exchange_events.specs.Orders.{IsEvent};
+ghost use Rattle.exchange_events.specs.Responses.{reply_of};
 ghost use Rattle.exchange_core.specs.Seats.{Board, Known, Settled, StartsWith, NoFrames, IsFrame, IsToolAt, AnswersAt, ShowsAt, before, unseen, entries_of, giving, getting, handling, joining, turns_of};
-ghost use Rattle.exchange_core.specs.Sound.{IsSound};
-ghost use Rattle.exchange_core.specs.Step.{MovesAtMost};
+ghost use Rattle.exchange_events.specs.Sound.{IsSound};
+ghost use Rattle.call_profile.specs.Step.{MovesAtMost};
 
 use crate::desk::Desk;
-use crate::outbox::Response;
-use crate::reply::Reply;
 use crate::tool::Tool;
+use exchange_events::{Reply, Response};
 use std::sync::Wait;
 
 /// An exchange at which many callers do the events of one trace, each in its turn. All that is done

@@ -10,20 +10,20 @@ use Rattle.circuit_model.specs.declared.circuit.Kind.{Kind}
 use Rattle.circuit_model.specs.FrameInput.{Input}
 use Rattle.circuit_model.specs.Ports.{given, port_of}
 use Rattle.control_memory.specs.Layout.{Layout}
-use Rattle.exchange_core.specs.declared.answer.Answer.{Answer}
-use Rattle.exchange_core.specs.declared.reply.Reply.{Reply}
-use Rattle.exchange_core.specs.declared.trace.Event.{Event}
-use Rattle.exchange_core.specs.declared.trace.Event.TheVariants.{Nail, Seat, Free, Message, Frame}
-use Rattle.exchange_core.specs.declared.trace.Trace.{Trace}
-use Rattle.exchange_core.specs.IdleSlots.{idle, nailed}
-use Rattle.exchange_core.specs.Kept.{kept}
-use Rattle.exchange_core.specs.Orders.{IsEvent}
+use Rattle.exchange_events.specs.declared.answer.Answer.{Answer}
+use Rattle.exchange_events.specs.declared.reply.Reply.{Reply}
+use Rattle.exchange_events.specs.declared.trace.Event.{Event}
+use Rattle.exchange_events.specs.declared.trace.Event.TheVariants.{Nail, Seat, Free, Message, Frame}
+use Rattle.exchange_events.specs.declared.trace.Trace.{Trace}
+use Rattle.call_profile.specs.IdleSlots.{idle, nailed}
+use Rattle.exchange_events.specs.Kept.{kept}
+use Rattle.exchange_events.specs.Orders.{IsEvent}
 use Rattle.exchange_core.specs.Seats.{Board, Known, StartsWith, AnswersAt, before, setting_at, unseen, world_at}
-use Rattle.exchange_core.specs.Setup.{Setting}
-use Rattle.exchange_core.specs.Sound.{setting_of}
-use Rattle.exchange_core.specs.Step.{MovesAtMost, events_of, may_nail, next, reply, run, world}
+use Rattle.exchange_events.specs.Sizes.{Setting, Dimensions}
+use Rattle.exchange_events.specs.Sound.{setting_of}
+use Rattle.call_profile.specs.Step.{MovesAtMost, events_of, may_nail, next, reply, run, world}
 use Rattle.exchange_core.specs.Working.{Entry, IsNumbered, order_of, world_after}
-use Rattle.exchange_core.specs.World.{Dimensions, World, is_full, pass, seated, start}
+use Rattle.call_profile.specs.World.{World, is_full, pass, seated, start}
 use Rattle.exchange_core.proofs.Stepping.{world_more}
 use Rattle.tone_rules.specs.Tables.{table_of}
 use Rattle.call_processor.specs.Frames.{IsPlayed, Plays}

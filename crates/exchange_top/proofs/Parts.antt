@@ -1,8 +1,8 @@
 -- Lists of calls, and of answers, as far as a loop has come.
 use Rattle.std.proofs.Common.{◌≡◌, ℕ, zero, suc, ◌+◌, ◌<◌, ◌≤◌, List, [], ◌∷◌, ◌++◌, length, take, drop, Some, slice_get, get_or, refl, sym, ap, ◌∙◌, arith, add-one, append_assoc, take_all, take-append-drop}
 use Rattle.std.proofs.lemmas.List.{append-nil}
-use Rattle.exchange_core.specs.declared.answer.Answer.{Answer}
-use Rattle.exchange_core.specs.declared.record.CallRecord.{CallRecord}
+use Rattle.exchange_events.specs.declared.answer.Answer.{Answer}
+use Rattle.exchange_events.specs.declared.record.CallRecord.{CallRecord}
 use Rattle.exchange_top.proofs.Reports.{take_snoc as snoc}
 use Rattle.exchange_top.specs.Telling.{calls_answered, calls_kept}
 

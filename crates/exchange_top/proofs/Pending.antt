@@ -8,15 +8,15 @@ use Rattle.std.specs.Io.KnownBytes.{Appends}
 use Rattle.std.specs.Prelude.{All}
 use Rattle.std.proofs.lemmas.List.Elements.{All-push}
 use Rattle.std.proofs.lemmas.Option.{slice_get_within}
-use Rattle.exchange_core.specs.declared.trace.Event.{Event}
-use Rattle.exchange_core.specs.declared.trace.Trace.{Trace}
-use Rattle.exchange_core.specs.declared.reply.Reply.{Reply}
-use Rattle.exchange_core.specs.Orders.{file_order}
-use Rattle.exchange_core.specs.Setup.{Setting}
-use Rattle.exchange_core.specs.Sound.{setting_of}
-use Rattle.exchange_core.specs.Step.{run, reply, MovesAtMost}
+use Rattle.exchange_events.specs.declared.trace.Event.{Event}
+use Rattle.exchange_events.specs.declared.trace.Trace.{Trace}
+use Rattle.exchange_events.specs.declared.reply.Reply.{Reply}
+use Rattle.exchange_events.specs.Orders.{file_order}
+use Rattle.exchange_events.specs.Sizes.{Setting}
+use Rattle.exchange_events.specs.Sound.{setting_of}
+use Rattle.call_profile.specs.Step.{run, reply, MovesAtMost}
 use Rattle.exchange_core.specs.Working.{Entry, Working, IsNumbered, order_of, setting, world_of, world_after}
-use Rattle.exchange_core.specs.World.{World, start}
+use Rattle.call_profile.specs.World.{World, start}
 use Rattle.exchange_top.specs.Outcomes.{IsPending}
 use Rattle.exchange_top.specs.Streams.{AppendsFront}
 

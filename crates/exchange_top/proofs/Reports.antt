@@ -7,14 +7,14 @@ use Rattle.std.proofs.lemmas.List.Elements.{filter_map-append}
 use Rattle.std.proofs.lemmas.Option.{slice_get_within}
 use Rattle.std.proofs.lemmas.List.FromFn.{length-range_with_len}
 use Rattle.circuit_model.specs.declared.channel.Slot.{Slot}
-use Rattle.exchange_core.specs.declared.trace.Event.{Event}
-use Rattle.exchange_core.specs.declared.trace.Trace.{Trace}
-use Rattle.exchange_core.specs.Orders.{file_order}
-use Rattle.exchange_core.specs.Setup.{Setting}
-use Rattle.exchange_core.specs.Sound.{setting_of}
-use Rattle.exchange_core.specs.Step.{next, reply, world, run, events_of}
+use Rattle.exchange_events.specs.declared.trace.Event.{Event}
+use Rattle.exchange_events.specs.declared.trace.Trace.{Trace}
+use Rattle.exchange_events.specs.Orders.{file_order}
+use Rattle.exchange_events.specs.Sizes.{Setting}
+use Rattle.exchange_events.specs.Sound.{setting_of}
+use Rattle.call_profile.specs.Step.{next, reply, world, run, events_of}
 use Rattle.exchange_core.specs.Working.{world_after}
-use Rattle.exchange_core.specs.World.{World, start}
+use Rattle.call_profile.specs.World.{World, start}
 use Rattle.report_text.specs.Report.{lines_sent, octet_of}
 use Rattle.report_text.proofs.Rows.{sent_same}
 use Rattle.frame_engine.specs.Frames.{PlaysOut}

@@ -3,7 +3,7 @@ use Rattle.std.proofs.Common.{rules, ◌≡◌, ◌≢◌, ◌⊎◌, ℕ, ◌�
 use Rattle.std.specs.Io.KnownBytes.{Appends, Keeps}
 use Rattle.std.proofs.KnownBytes.{Appends-nil, Appends-trans}
 use Rattle.ex_io.specs.Ends.{Rose}
-use Rattle.exchange_core.specs.declared.trace.Trace.{Trace}
+use Rattle.exchange_events.specs.declared.trace.Trace.{Trace}
 use Rattle.exchange_core.specs.Seats.{Board}
 use Rattle.generated_trace.specs.Generated.{IsTrafficOf}
 use Rattle.exchange_top.specs.declared.listing.Listing.TheVariants as listing

@@ -1,6 +1,6 @@
 -- Meters that are told of calls, and then of more.
 use Rattle.std.proofs.Common.{◌≡◌, ℕ, List, [], ◌++◌}
-use Rattle.exchange_core.specs.declared.record.CallRecord.{CallRecord}
+use Rattle.exchange_events.specs.declared.record.CallRecord.{CallRecord}
 use Rattle.meters.proofs.Zips.{zip-same, zip-then, zip-weaker}
 use Rattle.meters.proofs.Told.{told-same, told-then, told-then_front, told_front-all, told_front-none, told_front-append}
 use Rattle.exchange_top.specs.Telling.{AreTold, AreToldFront}

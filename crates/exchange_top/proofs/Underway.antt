@@ -4,10 +4,10 @@ use Rattle.std.specs.Prelude.{All}
 use Rattle.std.specs.Io.KnownBytes.{Appends}
 use Rattle.std.proofs.KnownBytes.{Appends-nil}
 use Rattle.std.proofs.lemmas.List.Elements.{All-nil, All-weaker}
-use Rattle.exchange_core.specs.declared.trace.Trace.{Trace}
-use Rattle.exchange_core.specs.Orders.{IsEvent}
+use Rattle.exchange_events.specs.declared.trace.Trace.{Trace}
+use Rattle.exchange_events.specs.Orders.{IsEvent}
 use Rattle.exchange_core.specs.Seats.{Board, Known, first_seat, turns_of}
-use Rattle.exchange_core.specs.Sound.{IsSound}
+use Rattle.exchange_events.specs.Sound.{IsSound}
 use Rattle.exchange_core.specs.Working.{order_of}
 use Rattle.call_processor.specs.Frames.{Plays}
 use Rattle.segment_run.specs.Segment.{IsChief, Ran, RanWhole, grown}

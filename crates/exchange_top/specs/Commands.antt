@@ -5,15 +5,16 @@ use Rattle.std.specs.declared.option.Option.{Option}
 use Rattle.ex_io.specs.Ends.{Rose}
 use Rattle.trace_text.specs.declared.fault.Reason.{Reason}
 use Rattle.trace_text.specs.declared.fault.Reason.TheVariants as reason
-use Rattle.exchange_core.specs.declared.trace.Trace.{Trace}
+use Rattle.exchange_events.specs.declared.trace.Trace.{Trace}
 use Rattle.fabric_map.specs.Map.{most_moves}
 use Rattle.trace_text.specs.TraceGrammar.{IsTrace, IsRefused, most_bytes}
 use Rattle.generated_trace.specs.Generated.{IsTrafficOf}
 use Rattle.command_words.specs.Words.{command_of}
 use Rattle.command_words.specs.declared.command.Command.TheVariants.{Run, Generate}
-use Rattle.exchange_core.specs.Sound.{setting_of}
+use Rattle.exchange_events.specs.Sound.{setting_of}
 use Rattle.exchange_core.specs.Working.{world_after}
-use Rattle.exchange_core.specs.World.{Dimensions, World}
+use Rattle.exchange_events.specs.Sizes.{Dimensions}
+use Rattle.call_profile.specs.World.{World}
 use Rattle.call_processor.specs.Frames.{Plays}
 use Rattle.exchange_top.specs.declared.listing.Listing.{Listing}
 use Rattle.exchange_top.specs.declared.listing.Listing.TheVariants as listing

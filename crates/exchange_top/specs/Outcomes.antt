@@ -2,11 +2,11 @@
 use Rattle.std.specs.Prelude.{◌≡◌, ℕ, List, [], ◌++◌, All}
 use Rattle.std.specs.Io.KnownBytes.{Appends}
 use Rattle.std.specs.declared.option.Option.{Option}
-use Rattle.exchange_core.specs.declared.trace.Trace.{Trace}
-use Rattle.exchange_core.specs.Orders.{IsLawful, IsLawfulPrefix}
-use Rattle.exchange_core.specs.Sound.{setting_of}
-use Rattle.exchange_core.specs.Step.{run, events_of, MovesAtMost}
-use Rattle.exchange_core.specs.World.{start}
+use Rattle.exchange_events.specs.declared.trace.Trace.{Trace}
+use Rattle.exchange_events.specs.Orders.{IsLawful, IsLawfulPrefix}
+use Rattle.exchange_events.specs.Sound.{setting_of}
+use Rattle.call_profile.specs.Step.{run, events_of, MovesAtMost}
+use Rattle.call_profile.specs.World.{start}
 use Rattle.segment_run.specs.Segments.{IsDoneBelow}
 use Rattle.call_processor.specs.Frames.{Plays}
 use Rattle.exchange_top.specs.declared.listing.Listing.{Listing}

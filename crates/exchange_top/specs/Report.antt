@@ -6,14 +6,14 @@ use Rattle.circuit_model.specs.declared.circuit.Kind.{Kind}
 use Rattle.circuit_model.specs.FrameInput.{Input}
 use Rattle.circuit_model.specs.Ports.{Ports}
 use Rattle.tone_rules.specs.Tables.{table_of}
-use Rattle.exchange_core.specs.declared.answer.Answer.{Answer}
-use Rattle.exchange_core.specs.declared.trace.Event.{Event}
-use Rattle.exchange_core.specs.declared.trace.Trace.{Trace}
-use Rattle.exchange_core.specs.Kept.{kept}
-use Rattle.exchange_core.specs.Setup.{Setting}
-use Rattle.exchange_core.specs.Sound.{setting_of}
-use Rattle.exchange_core.specs.Step.{next, reply, events_of}
-use Rattle.exchange_core.specs.World.{Dimensions, World, start}
+use Rattle.exchange_events.specs.declared.answer.Answer.{Answer}
+use Rattle.exchange_events.specs.declared.trace.Event.{Event}
+use Rattle.exchange_events.specs.declared.trace.Trace.{Trace}
+use Rattle.exchange_events.specs.Kept.{kept}
+use Rattle.exchange_events.specs.Sizes.{Setting, Dimensions}
+use Rattle.exchange_events.specs.Sound.{setting_of}
+use Rattle.call_profile.specs.Step.{next, reply, events_of}
+use Rattle.call_profile.specs.World.{World, start}
 use Rattle.call_processor.specs.Frames.{Plays, Carrying, CarriesFrames}
 use Rattle.report_text.specs.Report.{answer_line, lines_sent, report_line}
 

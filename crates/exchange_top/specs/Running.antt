@@ -3,11 +3,11 @@ use Rattle.std.specs.Prelude.{◌≡◌, ◌≤◌, ◌*◌, ℕ, List, None, Al
 use Rattle.tone_rules.specs.Tables.{table_of}
 use Rattle.control_memory.specs.Layout.{Layout}
 use Rattle.exchange_core.specs.Seats.{Board, Known, setting_at, world_at}
-use Rattle.exchange_core.specs.Step.{run, events_of, MovesAtMost}
+use Rattle.call_profile.specs.Step.{run, events_of, MovesAtMost}
 use Rattle.segment_run.specs.Segment.{grown}
 use Rattle.call_processor.specs.Frames.{Plays}
 use Rattle.exchange_top.specs.Outcomes.{Fabric}
-use Rattle.exchange_core.specs.declared.record.CallRecord.{CallRecord}
+use Rattle.exchange_events.specs.declared.record.CallRecord.{CallRecord}
 use Rattle.exchange_top.specs.Report.{event_lines}
 use Rattle.exchange_top.specs.Telling.{Telling, calls_ended}
 

@@ -1,8 +1,8 @@
 -- What the command `gen` writes of its run. Source: this exchange's own.
 use Rattle.std.specs.Prelude.{ℕ, ◌++◌, Bool, true, false, List, length, count_by, codes, decimal}
-use Rattle.exchange_core.specs.declared.trace.Event.{Event}
-use Rattle.exchange_core.specs.declared.trace.Event.TheVariants.{Nail, Seat, Free, Message, Frame}
-use Rattle.exchange_core.specs.declared.trace.Trace.{Trace}
+use Rattle.exchange_events.specs.declared.trace.Event.{Event}
+use Rattle.exchange_events.specs.declared.trace.Event.TheVariants.{Nail, Seat, Free, Message, Frame}
+use Rattle.exchange_events.specs.declared.trace.Trace.{Trace}
 
 abbrev pub is_frame : Event → Bool
 is_frame (Nail x y) = false

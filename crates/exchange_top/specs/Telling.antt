@@ -1,16 +1,16 @@
 -- The calls that the meters of a run are told of. Source: this exchange's own.
 use Rattle.std.specs.Prelude.{ℕ, List, [], ◌∷◌, ◌++◌}
 use Rattle.std.specs.List.{AllZip}
-use Rattle.exchange_core.specs.declared.answer.Answer.{Answer}
-use Rattle.exchange_core.specs.declared.answer.Kept.{Kept}
-use Rattle.exchange_core.specs.declared.answer.Kept.TheVariants as k
-use Rattle.exchange_core.specs.declared.record.CallRecord.{CallRecord}
-use Rattle.exchange_core.specs.declared.reply.Reply.{Reply}
-use Rattle.exchange_core.specs.declared.trace.Trace.{Trace}
-use Rattle.exchange_core.specs.Kept.{kept}
-use Rattle.exchange_core.specs.Sound.{setting_of}
-use Rattle.exchange_core.specs.Step.{run, events_of}
-use Rattle.exchange_core.specs.World.{start}
+use Rattle.exchange_events.specs.declared.answer.Answer.{Answer}
+use Rattle.exchange_events.specs.declared.answer.Kept.{Kept}
+use Rattle.exchange_events.specs.declared.answer.Kept.TheVariants as k
+use Rattle.exchange_events.specs.declared.record.CallRecord.{CallRecord}
+use Rattle.exchange_events.specs.declared.reply.Reply.{Reply}
+use Rattle.exchange_events.specs.declared.trace.Trace.{Trace}
+use Rattle.exchange_events.specs.Kept.{kept}
+use Rattle.exchange_events.specs.Sound.{setting_of}
+use Rattle.call_profile.specs.Step.{run, events_of}
+use Rattle.call_profile.specs.World.{start}
 use Rattle.meters.specs.Telling.{IsTold, IsToldFront}
 
 -- the calls that ended with what is kept of a reply

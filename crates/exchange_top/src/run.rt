@@ -2,7 +2,7 @@ ghost use Rattle.std.specs.Prelude.{◌≡◌, ◌+◌, ◌≤◌, ◌++◌, [],
 ghost use Rattle.std.specs.Io.KnownBytes.{Appends};
 ghost use Rattle.ex_io.specs.Ends.{Rose};
 ghost use Rattle.exchange_top.specs.declared.run.RunFault.TheVariants.{Memory, Write};
-ghost use Rattle.exchange_core.specs.Sound.{IsSound, setting_of};
+ghost use Rattle.exchange_events.specs.Sound.{IsSound, setting_of};
 ghost use Rattle.exchange_core.specs.Working.{order_of, world_after};
 ghost use Rattle.exchange_core.specs.Seats.{first_seat};
 ghost use Rattle.shared_exchange.specs.Sharing.{IsSeated, known};
@@ -16,7 +16,8 @@ use crate::listing::Listing;
 use crate::segments::{Carried, report_segments};
 use control_memory::{Image, PathMap};
 use ex_io::{Failed, Sink};
-use exchange_core::{Core, Tool, Trace};
+use exchange_core::{Core, Tool};
+use exchange_events::Trace;
 use frame_engine::Carrier;
 use gate::Gate;
 use meters::Meter;

@@ -3,7 +3,7 @@ ghost use Rattle.std.specs.Prelude.{◌≡◌, [], ◌++◌, count_by, map, IfOk
 ghost use Rattle.std.specs.List.{concat};
 ghost use Rattle.exchange_top.specs.Summary.{is_frame, summary_text};
 
-use exchange_core::{Event, Trace};
+use exchange_events::{Event, Trace};
 use itoa::Buffer;
 use meters::{Meter, append_summaries};
 use std::alloc::{AllocError, Global};

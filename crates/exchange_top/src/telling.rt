@@ -1,10 +1,10 @@
 //! The calls that ended, told to meters.
 ghost use Rattle.std.specs.Prelude.{◌≡◌, [], ◌∷◌, List, OnOk, OnErr};
-ghost use Rattle.exchange_core.specs.declared.record.CallRecord.{CallRecord};
+ghost use Rattle.exchange_events.specs.declared.record.CallRecord.{CallRecord};
 ghost use Rattle.meters.specs.Telling.{IsTold};
 ghost use Rattle.exchange_top.specs.Telling.{AreTold, AreToldFront, calls_answered, calls_kept};
 
-use exchange_core::{Answer, CallRecord, Kept};
+use exchange_events::{Answer, CallRecord, Kept};
 use meters::Meter;
 use std::alloc::AllocError;
 

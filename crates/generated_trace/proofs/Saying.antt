@@ -13,8 +13,8 @@ use Rattle.circuit_model.specs.FrameInput.{Input}
 use Rattle.number_plan.specs.Plan.{is_number, is_taken}
 use Rattle.number_plan.specs.declared.plan.Number.{Number}
 use Rattle.number_plan.specs.declared.target.Target.TheVariants as target
-use Rattle.exchange_core.specs.declared.trace.Event.{Event}
-use Rattle.exchange_core.specs.declared.trace.Event.TheVariants as event
+use Rattle.exchange_events.specs.declared.trace.Event.{Event}
+use Rattle.exchange_events.specs.declared.trace.Event.TheVariants as event
 use Rattle.traffic_gen.specs.Fitting.{Fits, FitsMessage, FitsNail, FitsPart, FitsParts, is_event}
 use Rattle.traffic_gen.specs.Lines.{Line, Part, Header, ToLine, ToRoom, Nail, Message, Frame, Sync, line_text, part_text, slot_text}
 use Rattle.traffic_gen.proofs.Spelling.{line_prints}

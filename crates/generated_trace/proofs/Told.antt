@@ -7,7 +7,7 @@ use Rattle.std.proofs.lemmas.Bool.Decides.{nat_tests}
 use Rattle.std.proofs.lemmas.List.{append-nil}
 use Rattle.std.proofs.lemmas.List.Folds.{list_all-append}
 use Rattle.std.proofs.lemmas.Fmt.{decimal_digit}
-use Rattle.exchange_core.specs.declared.trace.Trace.{Trace}
+use Rattle.exchange_events.specs.declared.trace.Trace.{Trace}
 use Rattle.traffic_gen.specs.Calls.{call_drawn, call_lines, calls_drawn, clearing_of, far_line, frame_drawn, frames_drawn, message_from, message_of, number_of, segment, state_after_call, state_after_frame}
 use Rattle.traffic_gen.specs.Draws.{state_after}
 use Rattle.traffic_gen.specs.Fitting.{Fits, event_count, is_digit, is_event}

@@ -1,6 +1,6 @@
 -- The trace of a seed and a number of calls. Source: this exchange's own.
 use Rattle.std.specs.Prelude.{◌≡◌, ℕ, List, map}
-use Rattle.exchange_core.specs.declared.trace.Trace.{Trace}
+use Rattle.exchange_events.specs.declared.trace.Trace.{Trace}
 use Rattle.trace_text.specs.declared.said.Said.{Said}
 use Rattle.trace_text.specs.TraceGrammar.{IsTrace}
 use Rattle.traffic_gen.specs.Traffic.{traffic, traffic_lines}

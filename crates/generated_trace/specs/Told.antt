@@ -3,7 +3,7 @@ use Rattle.std.specs.Prelude.{ℕ, List, fold, replicate, slice_set, Some, None}
 use Rattle.circuit_model.specs.declared.channel.Slot.{Slot}
 use Rattle.circuit_model.specs.FrameInput.{Input}
 use Rattle.number_plan.specs.declared.target.Target.TheVariants as target
-use Rattle.exchange_core.specs.declared.trace.Event.TheVariants as event
+use Rattle.exchange_events.specs.declared.trace.Event.TheVariants as event
 use Rattle.trace_text.specs.declared.said.Said.{Said}
 use Rattle.trace_text.specs.declared.said.Said.TheVariants as said
 use Rattle.traffic_gen.specs.Lines.{Line, Part, Header, ToLine, ToRoom, Nail, Message, Frame, Sync}

@@ -1,6 +1,6 @@
 //! The law of generated traces.
 ghost use Rattle.std.specs.Prelude.{◌≡◌, ℕ, ◌≤◌, length};
-ghost use Rattle.exchange_core.specs.declared.trace.Trace.{Trace};
+ghost use Rattle.exchange_events.specs.declared.trace.Trace.{Trace};
 ghost use Rattle.trace_text.specs.TraceGrammar.{IsTold};
 ghost use Rattle.traffic_gen.specs.Fitting.{event_count};
 ghost use Rattle.traffic_gen.specs.Traffic.{traffic_lines};

@@ -1,10 +1,10 @@
 // The trace of a seed, read from the octets that are generated.
 ghost use Rattle.std.specs.Prelude.{◌≤◌, IfOk};
-ghost use Rattle.exchange_core.specs.declared.trace.Trace.{Trace};
+ghost use Rattle.exchange_events.specs.declared.trace.Trace.{Trace};
 ghost use Rattle.trace_text.specs.TraceGrammar.{IsTrace};
 ghost use Rattle.generated_trace.specs.Generated.{IsTrafficOf};
 
-use exchange_core::Trace;
+use exchange_events::Trace;
 use std::alloc::{AllocError, Global};
 use trace_text::{TraceFault, read_trace};
 use traffic_gen::generate;

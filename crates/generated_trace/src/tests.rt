@@ -1,6 +1,6 @@
 // The events, frames and segments of generated traces, beside the counts of a program outside.
 use crate::generated;
-use exchange_core::{Event, Trace};
+use exchange_events::{Event, Trace};
 use std::test::Fail;
 
 // How many frames a trace has.

@@ -1,7 +1,7 @@
 -- Texts of lists, one after the other.
 use Rattle.std.proofs.Common.{◌≡◌, ℕ, List, [], ◌∷◌, ◌++◌, codes, ap, refl, sym, ◌∙◌}
 use Rattle.std.proofs.lemmas.List.{append_assoc}
-use Rattle.exchange_core.specs.declared.record.CallRecord.{CallRecord}
+use Rattle.exchange_events.specs.declared.record.CallRecord.{CallRecord}
 use Rattle.meters.specs.Details.{call_line, call_lines, slot_text, party_text, figure}
 
 -- the lines of calls, piece by piece

@@ -1,7 +1,7 @@
 -- The last of a list, at most so many.
 use Rattle.std.proofs.Common.{◌≡◌, ℕ, zero, suc, ◌+◌, ◌-◌, ◌≤◌, List, [], ◌∷◌, ◌++◌, length, length-append, drop, subst, ap, refl, sym, ◌∙◌, arith}
 use Rattle.std.proofs.lemmas.List.{append_assoc, drop-append-le, drop-drop, length-drop}
-use Rattle.exchange_core.specs.declared.record.CallRecord.{CallRecord}
+use Rattle.exchange_events.specs.declared.record.CallRecord.{CallRecord}
 use Rattle.meters.specs.Details.{Ring, IsRingOf, last_of, call_lines, detail_text, detail_text_with}
 
 module _ {A : Type 0} where

@@ -1,7 +1,7 @@
 -- Meters that are told of calls, one list after the other.
 use Rattle.std.proofs.Common.{◌≡◌, ℕ, List, [], ◌++◌, refl, sym, ap, ◌∙◌, subst}
 use Rattle.std.proofs.lemmas.List.{append_assoc, append-nil}
-use Rattle.exchange_core.specs.declared.record.CallRecord.{CallRecord}
+use Rattle.exchange_events.specs.declared.record.CallRecord.{CallRecord}
 use Rattle.meters.specs.Telling.{IsTold, IsToldFront}
 
 -- a meter that nothing happens to is told of no call

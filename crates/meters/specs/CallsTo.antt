@@ -1,9 +1,9 @@
 -- The calls to one line, and a count of them, which is an example of what a program may add. Source: this exchange's own.
 use Rattle.std.specs.Prelude.{◌≡◌, ℕ, ◌+◌, ◌==◌, Bool, false, List, ◌++◌, codes, decimal}
 use Rattle.std.specs.List.{count_by}
-use Rattle.exchange_core.specs.declared.record.Party.{Party}
-use Rattle.exchange_core.specs.declared.record.Party.TheVariants.{Line, Room}
-use Rattle.exchange_core.specs.declared.record.CallRecord.{CallRecord}
+use Rattle.exchange_events.specs.declared.record.Party.{Party}
+use Rattle.exchange_events.specs.declared.record.Party.TheVariants.{Line, Room}
+use Rattle.exchange_events.specs.declared.record.CallRecord.{CallRecord}
 use Rattle.meters.specs.Registers.{register_value}
 
 -- whether a call to this party is one to this line: it goes to a slot of the line, and to no room

@@ -3,9 +3,9 @@
 use Rattle.std.specs.Prelude.{◌≡◌, ℕ, ◌-◌, List, [], ◌∷◌, ◌++◌, length, drop, codes, decimal}
 use Rattle.circuit_model.specs.declared.channel.Slot.{Slot}
 use Rattle.circuit_model.specs.Channels.{channel_at}
-use Rattle.exchange_core.specs.declared.record.Party.{Party}
-use Rattle.exchange_core.specs.declared.record.Party.TheVariants.{Line, Room}
-use Rattle.exchange_core.specs.declared.record.CallRecord.{CallRecord}
+use Rattle.exchange_events.specs.declared.record.Party.{Party}
+use Rattle.exchange_events.specs.declared.record.Party.TheVariants.{Line, Room}
+use Rattle.exchange_events.specs.declared.record.CallRecord.{CallRecord}
 
 -- the last of a list, at most so many
 abbrev pub last_of : {A : Type 0} → ℕ → List A → List A

@@ -1,9 +1,9 @@
 -- Three calls, told one after the other, and what the meters say of them. Source: worked out by hand.
 use Rattle.std.specs.Prelude.{ℕ, Bool, true, false, List, [], ◌∷◌}
 use Rattle.circuit_model.specs.declared.channel.Slot.{Slot}
-use Rattle.exchange_core.specs.declared.record.Party.{Party}
-use Rattle.exchange_core.specs.declared.record.Party.TheVariants.{Line, Room}
-use Rattle.exchange_core.specs.declared.record.CallRecord.{CallRecord}
+use Rattle.exchange_events.specs.declared.record.Party.{Party}
+use Rattle.exchange_events.specs.declared.record.Party.TheVariants.{Line, Room}
+use Rattle.exchange_events.specs.declared.record.CallRecord.{CallRecord}
 
 abbrev slot : ℕ → ℕ → Slot
 slot line place = record { line = line; place = place }

@@ -2,7 +2,7 @@
 -- told in frames; a peg count is a plain count of events. The texts are this exchange's own.
 use Rattle.std.specs.Prelude.{◌≡◌, ℕ, ◌+◌, ◌-◌, ◌^◌, min, max, List, [], ◌∷◌, ◌++◌, length, codes, decimal}
 use Rattle.std.specs.List.{count_by, sum_by}
-use Rattle.exchange_core.specs.declared.record.CallRecord.{CallRecord}
+use Rattle.exchange_events.specs.declared.record.CallRecord.{CallRecord}
 
 -- what a register of 64 bits holds of a number: its last value where the number is greater
 abbrev pub register_value : ℕ → ℕ

@@ -1,6 +1,6 @@
 -- A meter before and after it was told of calls, by what it stands for and what it would say. Source: this exchange's own.
 use Rattle.std.specs.Prelude.{◌≡◌, ℕ, List, ◌++◌}
-use Rattle.exchange_core.specs.declared.record.CallRecord.{CallRecord}
+use Rattle.exchange_events.specs.declared.record.CallRecord.{CallRecord}
 
 -- it was told of these calls: it stands for what it stood for and them, and would say of more what it would have said of them and more
 pub record IsTold (calls : List CallRecord) (stood stands : List CallRecord → Type 0) (said says : List CallRecord → List ℕ) : Type 0 where

@@ -1,9 +1,9 @@
 // A meter of a program's own: it keeps all that it is told, and takes memory to do so.
 ghost use Rattle.std.specs.Prelude.{◌≡◌, ◌++◌, List, length, map, take, if◌then◌else◌, OnOk};
-ghost use Rattle.exchange_core.specs.declared.record.CallRecord.{CallRecord};
+ghost use Rattle.exchange_events.specs.declared.record.CallRecord.{CallRecord};
 
 use crate::Meter;
-use exchange_core::CallRecord;
+use exchange_events::CallRecord;
 use std::alloc::{AllocError, Global};
 use std::marker::Model;
 
@@ -15,7 +15,7 @@ pub(crate) struct Keeper {
 
 impl Model for Keeper {
     ghost use Rattle.std.specs.Prelude.{List};
-    ghost use Rattle.exchange_core.specs.declared.record.CallRecord.{CallRecord};
+    ghost use Rattle.exchange_events.specs.declared.record.CallRecord.{CallRecord};
 
     ghost Value = { List CallRecord };
 

@@ -1,7 +1,7 @@
 ghost use Rattle.std.specs.Prelude.{◌≡◌, ◌++◌, [], ◌∷◌, List, ℕ, OnOk, OnErr};
-ghost use Rattle.exchange_core.specs.declared.record.CallRecord.{CallRecord};
+ghost use Rattle.exchange_events.specs.declared.record.CallRecord.{CallRecord};
 
-use exchange_core::CallRecord;
+use exchange_events::CallRecord;
 use std::alloc::AllocError;
 
 /// Something that is told of calls and says a summary of them.

@@ -1,10 +1,10 @@
 ghost use Rattle.std.specs.Prelude.{◌≡◌, ◌++◌, [], ◌∷◌, List, OnOk, OnErr, IsOk};
-ghost use Rattle.exchange_core.specs.declared.record.CallRecord.{CallRecord};
+ghost use Rattle.exchange_events.specs.declared.record.CallRecord.{CallRecord};
 ghost use Rattle.meters.specs.Registers.{ArePegsOf, peg_text, peg_text_with};
 
 use crate::meter::Meter;
 use crate::texts::put_registers;
-use exchange_core::CallRecord;
+use exchange_events::CallRecord;
 use std::alloc::AllocError;
 use std::marker::Model;
 

@@ -3,7 +3,7 @@ use crate::calls_to_line::CallsToLine;
 use crate::keeper::Keeper;
 use crate::{CallDetail, HoldingTime, Meter, PegCount, append_summaries};
 use circuit_model::Slot;
-use exchange_core::{CallRecord, Party};
+use exchange_events::{CallRecord, Party};
 use std::alloc::AllocError;
 use std::test::Fail;
 

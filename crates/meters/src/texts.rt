@@ -4,7 +4,7 @@ ghost use Rattle.circuit_model.specs.Channels.{channel_at};
 ghost use Rattle.meters.specs.Details.{slot_text, party_text, figure, call_line};
 
 use circuit_model::{PLACES, Slot, channel_of};
-use exchange_core::{CallRecord, Party};
+use exchange_events::{CallRecord, Party};
 use itoa::Buffer;
 use std::alloc::AllocError;
 

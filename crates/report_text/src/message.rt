@@ -6,7 +6,7 @@ ghost use Rattle.report_text.specs.Report.{message_line, messages, moves, on_lin
 use crate::digits::{put_row_digits, wide_row};
 use crate::report::{put_sent, put_word};
 use crate::text::{put_before, put_number_before};
-use exchange_core::Signal;
+use exchange_events::Signal;
 use std::alloc::AllocError;
 
 // The line of a message, with what was sent for it.

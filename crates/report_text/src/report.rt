@@ -1,12 +1,12 @@
 ghost use Rattle.std.specs.Prelude.{◌≡◌, ℕ, ◌++◌, ◌*◌, ◌≤◌, length, take, codes, decimal, slice_index, [], OnOk, OnErr};
 ghost use Rattle.hex.specs.Hex.{encode_upper};
-ghost use Rattle.exchange_core.specs.declared.answer.Kept.TheVariants.{Granted, Busy, Seated, NoPort, Freed, NotNailed};
+ghost use Rattle.exchange_events.specs.declared.answer.Kept.TheVariants.{Granted, Busy, Seated, NoPort, Freed, NotNailed};
 ghost use Rattle.report_text.specs.Report.{answer_line, frame_line, line_octets, lines_sent, octet_of, part, parts, report_line};
 
 use crate::digits::{is_idle, put_row_digits, wide_row};
 use crate::message::put_message;
 use crate::text::{put_before, put_line_before, put_number_before};
-use exchange_core::{Answer, Kept};
+use exchange_events::{Answer, Kept};
 use std::alloc::AllocError;
 
 // Room for the words and numbers of a line: three numbers of ten digits, and what stands between them.

@@ -2,7 +2,7 @@
 use crate::append_answer;
 use arrayvec::ArrayVec;
 use circuit_model::{IDLE, Slot};
-use exchange_core::{Answer, CallRecord, Encoded, Party, Records, Reply, Signal, Signals};
+use exchange_events::{Answer, CallRecord, Encoded, Party, Records, Reply, Signal, Signals};
 use std::alloc::{AllocError, Global};
 use std::test::Fail;
 

@@ -4,9 +4,9 @@ use Rattle.std.specs.Prelude.{slice_set}
 use Rattle.std.specs.List.{range_with_len}
 use Rattle.std.proofs.lemmas.Bool.{cases_lt}
 use Rattle.std.proofs.lemmas.List.{get_or-set_other, get_or-set_same}
-use Rattle.exchange_core.specs.declared.trace.Event.{Event}
-use Rattle.exchange_core.specs.declared.trace.Trace.{Trace}
-use Rattle.exchange_core.specs.Orders.{Worker, Processor, Frame_worker, worker_of}
+use Rattle.exchange_events.specs.declared.trace.Event.{Event}
+use Rattle.exchange_events.specs.declared.trace.Trace.{Trace}
+use Rattle.exchange_events.specs.Orders.{Worker, Processor, Frame_worker, worker_of}
 use Rattle.call_processor.specs.Parts.{does, is_its, is_worker, worker_at}
 use Rattle.call_processor.proofs.Segments.{up_to, next_its, next_not}
 use Rattle.segment_run.specs.Team.{worker_numbered}

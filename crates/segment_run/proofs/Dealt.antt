@@ -6,7 +6,7 @@ use Rattle.std.proofs.lemmas.Bool.{cases_lt}
 use Rattle.std.proofs.lemmas.Bool.Decides.{nat_tests}
 use Rattle.std.proofs.lemmas.List.{map-append}
 use Rattle.std.proofs.lemmas.List.Elements.{All-push}
-use Rattle.exchange_core.specs.declared.trace.Trace.{Trace}
+use Rattle.exchange_events.specs.declared.trace.Trace.{Trace}
 use Rattle.exchange_core.specs.Seats.{Known, giving, getting}
 use Rattle.segment_run.specs.Team.{AreDealt, HasDealt, IsNew, any_baton, load, loads_below, turns_left}
 use Rattle.segment_run.proofs.Lists.{all_front, all_last}

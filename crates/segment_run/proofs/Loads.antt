@@ -3,11 +3,11 @@ use Rattle.std.proofs.Common.{◌≡◌, ℕ, zero, suc, ◌+◌, ◌-◌, ◌%�
 use Rattle.std.specs.List.{range_with_len}
 use Rattle.std.proofs.lemmas.Bool.{cases_lt}
 use Rattle.std.proofs.lemmas.Nat.{mod_below}
-use Rattle.exchange_core.specs.declared.trace.Event.{Event}
-use Rattle.exchange_core.specs.declared.trace.Event.TheVariants.{Nail, Seat, Free, Message, Frame}
-use Rattle.exchange_core.specs.declared.trace.Trace.{Trace}
-use Rattle.exchange_core.specs.Orders.{Worker, IsEvent, worker_of}
-use Rattle.exchange_core.specs.Sound.{AreSegments}
+use Rattle.exchange_events.specs.declared.trace.Event.{Event}
+use Rattle.exchange_events.specs.declared.trace.Event.TheVariants.{Nail, Seat, Free, Message, Frame}
+use Rattle.exchange_events.specs.declared.trace.Trace.{Trace}
+use Rattle.exchange_events.specs.Orders.{Worker, IsEvent, worker_of}
+use Rattle.exchange_events.specs.Sound.{AreSegments}
 use Rattle.call_processor.specs.Parts.{does, is_its, is_worker}
 use Rattle.call_processor.proofs.Segments.{part_is, order_of_ends}
 use Rattle.segment_run.specs.Team.{load, loads_below, worker_numbered}

@@ -10,11 +10,11 @@ use Rattle.std.proofs.lemmas.List.FromFn.{length-range_with_len, get_or-range_wi
 use Rattle.std.proofs.lemmas.List.Kept.{AllPairs-cons, AllPairs-filter}
 use Rattle.std.proofs.lemmas.List.Sums.{sum_by-cons}
 use Rattle.std.proofs.Math.Seq.{drop-cons, drop-append_seam, take-append-add}
-use Rattle.exchange_core.specs.declared.trace.Event.{Event}
-use Rattle.exchange_core.specs.declared.trace.Trace.{Trace}
-use Rattle.exchange_core.specs.Orders.{Worker, Processor, Frame_worker, worker_of, segment_of, Precedes, IsEvent, IsLawful, IsLawfulPrefix, file_order}
+use Rattle.exchange_events.specs.declared.trace.Event.{Event}
+use Rattle.exchange_events.specs.declared.trace.Trace.{Trace}
+use Rattle.exchange_events.specs.Orders.{Worker, Processor, Frame_worker, worker_of, segment_of, Precedes, IsEvent, IsLawful, IsLawfulPrefix, file_order}
 use Rattle.exchange_core.specs.Seats.{Accounts, Kept, Known, StartsWith, entries_of, first_seat, unseen}
-use Rattle.exchange_core.specs.Sound.{IsSound, last_of}
+use Rattle.exchange_events.specs.Sound.{IsSound, last_of}
 use Rattle.exchange_core.specs.Working.{Entry, order_of}
 use Rattle.call_processor.specs.Parts.{is_worker, does, is_its, part_of}
 use Rattle.call_processor.proofs.Segments.{at_least, at_most, rises, below_last}

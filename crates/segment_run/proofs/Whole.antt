@@ -5,14 +5,14 @@ use Rattle.std.specs.List.{All, AllZip}
 use Rattle.std.proofs.lemmas.Bool.{cases_lt}
 use Rattle.std.proofs.lemmas.Bool.Decides.{nat_tests}
 use Rattle.circuit_model.specs.declared.circuit.Kind.{Kind}
-use Rattle.exchange_core.specs.declared.answer.Answer.{Answer}
+use Rattle.exchange_events.specs.declared.answer.Answer.{Answer}
 use Rattle.exchange_core.specs.declared.tool.Tool.{Tool}
-use Rattle.exchange_core.specs.declared.trace.Trace.{Trace}
-use Rattle.exchange_core.specs.Orders.{Worker, Frame_worker}
+use Rattle.exchange_events.specs.declared.trace.Trace.{Trace}
+use Rattle.exchange_events.specs.Orders.{Worker, Frame_worker}
 use Rattle.exchange_core.specs.Seats.{Board, Known, Kept, Settled, StartsWith, IsFrame, NoFrames, entries_of, keeping, turns_of, unseen, world_at}
-use Rattle.exchange_core.specs.Sound.{IsSound}
+use Rattle.exchange_events.specs.Sound.{IsSound}
 use Rattle.exchange_core.specs.Working.{Entry, order_of}
-use Rattle.exchange_core.specs.World.{Dimensions}
+use Rattle.exchange_events.specs.Sizes.{Dimensions}
 use Rattle.call_processor.specs.declared.worked.Workplace.{Workplace}
 use Rattle.call_processor.specs.Frames.{Carrying, Plays, IsReady}
 use Rattle.call_processor.specs.Parts.{does, is_its, is_worker, part_of}

@@ -1,9 +1,9 @@
 -- What came of all workers of a segment, once their seats are joined. Source: this exchange's own.
 use Rattle.std.specs.Prelude.{◌≡◌, ℕ, ◌+◌, ◌-◌, ◌≤◌, List, length, replicate, All, vec_capacity}
-use Rattle.exchange_core.specs.declared.answer.Answer.{Answer}
-use Rattle.exchange_core.specs.declared.trace.Trace.{Trace}
+use Rattle.exchange_events.specs.declared.answer.Answer.{Answer}
+use Rattle.exchange_events.specs.declared.trace.Trace.{Trace}
 use Rattle.exchange_core.specs.Seats.{Board, Known}
-use Rattle.exchange_core.specs.World.{Dimensions}
+use Rattle.exchange_events.specs.Sizes.{Dimensions}
 use Rattle.tone_rules.specs.Tables.{table_of}
 use Rattle.call_processor.specs.Frames.{Carrying, Plays, IsReady}
 use Rattle.segment_run.specs.declared.working.Gathered.{Gathered}

@@ -2,16 +2,16 @@
 use Rattle.std.specs.Prelude.{◌≡◌, ℕ, ◌+◌, ◌<◌, ◌≤◌, ◌^◌, IsTrue, List, ◌++◌, length, map, filter, slice_get, Some, All}
 use Rattle.circuit_model.specs.declared.circuit.Kind.{Kind}
 use Rattle.circuit_model.specs.FrameInput.{Input}
-use Rattle.exchange_core.specs.declared.answer.Answer.{Answer}
-use Rattle.exchange_core.specs.declared.reply.Reply.{Reply}
-use Rattle.exchange_core.specs.declared.trace.Event.TheVariants.{Frame}
-use Rattle.exchange_core.specs.declared.trace.Trace.{Trace}
-use Rattle.exchange_core.specs.Kept.{kept}
-use Rattle.exchange_core.specs.Orders.{Worker, IsEvent, segment_of}
+use Rattle.exchange_events.specs.declared.answer.Answer.{Answer}
+use Rattle.exchange_events.specs.declared.reply.Reply.{Reply}
+use Rattle.exchange_events.specs.declared.trace.Event.TheVariants.{Frame}
+use Rattle.exchange_events.specs.declared.trace.Trace.{Trace}
+use Rattle.exchange_events.specs.Kept.{kept}
+use Rattle.exchange_events.specs.Orders.{Worker, IsEvent, segment_of}
 use Rattle.exchange_core.specs.Seats.{Board, Known, Settled, StartsWith, AnswersAt, before, turns_of, unseen, world_at}
-use Rattle.exchange_core.specs.Step.{MovesAtMost}
+use Rattle.call_profile.specs.Step.{MovesAtMost}
 use Rattle.exchange_core.specs.Working.{Entry, IsNumbered, order_of}
-use Rattle.exchange_core.specs.World.{Dimensions}
+use Rattle.exchange_events.specs.Sizes.{Dimensions}
 use Rattle.tone_rules.specs.Tables.{table_of}
 use Rattle.call_processor.specs.Frames.{Carrying, Plays, IsPlayed, IsReady}
 use Rattle.call_processor.specs.Parts.{is_its, part_of}

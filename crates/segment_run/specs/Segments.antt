@@ -1,7 +1,7 @@
 -- How far the segments of a trace were done. Source: this exchange's own.
 use Rattle.std.specs.Prelude.{ℕ, ◌<◌, List, ◌∷◌, slice_index, All, Contains}
-use Rattle.exchange_core.specs.declared.trace.Trace.{Trace}
-use Rattle.exchange_core.specs.Orders.{IsEvent, IsLawfulPrefix, segment_of}
+use Rattle.exchange_events.specs.declared.trace.Trace.{Trace}
+use Rattle.exchange_events.specs.Orders.{IsEvent, IsLawfulPrefix, segment_of}
 
 -- the order is a lawful beginning, and holds every event of the first k segments and no other
 pub record IsDoneBelow (trace : Trace) (k : ℕ) (order : List ℕ) : Type 0 where

@@ -1,4 +1,5 @@
-use exchange_core::{Answer, Tool};
+use exchange_core::Tool;
+use exchange_events::Answer;
 
 /// What came of a segment.
 #[derive(Drop)]

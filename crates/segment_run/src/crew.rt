@@ -1,7 +1,7 @@
 ghost use Rattle.std.specs.Prelude.{◌≡◌, ◌≤◌, ◌<◌, ◌+◌, ◌++◌, ◌∷◌, [], length, All, vec_len, vec_capacity};
 ghost use Rattle.std.specs.List.{AllZip};
 ghost use Rattle.std.specs.Thread.{IsSync};
-ghost use Rattle.exchange_core.specs.Orders.{Processor};
+ghost use Rattle.exchange_events.specs.Orders.{Processor};
 ghost use Rattle.call_processor.specs.Parts.{part_of};
 ghost use Rattle.call_processor.specs.Work.{MayWork};
 ghost use Rattle.call_processor.specs.Workplaces.{HasWorked};
@@ -9,7 +9,8 @@ ghost use Rattle.segment_run.specs.Jobs.{HasProcessed, IsThrough, MayProcess};
 
 use crate::dealing::Job;
 use call_processor::{Finished, process_at};
-use exchange_core::{Switchboard, Trace};
+use exchange_core::Switchboard;
+use exchange_events::Trace;
 use gate::Gate;
 use std::alloc::Global;
 use std::sync::Wait;

@@ -1,11 +1,12 @@
 ghost use Rattle.std.specs.Prelude.{◌≡◌, ◌≢◌, ℕ, ◌+◌, ◌<◌, ◌≤◌, ◌||◌, ◌^◌, [], IsTrue, length, map, slice_index, All, vec_capacity};
-ghost use Rattle.exchange_core.specs.Sound.{IsSound};
+ghost use Rattle.exchange_events.specs.Sound.{IsSound};
 ghost use Rattle.segment_run.specs.Jobs.{seats_of};
 ghost use Rattle.segment_run.specs.Rooms.{HasRoom};
 ghost use Rattle.segment_run.specs.Team.{AreDealt, HasDealt, any_baton, load, loads_below, turns_left};
 
 use call_processor::{Workplace, numbers_of, processor_of};
-use exchange_core::{Switchboard, Trace};
+use exchange_core::Switchboard;
+use exchange_events::Trace;
 
 /// A worker's number, and its seat. The call processors count from 0, and the frame worker comes
 /// behind them.

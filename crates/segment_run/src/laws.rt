@@ -1,9 +1,9 @@
 //! Laws of the orders in which a trace's segments are done.
 ghost use Rattle.std.specs.Prelude.{◌≡◌, ℕ, ◌+◌, ◌*◌, ◌^◌, ◌<◌, ◌≤◌, List, [], length};
-ghost use Rattle.exchange_core.specs.declared.trace.Trace.{Trace};
-ghost use Rattle.exchange_core.specs.Orders.{IsLawful, IsLawfulPrefix};
+ghost use Rattle.exchange_events.specs.declared.trace.Trace.{Trace};
+ghost use Rattle.exchange_events.specs.Orders.{IsLawful, IsLawfulPrefix};
 ghost use Rattle.exchange_core.specs.Seats.{Known, first_seat};
-ghost use Rattle.exchange_core.specs.Sound.{IsSound};
+ghost use Rattle.exchange_events.specs.Sound.{IsSound};
 ghost use Rattle.exchange_core.specs.Working.{order_of};
 ghost use Rattle.segment_run.specs.Segment.{IsChief, Ran, RanWhole};
 ghost use Rattle.segment_run.specs.Segments.{IsDoneBelow, events_before};

@@ -3,7 +3,7 @@ ghost use Rattle.segment_run.specs.Team.{IsRising, IsWithin, all_of, filled};
 ghost use Rattle.segment_run.specs.Nothing.{nothing};
 
 use call_processor::{Placed, Workplace};
-use exchange_core::{Answer, Kept, Rows};
+use exchange_events::{Answer, Kept, Rows};
 use std::alloc::{AllocError, Global};
 
 // Stands at a place whose answer has not come yet.

@@ -5,7 +5,7 @@ use Rattle.std.specs.List.{list_any}
 use Rattle.std.proofs.lemmas.List.{map-append, length-map, take-map, drop-map}
 use Rattle.std.proofs.lemmas.List.Elements.{All-cons}
 use Rattle.std.proofs.lemmas.List.Kept.{AllPairs-cons}
-use Rattle.exchange_core.specs.declared.trace.Trace.{Trace}
+use Rattle.exchange_events.specs.declared.trace.Trace.{Trace}
 use Rattle.exchange_core.specs.Seats.{Board, Kept, Settled, Accounts, StartsWith, IsFrame, NoFrames, before, unseen, entries_of, turns_of}
 use Rattle.exchange_core.specs.Working.{Entry}
 use Rattle.turn_lock.specs.declared.history.Entry.{Entry as Turn}

@@ -1,10 +1,10 @@
 -- The lock's words in those of the exchange. Source: this exchange's own.
 use Rattle.std.specs.Prelude.{◌≡◌, ℕ, List, map}
-use Rattle.exchange_core.specs.declared.reply.Reply.{Reply}
+use Rattle.exchange_events.specs.declared.reply.Reply.{Reply}
 use Rattle.exchange_core.specs.declared.tool.Tool.{Tool}
 use Rattle.exchange_core.specs.Seats.{Board, Known, Kept, IsToolAt, AnswersAt, ShowsAt, turns_of}
-use Rattle.exchange_core.specs.Sound.{IsSound}
-use Rattle.exchange_core.specs.Step.{MovesAtMost}
+use Rattle.exchange_events.specs.Sound.{IsSound}
+use Rattle.call_profile.specs.Step.{MovesAtMost}
 use Rattle.exchange_core.specs.Working.{Working, Entry}
 use Rattle.turn_lock.specs.declared.history.Entry.{Entry as Turn}
 use Rattle.turn_lock.specs.declared.history.Kept.{Kept as Turns_kept}

@@ -5,7 +5,8 @@ ghost use Rattle.turn_lock.specs.Seats.{IsSeatOf};
 
 use crate::stepper::Exchange;
 use control_memory::PathMap;
-use exchange_core::{Core, Desk, Reply, Response, Switchboard, Tool};
+use exchange_core::{Core, Desk, Switchboard, Tool};
+use exchange_events::{Reply, Response};
 use std::alloc::{AllocError, Global};
 use std::marker::Model;
 use std::mem;

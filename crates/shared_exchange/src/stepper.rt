@@ -1,12 +1,13 @@
 //! The core as the lock steps it.
 ghost use Rattle.std.specs.Prelude.{◌-◌, length};
-ghost use Rattle.exchange_core.specs.Orders.{IsEvent};
-ghost use Rattle.exchange_core.specs.Responses.{reply_of};
+ghost use Rattle.exchange_events.specs.Orders.{IsEvent};
+ghost use Rattle.exchange_events.specs.Responses.{reply_of};
 ghost use Rattle.exchange_core.specs.Seats.{IsFrame, IsToolAt};
 ghost use Rattle.shared_exchange.specs.Sharing.{Answers, board_of, history_of, turns_in};
 
 use control_memory::PathMap;
-use exchange_core::{Core, Desk, Response, Trace};
+use exchange_core::{Core, Desk};
+use exchange_events::{Response, Trace};
 use std::marker::Model;
 use turn_lock::Stepper;
 

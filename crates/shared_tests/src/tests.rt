@@ -3,9 +3,10 @@ mod traces;
 mod work;
 
 ghost use Rattle.std.specs.Prelude.{◌≡◌, ◌≤◌, length};
-ghost use Rattle.exchange_core.specs.Sound.{IsSound};
+ghost use Rattle.exchange_events.specs.Sound.{IsSound};
 
-use exchange_core::{Core, Switchboard, Trace};
+use exchange_core::{Core, Switchboard};
+use exchange_events::Trace;
 use fabric_map::FabricMap;
 use shared_exchange::SharedExchange;
 use std::alloc::Global;

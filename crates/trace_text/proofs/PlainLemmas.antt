@@ -12,8 +12,8 @@ use Rattle.trace_text.specs.TraceWords.{words, cut_at, numeral, is_octet, is_emp
 use Rattle.trace_text.specs.TraceFields.{digit_value, is_digit, octets_written, thirty, at_most, longest_message, external_line}
 use Rattle.trace_text.specs.TraceLines.{frame, nail, free, message, reads, SoFar}
 use Rattle.trace_text.specs.TracePlain.{ends_word, NumberAt, PartAt, SlotAt, TakesPart, GivesPlainly, IsPlain}
-use Rattle.exchange_core.specs.declared.trace.Event.{Event}
-use Rattle.exchange_core.specs.declared.trace.Event.TheVariants as happening
+use Rattle.exchange_events.specs.declared.trace.Event.{Event}
+use Rattle.exchange_events.specs.declared.trace.Event.TheVariants as happening
 use Rattle.circuit_model.specs.Channels.{place_of}
 use Rattle.circuit_model.specs.Circuits.{same_slot}
 use Rattle.circuit_model.specs.declared.channel.Slot.{Slot}

@@ -7,7 +7,7 @@ use Rattle.std.proofs.lemmas.List.Kept.{AllPairs-cons}
 use Rattle.trace_text.specs.declared.said.Said.{Said}
 use Rattle.trace_text.specs.declared.said.Said.TheVariants.{Nothing, Header, Numbered, Toned, Happens, Sync}
 use Rattle.trace_text.specs.TraceGrammar.{events_in, ended, ends_after, segment_ends}
-use Rattle.exchange_core.specs.Sound.{last_of, AreSegments}
+use Rattle.exchange_events.specs.Sound.{last_of, AreSegments}
 
 -- the ends of some segments, behind so many events, of which so many came before the first of these segments
 pub record AreEnds (begun last : ℕ) (ends : List ℕ) : Type 0 where

@@ -21,19 +21,19 @@ use Rattle.trace_text.specs.declared.said.Said.{Said}
 use Rattle.trace_text.specs.declared.said.Said.TheVariants.{Nothing, Header, Numbered, Toned, Happens, Sync}
 use Rattle.trace_text.specs.declared.said.Kind.{Kind}
 use Rattle.trace_text.specs.declared.said.Kind.TheVariants as kind
-use Rattle.exchange_core.specs.declared.trace.Event.{Event}
-use Rattle.exchange_core.specs.declared.trace.Event.TheVariants.{Nail, Seat, Free, Message, Frame}
+use Rattle.exchange_events.specs.declared.trace.Event.{Event}
+use Rattle.exchange_events.specs.declared.trace.Event.TheVariants.{Nail, Seat, Free, Message, Frame}
 use Rattle.number_plan.specs.declared.plan.Number.{Number}
 use Rattle.number_plan.specs.declared.target.Target.{Target}
 use Rattle.number_plan.specs.declared.target.Target.TheVariants as goal
 use Rattle.number_plan.specs.Plan.{is_number, is_taken, all_targets}
 use Rattle.number_plan.proofs.Ordered.{all_with}
-use Rattle.exchange_core.specs.declared.trace.Trace.{Trace}
+use Rattle.exchange_events.specs.declared.trace.Trace.{Trace}
 use Rattle.trace_text.specs.TraceFields.{slash, numeral_in, external_line, slot, room, octets_written, thirty, at_most, longest_message, header}
 use Rattle.trace_text.specs.TraceWords.{cut_at, numeral, lines, words, two, one_or_two, three, is_comment, is_blank, is_printable}
 use Rattle.trace_text.specs.TraceLines.{◌>>=◌, colon, with_part, with_parts, frame, message, nail, seat, free, target, number, numbered, tone, toned, happens, SoFar, before_events, by_kind, kind_of, by_words, by_place, reads, joins, says}
 use Rattle.trace_text.specs.TraceGrammar.{sizes_in, numbers_in, plan_of, events_in, so_far, EachSays, IsTrace}
-use Rattle.exchange_core.specs.Sound.{Fits, is_reached, IsSound}
+use Rattle.exchange_events.specs.Sound.{Fits, is_reached, IsSound}
 use Rattle.trace_text.proofs.TraceOctets.{in_range, are_octets}
 use Rattle.trace_text.proofs.TraceHolds.{sizes_first, events-append, plan_stays, plan_more}
 use Rattle.trace_text.proofs.SegmentLemmas.{segments_sound}

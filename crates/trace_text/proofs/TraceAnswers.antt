@@ -4,7 +4,7 @@ use Rattle.std.specs.Prelude.{IfOk, IfErr}
 use Rattle.trace_text.specs.declared.fault.Reason.{Reason}
 use Rattle.trace_text.specs.declared.fault.TraceFault.{TraceFault}
 use Rattle.trace_text.specs.declared.fault.TraceFault.TheVariants.{Memory, Line}
-use Rattle.exchange_core.specs.declared.trace.Trace.{Trace}
+use Rattle.exchange_events.specs.declared.trace.Trace.{Trace}
 use Rattle.trace_text.specs.TraceGrammar.{IsTrace, IsRefused}
 use Rattle.trace_text.specs.TraceDraft.{IsFault}
 use Rattle.trace_text.proofs.TraceReadings.{one_trace, never_both, one_fault}

@@ -5,7 +5,7 @@ use Rattle.std.proofs.lemmas.List.{append-nil, length_push}
 use Rattle.std.proofs.lemmas.List.Sums.{fold-append}
 use Rattle.number_plan.specs.declared.plan.Number.{Number}
 use Rattle.number_plan.specs.Plan.{with_number}
-use Rattle.exchange_core.specs.declared.trace.Event.{Event}
+use Rattle.exchange_events.specs.declared.trace.Event.{Event}
 use Rattle.trace_text.specs.declared.draft.Draft.{Draft}
 use Rattle.trace_text.specs.declared.said.Sizes.{Sizes}
 use Rattle.trace_text.specs.declared.said.GivenTone.{GivenTone}

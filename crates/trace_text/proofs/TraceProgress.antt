@@ -12,7 +12,7 @@ use Rattle.trace_text.specs.declared.said.Sizes.{Sizes}
 use Rattle.tone_rules.specs.declared.tones.Tones.{Tones}
 use Rattle.trace_text.specs.declared.said.Said.{Said}
 use Rattle.number_plan.specs.declared.plan.Number.{Number}
-use Rattle.exchange_core.specs.declared.trace.Trace.{Trace}
+use Rattle.exchange_events.specs.declared.trace.Trace.{Trace}
 use Rattle.trace_text.specs.TraceWords.{lines}
 use Rattle.trace_text.specs.TraceLines.{SoFar, says, Fails}
 use Rattle.trace_text.specs.TraceGrammar.{most_bytes, so_far, EachSays, IsTold, IsTrace, IsRefused, At_line, At_end}

@@ -12,9 +12,9 @@ use Rattle.number_plan.specs.declared.target.Target.TheVariants as goal
 use Rattle.number_plan.specs.Plan.{is_number, is_taken}
 use Rattle.tone_rules.specs.declared.tones.Tones.{Tones}
 use Rattle.tone_rules.specs.CallTones.{is_given}
-use Rattle.exchange_core.specs.declared.trace.Event.{Event}
-use Rattle.exchange_core.specs.declared.trace.Event.TheVariants.{Nail, Seat, Free, Message, Frame}
-use Rattle.exchange_core.specs.Limits.{most_events}
+use Rattle.exchange_events.specs.declared.trace.Event.{Event}
+use Rattle.exchange_events.specs.declared.trace.Event.TheVariants.{Nail, Seat, Free, Message, Frame}
+use Rattle.exchange_events.specs.Limits.{most_events}
 use Rattle.trace_text.specs.declared.fault.Reason.{Reason}
 use Rattle.trace_text.specs.declared.fault.Reason.TheVariants as reason
 use Rattle.trace_text.specs.declared.fault.LineFault.{LineFault}

@@ -3,7 +3,7 @@ use Rattle.std.specs.Prelude.{◌≡◌, ℕ, ◌<◌, Bool, true, false, not, �
 use Rattle.std.specs.List.{list_all}
 use Rattle.std.specs.Char.{is_ascii_digit}
 use Rattle.circuit_model.specs.FrameInput.{Input}
-use Rattle.exchange_core.specs.declared.trace.Event.{Event}
+use Rattle.exchange_events.specs.declared.trace.Event.{Event}
 use Rattle.trace_text.specs.declared.fault.Reason.{Reason}
 use Rattle.trace_text.specs.TraceWords.{words, numeral, is_printable, is_comment}
 use Rattle.trace_text.specs.TraceFields.{slot}

@@ -10,7 +10,7 @@ use crate::line::{
 use crate::plain::{ends_word, plain_frame, plain_free, plain_message, plain_nail};
 use crate::said::{GivenTone, Kind, Said, Sizes};
 use circuit_model::Kind as Tone;
-use exchange_core::{Event, Events, Segments, Trace};
+use exchange_events::{Event, Events, Segments, Trace};
 use number_plan::Plan;
 use std::alloc::{AllocError, Global};
 use tone_rules::Tones;

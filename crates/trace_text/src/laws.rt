@@ -1,8 +1,8 @@
 //! Laws of the trace grammar.
 ghost use Rattle.std.specs.Prelude.{◌≡◌, ◌⊎◌, ℕ, List};
 ghost use Rattle.trace_text.specs.declared.fault.Reason.{Reason};
-ghost use Rattle.exchange_core.specs.declared.trace.Trace.{Trace};
-ghost use Rattle.exchange_core.specs.Sound.{IsSound};
+ghost use Rattle.exchange_events.specs.declared.trace.Trace.{Trace};
+ghost use Rattle.exchange_events.specs.Sound.{IsSound};
 ghost use Rattle.trace_text.specs.TraceGrammar.{IsTrace, IsRefused};
 
 /// Bytes have one reading: they are one trace, or they are refused for one reason at one line.

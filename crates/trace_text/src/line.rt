@@ -10,7 +10,7 @@ use crate::fields::{line_of_word, room_of_word, slot_of_word};
 use crate::octets::{message_octets, thirty_octets, tone_octets};
 use crate::said::{GivenTone, Kind, Said};
 use circuit_model::Kind as Tone;
-use exchange_core::{Event, Input};
+use exchange_events::{Event, Input};
 use number_plan::{Digits, Number, Target, is_number};
 use std::alloc::Global;
 use tone_rules::Tones;

@@ -8,7 +8,7 @@ ghost use Rattle.trace_text.specs.TraceFields.{digit_value, is_digit, octets_wri
 ghost use Rattle.trace_text.specs.TraceLines.{Fails, Gives};
 
 use crate::fault::{LineFault, Reason};
-use exchange_core::Octets;
+use exchange_events::Octets;
 use std::alloc::Global;
 use tone_rules::ToneOctets;
 

@@ -7,7 +7,7 @@ ghost use Rattle.trace_text.specs.TracePlain.{ends_word, NumberAt, PartAt, SlotA
 
 use crate::octets::{message_octets, thirty_octets};
 use circuit_model::{Slot, slot_of_channel};
-use exchange_core::{Event, Input};
+use exchange_events::{Event, Input};
 use std::alloc::{AllocError, Global};
 
 /// Whether a word ends before these octets.

@@ -6,7 +6,7 @@ ghost use Rattle.trace_text.specs.TraceDraft.{IsFault};
 use crate::cut::first_line;
 use crate::draft::Draft;
 use crate::fault::{Reason, TraceFault};
-use exchange_core::Trace;
+use exchange_events::Trace;
 use std::alloc::Global;
 
 /// How many bytes a trace has at most: 64 MiB (this exchange's own).

@@ -1,5 +1,5 @@
 use circuit_model::Kind as Tone;
-use exchange_core::Event;
+use exchange_events::Event;
 use number_plan::Number;
 use tone_rules::ToneOctets;
 

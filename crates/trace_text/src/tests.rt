@@ -1,7 +1,7 @@
 use crate::reader::MOST_BYTES;
 use crate::{Reason, TraceFault, read_trace};
 use circuit_model::Slot;
-use exchange_core::Event;
+use exchange_events::Event;
 use number_plan::Found;
 use std::test::Fail;
 

@@ -1,9 +1,9 @@
 //! A trace of nails and frames.
 ghost use Rattle.std.specs.Prelude.{◌≡◌, length, IfOk, All, ◌*◌, ◌+◌};
-ghost use Rattle.exchange_core.specs.Sound.{IsSound, Fits};
+ghost use Rattle.exchange_events.specs.Sound.{IsSound, Fits};
 
 use circuit_model::Slot;
-use exchange_core::{Event, Events, Input, Segments, Trace};
+use exchange_events::{Event, Events, Input, Segments, Trace};
 use number_plan::Plan;
 use std::alloc::{AllocError, Global};
 use tone_rules::Tones;

@@ -5,7 +5,8 @@ ghost use Rattle.exchange_core.specs.Seats.{IsToolAt};
 ghost use Rattle.control_memory.specs.Image.{Control};
 
 use control_memory::Image;
-use exchange_core::{Desk, Event, Reply, Switchboard, Tool, Trace};
+use exchange_core::{Desk, Switchboard, Tool};
+use exchange_events::{Event, Reply, Trace};
 use std::alloc::Global;
 use std::sync::Wait;
 use std::thread::{Threads, join};

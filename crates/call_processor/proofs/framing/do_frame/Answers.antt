@@ -1,15 +1,15 @@
 use Rattle.std.proofs.Common.{rules, ◌≡◌, ◌+◌, ℕ, [], ◌∷◌, ◌++◌, length, sym, ap, ◌∙◌, subst, arith, length-take-le}
 use Rattle.circuit_model.specs.FrameInput.{Input}
-use Rattle.exchange_core.specs.Responses.{reply_of}
+use Rattle.exchange_events.specs.Responses.{reply_of}
 use Rattle.exchange_core.specs.Seats.{AnswersAt, before, world_at, setting_at}
 use Rattle.exchange_core.specs.Working.{IsNumbered}
-use Rattle.exchange_core.specs.World.{Dimensions}
-use Rattle.exchange_core.specs.declared.trace.Event.TheVariants.{Frame}
+use Rattle.exchange_events.specs.Sizes.{Dimensions}
+use Rattle.exchange_events.specs.declared.trace.Event.TheVariants.{Frame}
 use Rattle.frame_engine.specs.Frames.{PlaysOut}
 use Rattle.tone_rules.specs.Tables.{table_of}
 use Rattle.call_processor.proofs.Done.{Next, answer_next}
 use Rattle.call_processor.proofs.FrameSteps.{asked, boundary, frames_few, input_whole, made_at, next_frame, one_input, played_here, ready_after, same_frames, still_carried, written_whole}
-use Rattle.exchange_core.proofs.Given.{sounds_given}
+use Rattle.call_profile.proofs.Given.{sounds_given}
 use Rattle.call_processor.specs.Frames.{engine_dimensions}
 use Rattle.call_processor.specs.declared.worked.Placed.{Placed}
 use Rattle.call_processor.proofs.framing.do_frame.Goals as goal

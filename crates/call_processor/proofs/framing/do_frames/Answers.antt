@@ -2,8 +2,8 @@ use Rattle.std.proofs.Common.{rules, ◌≡◌, ◌+◌, ℕ, Bool, true, false,
 use Rattle.std.specs.List.{All}
 use Rattle.std.proofs.lemmas.List.Elements.{All-push}
 use Rattle.tone_rules.specs.Tables.{table_of}
-use Rattle.exchange_core.specs.declared.trace.Trace.{Trace}
-use Rattle.exchange_core.specs.Orders.{Frame_worker, IsEvent}
+use Rattle.exchange_events.specs.declared.trace.Trace.{Trace}
+use Rattle.exchange_events.specs.Orders.{Frame_worker, IsEvent}
 use Rattle.exchange_core.specs.Seats.{before}
 use Rattle.call_processor.specs.declared.worked.Placed.{Placed}
 use Rattle.call_processor.specs.Frames.{HasFrame}

@@ -1,7 +1,7 @@
 use Rattle.std.proofs.Common.{◌≡◌, ◌≤◌, length}
 use Rattle.std.specs.List.{All}
 use Rattle.tone_rules.specs.Tables.{table_of}
-use Rattle.exchange_core.specs.Orders.{Frame_worker}
+use Rattle.exchange_events.specs.Orders.{Frame_worker}
 use Rattle.call_processor.specs.Frames.{IsReady, HasFrame, engine_dimensions}
 use Rattle.call_processor.proofs.Done.{Going}
 use Rattle.call_processor.proofs.Segments.{up_to}

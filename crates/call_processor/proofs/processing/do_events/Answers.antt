@@ -1,9 +1,9 @@
 use Rattle.std.proofs.Common.{rules, ◌≡◌, ◌+◌, ℕ, Bool, true, false, is_ok, [], ◌∷◌, ◌++◌, List, sym, ap, ◌∙◌, subst, arith, refl, length-take-le}
 use Rattle.std.specs.List.{All}
 use Rattle.std.proofs.lemmas.List.Elements.{All-push}
-use Rattle.exchange_core.specs.declared.trace.Trace.{Trace}
-use Rattle.exchange_core.specs.Orders.{Processor, IsEvent}
-use Rattle.exchange_core.specs.Responses.{reply_of}
+use Rattle.exchange_events.specs.declared.trace.Trace.{Trace}
+use Rattle.exchange_events.specs.Orders.{Processor, IsEvent}
+use Rattle.exchange_events.specs.Responses.{reply_of}
 use Rattle.exchange_core.specs.Seats.{before}
 use Rattle.call_processor.specs.declared.worked.Placed.{Placed}
 use Rattle.call_processor.specs.Parts.{is_its, part_of}

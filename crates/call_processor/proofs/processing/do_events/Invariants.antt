@@ -1,7 +1,7 @@
 use Rattle.std.proofs.Common.{◌≡◌, ◌-◌, ◌≤◌, [], filter}
 use Rattle.std.specs.List.{All, range_with_len}
 use Rattle.exchange_core.specs.declared.tool.Tool.TheVariants.{Nothing}
-use Rattle.exchange_core.specs.Orders.{Processor}
+use Rattle.exchange_events.specs.Orders.{Processor}
 use Rattle.call_processor.specs.Parts.{is_its}
 use Rattle.call_processor.proofs.Done.{Going}
 use Rattle.call_processor.proofs.processing.do_events.Given as goal

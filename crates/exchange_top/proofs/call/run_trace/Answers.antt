@@ -1,6 +1,6 @@
 use Rattle.std.proofs.Common.{◌≡◌, Err, Some, refl, ap, sym, subst, ◌∙◌}
 use Rattle.fabric_map.specs.Map.{most_moves}
-use Rattle.exchange_core.specs.Sound.{setting_of}
+use Rattle.exchange_events.specs.Sound.{setting_of}
 use Rattle.exchange_core.specs.Working.{world_after}
 use Rattle.std.specs.Io.KnownBytes.{Appends}
 use Rattle.call_processor.specs.Frames.{CarriesFrames, engine_dimensions}

@@ -1,8 +1,8 @@
 use Rattle.std.proofs.Common.{◌≡◌, ◌≤◌, List, ◌++◌, ap, ◌∙◌, arith, subst}
 use Rattle.std.specs.Prelude.{All}
 use Rattle.tone_rules.specs.Tables.{table_of}
-use Rattle.exchange_core.specs.declared.trace.Trace.{Trace}
-use Rattle.exchange_core.specs.Orders.{IsEvent}
+use Rattle.exchange_events.specs.declared.trace.Trace.{Trace}
+use Rattle.exchange_events.specs.Orders.{IsEvent}
 use Rattle.segment_run.specs.Segment.{AreAnswered, grown}
 use Rattle.segment_run.proofs.Orders.{grown_known, numbers_left, seen_done}
 use Rattle.exchange_top.specs.Outcomes.{listed}

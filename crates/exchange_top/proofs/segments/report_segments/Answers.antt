@@ -1,6 +1,6 @@
 use Rattle.std.proofs.Common.{ℕ, ◌≡◌, ◌+◌, ◌≤◌, List, length, ap, sym, ◌∙◌, arith, subst, refl}
-use Rattle.exchange_core.specs.declared.trace.Trace.{Trace}
-use Rattle.exchange_core.specs.Sound.{IsSound}
+use Rattle.exchange_events.specs.declared.trace.Trace.{Trace}
+use Rattle.exchange_events.specs.Sound.{IsSound}
 use Rattle.exchange_core.specs.Working.{order_of}
 use Rattle.segment_run.specs.Segment.{Ran, RanWhole}
 use Rattle.segment_run.proofs.Orders.{few_segments}

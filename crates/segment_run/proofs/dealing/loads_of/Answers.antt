@@ -1,6 +1,6 @@
 use Rattle.std.proofs.Common.{rules, ◌≡◌, ◌<◌, ◌+◌, ◌-◌, length, List, slice_index_or, subst, ◌∙◌, arith}
 use Rattle.std.proofs.lemmas.List.{length-set}
-use Rattle.exchange_core.specs.declared.trace.Event.{Event}
+use Rattle.exchange_events.specs.declared.trace.Event.{Event}
 use Rattle.segment_run.specs.Team.{worker_numbered}
 use Rattle.segment_run.proofs.Lists.{got_read}
 use Rattle.segment_run.proofs.Counting.{up_to_few, number_is, counted_more}

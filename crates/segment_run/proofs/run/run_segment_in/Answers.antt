@@ -1,5 +1,5 @@
 use Rattle.std.proofs.Common.{rules, ◌-◌, IsTrue, sym, subst, arith}
-use Rattle.exchange_core.specs.Sound.{IsSound}
+use Rattle.exchange_events.specs.Sound.{IsSound}
 use Rattle.segment_run.specs.Gathered.{IsSpan}
 use Rattle.segment_run.proofs.Loads.{ends_are}
 use Rattle.segment_run.proofs.run.run_segment_in.Goals as goal

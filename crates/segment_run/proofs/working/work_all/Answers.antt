@@ -2,7 +2,7 @@ use Rattle.std.proofs.Common.{◌+◌, ℕ, sym, subst, ap, ◌∙◌, IsTrue, L
 use Rattle.std.specs.Prelude.{replicate}
 use Rattle.std.specs.List.{All}
 use Rattle.exchange_core.specs.Seats.{Known}
-use Rattle.exchange_core.specs.Sound.{IsSound}
+use Rattle.exchange_events.specs.Sound.{IsSound}
 use Rattle.exchange_core.specs.Working.{Entry}
 use Rattle.tone_rules.specs.Tables.{table_of}
 use Rattle.call_processor.specs.declared.worked.Finished.{Finished}

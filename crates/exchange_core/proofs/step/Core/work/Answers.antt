@@ -1,9 +1,9 @@
 use Rattle.std.proofs.Common.{◌≡◌, ◌<◌, ◌++◌, ◌∷◌, [], List, length, refl, sym, ◌∙◌, ap, subst}
-use Rattle.exchange_core.specs.declared.trace.Event.{Event}
-use Rattle.exchange_core.specs.Responses.{reply_of}
-use Rattle.exchange_core.specs.Step.{reply, next}
+use Rattle.exchange_events.specs.declared.trace.Event.{Event}
+use Rattle.exchange_events.specs.Responses.{reply_of}
+use Rattle.call_profile.specs.Step.{reply, next}
 use Rattle.exchange_core.specs.Working.{Entry, Working, IsWorking, IsNumbered, IsToolFor, ShowsWorld, order_of, setting, world_of, world_after}
-use Rattle.exchange_core.specs.World.{World}
+use Rattle.call_profile.specs.World.{World}
 use Rattle.exchange_core.proofs.Stepping.{next_few, stepped, facts, of_each, world_more}
 use Rattle.exchange_core.proofs.step.Core.work.Goals as goal
 
@@ -25,13 +25,13 @@ invariant_of-self g c =
     let own : Working = record { trace = c.self.inside.trace.now; slots = c.self.inside.control.map.slots; bound = c.self.inside.control.map.bound; journal = c.self.inside.journal.items } in
     let grown : Working = record {
       trace = c.self.inside.trace.now;
-      slots = c.happen-response.new.self.map.slots;
-      bound = c.happen-response.new.self.map.bound;
+      slots = c.happen-response.new.control.map.slots;
+      bound = c.happen-response.new.control.map.bound;
       journal = c.push_reserved.new.self.items;
     } in
     let done = c.happen-response.ensures in
-    subst (λ room. IsWorking grown c.happen-response.new.self.map c.happen-response.new.self.legs room) (sym c.push_reserved.ensures.capacity)
-    (stepped own _ _ _ c.args.by c.args.event e c.happen-response.new.self.map c.happen-response.new.self.legs c.push_reserved.new.self.items
+    subst (λ room. IsWorking grown c.happen-response.new.control.map c.happen-response.new.control.legs room) (sym c.push_reserved.ensures.capacity)
+    (stepped own _ _ _ c.args.by c.args.event e c.happen-response.new.control.map c.happen-response.new.control.legs c.push_reserved.new.self.items
     c.self.invariant f.known f.number c.push_reserved.ensures.items (done.world (setting own) (world_of own) refl refl f.at) done.sizes.bound done.sizes.slots refl)
 
 pub returns-clause-reply : goal.returns-clause-reply
@@ -47,7 +47,7 @@ returns-clause-world g c =
     let e = c.index-as_slice-event.result in
     let f = facts _ c.args.self.now _ _ _ c.args.event _ e c.self.view_is c.self.invariant c.requires.known c.as_slice.ensures c.index-as_slice-event.is in
     let slots = c.happen-response.ensures.sizes.slots in
-    let grown : World = world_after c.happen-response.new.self.map.slots own.trace (order_of c.push_reserved.new.self.items) in
+    let grown : World = world_after c.happen-response.new.control.map.slots own.trace (order_of c.push_reserved.new.self.items) in
     let same : grown ≡ world_after own.slots own.trace (order_of (own.journal ++ (c.args.by, c.args.event) ∷ [])) =
     ap (λ n. world_after n own.trace (order_of c.push_reserved.new.self.items)) slots
     ∙ ap (λ (j : List Entry). world_after own.slots own.trace (order_of j)) c.push_reserved.ensures.items in

@@ -1,5 +1,5 @@
 use Rattle.std.proofs.Common.{List, sym, subst}
-use Rattle.exchange_core.specs.Responses.{reply_of}
+use Rattle.exchange_events.specs.Responses.{reply_of}
 use Rattle.exchange_core.specs.Working.{Working, Entry}
 use Rattle.shared_exchange.specs.Sharing.{Answers, board_of}
 use Rattle.shared_exchange.proofs.Histories.{history_in}

@@ -1,6 +1,6 @@
 use Rattle.std.proofs.Common.{◌≡◌, ◌*◌, length}
 use Rattle.std.specs.Prelude.{All}
-use Rattle.exchange_core.specs.Sound.{Fits}
+use Rattle.exchange_events.specs.Sound.{Fits}
 use Rattle.shared_tests.proofs.tests.traces.nails.Given as goal
 
 abbrev pub invariant-loop-place : goal.invariant-loop-place

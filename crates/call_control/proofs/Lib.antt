@@ -1,0 +1,10 @@
+pub mod Steps
+pub mod Obeying
+pub mod Taken
+pub mod Makings
+pub mod Refusing
+pub mod Choosing
+pub mod AtWorkActs
+pub mod Makes
+pub mod AcceptedMakes
+pub mod RestartMakes

@@ -1,0 +1,98 @@
+-- What a restart makes, slot by slot, told by what the map and the legs hold.
+use Rattle.std.proofs.Common.{◌≡◌, ℕ, suc, ◌+◌, ◌*◌, ◌<◌, ◌≤◌, Bool, true, List, [], ◌∷◌, ◌++◌, inl, inr, length, Option, Some, None, refl, sym, ◌∙◌, ap, subst, arith, length-set, set-set}
+use Rattle.std.specs.Prelude.{filter, not, option_map, option_and_then, IfSome}
+use Rattle.std.specs.List.{cons_option}
+use Rattle.circuit_model.specs.declared.channel.Slot.{Slot}
+use Rattle.circuit_model.specs.declared.circuit.Circuit.{Circuit}
+use Rattle.circuit_model.specs.Circuits.{names}
+use Rattle.circuit_model.specs.Extent.{IsExternal}
+use Rattle.circuit_model.specs.Holding.{Holding, Clear as Clear_slot, after}
+use Rattle.circuit_model.proofs.Slots.{true_or_false}
+use Rattle.circuit_map.specs.Connections.{Connections, SameSizes}
+use Rattle.control_memory.specs.Layout.{number_of}
+use Rattle.q931_codec.specs.Outgoing.{IsWritable}
+use Rattle.q931_codec.specs.Causes.{temporary_failure}
+use Rattle.call_states.specs.declared.leg.Leg.{Leg}
+use Rattle.call_states.specs.declared.leg.Peer.{Peer}
+use Rattle.call_states.specs.declared.leg.Peer.TheVariants as peer
+use Rattle.clearing_rules.specs.declared.scope.Restart.{Restart}
+use Rattle.clearing_rules.specs.Restarting.{is_restarted, acknowledgement, IsOnLine}
+use Rattle.clearing_rules.specs.declared.scope.Restart.TheVariants.{Channel, Interface}
+use Rattle.tone_rules.specs.declared.tones.Tones.{Tones}
+use Rattle.call_states.specs.declared.leg.Held.{Held}
+use Rattle.exchange_events.specs.declared.record.CallRecord.{CallRecord}
+use Rattle.exchange_events.specs.declared.signal.Signal.{Signal}
+use Rattle.call_profile.specs.Acts.{disconnected, peer_of, with_peer, clear_with, removing}
+use Rattle.call_profile.specs.CallRecords.{records}
+use Rattle.call_profile.specs.EndedCalls.{caller_in, record_calling, record_ended, slot_records}
+use Rattle.call_profile.specs.LegStanding.{LegsStand, HasPeer, IsInCall}
+use Rattle.call_profile.specs.Legs.{Legs, leg_at}
+use Rattle.call_profile.specs.Operations.{Operation, Making, performed_all}
+use Rattle.call_profile.specs.Peers.{IsThere, PeerIsThere}
+use Rattle.call_profile.specs.Permitted.{ArePermitted}
+use Rattle.call_profile.specs.Restarts.{restarts_slot, restart_peer, restart_leg, restart_slot, slot_done, restarted_below, Done}
+use Rattle.call_control.specs.Standing.{Holds, Makes}
+use Rattle.exchange_events.specs.Sizes.{Dimensions}
+use Rattle.call_profile.specs.World.{World}
+use Rattle.call_profile.proofs.ActPermits.{clear_permitted, peer_there_too}
+use Rattle.call_profile.proofs.Below.{each_below, below_none, below_more}
+use Rattle.call_profile.proofs.Beside.{entry_here}
+use Rattle.call_profile.proofs.Cleared.{alone_left}
+use Rattle.call_profile.proofs.Clears.{Kept, held_there, peers_apart, alone_kept, both_kept}
+use Rattle.call_profile.proofs.EndedByActs.{alone_records, both_records, disconnected_silent}
+use Rattle.call_profile.proofs.Refusals.{no_records}
+use Rattle.call_profile.proofs.SetupPermits.{bears}
+use Rattle.call_profile.proofs.RestartKeeps.{below_kept, slot_told}
+
+-- the other leg of a call is there, where there is one
+there_of : (external : ℕ) (h : Held) (o : Option Held) → PeerIsThere external h o → IfSome o (λ other. IsThere external other)
+there_of external h None is = tt
+there_of external h (Some other) is = is.0
+
+pub peer_there : (d : Dimensions) (tones : Tones) (map : Connections) (legs : Legs) (w : World) → Holds d map legs w → LegsStand d.external tones w → (h : Held) → IsExternal map.external h.slot
+    → leg_at legs h.slot ≡ Some h.leg → (o : Option Held) → o ≡ peer_of legs h.leg.peer → IfSome o (λ other. IsThere map.external other)
+peer_there d tones map legs w holds stand h within at o is =
+    let size : map.external ≡ d.external = ap (λ (e : Dimensions). e.external) holds.sizes in
+    let in_world : IsExternal d.external h.slot = subst (λ n. IsExternal n h.slot) size within in
+    let at_world : leg_at w.legs h.slot ≡ Some h.leg = ap (λ ls. leg_at ls h.slot) (sym holds.legs_are) ∙ at in
+    let there = subst (λ n. PeerIsThere n h (peer_of w.legs h.leg.peer)) (sym size) (peer_there_too d.external tones w h stand in_world at_world) in
+    there_of map.external h o (subst (PeerIsThere map.external h) (sym (is ∙ ap (λ ls. peer_of ls h.leg.peer) holds.legs_are)) there)
+
+pub external_of : (external : ℕ) (o : Option Held) → IfSome o (λ other. IsThere external other) → IfSome o (λ other. IsExternal external other.slot)
+external_of external None is = tt
+external_of external (Some other) is = is.within
+
+pub same_sizes : (a : Connections) → SameSizes a a
+same_sizes a = record { external = refl; bridges = refl; slots = refl; bound = refl }
+
+pub sizes_then : (a b c : Connections) → SameSizes a b → SameSizes b c → SameSizes a c
+sizes_then a b c first second = record {
+  external = second.external ∙ first.external;
+  bridges = second.bridges ∙ first.bridges;
+  slots = second.slots ∙ first.slots;
+  bound = second.bound ∙ first.bound;
+}
+
+-- no slot yet
+pub none_done : (d : Dimensions) (tones : Tones) (r : Restart) (line : ℕ) (w : World) (map : Connections) (legs : Legs) (sends : List Signal) (moved : Option (ℕ × ℕ)) (told : List CallRecord)
+    → Holds d map legs w → sends ≡ [] → moved ≡ None → told ≡ []
+    → Makes d map legs sends moved (restarted_below d tones r line w 0).making × (told ≡ (restarted_below d tones r line w 0).told)
+none_done d tones r line w map legs sends moved told holds no_sends no_moves no_told =
+    subst (λ (b : Done). Makes d map legs sends moved b.making × (told ≡ b.told)) (sym (below_none d tones r line w)) (record { holds = holds; sent = no_sends; moves = no_moves }, no_told)
+
+-- one slot more
+pub step_done : (d : Dimensions) (tones : Tones) (r : Restart) (line : ℕ) (w : World) (place : ℕ) (map : Connections) (legs : Legs) (sends : List Signal) (moved : Option (ℕ × ℕ)) (before told : List CallRecord)
+    → line < d.external → Kept d tones w → place < 30
+    → before ≡ (restarted_below d tones r line w place).told
+    → Makes d map legs sends moved (performed_all d (restarted_below d tones r line w place).making (restart_slot tones r (restarted_below d tones r line w place).making.world.legs (record { line = line; place = place })))
+    → told ≡ before ++ slot_records r (restarted_below d tones r line w place).making.world (record { line = line; place = place })
+    → Makes d map legs sends moved (restarted_below d tones r line w (place + 1)).making × (told ≡ (restarted_below d tones r line w (place + 1)).told)
+step_done d tones r line w place map legs sends moved before told below kept small first makes more =
+    let a = restarted_below d tones r line w place in
+    let x : Slot = record { line = line; place = place } in
+    let still = below_kept d tones r line w below kept place (omega (arith, small)) in
+    let is : told ≡ a.told ++ records a.making.world (performed_all d a.making (restart_slot tones r a.making.world.legs x)).world temporary_failure =
+    more ∙ ap (λ list. list ++ slot_records r a.making.world x) first ∙ ap (λ list. a.told ++ list) (sym (slot_told d tones r a.making x still (below, small))) in
+    let one : place + 1 ≡ suc place = omega arith in
+    let next : restarted_below d tones r line w (place + 1) ≡ slot_done d tones r x a = ap (restarted_below d tones r line w) one ∙ below_more d tones r line w place in
+    subst (λ (b : Done). Makes d map legs sends moved b.making × (told ≡ b.told)) (sym next) (makes, is)

@@ -1,0 +1,11 @@
+use Rattle.std.proofs.Common.{◌≡◌}
+use Rattle.call_control.specs.Choices.{idle_beside}
+use Rattle.call_profile.specs.IdleSlots.{lowest_idle_beside}
+use Rattle.call_control.specs.Standing.{Holds}
+use Rattle.exchange_events.specs.Sizes.{Dimensions}
+use Rattle.call_profile.specs.World.{World}
+use Rattle.call_control.proofs.Choosing.{first_from}
+use Rattle.call_control.proofs.operations.CallControl.lowest_idle_beside.Given as goal
+
+abbrev pub invariant-loop-place : goal.invariant-loop-place
+invariant-loop-place g l = (d : Dimensions) (w : World) → Holds d l.self.map l.self.legs w → lowest_idle_beside w l.fn.beside l.fn.line ≡ first_from (idle_beside w l.fn.beside) l.fn.line l.place

@@ -1,0 +1,25 @@
+-- An exchange at work. Source: this exchange's own.
+use Rattle.std.specs.Prelude.{◌≡◌, List}
+use Rattle.number_plan.specs.declared.plan.Number.{Number}
+use Rattle.tone_rules.specs.declared.tones.Tones.{Tones}
+use Rattle.circuit_map.specs.Connections.{Connections}
+use Rattle.call_profile.specs.Legs.{Legs}
+use Rattle.call_profile.specs.LegStanding.{CallsStand}
+use Rattle.exchange_events.specs.Sizes.{Setting}
+use Rattle.exchange_events.specs.Sound.{IsPlanned}
+use Rattle.call_control.specs.Standing.{Holds}
+use Rattle.call_profile.specs.World.{World}
+
+-- map and legs are those of this world, in which circuits and legs stand as they must, and the lines of the plan exist
+pub record IsAtWork (s : Setting) (map : Connections) (legs : Legs) (w : World) : Type 0 where
+  pub holds : Holds s.dimensions map legs w
+  pub planned : IsPlanned s
+  pub stands : CallsStand s w
+
+-- what is said of each setting with this plan of numbers and these tones, and each world, for which the map and the legs are at work
+abbrev pub EachAtWork : List Number → Tones → Connections → Legs → (Setting → World → Type 0) → Type 0
+EachAtWork plan tones map legs Says = (s : Setting) (w : World) → s.plan ≡ plan → s.tones ≡ tones → IsAtWork s map legs w → Says s w
+
+-- what is said of some such setting and world
+abbrev pub SomeAtWork : List Number → Tones → Connections → Legs → (Setting → World → Type 0) → Type 0
+SomeAtWork plan tones map legs Says = (s : Setting) × (w : World) × (s.plan ≡ plan) × (s.tones ≡ tones) × IsAtWork s map legs w × Says s w

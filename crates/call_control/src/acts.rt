@@ -1,0 +1,319 @@
+//! What each act does with the leg that a message is for, and with its peer.
+ghost use Rattle.std.specs.Prelude.{◌≡◌, ◌≢◌, ◌<◌, ◌≤◌, ◌+◌, ◌*◌, ◌++◌, [], ◌∷◌, None, Some, IfSome, length};
+ghost use Rattle.circuit_model.specs.Extent.{IsExternal};
+ghost use Rattle.circuit_map.specs.Connections.{SameSizes, hears_at};
+ghost use Rattle.q931_codec.specs.MessageType.{IsNamed};
+ghost use Rattle.q931_codec.specs.Outgoing.{encoding, outgoing_of};
+ghost use Rattle.call_states.specs.Acts.{act_on, cause_of_act};
+ghost use Rattle.call_states.specs.Status.{IsTold};
+ghost use Rattle.call_states.specs.declared.act.Act.TheVariants as asked;
+ghost use Rattle.call_profile.specs.Acts.{announced, course_of, peer_of, with_peer, message_to, disconnect, disconnected, in_state, tone_of, alerting, answer, disconnecting, releasing, removing, clear_with};
+ghost use Rattle.call_control.specs.AtWork.{IsAtWork};
+ghost use Rattle.call_profile.specs.Calls.{made_by, done_by};
+ghost use Rattle.call_profile.specs.Legs.{leg_at};
+ghost use Rattle.exchange_events.specs.Limits.{most_sends};
+ghost use Rattle.call_profile.specs.Operations.{Clear, Pair, Making, performed_all};
+ghost use Rattle.call_profile.specs.Peers.{IsThere, PeerIsThere, IsSilent};
+ghost use Rattle.exchange_events.specs.Sizes.{Setting, Dimensions};
+ghost use Rattle.call_control.specs.Standing.{Holds, Makes};
+ghost use Rattle.call_profile.specs.World.{World};
+
+use crate::operations::CallControl;
+use crate::sending::{message_to, record_only, send, send_bare};
+use call_states::{Act, Held, Leg, Peer, on_message, status, unexpected};
+use circuit_model::{Kind, Slot};
+use control_memory::PathMap;
+use exchange_events::Outbox;
+use q931_codec::causes::RESPONSE_TO_STATUS_ENQUIRY;
+use q931_codec::states::{
+    ACTIVE, CALL_DELIVERED, CALL_RECEIVED, DISCONNECT_INDICATION, INCOMING_CALL_PROCEEDING,
+    RELEASE_REQUEST,
+};
+use q931_codec::{Message, MessageKind, Outgoing};
+use tone_rules::{Tones, tone_given};
+
+impl<P: PathMap> CallControl<P> {
+    /// Does with a leg what a message to it asks for, and tells the records of the calls that this
+    /// begins to clear.
+    pub(crate) fn act(&mut self, out: &mut Outbox, tones: &Tones, held: Held, message: &Message)
+        requires work { (s : Setting) × (w : World) × IsAtWork s self.old.map self.old.legs w }
+        requires external { IsExternal self.old.map.external held.slot }
+        requires held { leg_at self.old.legs held.slot ≡ Some held.leg }
+        requires fresh { (out.old.sends ≡ []) × (out.old.moved ≡ None) }
+        ensures makes { (s : Setting) (w : World) → s.tones ≡ tones.now → IsAtWork s self.old.map self.old.legs w
+            → Makes s.dimensions self.new.map self.new.legs out.new.sends out.new.moved (made_by s w (course_of s.tones w.legs held message.now.kind (act_on held.leg.state message.now))) }
+        ensures records { (s : Setting) (w : World) → IsAtWork s self.old.map self.old.legs w
+            → out.new.records ≡ (done_by s w (course_of s.tones w.legs held message.now.kind (act_on held.leg.state message.now))).told }
+        ensures few { IfSome out.new.moved (λ moves. (moves.0 ≤ self.old.map.bound) × (moves.1 ≤ self.old.map.bound)) }
+        ensures sizes { SameSizes self.old.map self.new.map }
+    {
+        let act = on_message(&held.leg, message);
+        let peer = self.peer_of(held.leg.peer);
+        let told = self.record_of_act(held, peer, act);
+        self.perform(out, tones, held, peer, act, message);
+        record_only(&mut out.records, told);
+    }
+
+    /// The other leg of a call.
+    pub(crate) fn peer_of(&self, peer: Peer) -> Option<Held>
+        ensures { result ≡ peer_of self.now.legs peer }
+    {
+        match peer {
+            Peer::Leg(slot) => {
+                let leg = self.legs.at(slot)?;
+                Some(Held { slot, leg })
+            }
+            Peer::Alone | Peer::Room(_) => None,
+        }
+    }
+
+    // Does what an act is.
+    fn perform(
+        &mut self,
+        out: &mut Outbox,
+        tones: &Tones,
+        held: Held,
+        peer: Option<Held>,
+        act: Act,
+        message: &Message,
+    )
+        requires work { (d : Dimensions) × (w : World) × Holds d self.old.map self.old.legs w }
+        requires there { IsThere self.old.map.external held }
+        requires count { length self.old.legs ≡ 30 * self.old.map.external }
+        requires peer { peer ≡ peer_of self.old.legs held.leg.peer }
+        requires peer_there { PeerIsThere self.old.map.external held peer }
+        requires cause { IfSome (cause_of_act act) (λ cause. cause < 128) }
+        requires silent { act ≡ asked.Answer → hears_at self.old.map held.slot ≡ None }
+        requires waiting { act ≡ asked.Alerting → IsSilent self.old.map peer }
+        requires fresh { (out.old.sends ≡ []) × (out.old.moved ≡ None) }
+        ensures makes { (d : Dimensions) (m : Making) → Makes d self.old.map self.old.legs out.old.sends out.old.moved m
+            → Makes d self.new.map self.new.legs out.new.sends out.new.moved
+            (performed_all d m (course_of tones.now self.old.legs held message.now.kind act).operations) }
+        ensures few { IfSome out.new.moved (λ moves. (moves.0 ≤ self.old.map.bound) × (moves.1 ≤ self.old.map.bound)) }
+        ensures sizes { SameSizes self.old.map self.new.map }
+    {
+        match act {
+            Act::Nothing => {}
+            Act::Unexpected => send(out, held.slot.line, &unexpected(&held.leg, message)),
+            Act::Enquiry => {
+                send(
+                    out,
+                    held.slot.line,
+                    &status(&held.leg, RESPONSE_TO_STATUS_ENQUIRY),
+                )
+            }
+            Act::Proceeding => self.put(held.slot, in_state(INCOMING_CALL_PROCEEDING, held.leg)),
+            Act::Alerting => self.alert(out, tones, held, peer),
+            Act::Answer => self.answer(out, held, peer),
+            Act::Disconnect(cause) => {
+                self.disconnect(out, held);
+                self.clear_peer(out, tones, peer, cause);
+            }
+            Act::Released(cause) => {
+                self.release(out, held);
+                self.clear_peer(out, tones, peer, cause);
+            }
+            Act::Gone(cause) => {
+                self.forget(held);
+                self.clear_peer(out, tones, peer, cause);
+            }
+        }
+    }
+
+    // The called user is being alerted; the caller is told so, and hears it where the trace gives that
+    // tone.
+    fn alert(&mut self, out: &mut Outbox, tones: &Tones, held: Held, peer: Option<Held>)
+        requires there { IsThere self.old.map.external held }
+        requires count { length self.old.legs ≡ 30 * self.old.map.external }
+        requires peer_there { PeerIsThere self.old.map.external held peer }
+        requires waiting { IsSilent self.old.map peer }
+        requires room { length out.old.sends < most_sends }
+        ensures makes { (d : Dimensions) (m : Making) → Makes d self.old.map self.old.legs out.old.sends out.old.moved m
+            → Makes d self.new.map self.new.legs out.new.sends out.new.moved (performed_all d m (with_peer peer (alerting tones.now held))) }
+        ensures moved { out.new.moved ≡ out.old.moved }
+        ensures sizes { SameSizes self.old.map self.new.map }
+    {
+        let Some(caller) = peer else {
+            return;
+        };
+        let waits = in_state(CALL_DELIVERED, caller.leg);
+        let tone = tone_of(tones, waits);
+        self.put(held.slot, in_state(CALL_RECEIVED, held.leg));
+        self.put(caller.slot, waits);
+        self.sound(caller.slot, tone);
+        let alerting = message_to(&caller.leg, MessageKind::Alerting);
+        send(out, caller.slot.line, &announced(tone, alerting));
+    }
+
+    // The called user has answered: the two slots are connected.
+    fn answer(&mut self, out: &mut Outbox, held: Held, peer: Option<Held>)
+        requires work { (d : Dimensions) × (w : World) × Holds d self.old.map self.old.legs w }
+        requires there { IsThere self.old.map.external held }
+        requires count { length self.old.legs ≡ 30 * self.old.map.external }
+        requires peer_there { PeerIsThere self.old.map.external held peer }
+        requires silent { hears_at self.old.map held.slot ≡ None }
+        requires room { length out.old.sends + 1 < most_sends }
+        requires fresh { out.old.moved ≡ None }
+        ensures makes { (d : Dimensions) (m : Making) → Makes d self.old.map self.old.legs out.old.sends out.old.moved m
+            → Makes d self.new.map self.new.legs out.new.sends out.new.moved (performed_all d m (with_peer peer (answer held))) }
+        ensures few { IfSome out.new.moved (λ moves. (moves.0 ≤ self.old.map.bound) × (moves.1 ≤ self.old.map.bound)) }
+        ensures sizes { SameSizes self.old.map self.new.map }
+    {
+        let Some(caller) = peer else {
+            return;
+        };
+        out.moved = Some(self.connect(caller.slot, held.slot));
+        self.put(held.slot, in_state(ACTIVE, held.leg));
+        self.put(caller.slot, in_state(ACTIVE, caller.leg));
+        send_bare(out, held, MessageKind::ConnectAcknowledge);
+        send_bare(out, caller, MessageKind::Connect);
+    }
+
+    // Takes down whatever a caller hears, connects it with the called slot, and answers how many live
+    // paths were moved each way.
+    fn connect(&mut self, caller: Slot, called: Slot) -> (u32, u32)
+        requires work { (d : Dimensions) × (w : World) × Holds d self.old.map self.old.legs w }
+        requires caller_external { IsExternal self.old.map.external caller }
+        requires called_external { IsExternal self.old.map.external called }
+        requires distinct { caller ≢ called }
+        requires silent { hears_at self.old.map called ≡ None }
+        ensures makes { (d : Dimensions) (m : Making) → Makes d self.old.map self.old.legs m.sends m.moves m
+            → Makes d self.new.map self.new.legs m.sends (Some result) (performed_all d m (Clear caller ∷ Pair caller called ∷ [])) }
+        ensures few { (result.0 ≤ self.old.map.bound) × (result.1 ≤ self.old.map.bound) }
+        ensures legs { self.new.legs ≡ self.old.legs }
+        ensures sizes { SameSizes self.old.map self.new.map }
+    {
+        self.clear(caller);
+        self.pair(caller, called)
+    }
+
+    // The user of the leg has asked for the call to be cleared.
+    fn disconnect(&mut self, out: &mut Outbox, held: Held)
+        requires there { IsThere self.old.map.external held }
+        requires count { length self.old.legs ≡ 30 * self.old.map.external }
+        requires room { length out.old.sends < most_sends }
+        ensures makes { (d : Dimensions) (m : Making) → Makes d self.old.map self.old.legs out.old.sends out.old.moved m
+            → Makes d self.new.map self.new.legs out.new.sends out.new.moved (performed_all d m (disconnecting held)) }
+        ensures count { length self.new.legs ≡ length self.old.legs }
+        ensures sends { length out.new.sends ≡ length out.old.sends + 1 }
+        ensures moved { out.new.moved ≡ out.old.moved }
+        ensures sizes { SameSizes self.old.map self.new.map }
+    {
+        self.clear(held.slot);
+        self.put(
+            held.slot,
+            Leg {
+                state: RELEASE_REQUEST,
+                peer: Peer::Alone,
+                ..held.leg
+            },
+        );
+        send_bare(out, held, MessageKind::Release);
+    }
+
+    // The user of the leg has released its channel, or its call reference too.
+    fn release(&mut self, out: &mut Outbox, held: Held)
+        requires there { IsThere self.old.map.external held }
+        requires count { length self.old.legs ≡ 30 * self.old.map.external }
+        requires room { length out.old.sends < most_sends }
+        ensures makes { (d : Dimensions) (m : Making) → Makes d self.old.map self.old.legs out.old.sends out.old.moved m
+            → Makes d self.new.map self.new.legs out.new.sends out.new.moved (performed_all d m (releasing held)) }
+        ensures count { length self.new.legs ≡ length self.old.legs }
+        ensures sends { length out.new.sends ≡ length out.old.sends + 1 }
+        ensures moved { out.new.moved ≡ out.old.moved }
+        ensures sizes { SameSizes self.old.map self.new.map }
+    {
+        self.forget(held);
+        send_bare(out, held, MessageKind::ReleaseComplete);
+    }
+
+    /// The leg is gone, and every circuit that names its slot.
+    pub(crate) fn forget(&mut self, held: Held)
+        requires external { IsExternal self.old.map.external held.slot }
+        requires count { length self.old.legs ≡ 30 * self.old.map.external }
+        ensures makes { (d : Dimensions) (m : Making) → Makes d self.old.map self.old.legs m.sends m.moves m
+            → Makes d self.new.map self.new.legs m.sends m.moves (performed_all d m (removing held)) }
+        ensures count { length self.new.legs ≡ length self.old.legs }
+        ensures sizes { SameSizes self.old.map self.new.map }
+    {
+        self.clear(held.slot);
+        self.remove(held.slot);
+    }
+
+    /// The other leg of a call is cleared with a cause, and its user hears why where the trace gives that
+    /// tone.
+    pub(crate) fn clear_peer(
+        &mut self,
+        out: &mut Outbox,
+        tones: &Tones,
+        peer: Option<Held>,
+        cause: u8,
+    )
+        requires there { IfSome peer (λ other. IsThere self.old.map.external other) }
+        requires count { length self.old.legs ≡ 30 * self.old.map.external }
+        requires room { length out.old.sends < most_sends }
+        requires cause { cause < 128 }
+        ensures makes { (d : Dimensions) (m : Making) → Makes d self.old.map self.old.legs out.old.sends out.old.moved m
+            → Makes d self.new.map self.new.legs out.new.sends out.new.moved (performed_all d m (with_peer peer (clear_with tones.now cause))) }
+        ensures few { length out.new.sends ≤ length out.old.sends + 1 }
+        ensures moved { out.new.moved ≡ out.old.moved }
+        ensures sizes { SameSizes self.old.map self.new.map }
+    {
+        let Some(other) = peer else {
+            return;
+        };
+        let alone = disconnected(cause, other.leg);
+        let tone = tone_of(tones, alone);
+        self.clear(other.slot);
+        self.put(other.slot, alone);
+        self.sound(other.slot, tone);
+        let disconnect = disconnect_message(&other.leg, cause);
+        send(out, other.slot.line, &announced(tone, disconnect));
+    }
+}
+
+// The leg in another state.
+fn in_state(state: u8, leg: Leg) -> Leg
+    ensures { result ≡ in_state state leg }
+{
+    Leg { state, ..leg }
+}
+
+// The leg alone, cleared with a cause.
+fn disconnected(cause: u8, leg: Leg) -> Leg
+    ensures { result ≡ disconnected cause leg }
+{
+    Leg {
+        state: DISCONNECT_INDICATION,
+        peer: Peer::Alone,
+        cause,
+        ..leg
+    }
+}
+
+// The tone that the slot of a leg gets, where the trace gives it.
+fn tone_of(tones: &Tones, leg: Leg) -> Option<Kind>
+    ensures { result ≡ tone_of tones.now leg }
+{
+    tone_given(tones, leg.state, leg.cause)
+}
+
+// A message with a progress indicator exactly where its user's slot gets a tone.
+fn announced(tone: Option<Kind>, message: Outgoing<'static>) -> Outgoing<'static>
+    ensures { outgoing_of result ≡ announced tone (outgoing_of message.entry) }
+{
+    Outgoing {
+        progress: tone.is_some(),
+        ..message
+    }
+}
+
+// The DISCONNECT with a cause to the user of a leg.
+fn disconnect_message(leg: &Leg, cause: u8) -> Outgoing<'static>
+    ensures { outgoing_of result ≡ disconnect leg.now cause }
+{
+    Outgoing {
+        cause: Some(cause),
+        ..message_to(leg, MessageKind::Disconnect)
+    }
+}

@@ -1,0 +1,24 @@
+//! The code of calls: it does what `call_profile` says, on the map of circuits and the table of legs.
+//!
+//! - [`CallControl`] holds the circuits, with their paths and ports, and the legs of the calls. What the
+//!   two stand for is a world (`Holds`), and each operation makes of it what its definition says.
+//! - Its `message` is answered as the profile says (`reply`), and makes the profile's next world
+//!   (`world`), whatever the octets are. It moves few paths (`few`), and takes no memory.
+//!
+//! It stands on `circuit_model`, `control_memory`, `circuit_map`, `q931_elements`, `q931_codec`,
+//! `call_states`, `clearing_rules`, `tone_rules`, `number_plan`, `exchange_events` and `call_profile`, and on
+//! the kit's `arrayvec`.
+#![tactic(auto)]
+
+mod acts;
+mod ended_calls;
+mod leg_table;
+mod messages;
+mod operations;
+mod restarting;
+mod sending;
+mod setup;
+mod setup_checks;
+
+pub use leg_table::LegTable;
+pub use operations::CallControl;

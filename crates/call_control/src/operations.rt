@@ -1,0 +1,122 @@
+//! What the code of calls works on, and its single operations.
+ghost use Rattle.std.specs.Prelude.{◌≡◌, ◌≢◌, ◌*◌, ◌≤◌, length, None, Some, IsTrue};
+ghost use Rattle.circuit_model.specs.declared.channel.Slot.{Slot};
+ghost use Rattle.circuit_model.specs.Extent.{IsExternal};
+ghost use Rattle.circuit_model.specs.Holding.{Connect, Seat as Take_seat, Clear};
+ghost use Rattle.circuit_map.specs.Connections.{SameSizes, hears_at, hears_after};
+ghost use Rattle.call_states.specs.Status.{IsTold};
+ghost use Rattle.call_profile.specs.IdleSlots.{idle};
+ghost use Rattle.call_profile.specs.Legs.{leg_at, with_leg, without_leg};
+ghost use Rattle.call_profile.specs.Operations.{moves_for, moves_of_seat, sounding};
+ghost use Rattle.call_profile.specs.Permitted.{CanSeat};
+ghost use Rattle.call_control.specs.Standing.{Holds};
+ghost use Rattle.exchange_events.specs.Sizes.{Dimensions};
+ghost use Rattle.call_profile.specs.World.{World, obey};
+
+use crate::leg_table::LegTable;
+use call_states::Leg;
+use circuit_map::CircuitMap;
+use circuit_model::{Kind, Slot};
+use control_memory::PathMap;
+
+/// The circuits that stand, with their paths and conference ports, and the legs of the calls: what
+/// call control works on. None of its operations takes memory.
+#[derive(Drop)]
+pub struct CallControl<P: PathMap> {
+    /// The circuits, with their paths and conference ports.
+    pub map: CircuitMap<P>,
+    /// The legs.
+    pub legs: LegTable,
+}
+
+impl<P: PathMap> CallControl<P> {
+    /// Whether no circuit names a slot and no leg holds it.
+    pub fn idle(&self, x: Slot) -> bool
+        requires external { IsExternal self.now.map.external x }
+        ensures idle { (d : Dimensions) (w : World) → Holds d self.now.map self.now.legs w → result ≡ idle w x }
+        ensures silent { IsTrue result → hears_at self.now.map x ≡ None }
+        ensures none { IsTrue result → leg_at self.now.legs x ≡ None }
+    {
+        self.map.idle(x) && self.legs.at(x).is_none()
+    }
+
+    /// Takes down every circuit that names a slot.
+    pub fn clear(&mut self, x: Slot)
+        requires external { IsExternal self.old.map.external x }
+        ensures holds { (d : Dimensions) (w : World) → Holds d self.old.map self.old.legs w → Holds d self.new.map self.new.legs (obey d w (Clear x)) }
+        ensures hears { (z : Slot) → hears_at self.new.map z ≡ hears_after self.old.map (Clear x) z }
+        ensures silent { hears_at self.new.map x ≡ None }
+        ensures legs { self.new.legs ≡ self.old.legs }
+        ensures sizes { SameSizes self.old.map self.new.map }
+    {
+        self.map.clear(x);
+    }
+
+    /// Connects two slots that no circuit names, both ways, and answers how many live paths were
+    /// moved each way.
+    pub fn pair(&mut self, x: Slot, y: Slot) -> (u32, u32)
+        requires external_x { IsExternal self.old.map.external x }
+        requires external_y { IsExternal self.old.map.external y }
+        requires distinct { x ≢ y }
+        requires silent_x { hears_at self.old.map x ≡ None }
+        requires silent_y { hears_at self.old.map y ≡ None }
+        ensures holds { (d : Dimensions) (w : World) → Holds d self.old.map self.old.legs w → Holds d self.new.map self.new.legs (obey d w (Connect x y)) }
+        ensures moves { (d : Dimensions) (w : World) → Holds d self.old.map self.old.legs w → result ≡ moves_for d w.layout x y }
+        ensures few { (result.0 ≤ self.old.map.bound) × (result.1 ≤ self.old.map.bound) }
+        ensures legs { self.new.legs ≡ self.old.legs }
+        ensures sizes { SameSizes self.old.map self.new.map }
+    {
+        self.map.pair(x, y)
+    }
+
+    /// Seats a slot that no circuit names in a room that has a free port, and answers how many live
+    /// paths were moved each way.
+    pub(crate) fn seat(&mut self, x: Slot, room: u8) -> (u32, u32)
+        requires can { (d : Dimensions) × (w : World) × Holds d self.old.map self.old.legs w × CanSeat d w x }
+        ensures holds { (d : Dimensions) (w : World) → Holds d self.old.map self.old.legs w → Holds d self.new.map self.new.legs (obey d w (Take_seat x room)) }
+        ensures moves { (d : Dimensions) (w : World) → Holds d self.old.map self.old.legs w → Some result ≡ moves_of_seat d w x }
+        ensures few { (result.0 ≤ self.old.map.bound) × (result.1 ≤ self.old.map.bound) }
+        ensures legs { self.new.legs ≡ self.old.legs }
+        ensures sizes { SameSizes self.old.map self.new.map }
+    {
+        let Ok(moves) = self.map.seat(x, room) else {
+            unreachable!();
+        };
+        moves
+    }
+
+    /// Gives a slot that no circuit names a tone, if there is one.
+    pub(crate) fn sound(&mut self, x: Slot, tone: Option<Kind>)
+        requires external { IsExternal self.old.map.external x }
+        requires silent { hears_at self.old.map x ≡ None }
+        ensures holds { (d : Dimensions) (w : World) → Holds d self.old.map self.old.legs w
+            → Holds d self.new.map self.new.legs (record w { holding = sounding w.holding x tone }) }
+        ensures legs { self.new.legs ≡ self.old.legs }
+        ensures sizes { SameSizes self.old.map self.new.map }
+    {
+        if let Some(kind) = tone {
+            self.map.tone(x, kind);
+        }
+    }
+
+    /// Lets a leg hold a slot, in place of any other.
+    pub(crate) fn put(&mut self, x: Slot, leg: Leg)
+        requires external { IsExternal self.old.map.external x }
+        requires count { length self.old.legs ≡ 30 * self.old.map.external }
+        requires told { IsTold leg }
+        ensures legs { self.new.legs ≡ with_leg self.old.legs x leg }
+        ensures map { self.new.map ≡ self.old.map }
+    {
+        self.legs.put(x, leg);
+    }
+
+    /// Lets no leg hold a slot.
+    pub(crate) fn remove(&mut self, x: Slot)
+        requires external { IsExternal self.old.map.external x }
+        requires count { length self.old.legs ≡ 30 * self.old.map.external }
+        ensures legs { self.new.legs ≡ without_leg self.old.legs x }
+        ensures map { self.new.map ≡ self.old.map }
+    {
+        self.legs.remove(x);
+    }
+}

@@ -1,0 +1,123 @@
+//! RESTART: the legs whose slots are restarted are gone.
+ghost use Rattle.std.specs.Prelude.{◌≡◌, ◌+◌, ◌*◌, ◌++◌, ◌<◌, ◌≤◌, [], None, IfSome, length};
+ghost use Rattle.circuit_model.specs.Extent.{IsExternal};
+ghost use Rattle.circuit_map.specs.Connections.{SameSizes};
+ghost use Rattle.clearing_rules.specs.Restarting.{IsOnLine};
+ghost use Rattle.call_profile.specs.Acts.{with_peer};
+ghost use Rattle.call_control.specs.AtWork.{IsAtWork};
+ghost use Rattle.call_profile.specs.EndedCalls.{slot_records};
+ghost use Rattle.call_profile.specs.LegStanding.{LegsStand};
+ghost use Rattle.exchange_events.specs.Limits.{most_records, most_sends};
+ghost use Rattle.call_profile.specs.Operations.{Making, performed_all};
+ghost use Rattle.call_profile.specs.Peers.{IsThere};
+ghost use Rattle.call_profile.specs.Restarts.{restart_peer, restart_slot, restarts_slot, restarted};
+ghost use Rattle.exchange_events.specs.Sizes.{Setting, Dimensions};
+ghost use Rattle.call_control.specs.Standing.{Holds, Makes};
+ghost use Rattle.call_profile.specs.World.{World};
+
+use crate::operations::CallControl;
+use crate::sending::{record_also, send};
+use call_states::Held;
+use circuit_model::{PLACES, Slot};
+use clearing_rules::{Restart, acknowledgement};
+use control_memory::PathMap;
+use exchange_events::{Outbox, Records};
+use q931_codec::causes::TEMPORARY_FAILURE;
+use tone_rules::Tones;
+
+impl<P: PathMap> CallControl<P> {
+    /// Restarts the slots of a line that are asked for, lowest first, and acknowledges it last. Answers the
+    /// records of the calls that this ends, in the same order.
+    pub(crate) fn restart_line(
+        &mut self,
+        out: &mut Outbox,
+        tones: &Tones,
+        line: u8,
+        asked: Restart,
+    ) -> Records
+        requires work { (s : Setting) × (w : World) × (s.tones ≡ tones.now) × IsAtWork s self.old.map self.old.legs w }
+        requires line { line < self.old.map.external }
+        requires on_line { IsOnLine asked }
+        requires fresh { (out.old.sends ≡ []) × (out.old.moved ≡ None) }
+        ensures makes { (s : Setting) (w : World) → s.tones ≡ tones.now → IsAtWork s self.old.map self.old.legs w
+            → Makes s.dimensions self.new.map self.new.legs out.new.sends out.new.moved (restarted s.dimensions s.tones asked line w).making }
+        ensures records { (s : Setting) (w : World) → s.tones ≡ tones.now → IsAtWork s self.old.map self.old.legs w → result ≡ (restarted s.dimensions s.tones asked line w).told }
+        ensures moved { out.new.moved ≡ None }
+        ensures sizes { SameSizes self.old.map self.new.map }
+    {
+        let mut records = Records::new();
+        for place in 0..PLACES {
+            self.restart_slot(out, tones, &mut records, asked, Slot { line, place });
+        }
+        send(out, line, &acknowledgement(asked));
+        records
+    }
+
+    // Restarts a slot, where that is asked for and a leg holds it.
+    fn restart_slot(
+        &mut self,
+        out: &mut Outbox,
+        tones: &Tones,
+        records: &mut Records,
+        asked: Restart,
+        x: Slot,
+    )
+        requires work { (d : Dimensions) × (w : World) × Holds d self.old.map self.old.legs w × LegsStand d.external tones.now w }
+        requires external { IsExternal self.old.map.external x }
+        requires room { (length out.old.sends < most_sends) × (length records.old < most_records) }
+        ensures makes { (d : Dimensions) (m : Making) → Makes d self.old.map self.old.legs out.old.sends out.old.moved m
+            → Makes d self.new.map self.new.legs out.new.sends out.new.moved (performed_all d m (restart_slot tones.now asked m.world.legs x)) }
+        ensures records { (d : Dimensions) (w : World) → Holds d self.old.map self.old.legs w → records.new ≡ records.old ++ slot_records asked w x }
+        ensures few { (length out.new.sends ≤ length out.old.sends + 1) × (length records.new ≤ length records.old + 1) }
+        ensures moved { out.new.moved ≡ out.old.moved }
+        ensures sizes { SameSizes self.old.map self.new.map }
+    {
+        if !asked.concerns(x.place) {
+            return;
+        }
+        let Some(leg) = self.legs.at(x) else {
+            return;
+        };
+        let held = Held { slot: x, leg };
+        let peer = self.peer_of(leg.peer);
+        let told = self.record_ended(held, peer, TEMPORARY_FAILURE);
+        record_also(records, told);
+        self.forget(held);
+        self.restart_peer(out, tones, asked, x.line, peer);
+    }
+
+    // Lets the other leg of a call go too, where its slot is restarted as well; else clears it.
+    fn restart_peer(
+        &mut self,
+        out: &mut Outbox,
+        tones: &Tones,
+        asked: Restart,
+        line: u8,
+        peer: Option<Held>,
+    )
+        requires there { IfSome peer (λ other. IsThere self.old.map.external other) }
+        requires count { length self.old.legs ≡ 30 * self.old.map.external }
+        requires room { length out.old.sends < most_sends }
+        ensures makes { (d : Dimensions) (m : Making) → Makes d self.old.map self.old.legs out.old.sends out.old.moved m
+            → Makes d self.new.map self.new.legs out.new.sends out.new.moved (performed_all d m (with_peer peer (restart_peer tones.now asked line))) }
+        ensures few { length out.new.sends ≤ length out.old.sends + 1 }
+        ensures moved { out.new.moved ≡ out.old.moved }
+        ensures sizes { SameSizes self.old.map self.new.map }
+    {
+        let Some(other) = peer else {
+            return;
+        };
+        if restarts_slot(asked, line, other.slot) {
+            self.forget(other);
+        } else {
+            self.clear_peer(out, tones, peer, TEMPORARY_FAILURE);
+        }
+    }
+}
+
+// Whether a restart on a line is of this slot too.
+fn restarts_slot(asked: Restart, line: u8, x: Slot) -> bool
+    ensures { result ≡ restarts_slot asked line x }
+{
+    x.line == line && asked.concerns(x.place)
+}

@@ -1,0 +1,179 @@
+//! SETUP: it is refused, or makes the legs of a new call, and their users are told.
+ghost use Rattle.std.specs.Prelude.{◌≡◌, ◌<◌, ◌≤◌, ◌^◌, [], None, Some, IfSome, false, ◌*◌, length};
+ghost use Rattle.circuit_map.specs.Connections.{SameSizes};
+ghost use Rattle.call_control.specs.AtWork.{IsAtWork};
+ghost use Rattle.call_profile.specs.Calls.{made_by};
+ghost use Rattle.call_control.specs.Choices.{accepted};
+ghost use Rattle.call_profile.specs.Legs.{leg_named};
+ghost use Rattle.call_profile.specs.Operations.{begun, performed_all, Making};
+ghost use Rattle.exchange_events.specs.Sizes.{Setting, Dimensions};
+ghost use Rattle.call_profile.specs.Setup.{course_of_setup, refusal, caller_leg, called_leg, proceeding, offer, call_line, call_room};
+ghost use Rattle.call_control.specs.Standing.{Makes, Holds};
+ghost use Rattle.call_profile.specs.World.{World};
+ghost use Rattle.circuit_model.specs.Extent.{IsExternal};
+ghost use Rattle.call_profile.specs.Permitted.{CanSeat};
+ghost use Rattle.q931_codec.specs.Contents.{bearer_in};
+ghost use Rattle.q931_codec.specs.Outgoing.{outgoing_of};
+
+use crate::operations::CallControl;
+use crate::sending::{message_to, refuse, send};
+use crate::setup_checks::target_of;
+use call_states::{Leg, Peer, Side};
+use circuit_model::{Slot, channel_of};
+use control_memory::PathMap;
+use exchange_events::Outbox;
+use number_plan::{Found, Plan};
+use q931_codec::states::{ACTIVE, CALL_PRESENT, OUTGOING_CALL_PROCEEDING};
+use q931_codec::{Message, MessageKind, Outgoing};
+
+impl<P: PathMap> CallControl<P> {
+    /// Does what a SETUP asks for: refuses it with the cause of its first check that fails, or makes the
+    /// legs of its call.
+    pub(crate) fn setup(&mut self, out: &mut Outbox, plan: &Plan, line: u8, message: &Message)
+        requires work { (s : Setting) × (w : World) × (s.plan ≡ plan.now) × IsAtWork s self.old.map self.old.legs w }
+        requires line { line < self.old.map.external }
+        requires reference { (1 ≤ message.now.reference) × (message.now.reference < 2 ^ 15) }
+        requires unused { leg_named self.old.legs line false message.now.reference ≡ None }
+        requires fresh { (out.old.sends ≡ []) × (out.old.moved ≡ None) }
+        ensures makes { (s : Setting) (w : World) → s.plan ≡ plan.now → IsAtWork s self.old.map self.old.legs w
+            → Makes s.dimensions self.new.map self.new.legs out.new.sends out.new.moved (made_by s w (course_of_setup s w line message.now)) }
+        ensures few { IfSome out.new.moved (λ moves. (moves.0 ≤ self.old.map.bound) × (moves.1 ≤ self.old.map.bound)) }
+        ensures sizes { SameSizes self.old.map self.new.map }
+    {
+        match self.refusal(plan, line, message) {
+            Some(cause) => refuse(out, line, message.reference, cause),
+            None => self.accept(out, plan, line, message),
+        }
+    }
+
+    // Makes the legs of the call that a SETUP asks for which passes each check.
+    fn accept(&mut self, out: &mut Outbox, plan: &Plan, line: u8, message: &Message)
+        requires work { (s : Setting) × (w : World) × (s.plan ≡ plan.now) × IsAtWork s self.old.map self.old.legs w × (refusal s w line message.now ≡ None) }
+        requires line { line < self.old.map.external }
+        requires reference { (1 ≤ message.now.reference) × (message.now.reference < 2 ^ 15) }
+        requires fresh { (out.old.sends ≡ []) × (out.old.moved ≡ None) }
+        ensures makes { (s : Setting) (w : World) → s.plan ≡ plan.now → IsAtWork s self.old.map self.old.legs w
+            → Makes s.dimensions self.new.map self.new.legs out.new.sends out.new.moved (performed_all s.dimensions (begun w) (accepted s w line message.now)) }
+        ensures few { IfSome out.new.moved (λ moves. (moves.0 ≤ self.old.map.bound) × (moves.1 ≤ self.old.map.bound)) }
+        ensures sizes { SameSizes self.old.map self.new.map }
+    {
+        let Some(caller) = self.caller_slot(line, message.channel()) else {
+            return;
+        };
+        match target_of(plan, message) {
+            Found::Line(line) => {
+                let Some(called) = self.lowest_idle_beside(caller, line) else {
+                    return;
+                };
+                let reference = self.legs.new_reference(line);
+                self.call_line(out, message, caller, called, reference);
+            }
+            Found::Room(room) => self.call_room(out, message, caller, room),
+            Found::More => {}
+            Found::Nothing => {}
+        }
+    }
+
+    // Makes a call to a line: the caller waits, and the called user is offered the call with this
+    // reference.
+    fn call_line(
+        &mut self,
+        out: &mut Outbox,
+        message: &Message,
+        x: Slot,
+        y: Slot,
+        reference: u16,
+    )
+        requires external_x { IsExternal self.old.map.external x }
+        requires external_y { IsExternal self.old.map.external y }
+        requires count { length self.old.legs ≡ 30 * self.old.map.external }
+        requires room { length out.old.sends ≤ 60 }
+        requires own { message.now.reference < 2 ^ 15 }
+        requires reference { reference < 2 ^ 15 }
+        requires bearer { IfSome (bearer_in message.now.elements) (λ contents. length contents ≤ 10) }
+        ensures makes { (d : Dimensions) (m : Making) → Makes d self.old.map self.old.legs out.old.sends out.old.moved m
+            → Makes d self.new.map self.new.legs out.new.sends out.new.moved (performed_all d m (call_line message.now x y reference)) }
+        ensures moved { out.new.moved ≡ out.old.moved }
+        ensures map { self.new.map ≡ self.old.map }
+    {
+        let caller = caller_leg(OUTGOING_CALL_PROCEEDING, message.reference, Peer::Leg(y));
+        let called = called_leg(reference, x);
+        self.put(x, caller);
+        self.put(y, called);
+        send(out, x.line, &proceeding(x, &caller));
+        send(out, y.line, &offer(message, y, &called));
+    }
+
+    // Makes a call to a conference room, which is answered at once.
+    fn call_room(&mut self, out: &mut Outbox, message: &Message, x: Slot, room: u8)
+        requires can { (d : Dimensions) × (w : World) × Holds d self.old.map self.old.legs w × CanSeat d w x }
+        requires external { IsExternal self.old.map.external x }
+        requires count { length self.old.legs ≡ 30 * self.old.map.external }
+        requires room { length out.old.sends ≤ 60 }
+        requires own { message.now.reference < 2 ^ 15 }
+        ensures makes { (d : Dimensions) (m : Making) → Makes d self.old.map self.old.legs out.old.sends out.old.moved m
+            → Makes d self.new.map self.new.legs out.new.sends out.new.moved (performed_all d m (call_room message.now x room)) }
+        ensures few { IfSome out.new.moved (λ moves. (moves.0 ≤ self.old.map.bound) × (moves.1 ≤ self.old.map.bound)) }
+        ensures sizes { SameSizes self.old.map self.new.map }
+    {
+        let caller = caller_leg(ACTIVE, message.reference, Peer::Room(room));
+        self.put(x, caller);
+        out.moved = Some(self.seat(x, room));
+        send(out, x.line, &proceeding(x, &caller));
+        send(out, x.line, &message_to(&caller, MessageKind::Connect));
+    }
+}
+
+// The caller's leg of a new call.
+fn caller_leg(state: u8, reference: u16, peer: Peer) -> Leg
+    ensures { result ≡ caller_leg state reference peer }
+{
+    Leg {
+        state,
+        reference,
+        side: Side::Caller,
+        peer,
+        cause: 0,
+    }
+}
+
+// The called leg of a new call.
+fn called_leg(reference: u16, caller: Slot) -> Leg
+    ensures { result ≡ called_leg reference caller }
+{
+    Leg {
+        state: CALL_PRESENT,
+        reference,
+        side: Side::Called,
+        peer: Peer::Leg(caller),
+        cause: 0,
+    }
+}
+
+// The CALL PROCEEDING that tells the caller its channel.
+fn proceeding(x: Slot, leg: &Leg) -> Outgoing<'static>
+    requires place { x.place < 30 }
+    ensures { outgoing_of result ≡ proceeding x leg.now }
+{
+    Outgoing {
+        channel: Some(channel_of(x.place)),
+        ..message_to(leg, MessageKind::CallProceeding)
+    }
+}
+
+// The SETUP to the called user.
+fn offer<'a>(message: &Message<'a>, y: Slot, leg: &Leg) -> Outgoing<'a>
+    requires place { y.place < 30 }
+    ensures { outgoing_of result ≡ offer message.now y leg.now }
+{
+    Outgoing {
+        complete: true,
+        bearer: message.bearer().unwrap_or(&[]),
+        channel: Some(channel_of(y.place)),
+        calling: message.calling_number(),
+        called: message.called_number().unwrap_or(&[]),
+        low: message.low_layer(),
+        high: message.high_layer(),
+        ..message_to(leg, MessageKind::Setup)
+    }
+}

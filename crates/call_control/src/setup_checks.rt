@@ -1,0 +1,219 @@
+//! The checks of a SETUP: what it asks for, which slots its call gets, and the cause with which it is refused.
+ghost use Rattle.std.specs.Prelude.{◌≡◌, ◌<◌, [], unwrap_or, option_map, IfSome, IsTrue};
+ghost use Rattle.number_plan.specs.Plan.{found, all_targets};
+ghost use Rattle.call_profile.specs.Setup.{digits_in, slot_of, slot_asked, element_checks, number_checks, first_cause, caller_slot, is_taken, slot_checks, refusal};
+ghost use Rattle.circuit_model.specs.declared.channel.Slot.{Slot};
+ghost use Rattle.circuit_model.specs.Extent.{IsExternal};
+ghost use Rattle.call_control.specs.Choices.{IsReached, idle_beside, called_checks};
+ghost use Rattle.call_profile.specs.IdleSlots.{lowest_idle, lowest_idle_beside};
+ghost use Rattle.exchange_events.specs.Sizes.{Setting, Dimensions};
+ghost use Rattle.exchange_events.specs.Sound.{is_reached};
+ghost use Rattle.call_control.specs.Standing.{Holds};
+ghost use Rattle.call_profile.specs.World.{World};
+
+use crate::operations::CallControl;
+use arrayvec::ArrayVec;
+use circuit_model::{PLACES, Slot, slot_of_channel};
+use control_memory::PathMap;
+use number_plan::{Found, Plan};
+use q931_codec::causes::{
+    BEARER_CAPABILITY_NOT_IMPLEMENTED, INVALID_ELEMENT_CONTENTS, INVALID_NUMBER_FORMAT,
+    MANDATORY_ELEMENT_MISSING, NO_CHANNEL_AVAILABLE, REQUESTED_CHANNEL_NOT_AVAILABLE,
+    SWITCHING_EQUIPMENT_CONGESTION, UNALLOCATED_NUMBER,
+};
+use q931_codec::{BearerCapability, ChannelIdentification, MOST_DIGITS, Message, dialled};
+
+impl<P: PathMap> CallControl<P> {
+    /// The lowest idle slot of a line.
+    fn lowest_idle(&self, line: u8) -> Option<Slot>
+        requires external { line < self.now.map.external }
+        ensures slot { (d : Dimensions) (w : World) → Holds d self.now.map self.now.legs w → result ≡ lowest_idle w line }
+        ensures external { IfSome result (IsExternal self.now.map.external) }
+    {
+        for place in 0..PLACES {
+            let slot = Slot { line, place };
+            if self.idle(slot) {
+                return Some(slot);
+            }
+        }
+        None
+    }
+
+    /// The lowest idle slot of a line beside another slot.
+    pub(crate) fn lowest_idle_beside(&self, beside: Slot, line: u8) -> Option<Slot>
+        requires external { line < self.now.map.external }
+        ensures slot { (d : Dimensions) (w : World) → Holds d self.now.map self.now.legs w → result ≡ lowest_idle_beside w beside line }
+        ensures external { IfSome result (IsExternal self.now.map.external) }
+    {
+        for place in 0..PLACES {
+            let slot = Slot { line, place };
+            if self.idle_beside(beside, slot) {
+                return Some(slot);
+            }
+        }
+        None
+    }
+
+    // Whether a slot is idle and another one than this.
+    fn idle_beside(&self, beside: Slot, slot: Slot) -> bool
+        requires external { IsExternal self.now.map.external slot }
+        ensures { (d : Dimensions) (w : World) → Holds d self.now.map self.now.legs w → result ≡ idle_beside w beside slot }
+    {
+        self.idle(slot) && slot != beside
+    }
+
+    /// The caller's slot: the one that is asked for where it is idle, else the lowest idle one of the
+    /// line.
+    pub(crate) fn caller_slot(
+        &self,
+        line: u8,
+        channel: Option<ChannelIdentification>,
+    ) -> Option<Slot>
+        requires external { line < self.now.map.external }
+        ensures slot { (d : Dimensions) (w : World) → Holds d self.now.map self.now.legs w → result ≡ caller_slot w line channel }
+        ensures external { IfSome result (IsExternal self.now.map.external) }
+    {
+        match slot_asked(line, channel) {
+            Some(slot) if self.idle(slot) => Some(slot),
+            _ => self.lowest_idle(line),
+        }
+    }
+
+    // Whether the slot of the one channel that is asked for is not idle.
+    fn is_taken(&self, line: u8, channel: Option<ChannelIdentification>) -> bool
+        requires external { line < self.now.map.external }
+        ensures { (d : Dimensions) (w : World) → Holds d self.now.map self.now.legs w → result ≡ is_taken w line channel }
+    {
+        let Some(ChannelIdentification::Exclusive(_)) = channel else {
+            return false;
+        };
+        match slot_asked(line, channel) {
+            Some(slot) => !self.idle(slot),
+            None => true,
+        }
+    }
+
+    // The cause of the first check of the slots and ports that a SETUP fails.
+    fn slot_cause(
+        &self,
+        line: u8,
+        channel: Option<ChannelIdentification>,
+        target: Found,
+    ) -> Option<u8>
+        requires external { line < self.now.map.external }
+        requires reached { IsReached self.now.map.external target }
+        ensures { (d : Dimensions) (w : World) → Holds d self.now.map self.now.legs w → result ≡ first_cause (slot_checks d w line channel target) }
+    {
+        if self.is_taken(line, channel) {
+            return Some(REQUESTED_CHANNEL_NOT_AVAILABLE);
+        }
+        let Some(caller) = self.caller_slot(line, channel) else {
+            return Some(NO_CHANNEL_AVAILABLE);
+        };
+        self.room_cause(caller, target)
+    }
+
+    // The cause where the called line has no idle slot beside the caller's, or where every conference
+    // port is taken.
+    fn room_cause(&self, caller: Slot, target: Found) -> Option<u8>
+        requires reached { IsReached self.now.map.external target }
+        ensures { (d : Dimensions) (w : World) → Holds d self.now.map self.now.legs w → result ≡ first_cause (called_checks d w caller target) }
+    {
+        match target {
+            Found::Line(line) => match self.lowest_idle_beside(caller, line) {
+                Some(_) => None,
+                None => Some(NO_CHANNEL_AVAILABLE),
+            },
+            Found::Room(_) if self.map.is_full() => Some(SWITCHING_EQUIPMENT_CONGESTION),
+            _ => None,
+        }
+    }
+
+    /// The cause of the first check that a SETUP fails.
+    pub(crate) fn refusal(&self, plan: &Plan, line: u8, message: &Message) -> Option<u8>
+        requires external { line < self.now.map.external }
+        requires planned { IsTrue (all_targets (is_reached self.now.map.external) plan.now) }
+        ensures { (s : Setting) (w : World) → s.plan ≡ plan.now → Holds s.dimensions self.now.map self.now.legs w → result ≡ refusal s w line message.now }
+    {
+        if let Some(cause) = element_cause(message) {
+            return Some(cause);
+        }
+        let target = target_of(plan, message);
+        match number_cause(target) {
+            Some(cause) => Some(cause),
+            None => self.slot_cause(line, message.channel(), target),
+        }
+    }
+}
+
+// The digits that a SETUP dials, `None` where it has no called party number that can be read.
+fn digits_in(message: &Message) -> Option<ArrayVec<u8, MOST_DIGITS>>
+    ensures { option_map (λ digits. digits.items) result ≡ digits_in message.now }
+{
+    dialled(message.called_number()?)
+}
+
+/// What the plan knows of the digits that a SETUP dials.
+pub(crate) fn target_of(plan: &Plan, message: &Message) -> Found
+    ensures { result ≡ found plan.now (unwrap_or (digits_in message.now) []) }
+{
+    match digits_in(message) {
+        Some(digits) => plan.look(&digits),
+        None => plan.look(&[]),
+    }
+}
+
+// The slot of a line that a channel identification names.
+fn slot_asked(line: u8, channel: Option<ChannelIdentification>) -> Option<Slot>
+    ensures slot { result ≡ slot_asked line channel }
+    ensures line { IfSome result (λ x. x.line ≡ line) }
+    ensures place { IfSome result (λ x. x.place < 30) }
+{
+    match channel? {
+        ChannelIdentification::Preferred(channel) => slot_of(line, channel),
+        ChannelIdentification::Exclusive(channel) => slot_of(line, channel),
+        ChannelIdentification::Any | ChannelIdentification::Invalid => None,
+    }
+}
+
+// The slot of a bearer channel of a line.
+fn slot_of(line: u8, channel: u8) -> Option<Slot>
+    ensures slot { result ≡ slot_of line channel }
+    ensures line { IfSome result (λ x. x.line ≡ line) }
+    ensures place { IfSome result (λ x. x.place < 30) }
+{
+    let place = slot_of_channel(channel)?;
+    Some(Slot { line, place })
+}
+
+// The cause of the first check of its elements that a SETUP fails.
+fn element_cause(message: &Message) -> Option<u8>
+    ensures { result ≡ first_cause (element_checks message.now) }
+{
+    let Some(bearer) = message.bearer() else {
+        return Some(MANDATORY_ELEMENT_MISSING);
+    };
+    match BearerCapability::of(bearer) {
+        BearerCapability::Invalid => return Some(INVALID_ELEMENT_CONTENTS),
+        BearerCapability::NotCarried => return Some(BEARER_CAPABILITY_NOT_IMPLEMENTED),
+        BearerCapability::Carried => {}
+    }
+    if message.channel() == Some(ChannelIdentification::Invalid) {
+        return Some(INVALID_ELEMENT_CONTENTS);
+    }
+    if digits_in(message).is_none() {
+        return Some(INVALID_NUMBER_FORMAT);
+    }
+    None
+}
+
+// The cause of the first check of its number that a SETUP fails.
+fn number_cause(target: Found) -> Option<u8>
+    ensures { result ≡ first_cause (number_checks target) }
+{
+    match target {
+        Found::Nothing => Some(UNALLOCATED_NUMBER),
+        Found::More => Some(INVALID_NUMBER_FORMAT),
+        Found::Line(_) | Found::Room(_) => None,
+    }
+}

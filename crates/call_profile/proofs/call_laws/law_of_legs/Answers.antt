@@ -1,0 +1,11 @@
+use Rattle.call_profile.proofs.Happened.{start_stands, happened_kept, run_stands}
+use Rattle.call_profile.proofs.call_laws.law_of_legs.Goals as goal
+
+pub returns-clause-begins : goal.returns-clause-begins
+returns-clause-begins c = start_stands
+
+pub returns-clause-kept : goal.returns-clause-kept
+returns-clause-kept c = happened_kept
+
+pub returns-clause-always : goal.returns-clause-always
+returns-clause-always c s hs planned can = run_stands s _ hs planned can (start_stands s)

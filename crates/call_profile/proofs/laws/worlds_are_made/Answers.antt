@@ -1,0 +1,5 @@
+use Rattle.call_profile.proofs.Histories.{made}
+use Rattle.call_profile.proofs.laws.worlds_are_made.Goals as goal
+
+pub returns : goal.returns
+returns c = made

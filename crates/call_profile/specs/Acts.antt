@@ -1,0 +1,132 @@
+-- What each act does with the leg that a message is for, and with its peer. Which message is sent when is this exchange's own profile of
+-- basic call control (ITU-T Q.931 (05/98), 5.1 to 5.3).
+use Rattle.std.specs.Prelude.{ℕ, List, [], ◌∷◌, ◌++◌, Option, Some, None, is_some}
+use Rattle.circuit_model.specs.declared.circuit.Kind.{Kind}
+use Rattle.q931_codec.specs.declared.kind.MessageKind.{MessageKind}
+use Rattle.q931_codec.specs.declared.kind.MessageKind.TheVariants as kind
+use Rattle.q931_codec.specs.CallStates.{call_delivered, call_received, incoming_call_proceeding, active, disconnect_indication, release_request}
+use Rattle.q931_codec.specs.Causes.{response_to_status_enquiry}
+use Rattle.q931_codec.specs.Outgoing.{OutgoingMessage, bare}
+use Rattle.call_states.specs.declared.act.Act.{Act}
+use Rattle.call_states.specs.declared.act.Act.TheVariants as act
+use Rattle.call_states.specs.declared.leg.Leg.{Leg}
+use Rattle.call_states.specs.declared.leg.Peer.{Peer}
+use Rattle.call_states.specs.declared.leg.Peer.TheVariants as peer
+use Rattle.call_states.specs.Status.{flag_to, status, unexpected_cause}
+use Rattle.tone_rules.specs.declared.tones.Tones.{Tones}
+use Rattle.tone_rules.specs.CallTones.{tone_given}
+use Rattle.call_states.specs.declared.leg.Held.{Held}
+use Rattle.call_profile.specs.Course.{Course, only, nothing}
+use Rattle.call_profile.specs.Legs.{Legs, held_at}
+use Rattle.call_profile.specs.Operations.{Operation, Clear, Pair, Sound, Put, Remove, Send}
+
+-- ---- messages to the user of a leg
+
+-- a message of this type without elements
+abbrev pub message_to : Leg → MessageKind → OutgoingMessage
+message_to leg kind = bare (flag_to leg.side) leg.reference kind
+
+abbrev pub disconnect : Leg → ℕ → OutgoingMessage
+disconnect leg cause = record (message_to leg kind.Disconnect) { cause = Some cause }
+
+abbrev pub send : Held → OutgoingMessage → Operation
+send h message = Send h.slot.line message
+
+-- the same message, with a progress indicator exactly where the slot of its user gets a tone: there is something to be heard
+abbrev pub announced : Option Kind → OutgoingMessage → OutgoingMessage
+announced tone message = record message { progress = is_some tone }
+
+-- ---- legs in another state
+
+abbrev pub in_state : ℕ → Leg → Leg
+in_state state leg = record leg { state = state }
+
+-- a leg that is being cleared stands alone
+abbrev pub released : Leg → Leg
+released leg = record leg { state = release_request; peer = peer.Alone }
+
+abbrev pub disconnected : ℕ → Leg → Leg
+disconnected cause leg = record leg { state = disconnect_indication; peer = peer.Alone; cause = cause }
+
+-- the tone that the slot of a leg gets, by its state and the cause that it was cleared with, where the trace gives it
+abbrev pub tone_of : Tones → Leg → Option Kind
+tone_of tones leg = tone_given tones leg.state leg.cause
+
+-- ---- the peer
+
+-- the other leg of the call, where there is one, and what is done with it
+abbrev pub peer_of : Legs → Peer → Option Held
+peer_of legs peer.Alone = None
+peer_of legs (peer.Leg y) = held_at legs y
+peer_of legs (peer.Room room) = None
+
+abbrev pub with_peer : Option Held → (Held → List Operation) → List Operation
+with_peer None does = []
+with_peer (Some h) does = does h
+
+-- the other leg of the call is cleared with a cause, and its user may hear why
+abbrev pub clear_with : Tones → ℕ → Held → List Operation
+clear_with tones cause h =
+    let tone = tone_of tones (disconnected cause h.leg) in
+    Clear h.slot
+    ∷ Put h.slot (disconnected cause h.leg)
+    ∷ Sound h.slot tone
+    ∷ send h (announced tone (disconnect h.leg cause))
+    ∷ []
+
+-- ---- the acts
+
+-- the called user is being alerted; the caller is told so, and may hear it
+abbrev pub alerting : Tones → Held → Held → List Operation
+alerting tones h caller =
+    let tone = tone_of tones (in_state call_delivered caller.leg) in
+    Put h.slot (in_state call_received h.leg)
+    ∷ Put caller.slot (in_state call_delivered caller.leg)
+    ∷ Sound caller.slot tone
+    ∷ send caller (announced tone (message_to caller.leg kind.Alerting))
+    ∷ []
+
+-- the called user has answered: the two slots are connected, and whatever the caller heard until now stops
+abbrev pub answer : Held → Held → List Operation
+answer h caller =
+    Clear caller.slot
+    ∷ Pair caller.slot h.slot
+    ∷ Put h.slot (in_state active h.leg)
+    ∷ Put caller.slot (in_state active caller.leg)
+    ∷ send h (message_to h.leg kind.ConnectAcknowledge)
+    ∷ send caller (message_to caller.leg kind.Connect)
+    ∷ []
+
+-- the user of the leg has asked for the call to be cleared
+abbrev pub disconnecting : Held → List Operation
+disconnecting h =
+    Clear h.slot
+    ∷ Put h.slot (released h.leg)
+    ∷ send h (message_to h.leg kind.Release)
+    ∷ []
+
+-- the user of the leg has released its channel, or its call reference too
+abbrev pub releasing : Held → List Operation
+releasing h =
+    Clear h.slot
+    ∷ Remove h.slot
+    ∷ send h (message_to h.leg kind.ReleaseComplete)
+    ∷ []
+
+abbrev pub removing : Held → List Operation
+removing h =
+    Clear h.slot
+    ∷ Remove h.slot
+    ∷ []
+
+-- what an act does for a message of this type
+abbrev pub course_of : Tones → Legs → Held → MessageKind → Act → Course
+course_of tones legs h type act.Nothing = nothing
+course_of tones legs h type act.Unexpected = only (send h (status h.leg (unexpected_cause type)) ∷ [])
+course_of tones legs h type act.Enquiry = only (send h (status h.leg response_to_status_enquiry) ∷ [])
+course_of tones legs h type act.Proceeding = only (Put h.slot (in_state incoming_call_proceeding h.leg) ∷ [])
+course_of tones legs h type act.Alerting = only (with_peer (peer_of legs h.leg.peer) (alerting tones h))
+course_of tones legs h type act.Answer = only (with_peer (peer_of legs h.leg.peer) (answer h))
+course_of tones legs h type (act.Disconnect cause) = record { operations = disconnecting h ++ with_peer (peer_of legs h.leg.peer) (clear_with tones cause); cause = cause }
+course_of tones legs h type (act.Released cause) = record { operations = releasing h ++ with_peer (peer_of legs h.leg.peer) (clear_with tones cause); cause = cause }
+course_of tones legs h type (act.Gone cause) = record { operations = removing h ++ with_peer (peer_of legs h.leg.peer) (clear_with tones cause); cause = cause }

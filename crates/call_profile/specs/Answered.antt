@@ -1,0 +1,39 @@
+-- An answered call. Source: this exchange's own.
+use Rattle.std.specs.Prelude.{◌≡◌, ◌<◌, ℕ, List, Contains}
+use Rattle.circuit_model.specs.declared.channel.Slot.{Slot}
+use Rattle.circuit_model.specs.declared.circuit.Circuit.TheVariants.{Pair}
+use Rattle.circuit_model.specs.Holding.{Connect, Clear, after, IsAllowed, Valid}
+use Rattle.control_memory.specs.Layout.{Layout}
+use Rattle.q931_codec.specs.declared.message.Message.{Message}
+use Rattle.call_states.specs.Acts.{act_on}
+use Rattle.call_states.specs.declared.act.Act.TheVariants as act
+use Rattle.call_states.specs.declared.leg.Peer.TheVariants as peer
+use Rattle.call_states.specs.declared.leg.Held.{Held}
+use Rattle.call_profile.specs.Calls.{For_leg, received, after_message}
+use Rattle.call_profile.specs.LegStanding.{LegsStand}
+use Rattle.exchange_events.specs.Sizes.{Setting}
+use Rattle.call_profile.specs.World.{World}
+
+-- once the caller's slot is cleared it and the called slot can be connected, and afterwards they are, both ways, since the next frame
+pub record AreConnected (bridges : ℕ) (before afterwards : World) (caller called : Slot) : Type 0 where
+  pub allowed : IsAllowed bridges (after before.holding (Clear caller)) (Connect caller called)
+  pub there : Contains afterwards.holding.circuits (Pair caller called before.holding.next)
+  pub back : Contains afterwards.holding.circuits (Pair called caller before.holding.next)
+
+-- a message answers the call of a leg: circuits and legs stand as they must, and the leg is asked for that act
+pub record IsAnswered (s : Setting) (w : World) (line : ℕ) (octets : List ℕ) (h : Held) : Type 0 where
+  pub valid : Valid s.dimensions.bridges w.holding
+  pub legs_stand : LegsStand s.dimensions.external s.tones w
+  pub line_exists : line < s.dimensions.external
+  pub message : Message
+  pub for_leg : received w.legs line octets ≡ For_leg h message
+  pub answers : act_on h.leg.state message ≡ act.Answer
+
+-- the leg's peer is another leg, and the two slots are connected once the message was answered
+abbrev pub GetsBothPaths : Setting → World → ℕ → List ℕ → Held → Type 0
+GetsBothPaths s w line octets h =
+    (y : Slot) × (h.leg.peer ≡ peer.Leg y) × AreConnected s.dimensions.bridges w (after_message s w line octets) y h.slot
+
+-- the same world with its paths laid in another way
+abbrev pub relaid : World → Layout → World
+relaid w layout = record w { layout = layout }

@@ -1,0 +1,42 @@
+-- The record of the call of a leg that begins to be cleared. Source: this exchange's own.
+use Rattle.std.specs.Prelude.{ℕ, List, [], Option, Some, None, option_and_then, if◌then◌else◌}
+use Rattle.std.specs.List.{cons_option}
+use Rattle.circuit_model.specs.declared.channel.Slot.{Slot}
+use Rattle.q931_codec.specs.Causes.{temporary_failure}
+use Rattle.call_states.specs.Acts.{cause_of_act}
+use Rattle.call_states.specs.declared.act.Act.{Act}
+use Rattle.call_states.specs.declared.leg.Side.{Side}
+use Rattle.call_states.specs.declared.leg.Side.TheVariants.{Caller, Called}
+use Rattle.clearing_rules.specs.declared.scope.Restart.{Restart}
+use Rattle.clearing_rules.specs.Restarting.{is_restarted}
+use Rattle.call_states.specs.declared.leg.Held.{Held}
+use Rattle.exchange_events.specs.declared.record.CallRecord.{CallRecord}
+use Rattle.call_profile.specs.Acts.{peer_of}
+use Rattle.call_profile.specs.CallRecords.{is_calling, record_of}
+use Rattle.call_profile.specs.Legs.{held_at}
+use Rattle.call_profile.specs.World.{World}
+
+-- the caller's leg of a leg's call: that leg itself, or its peer
+abbrev pub caller_in : Side → Held → Option Held → Option Held
+caller_in Caller h peer = Some h
+caller_in Called h peer = peer
+
+-- the record of a caller's leg, where its call's clearing hasn't begun
+abbrev pub record_calling : World → ℕ → Held → Option CallRecord
+record_calling w cause h = if is_calling (Some h.leg) then record_of w cause h else None
+
+-- the record of the call of a leg, which ends with this cause
+abbrev pub record_ended : World → Held → ℕ → Option CallRecord
+record_ended w h cause = option_and_then (record_calling w cause) (caller_in h.leg.side h (peer_of w.legs h.leg.peer))
+
+-- the record of what an act ends
+abbrev pub record_of_act : World → Held → Act → Option CallRecord
+record_of_act w h a = option_and_then (record_ended w h) (cause_of_act a)
+
+-- as a list
+abbrev pub records_of_act : World → Held → Act → List CallRecord
+records_of_act w h a = cons_option (record_of_act w h a) []
+
+-- the records of what the restart of a slot ends
+abbrev pub slot_records : Restart → World → Slot → List CallRecord
+slot_records r w x = if is_restarted r x.place then cons_option (option_and_then (λ h. record_ended w h temporary_failure) (held_at w.legs x)) [] else []

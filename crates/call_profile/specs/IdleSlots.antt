@@ -1,0 +1,21 @@
+-- Which slots are idle. Source: this exchange's own.
+use Rattle.std.specs.Prelude.{ℕ, ◌&&◌, not, Bool, is_none, Option, find}
+use Rattle.circuit_model.specs.declared.channel.Slot.{Slot}
+use Rattle.circuit_model.specs.Circuits.{is_idle, same_slot}
+use Rattle.call_profile.specs.Legs.{leg_at, slots_of}
+use Rattle.call_profile.specs.World.{World}
+
+-- no circuit names the slot, and no leg holds it
+abbrev pub idle : World → Slot → Bool
+idle w x = is_idle w.holding.circuits x && is_none (leg_at w.legs x)
+
+-- a circuit names the slot, and no leg holds it
+abbrev pub nailed : World → Slot → Bool
+nailed w x = not (is_idle w.holding.circuits x) && is_none (leg_at w.legs x)
+
+-- the lowest idle slot of a line, and the lowest one beside another slot
+abbrev pub lowest_idle : World → ℕ → Option Slot
+lowest_idle w line = find (idle w) (slots_of line)
+
+abbrev pub lowest_idle_beside : World → Slot → ℕ → Option Slot
+lowest_idle_beside w x line = find (λ y. idle w y && not (same_slot x y)) (slots_of line)

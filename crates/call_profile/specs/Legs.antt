@@ -1,0 +1,66 @@
+-- The legs of calls, by the slots that they hold. Source: ITU-T Q.931 (05/98), 4.3, for call references and their flag; the rest is this
+-- exchange's own.
+use Rattle.std.specs.Prelude.{ℕ, ◌+◌, ◌*◌, ◌&&◌, ◌==◌, Bool, true, false, List, map, replicate, is_none, Option, Some, None, option_map, slice_index_or, slice_set, find, filter_map}
+use Rattle.std.specs.List.{range_with_len, position_or_len}
+use Rattle.circuit_model.specs.declared.channel.Slot.{Slot}
+use Rattle.control_memory.specs.Layout.{number_of}
+use Rattle.call_states.specs.declared.leg.Leg.{Leg}
+use Rattle.call_states.specs.declared.leg.Side.{Side}
+use Rattle.call_states.specs.declared.leg.Side.TheVariants.{Caller, Called}
+use Rattle.call_states.specs.declared.leg.Held.{Held}
+
+-- for each external slot, by its number, the leg that holds it
+abbrev pub Legs : Type 0
+Legs = List (Option Leg)
+
+abbrev pub no_legs : ℕ → Legs
+no_legs external = replicate (30 * external) None
+
+abbrev pub leg_at : Legs → Slot → Option Leg
+leg_at legs x = slice_index_or legs (number_of x) None
+
+abbrev pub with_leg : Legs → Slot → Leg → Legs
+with_leg legs x leg = slice_set legs (number_of x) (Some leg)
+
+abbrev pub without_leg : Legs → Slot → Legs
+without_leg legs x = slice_set legs (number_of x) None
+
+-- the slots of a line, lowest first
+unfoldable pub slots_of : ℕ → List Slot
+slots_of line = map (λ place. record { line = line; place = place }) (range_with_len 0 30)
+
+-- the leg of a slot, with the slot
+abbrev pub held_at : Legs → Slot → Option Held
+held_at legs x = option_map (λ leg. record { slot = x; leg = leg }) (leg_at legs x)
+
+-- the legs of a line, by the places of their slots
+abbrev pub legs_of : Legs → ℕ → List Held
+legs_of legs line = filter_map (held_at legs) (slots_of line)
+
+-- The side that chose a call reference value sends flag 0 with it. A caller's value was chosen by its user, that of a called leg by the
+-- exchange: so what a user sends with flag 0 is for a caller's leg, and what it sends with flag 1 for a called one
+abbrev pub side_named : Bool → Side
+side_named false = Caller
+side_named true = Called
+
+abbrev pub same_side : Side → Side → Bool
+same_side Caller Caller = true
+same_side Caller Called = false
+same_side Called Caller = false
+same_side Called Called = true
+
+-- a message with this flag and call reference is for the leg
+abbrev pub is_for : Bool → ℕ → Held → Bool
+is_for flag reference h = same_side (side_named flag) h.leg.side && (h.leg.reference == reference)
+
+-- the leg of the line that such a message is for
+abbrev pub leg_named : Legs → ℕ → Bool → ℕ → Option Held
+leg_named legs line flag reference = find (is_for flag reference) (legs_of legs line)
+
+-- the call reference of a new called leg: the lowest from 1 up that no called leg of the line has. A line has thirty slots, so one of the
+-- first thirty is free where a slot is
+abbrev pub is_unused : Legs → ℕ → ℕ → Bool
+is_unused legs line reference = is_none (leg_named legs line true reference)
+
+abbrev pub new_reference : Legs → ℕ → ℕ
+new_reference legs line = 1 + position_or_len (is_unused legs line) (range_with_len 1 30)

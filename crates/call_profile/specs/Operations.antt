@@ -1,0 +1,64 @@
+-- What the exchange does with calls, one operation after another. Source: this exchange's own.
+use Rattle.std.specs.Prelude.{ℕ, List, [], ◌∷◌, ◌++◌, Option, Some, None, option_map}
+use Rattle.circuit_model.specs.declared.channel.Slot.{Slot}
+use Rattle.circuit_model.specs.declared.circuit.Kind.{Kind}
+use Rattle.circuit_model.specs.Holding.{Holding, Connect, Seat as Take_seat, Give_tone, Clear as Clear_slot, after}
+use Rattle.circuit_model.specs.Ports.{port_of, given}
+use Rattle.control_memory.specs.Layout.{Layout}
+use Rattle.control_memory.specs.Connecting.{moved}
+use Rattle.q931_codec.specs.Outgoing.{OutgoingMessage, encoding}
+use Rattle.call_states.specs.declared.leg.Leg.{Leg}
+use Rattle.exchange_events.specs.declared.signal.Signal.{Signal}
+use Rattle.call_profile.specs.Legs.{with_leg, without_leg}
+use Rattle.exchange_events.specs.Sizes.{Dimensions}
+use Rattle.call_profile.specs.World.{World, obey, one_way, both_ways}
+
+pub data Operation : Type 0 where
+  -- every circuit that names the slot is taken down
+  Clear : (x : Slot) → Operation
+  -- the two slots are connected, both ways
+  Pair : (x y : Slot) → Operation
+  -- the slot takes a seat in a room
+  Seat : (x : Slot) (room : ℕ) → Operation
+  -- the slot gets this tone, if there is one
+  Sound : (x : Slot) (kind : Option Kind) → Operation
+  -- the slot is held by this leg, in place of any other
+  Put : (x : Slot) (leg : Leg) → Operation
+  -- the slot is held by no leg
+  Remove : (x : Slot) → Operation
+  -- a message goes to the user of a line
+  Send : (line : ℕ) (message : OutgoingMessage) → Operation
+
+-- a world in the making: the world, what was sent so far, and how many live paths were moved where a connection or a seat was made
+pub record Making : Type 0 where
+  pub world : World
+  pub sends : List Signal
+  pub moves : Option (ℕ × ℕ)
+
+abbrev pub begun : World → Making
+begun w = record { world = w; sends = []; moves = None }
+
+-- how many live paths are moved for a path there, and for the one back
+abbrev pub moves_for : Dimensions → Layout → Slot → Slot → ℕ × ℕ
+moves_for d layout x y = (moved layout (one_way d layout x y), moved (one_way d layout x y) (both_ways d layout x y))
+
+abbrev pub moves_of_seat : Dimensions → World → Slot → Option (ℕ × ℕ)
+moves_of_seat d w x = option_map (moves_for d w.layout x) (port_of d.external (given x w.ports) x)
+
+-- the circuits once a slot got a tone, if there is one: it sounds from the next frame on
+abbrev pub sounding : Holding → Slot → Option Kind → Holding
+sounding h x None = h
+sounding h x (Some kind) = after h (Give_tone x kind)
+
+abbrev pub performed : Dimensions → Making → Operation → Making
+performed d m (Clear x) = record m { world = obey d m.world (Clear_slot x) }
+performed d m (Pair x y) = record m { world = obey d m.world (Connect x y); moves = Some (moves_for d m.world.layout x y) }
+performed d m (Seat x room) = record m { world = obey d m.world (Take_seat x room); moves = moves_of_seat d m.world x }
+performed d m (Sound x kind) = record m { world = record m.world { holding = sounding m.world.holding x kind } }
+performed d m (Put x leg) = record m { world = record m.world { legs = with_leg m.world.legs x leg } }
+performed d m (Remove x) = record m { world = record m.world { legs = without_leg m.world.legs x } }
+performed d m (Send line message) = record m { sends = m.sends ++ record { line = line; octets = encoding message } ∷ [] }
+
+abbrev pub performed_all : Dimensions → Making → List Operation → Making
+performed_all d m [] = m
+performed_all d m (o ∷ os) = performed_all d (performed d m o) os

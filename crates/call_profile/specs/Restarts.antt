@@ -1,0 +1,60 @@
+-- What a RESTART makes: slot by slot. Source: ITU-T Q.931 (05/98), 5.5; what becomes of the calls is this exchange's own profile.
+use Rattle.std.specs.Prelude.{ℕ, zero, suc, ◌==◌, ◌&&◌, Bool, List, [], ◌++◌, Option, Some, None, if◌then◌else◌}
+use Rattle.circuit_model.specs.declared.channel.Slot.{Slot}
+use Rattle.q931_codec.specs.Causes.{temporary_failure}
+use Rattle.clearing_rules.specs.declared.scope.Restart.{Restart}
+use Rattle.clearing_rules.specs.Restarting.{is_restarted, acknowledgement}
+use Rattle.tone_rules.specs.declared.tones.Tones.{Tones}
+use Rattle.call_states.specs.declared.leg.Held.{Held}
+use Rattle.exchange_events.specs.declared.record.CallRecord.{CallRecord}
+use Rattle.call_profile.specs.Acts.{peer_of, with_peer, clear_with, removing}
+use Rattle.call_profile.specs.CallRecords.{records}
+use Rattle.call_profile.specs.Legs.{Legs, held_at}
+use Rattle.call_profile.specs.Operations.{Operation, Making, begun, performed, performed_all, Send}
+use Rattle.exchange_events.specs.Sizes.{Dimensions}
+use Rattle.call_profile.specs.World.{World}
+
+-- ---- one slot
+
+-- the slots that a RESTART on a line restarts
+abbrev pub restarts_slot : Restart → ℕ → Slot → Bool
+restarts_slot r line x = (x.line == line) && is_restarted r x.place
+
+-- the other leg of a call is gone too where its slot is restarted as well, and its user is sent nothing; else it is cleared
+abbrev pub restart_peer : Tones → Restart → ℕ → Held → List Operation
+restart_peer tones r line other = if restarts_slot r line other.slot then removing other else clear_with tones temporary_failure other
+
+-- the leg that holds a restarted slot is gone
+abbrev pub restart_leg : Tones → Restart → Legs → Option Held → List Operation
+restart_leg tones r legs None = []
+restart_leg tones r legs (Some h) = removing h ++ with_peer (peer_of legs h.leg.peer) (restart_peer tones r h.slot.line)
+
+abbrev pub restart_slot : Tones → Restart → Legs → Slot → List Operation
+restart_slot tones r legs x = if is_restarted r x.place then restart_leg tones r legs (held_at legs x) else []
+
+-- ---- the slots of the line, one after another
+
+-- what was done so far: the world in the making, and the records that are told
+pub record Done : Type 0 where
+  pub making : Making
+  pub told : List CallRecord
+
+-- operations that end calls with this cause
+abbrev pub then_done : Dimensions → ℕ → Done → List Operation → Done
+then_done d cause a operations =
+    let m = performed_all d a.making operations in
+    record { making = m; told = a.told ++ records a.making.world m.world cause }
+
+abbrev pub slot_done : Dimensions → Tones → Restart → Slot → Done → Done
+slot_done d tones r x a = then_done d temporary_failure a (restart_slot tones r a.making.world.legs x)
+
+-- the places of the line below n, lowest first, each in the world that those before it left
+unfoldable pub restarted_below : Dimensions → Tones → Restart → ℕ → World → ℕ → Done
+restarted_below d tones r line w zero = record { making = begun w; told = [] }
+restarted_below d tones r line w (suc place) = slot_done d tones r (record { line = line; place = place }) (restarted_below d tones r line w place)
+
+-- all of them, and last the acknowledgement
+abbrev pub restarted : Dimensions → Tones → Restart → ℕ → World → Done
+restarted d tones r line w =
+    let a = restarted_below d tones r line w 30 in
+    record a { making = performed d a.making (Send line (acknowledgement r)) }

@@ -1,0 +1,213 @@
+-- SETUP: the checks in their order, and what is chosen. Which check comes first, and what is chosen, is this exchange's own profile of ITU-T
+-- Q.931 (05/98), 5.1 and 5.2.
+use Rattle.std.specs.Prelude.{ℕ, Bool, true, false, List, [], ◌∷◌, ◌++◌, Option, Some, None, is_none, option_map, option_and_then, unwrap_or, if◌then◌else◌}
+use Rattle.std.specs.Option.{option_or}
+use Rattle.circuit_model.specs.declared.channel.Slot.{Slot}
+use Rattle.circuit_model.specs.Channels.{place_of, channel_at}
+use Rattle.q931_codec.specs.declared.bearer.BearerCapability.{BearerCapability}
+use Rattle.q931_codec.specs.declared.bearer.BearerCapability.TheVariants as bearer
+use Rattle.q931_codec.specs.declared.contents.ChannelIdentification.{ChannelIdentification}
+use Rattle.q931_codec.specs.declared.contents.ChannelIdentification.TheVariants.{Any, Preferred, Exclusive, Invalid}
+use Rattle.q931_codec.specs.declared.kind.MessageKind.TheVariants as kind
+use Rattle.q931_codec.specs.declared.message.Message.{Message}
+use Rattle.q931_codec.specs.CallStates.{outgoing_call_proceeding, call_present, active}
+use Rattle.q931_codec.specs.Causes.{unallocated_number, invalid_number_format, no_channel_available, switching_equipment_congestion, requested_channel_not_available, bearer_capability_not_implemented, mandatory_element_missing, invalid_element_contents}
+use Rattle.q931_codec.specs.Contents.{channel_in, bearer_in, bearer_of, called_in, dialled, calling_in, low_layer_in, high_layer_in}
+use Rattle.q931_codec.specs.Outgoing.{OutgoingMessage, bare}
+use Rattle.call_states.specs.declared.leg.Leg.{Leg}
+use Rattle.call_states.specs.declared.leg.Peer.{Peer}
+use Rattle.call_states.specs.declared.leg.Peer.TheVariants as peer
+use Rattle.call_states.specs.declared.leg.Side.TheVariants.{Caller, Called}
+use Rattle.number_plan.specs.declared.target.Found.{Found}
+use Rattle.number_plan.specs.declared.target.Found.TheVariants.{Line, Room, More, Nothing}
+use Rattle.number_plan.specs.Plan.{found}
+use Rattle.call_profile.specs.Acts.{message_to}
+use Rattle.call_profile.specs.Course.{Course, only}
+use Rattle.call_profile.specs.IdleSlots.{idle, lowest_idle, lowest_idle_beside}
+use Rattle.call_profile.specs.Legs.{new_reference}
+use Rattle.call_profile.specs.Operations.{Operation, Seat, Put, Send}
+use Rattle.exchange_events.specs.Sizes.{Setting, Dimensions}
+use Rattle.call_profile.specs.World.{World, is_full}
+
+-- ---- what is read of a SETUP
+
+-- what its bearer capability is, and the digits that it dials
+abbrev pub bearer_asked : Message → Option BearerCapability
+bearer_asked m = option_map bearer_of (bearer_in m.elements)
+
+abbrev pub digits_in : Message → Option (List ℕ)
+digits_in m = option_and_then dialled (called_in m.elements)
+
+-- what the plan knows of them
+abbrev pub target_of : Setting → Message → Found
+target_of s m = found s.plan (unwrap_or (digits_in m) [])
+
+-- ---- what is chosen
+
+-- the slot of a line that a channel identification names
+abbrev pub slot_of : ℕ → ℕ → Option Slot
+slot_of line channel = option_map (λ place. record { line = line; place = place }) (place_of channel)
+
+abbrev pub slot_asked : ℕ → Option ChannelIdentification → Option Slot
+slot_asked line None = None
+slot_asked line (Some Any) = None
+slot_asked line (Some (Preferred channel)) = slot_of line channel
+slot_asked line (Some (Exclusive channel)) = slot_of line channel
+slot_asked line (Some Invalid) = None
+
+abbrev pub if_idle : World → Slot → Option Slot
+if_idle w x = if idle w x then Some x else None
+
+-- the caller's slot is the named one where it is idle, else the lowest idle one of the line
+abbrev pub caller_slot : World → ℕ → Option ChannelIdentification → Option Slot
+caller_slot w line channel = option_or (option_and_then (if_idle w) (slot_asked line channel)) (lowest_idle w line)
+
+-- the called slot is the lowest idle one of the called line beside the caller's
+abbrev pub called_slot : World → Slot → Found → Option Slot
+called_slot w caller (Line line) = lowest_idle_beside w caller line
+called_slot w caller _ = None
+
+-- ---- the checks: whether each fails, and the cause with which the SETUP is refused then
+
+abbrev pub Check : Type 0
+Check = Bool × ℕ
+
+abbrev pub is_invalid : Option ChannelIdentification → Bool
+is_invalid (Some Invalid) = true
+is_invalid _ = false
+
+-- what the elements say: a bearer that this exchange carries, a channel that can be read, and a number of digits
+abbrev pub is_unreadable : Option BearerCapability → Bool
+is_unreadable (Some bearer.Invalid) = true
+is_unreadable _ = false
+
+abbrev pub is_not_carried : Option BearerCapability → Bool
+is_not_carried (Some bearer.NotCarried) = true
+is_not_carried _ = false
+
+abbrev pub element_checks : Message → List Check
+element_checks m =
+    (is_none (bearer_in m.elements), mandatory_element_missing)
+    ∷ (is_unreadable (bearer_asked m), invalid_element_contents)
+    ∷ (is_not_carried (bearer_asked m), bearer_capability_not_implemented)
+    ∷ (is_invalid (channel_in m.elements), invalid_element_contents)
+    ∷ (is_none (called_in m.elements), invalid_number_format)
+    ∷ (is_none (digits_in m), invalid_number_format)
+    ∷ []
+
+abbrev pub is_unknown : Found → Bool
+is_unknown Nothing = true
+is_unknown _ = false
+
+abbrev pub is_incomplete : Found → Bool
+is_incomplete More = true
+is_incomplete _ = false
+
+-- what the plan knows of the number
+abbrev pub number_checks : Found → List Check
+number_checks target =
+    (is_unknown target, unallocated_number)
+    ∷ (is_incomplete target, invalid_number_format)
+    ∷ []
+
+-- the slot of the one channel that is asked for is not idle
+abbrev pub is_taken : World → ℕ → Option ChannelIdentification → Bool
+is_taken w line (Some (Exclusive channel)) = is_none (option_and_then (if_idle w) (slot_of line channel))
+is_taken w line _ = false
+
+-- the called line has no idle slot beside the caller's
+abbrev pub is_line_full : World → Option Slot → Found → Bool
+is_line_full w caller (Line line) = is_none (option_and_then (λ x. lowest_idle_beside w x line) caller)
+is_line_full w caller _ = false
+
+-- the number is a room's, and every port is taken
+abbrev pub is_room_full : Dimensions → World → Found → Bool
+is_room_full d w (Room room) = is_full d w
+is_room_full d w _ = false
+
+-- whether there are slots for the call, and a port
+abbrev pub slot_checks : Dimensions → World → ℕ → Option ChannelIdentification → Found → List Check
+slot_checks d w line channel target =
+    let caller = caller_slot w line channel in
+    (is_taken w line channel, requested_channel_not_available)
+    ∷ (is_none caller, no_channel_available)
+    ∷ (is_line_full w caller target, no_channel_available)
+    ∷ (is_room_full d w target, switching_equipment_congestion)
+    ∷ []
+
+-- the twelve checks in their order
+abbrev pub checks : Setting → World → ℕ → Message → List Check
+checks s w line m = element_checks m ++ number_checks (target_of s m) ++ slot_checks s.dimensions w line (channel_in m.elements) (target_of s m)
+
+-- the first check that fails decides
+abbrev pub first_cause : List Check → Option ℕ
+first_cause [] = None
+first_cause ((fails, cause) ∷ others) = if fails then Some cause else first_cause others
+
+abbrev pub refusal : Setting → World → ℕ → Message → Option ℕ
+refusal s w line m = first_cause (checks s w line m)
+
+-- ---- what a SETUP makes
+
+-- a leg of a new call
+abbrev pub caller_leg : ℕ → ℕ → Peer → Leg
+caller_leg state reference peer = record { state = state; reference = reference; side = Caller; peer = peer; cause = 0 }
+
+abbrev pub called_leg : ℕ → Slot → Leg
+called_leg reference caller = record { state = call_present; reference = reference; side = Called; peer = peer.Leg caller; cause = 0 }
+
+abbrev pub refuse : ℕ → ℕ → ℕ → List Operation
+refuse line reference cause = Send line (record (bare true reference kind.ReleaseComplete) { cause = Some cause }) ∷ []
+
+abbrev pub proceeding : Slot → Leg → OutgoingMessage
+proceeding x leg = record (message_to leg kind.CallProceeding) { channel = Some (channel_at x.place) }
+
+-- the SETUP to the called user
+abbrev pub offer : Message → Slot → Leg → OutgoingMessage
+offer m y leg = record (message_to leg kind.Setup) {
+  complete = true;
+  bearer = unwrap_or (bearer_in m.elements) [];
+  channel = Some (channel_at y.place);
+  calling = calling_in m.elements;
+  called = unwrap_or (called_in m.elements) [];
+  low = low_layer_in m.elements;
+  high = high_layer_in m.elements;
+}
+
+-- a call to a line: the caller waits, and the called user is offered the call
+abbrev pub call_line : Message → Slot → Slot → ℕ → List Operation
+call_line m x y reference =
+    let caller = caller_leg outgoing_call_proceeding m.reference (peer.Leg y) in
+    let called = called_leg reference x in
+    Put x caller
+    ∷ Put y called
+    ∷ Send x.line (proceeding x caller)
+    ∷ Send y.line (offer m y called)
+    ∷ []
+
+-- a call to a room is answered at once
+abbrev pub call_room : Message → Slot → ℕ → List Operation
+call_room m x room =
+    let caller = caller_leg active m.reference (peer.Room room) in
+    Put x caller
+    ∷ Seat x room
+    ∷ Send x.line (proceeding x caller)
+    ∷ Send x.line (message_to caller kind.Connect)
+    ∷ []
+
+abbrev pub call : World → Message → Slot → Found → Option Slot → List Operation
+call w m x (Line line) (Some y) = call_line m x y (new_reference w.legs line)
+call w m x (Room room) called = call_room m x room
+call w m x _ _ = []
+
+-- an accepted SETUP has a slot for the caller
+abbrev pub accept : Setting → World → Message → Option Slot → List Operation
+accept s w m None = []
+accept s w m (Some x) = call w m x (target_of s m) (called_slot w x (target_of s m))
+
+abbrev pub setup : Setting → World → ℕ → Message → Option ℕ → List Operation
+setup s w line m (Some cause) = refuse line m.reference cause
+setup s w line m None = accept s w m (caller_slot w line (channel_in m.elements))
+
+abbrev pub course_of_setup : Setting → World → ℕ → Message → Course
+course_of_setup s w line m = only (setup s w line m (refusal s w line m))

@@ -1,0 +1,76 @@
+-- The exchange as a machine: what each event makes of what stands, and what it is answered. Source: this exchange's own.
+use Rattle.std.specs.Prelude.{ℕ, ◌-◌, ◌≤◌, ◌&&◌, not, Bool, false, List, [], ◌∷◌, filter_map, slice_get, is_some, IfSome, if◌then◌else◌}
+use Rattle.circuit_model.specs.declared.channel.Slot.{Slot}
+use Rattle.circuit_model.specs.Holding.{Connect, Seat as Take_seat, Clear}
+use Rattle.circuit_model.specs.Ports.{port_of, given}
+use Rattle.exchange_events.specs.declared.trace.Event.{Event}
+use Rattle.exchange_events.specs.declared.trace.Event.TheVariants.{Nail, Seat, Free, Message, Frame}
+use Rattle.exchange_events.specs.declared.reply.Reply.{Reply}
+use Rattle.exchange_events.specs.declared.reply.Reply.TheVariants.{Granted, Busy, Seated, NoPort, Freed, NotNailed, Sent as Sent_reply, Frame as Frame_reply}
+use Rattle.call_profile.specs.Calls.{Sent, after_message, answer_to, refused_with}
+use Rattle.call_profile.specs.IdleSlots.{idle, nailed}
+use Rattle.exchange_events.specs.Sizes.{Setting, Dimensions}
+use Rattle.call_profile.specs.World.{World, obey, pass, is_full, granted, seated}
+
+-- two slots can be nailed together where both are idle; one can be seated where it is idle and a port is free
+abbrev pub may_nail : World → Slot → Slot → Bool
+may_nail w x y = idle w x && idle w y
+
+abbrev pub may_seat : Dimensions → World → Slot → Bool
+may_seat d w x = idle w x && not (is_full d w)
+
+-- the answer to a message
+abbrev pub sent : Sent → Reply
+sent a = Sent_reply a.sends a.moved a.records
+
+-- what an event is answered
+abbrev pub reply : Setting → World → Event → Reply
+reply s w (Nail x y) = if may_nail w x y then granted s.dimensions w.layout x y else Busy
+reply s w (Seat x room) =
+    if not (idle w x) then Busy
+    else if is_full s.dimensions w then NoPort
+    else seated s.dimensions w.layout x (port_of s.dimensions.external (given x w.ports) x)
+reply s w (Free x) = if nailed w x then Freed else NotNailed
+reply s w (Message line octets) = sent (answer_to s w line octets)
+reply s w (Frame input) = Frame_reply w.holding.next [] []
+
+-- what an event makes of the world; where it is refused, nothing
+abbrev pub next : Setting → World → Event → World
+next s w (Nail x y) = if may_nail w x y then obey s.dimensions w (Connect x y) else w
+next s w (Seat x room) = if may_seat s.dimensions w x then obey s.dimensions w (Take_seat x room) else w
+next s w (Free x) = if nailed w x then obey s.dimensions w (Clear x) else w
+next s w (Message line octets) = after_message s w line octets
+next s w (Frame input) = pass w input
+
+-- an event that is refused: a slot is not as it must be, there is no port, or a call that is asked for can't be set up
+abbrev pub is_refused : Setting → World → Event → Bool
+is_refused s w (Nail x y) = not (may_nail w x y)
+is_refused s w (Seat x room) = not (may_seat s.dimensions w x)
+is_refused s w (Free x) = not (nailed w x)
+is_refused s w (Message line octets) = is_some (refused_with s w line octets)
+is_refused s w (Frame input) = false
+
+-- an answer tells of so many moved paths at the most, each way
+abbrev pub MovesAtMost : ℕ → Reply → Type 0
+MovesAtMost n (Granted a b) = (a ≤ n) × (b ≤ n)
+MovesAtMost n Busy = Unit {0}
+MovesAtMost n (Seated a b) = (a ≤ n) × (b ≤ n)
+MovesAtMost n NoPort = Unit {0}
+MovesAtMost n Freed = Unit {0}
+MovesAtMost n NotNailed = Unit {0}
+MovesAtMost n (Sent_reply sends moved records) = IfSome moved (λ moves. (moves.0 ≤ n) × (moves.1 ≤ n))
+MovesAtMost n (Frame_reply k sends records) = Unit {0}
+
+-- the world after a list of events
+abbrev pub world : Setting → World → List Event → World
+world s w [] = w
+world s w (e ∷ es) = world s (next s w e) es
+
+-- the replies of a run, in order: each is that of the world that the events before it made
+abbrev pub run : Setting → World → List Event → List Reply
+run s w [] = []
+run s w (e ∷ es) = reply s w e ∷ run s (next s w e) es
+
+-- the events with these numbers, which count from 1
+abbrev pub events_of : List Event → List ℕ → List Event
+events_of events order = filter_map (λ n. slice_get events (n - 1)) order

@@ -1,0 +1,86 @@
+-- What the exchange holds, and what commands make of it. Source: this exchange's own; the paths join the layout by Paull's rule.
+use Rattle.std.specs.Prelude.{ℕ, ◌+◌, ◌*◌, ◌==◌, Bool, List, [], ◌∷◌, ◌++◌, count_by, replicate, Option, Some, None}
+use Rattle.circuit_model.specs.declared.channel.Slot.{Slot}
+use Rattle.circuit_model.specs.declared.circuit.Circuit.{Circuit}
+use Rattle.circuit_model.specs.FrameInput.{Input}
+use Rattle.circuit_model.specs.Circuits.{is_member, heard_by}
+use Rattle.circuit_model.specs.Holding.{Holding, empty, Command, Connect, Seat as Take_seat, Give_tone, Clear, Frame as Boundary, after}
+use Rattle.circuit_model.specs.Ports.{Ports, free_ports, ports_after, port_of, given}
+use Rattle.control_memory.specs.Layout.{Layout}
+use Rattle.control_memory.specs.Connecting.{connect, moved}
+use Rattle.circuit_map.specs.Connections.{without_both, partner}
+use Rattle.exchange_events.specs.Sizes.{Dimensions}
+use Rattle.call_profile.specs.Legs.{Legs, no_legs}
+use Rattle.exchange_events.specs.declared.reply.Reply.{Reply}
+use Rattle.exchange_events.specs.declared.reply.Reply.TheVariants.{Granted, Seated, NoPort}
+
+abbrev pub lines_of : Dimensions → ℕ
+lines_of d = d.external + d.bridges
+
+-- what the exchange holds: the circuits that stand, the legs of the calls, the member of each conference port and the layout of the paths;
+-- and of each frame so far its input, and the circuits and ports at its boundary
+pub record World : Type 0 where
+  pub holding : Holding
+  pub legs : Legs
+  pub ports : Ports
+  pub layout : Layout
+  pub inputs : List Input
+  pub held : List (List Circuit)
+  pub seated : List Ports
+
+-- before the first event
+abbrev pub start : Dimensions → World
+start d = record {
+  holding = empty;
+  legs = no_legs d.external;
+  ports = free_ports d.bridges;
+  layout = replicate (30 * lines_of d) None;
+  inputs = [];
+  held = [];
+  seated = [];
+}
+
+-- the layout once a path joins it from x to y, and once another joins it back
+abbrev pub one_way : Dimensions → Layout → Slot → Slot → Layout
+one_way d layout x y = connect (lines_of d) d.slots layout x y
+
+abbrev pub both_ways : Dimensions → Layout → Slot → Slot → Layout
+both_ways d layout x y = connect (lines_of d) d.slots (one_way d layout x y) y x
+
+-- the layout once a member is connected with its port
+abbrev pub with_port : Dimensions → Layout → Slot → Option Slot → Layout
+with_port d layout x None = layout
+with_port d layout x (Some port) = both_ways d layout x port
+
+-- what a command makes of the layout: a connection needs a path each way, a seat one to its member's port and one back; what is cleared
+-- takes its paths along
+abbrev pub laid : Dimensions → World → Command → Layout
+laid d w (Connect x y) = both_ways d w.layout x y
+laid d w (Take_seat x room) = with_port d w.layout x (port_of d.external (given x w.ports) x)
+laid d w (Give_tone x kind) = w.layout
+laid d w (Clear x) = without_both w.layout x (partner d.external w.ports (heard_by w.holding.circuits x))
+laid d w Boundary = w.layout
+
+abbrev pub obey : Dimensions → World → Command → World
+obey d w command = record w { holding = after w.holding command; ports = ports_after w.ports command; layout = laid d w command }
+
+-- a frame is recorded as it was at its boundary
+abbrev pub pass : World → Input → World
+pass w input = record w {
+  holding = after w.holding Boundary;
+  inputs = w.inputs ++ input ∷ [];
+  held = w.held ++ w.holding.circuits ∷ [];
+  seated = w.seated ++ w.ports ∷ [];
+}
+
+-- every conference port is taken
+abbrev pub is_full : Dimensions → World → Bool
+is_full d w = count_by is_member w.holding.circuits == 30 * d.bridges
+
+-- the answer to a connection of x with y, or to a seat at a port: how many live paths were moved for the path there, and for the one back
+abbrev pub granted : Dimensions → Layout → Slot → Slot → Reply
+granted d layout x y = Granted (moved layout (one_way d layout x y)) (moved (one_way d layout x y) (both_ways d layout x y))
+
+abbrev pub seated : Dimensions → Layout → Slot → Option Slot → Reply
+seated d layout x None = NoPort
+seated d layout x (Some port) = Seated (moved layout (one_way d layout x port)) (moved (one_way d layout x port) (both_ways d layout x port))

@@ -1,0 +1,29 @@
+//! The rules of calls: what this exchange does for a command or a message, as definitions that are read
+//! from top to bottom. `Step` says what each event is answered and makes of the world; `Calls` what a
+//! message asks for; `Acts`, `Setup` and `Restarts` what is then done, one operation after another
+//! (`Operations`).
+//!
+//! There is hardly any code here; its functions are laws of these definitions:
+//!
+//! - Every event keeps the legs standing ([`law_of_legs`]), and an event that is refused changes nothing
+//!   ([`law_of_refusals`]); a refused call ends none ([`law_of_refused_calls`]).
+//! - What is sent does not depend on the layout, so no call is cleared because a path is lacking
+//!   ([`law_of_paths`]), and an answered call gets both paths ([`law_of_answered_calls`]).
+//! - Whatever happens, allowed commands made the circuits and the ports of each frame
+//!   ([`worlds_are_made`]); later events change nothing of a frame ([`later_frames_change_nothing`]).
+//! - [`is_for`] returns whether a message is for a leg.
+//!
+//! It stands on `circuit_model`, `control_memory`, `circuit_map`, `q931_elements`, `q931_codec`,
+//! `call_states`, `clearing_rules`, `tone_rules`, `number_plan` and `exchange_events`.
+#![tactic(auto)]
+
+mod call_laws;
+mod laws;
+mod legs;
+
+pub use call_laws::{
+    law_of_answered_calls, law_of_legs, law_of_paths, law_of_refusals, law_of_refused_calls,
+    worked_calls,
+};
+pub use laws::{later_frames_change_nothing, worlds_are_made};
+pub use legs::is_for;

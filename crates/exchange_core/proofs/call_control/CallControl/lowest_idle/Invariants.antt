@@ -1,9 +1,0 @@
-use Rattle.std.proofs.Common.{◌≡◌}
-use Rattle.exchange_core.specs.IdleSlots.{idle, lowest_idle}
-use Rattle.exchange_core.specs.Standing.{Holds}
-use Rattle.exchange_core.specs.World.{Dimensions, World}
-use Rattle.exchange_core.proofs.Choosing.{first_from}
-use Rattle.exchange_core.proofs.call_control.CallControl.lowest_idle.Given as goal
-
-abbrev pub invariant-loop-place : goal.invariant-loop-place
-invariant-loop-place g l = (d : Dimensions) (w : World) → Holds d l.self.map l.self.legs w → lowest_idle w l.line ≡ first_from (idle w) l.line l.place

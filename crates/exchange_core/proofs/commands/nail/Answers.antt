@@ -1,0 +1,14 @@
+use Rattle.std.proofs.Common.{◌≡◌, true, false, arith}
+use Rattle.std.proofs.lemmas.Grind.{common_steps}
+use Rattle.call_profile.specs.Step.{may_nail}
+use Rattle.exchange_core.proofs.commands.nail.Goals as goal
+
+pub returns-then-not-may_nail-clause-world : goal.returns-then-not-may_nail-clause-world
+returns-then-not-may_nail-clause-world g c s w h =
+    let may : may_nail w c.args.x c.args.y ≡ false = grind (arith, common_steps, c.may_nail.ensures.may s.dimensions w h, c.if-not-may_nail.true) in
+    rw may h
+
+pub returns-clause-world : goal.returns-clause-world
+returns-clause-world g c s w h =
+    let may : may_nail w c.args.x c.args.y ≡ true = grind (arith, common_steps, c.may_nail.ensures.may s.dimensions w h, c.if-not-may_nail.false) in
+    rw may (c.pair-there.ensures.holds s.dimensions w h)

@@ -1,0 +1,32 @@
+use Rattle.std.proofs.Common.{[], sym, subst}
+use Rattle.circuit_model.specs.FrameInput.{Input}
+use Rattle.exchange_core.specs.declared.tool.Tool.{Tool}
+use Rattle.exchange_core.specs.declared.tool.Tool.TheVariants as tool
+use Rattle.exchange_events.specs.declared.trace.Event.{Event}
+use Rattle.exchange_events.specs.declared.trace.Event.TheVariants.{Frame}
+use Rattle.exchange_core.specs.Working.{IsToolFor}
+use Rattle.exchange_events.specs.Sizes.{Dimensions}
+use Rattle.exchange_core.proofs.step.happen.Goals as goal
+
+-- what a frame's tool must be does not depend on what arrives
+frame_tool : (d : Dimensions) (input other : Input) (t : Tool) → IsToolFor d (Frame input) t → IsToolFor d (Frame other) t
+frame_tool d input other (tool.Image image) is = is
+frame_tool d input other tool.Nothing is = absurd is
+
+pub returns-in-Nail-clause-reply : goal.returns-in-Nail-clause-reply
+returns-in-Nail-clause-reply g c s w plan tones work = rw c.in-Nail.is (c.nail.ensures.reply s w c.args.out.now work.holds)
+
+pub returns-in-Nail-clause-world : goal.returns-in-Nail-clause-world
+returns-in-Nail-clause-world g c s w plan tones work = rw c.in-Nail.is (c.nail.ensures.world s w work.holds)
+
+pub returns-in-Free-clause-reply : goal.returns-in-Free-clause-reply
+returns-in-Free-clause-reply g c s w plan tones work = rw c.in-Free.is (c.free.ensures.reply s w c.args.out.now work.holds)
+
+pub returns-in-Frame-clause-world : goal.returns-in-Frame-clause-world
+returns-in-Frame-clause-world g c s w plan tones work = rw c.in-Frame.is (c.frame.ensures.world s.dimensions w c.in-Frame.field-0 work.holds)
+
+pub returns-in-Frame-clause-tool : goal.returns-in-Frame-clause-tool
+returns-in-Frame-clause-tool g c d fits =
+    let old : IsToolFor d (Frame c.in-Frame.field-0) c.args.tool.now = subst (λ (e : Event). IsToolFor d e c.args.tool.now) c.in-Frame.is fits in
+    let new = frame_tool d [] c.in-Frame.field-0 c.frame.new.tool (c.frame.ensures.tool d (frame_tool d c.in-Frame.field-0 [] c.args.tool.now old)) in
+    subst (λ (e : Event). IsToolFor d e c.frame.new.tool) (sym c.in-Frame.is) new

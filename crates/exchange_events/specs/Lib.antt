@@ -1,0 +1,6 @@
+pub mod Limits
+pub mod Sizes
+pub mod Sound
+pub mod Orders
+pub mod Responses
+pub mod Kept

@@ -1,0 +1,57 @@
+-- The orders in which the events of a trace may happen. Source: this exchange's own.
+use Rattle.std.specs.Prelude.{◌≡◌, ◌≢◌, ℕ, ◌-◌, ◌%◌, ◌<◌, ◌≤◌, ◌⊎◌, List, length, take, nat_lt, count_by, slice_get, slice_index, All, AllPairs, Contains, EachIndex, Some}
+use Rattle.std.specs.List.{range_with_len}
+use Rattle.exchange_events.specs.declared.trace.Event.{Event}
+use Rattle.exchange_events.specs.declared.trace.Event.TheVariants.{Nail, Seat, Free, Message, Frame}
+use Rattle.exchange_events.specs.declared.trace.Trace.{Trace}
+
+-- who does an event: one of the call processors, or the frame worker
+pub data Worker : Type 0 where
+  Processor : ℕ → Worker
+  Frame_worker : Worker
+
+-- the call processors share the lines in turn; a nail belongs to the line of its first slot, a seat and a free to that of their slot, a message
+-- to that of its user
+abbrev pub worker_of : ℕ → Event → Worker
+worker_of processors (Nail x y) = Processor (x.line % processors)
+worker_of processors (Seat x room) = Processor (x.line % processors)
+worker_of processors (Free x) = Processor (x.line % processors)
+worker_of processors (Message line octets) = Processor (line % processors)
+worker_of processors (Frame input) = Frame_worker
+
+-- the segment of event number n, counted from 0: how many segments end before it
+abbrev pub segment_of : List ℕ → ℕ → ℕ
+segment_of ends n = count_by (λ last. nat_lt last n) ends
+
+-- m and n are numbers of events that one worker does
+pub record SameWorker (trace : Trace) (m n : ℕ) : Type 0 where
+  pub first : Event
+  pub second : Event
+  pub is_first : slice_get trace.events (m - 1) ≡ Some first
+  pub is_second : slice_get trace.events (n - 1) ≡ Some second
+  pub same : worker_of trace.processors first ≡ worker_of trace.processors second
+
+-- event m has to happen before event n: it is of an earlier segment, or its worker comes to it first in the same segment
+abbrev pub Precedes : Trace → ℕ → ℕ → Type 0
+Precedes trace m n =
+    (segment_of trace.segments m < segment_of trace.segments n)
+    ⊎ ((segment_of trace.segments m ≡ segment_of trace.segments n) × (m < n) × SameWorker trace m n)
+
+-- n is the number of an event of the trace
+abbrev pub IsEvent : Trace → ℕ → Type 0
+IsEvent trace n = (1 ≤ n) × (n ≤ length trace.events)
+
+-- a lawful beginning: events of the trace, each once, and none before one that has to precede it
+pub record IsLawfulPrefix (trace : Trace) (order : List ℕ) : Type 0 where
+  pub known : All (IsEvent trace) order
+  pub distinct : AllPairs (λ m n. m ≢ n) order
+  pub waits : EachIndex order (λ k. (m : ℕ) → IsEvent trace m → Precedes trace m (slice_index order k) → Contains (take k order) m)
+
+-- a lawful order holds every event
+pub record IsLawful (trace : Trace) (order : List ℕ) : Type 0 where
+  pub begun : IsLawfulPrefix trace order
+  pub whole : (n : ℕ) → IsEvent trace n → Contains order n
+
+-- the numbers of the first events of the file
+abbrev pub file_order : ℕ → List ℕ
+file_order count = range_with_len 1 count

@@ -1,0 +1,67 @@
+-- What every trace keeps to. Source: this exchange's own.
+use Rattle.std.specs.Prelude.{◌≡◌, ◌≢◌, ℕ, ◌<◌, ◌≤◌, nat_lt, Bool, true, IsTrue, List, [], ◌∷◌, length, All, AllPairs}
+use Rattle.circuit_model.specs.declared.channel.Slot.{Slot}
+use Rattle.circuit_model.specs.Extent.{IsExternal}
+use Rattle.number_plan.specs.declared.target.Target.{Target}
+use Rattle.number_plan.specs.declared.target.Target.TheVariants as target
+use Rattle.number_plan.specs.Plan.{all_targets}
+use Rattle.exchange_events.specs.declared.trace.Event.{Event}
+use Rattle.exchange_events.specs.declared.trace.Event.TheVariants.{Nail, Seat, Free, Message, Frame}
+use Rattle.exchange_events.specs.declared.trace.Trace.{Trace}
+use Rattle.exchange_events.specs.Limits.{most_events}
+use Rattle.exchange_events.specs.Sizes.{Setting}
+
+-- two slots that can be nailed together
+pub record IsNail (external : ℕ) (x y : Slot) : Type 0 where
+  pub first : IsExternal external x
+  pub second : IsExternal external y
+  pub distinct : x ≢ y
+
+-- an event of an exchange with so many external lines
+abbrev pub Fits : ℕ → Event → Type 0
+Fits external (Nail x y) = IsNail external x y
+Fits external (Seat x room) = IsExternal external x
+Fits external (Free x) = IsExternal external x
+Fits external (Message line octets) = (line < external) × All (λ octet. octet < 256) octets
+Fits external (Frame input) = length input ≡ external
+
+-- a number's line is one of so many
+abbrev pub is_reached : ℕ → Target → Bool
+is_reached external (target.Line line) = nat_lt line external
+is_reached external (target.Room room) = true
+
+-- the lines that the numbers of a plan stand for exist
+abbrev pub IsPlanned : Setting → Type 0
+IsPlanned s = IsTrue (all_targets (is_reached s.dimensions.external) s.plan)
+
+-- the last of these numbers, 0 where there is none
+abbrev pub last_of : List ℕ → ℕ
+last_of [] = 0
+last_of (n ∷ []) = n
+last_of (n ∷ m ∷ ns) = last_of (m ∷ ns)
+
+-- where the segments of so many events end: the numbers of their last events rise, and the last of them is that of the last event
+pub record AreSegments (events : ℕ) (ends : List ℕ) : Type 0 where
+  pub some : All (λ n. 1 ≤ n) ends
+  pub rising : AllPairs (λ m n. m < n) ends
+  pub whole : last_of ends ≡ events
+
+-- what an exchange over a fabric of so many internal slots is built with, by a trace
+abbrev pub setting_of : ℕ → Trace → Setting
+setting_of slots trace = record {
+  dimensions = record { external = trace.external; bridges = trace.bridges; slots = slots };
+  plan = trace.plan;
+  tones = trace.tones;
+}
+
+-- an exchange of 1 to 32 external and at most 2 bridge lines and of 1 to 8 call processors; the lines of its plan exist; its events are not too
+-- many, each is one of as many external lines, and each is in a segment
+pub record IsSound (trace : Trace) : Type 0 where
+  pub some : 1 ≤ trace.external
+  pub few : trace.external ≤ 32
+  pub bridges : trace.bridges ≤ 2
+  pub processors : (1 ≤ trace.processors) × (trace.processors ≤ 8)
+  pub planned : IsTrue (all_targets (is_reached trace.external) trace.plan)
+  pub count : length trace.events ≤ most_events
+  pub events : All (Fits trace.external) trace.events
+  pub segments : AreSegments (length trace.events) trace.segments

@@ -1,0 +1,276 @@
+ghost use Rattle.std.specs.Prelude.{◌≡◌, IfOk};
+ghost use Rattle.exchange_events.specs.Kept.{kept};
+ghost use Rattle.exchange_events.specs.Responses.{reply_of};
+
+use crate::outbox::{Outbox, Response};
+use crate::record::CallRecord;
+use crate::reply::Reply;
+use crate::signal::Signal;
+use std::alloc::{AllocError, Global};
+use std::marker::Model;
+
+/// Messages that were sent, in order. Contracts see their list.
+#[derive(Drop)]
+pub struct SignalList {
+    items: Vec<Signal>,
+}
+
+impl Model for SignalList {
+    ghost use Rattle.std.specs.Prelude.{List};
+    ghost use Rattle.exchange_events.specs.declared.signal.Signal.{Signal};
+
+    ghost Value = { List Signal };
+
+    ghost view = { λ s. s.items.items };
+}
+
+impl SignalList {
+    /// These messages.
+    pub fn of(items: Vec<Signal>) -> SignalList
+        ensures { result ≡ items.items }
+    {
+        SignalList { items }
+    }
+
+    /// The messages in the order in which they were sent.
+    pub fn as_slice(&self) -> &[Signal]
+        ensures { result.now ≡ self.now }
+    {
+        self.items.as_slice()
+    }
+}
+
+/// Records of calls, in order. Contracts see their list.
+#[derive(Drop)]
+pub struct RecordList {
+    items: Vec<CallRecord>,
+}
+
+impl Model for RecordList {
+    ghost use Rattle.std.specs.Prelude.{List};
+    ghost use Rattle.exchange_events.specs.declared.record.CallRecord.{CallRecord};
+
+    ghost Value = { List CallRecord };
+
+    ghost view = { λ r. r.items.items };
+}
+
+impl RecordList {
+    /// These records.
+    pub fn of(items: Vec<CallRecord>) -> RecordList
+        ensures { result ≡ items.items }
+    {
+        RecordList { items }
+    }
+
+    /// The records in order.
+    pub fn as_slice(&self) -> &[CallRecord]
+        ensures { result.now ≡ self.now }
+    {
+        self.items.as_slice()
+    }
+}
+
+/// The octets of a frame: for each external line thirty, in order of place. Contracts see their list.
+#[derive(Drop)]
+pub struct Rows {
+    rows: Vec<[u8; 30]>,
+}
+
+impl Model for Rows {
+    ghost use Rattle.std.specs.Prelude.{List, ℕ};
+
+    ghost Value = { List (List ℕ) };
+
+    ghost view = { λ a. a.rows.items };
+}
+
+impl Rows {
+    /// These octets.
+    pub fn of(items: Vec<[u8; 30]>) -> Rows
+        ensures { result ≡ items.items }
+    {
+        Rows { rows: items }
+    }
+
+    /// The octets of each line, in order.
+    pub fn as_slice(&self) -> &[[u8; 30]]
+        ensures { result.now ≡ self.now }
+    {
+        self.rows.as_slice()
+    }
+}
+
+/// A [`Reply`] with its lists on the heap, each no longer than it need be, so that replies can be kept.
+#[derive(Drop)]
+pub enum Kept {
+    /// As [`Reply::Granted`].
+    Granted(u32, u32),
+    /// As [`Reply::Busy`].
+    Busy,
+    /// As [`Reply::Seated`].
+    Seated(u32, u32),
+    /// As [`Reply::NoPort`].
+    NoPort,
+    /// As [`Reply::Freed`].
+    Freed,
+    /// As [`Reply::NotNailed`].
+    NotNailed,
+    /// As [`Reply::Sent`].
+    Sent {
+        /// The messages that were sent, in order.
+        sends: SignalList,
+        /// Where the message made a connection or took a seat, how many live paths were moved for
+        /// the path there, and for the one back.
+        moved: Option<(u32, u32)>,
+        /// The records of the calls that the message began to clear, in order.
+        records: RecordList,
+    },
+    /// As [`Reply::Frame`].
+    Frame {
+        /// The number of the frame.
+        number: u32,
+        /// The messages that were sent, in order.
+        sends: SignalList,
+        /// The records of the calls that ended, in order.
+        records: RecordList,
+    },
+}
+
+/// What an event was answered, kept until it is reported.
+#[derive(Drop)]
+pub struct Answer {
+    /// The number of the event, counted from 1.
+    pub event: u32,
+    /// What the exchange replied.
+    pub reply: Kept,
+    /// What each external line sends where the event is a frame.
+    pub octets: Rows,
+}
+
+impl Answer {
+    /// Keeps what an event was answered: its number, the reply, and what each external line sends
+    /// where it is a frame. A reply without messages and records, of an event without octets, takes
+    /// no memory.
+    ///
+    /// # Errors
+    ///
+    /// [`AllocError`] for want of memory.
+    pub fn keep(
+        alloc: Global,
+        event: u32,
+        reply: &Reply,
+        octets: &[[u8; 30]],
+    ) -> Result<Answer, AllocError>
+        ensures event { IfOk result (λ a. a.event ≡ event) }
+        ensures reply { IfOk result (λ a. a.reply ≡ kept reply.now) }
+        ensures octets { IfOk result (λ a. a.octets ≡ octets.now) }
+    {
+        answer_of(alloc, event, keep_reply(alloc, reply)?, octets)
+    }
+}
+
+impl Answer {
+    /// Keeps what an event was answered by a response and the outbox of its step.
+    ///
+    /// # Errors
+    ///
+    /// [`AllocError`] for want of memory.
+    pub fn keep_response(
+        alloc: Global,
+        event: u32,
+        response: Response,
+        out: &Outbox,
+        octets: &[[u8; 30]],
+    ) -> Result<Answer, AllocError>
+        ensures event { IfOk result (λ a. a.event ≡ event) }
+        ensures reply { IfOk result (λ a. a.reply ≡ kept (reply_of response out.now)) }
+        ensures octets { IfOk result (λ a. a.octets ≡ octets.now) }
+    {
+        answer_of(alloc, event, keep_with(alloc, response, out)?, octets)
+    }
+}
+
+// The answer with a kept reply.
+fn answer_of(
+    alloc: Global,
+    event: u32,
+    reply: Kept,
+    octets: &[[u8; 30]],
+) -> Result<Answer, AllocError>
+    ensures event { IfOk result (λ a. a.event ≡ event) }
+    ensures reply { IfOk result (λ a. a.reply ≡ reply) }
+    ensures octets { IfOk result (λ a. a.octets ≡ octets.now) }
+{
+    Ok(Answer {
+        event,
+        reply,
+        octets: Rows::of(Vec::from_slice(alloc, octets)?),
+    })
+}
+
+fn keep_with(alloc: Global, response: Response, out: &Outbox) -> Result<Kept, AllocError>
+    ensures { IfOk result (λ k. k ≡ kept (reply_of response out.now)) }
+{
+    Ok(match response {
+        Response::Granted(a, b) => Kept::Granted(a, b),
+        Response::Busy => Kept::Busy,
+        Response::Seated(a, b) => Kept::Seated(a, b),
+        Response::NoPort => Kept::NoPort,
+        Response::Freed => Kept::Freed,
+        Response::NotNailed => Kept::NotNailed,
+        Response::Sent => Kept::Sent {
+            sends: keep_signals(alloc, out.sends.as_slice())?,
+            moved: out.moved,
+            records: keep_records(alloc, out.records.as_slice())?,
+        },
+        Response::Frame(number) => Kept::Frame {
+            number,
+            sends: keep_signals(alloc, out.sends.as_slice())?,
+            records: keep_records(alloc, out.records.as_slice())?,
+        },
+    })
+}
+
+fn keep_reply(alloc: Global, reply: &Reply) -> Result<Kept, AllocError>
+    ensures { IfOk result (λ k. k ≡ kept reply.now) }
+{
+    Ok(match reply {
+        Reply::Granted(a, b) => Kept::Granted(*a, *b),
+        Reply::Busy => Kept::Busy,
+        Reply::Seated(a, b) => Kept::Seated(*a, *b),
+        Reply::NoPort => Kept::NoPort,
+        Reply::Freed => Kept::Freed,
+        Reply::NotNailed => Kept::NotNailed,
+        Reply::Sent {
+            sends,
+            moved,
+            records,
+        } => Kept::Sent {
+            sends: keep_signals(alloc, sends.as_slice())?,
+            moved: *moved,
+            records: keep_records(alloc, records.as_slice())?,
+        },
+        Reply::Frame {
+            number,
+            sends,
+            records,
+        } => Kept::Frame {
+            number: *number,
+            sends: keep_signals(alloc, sends.as_slice())?,
+            records: keep_records(alloc, records.as_slice())?,
+        },
+    })
+}
+
+fn keep_signals(alloc: Global, signals: &[Signal]) -> Result<SignalList, AllocError>
+    ensures { IfOk result (λ list. list ≡ signals.now) }
+{
+    Ok(SignalList::of(Vec::from_clones(alloc, signals)?))
+}
+
+fn keep_records(alloc: Global, records: &[CallRecord]) -> Result<RecordList, AllocError>
+    ensures { IfOk result (λ list. list ≡ records.now) }
+{
+    Ok(RecordList::of(Vec::from_slice(alloc, records)?))
+}

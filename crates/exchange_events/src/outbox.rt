@@ -1,0 +1,90 @@
+ghost use Rattle.std.specs.Prelude.{◌≡◌, [], None};
+ghost use Rattle.exchange_events.specs.Responses.{reply_of};
+
+use crate::record::Records;
+use crate::reply::Reply;
+use crate::signal::Signals;
+
+/// What a step sends, moves and tells. It is lent to each step anew, so that no step pays for its room.
+#[derive(Drop)]
+pub struct Outbox {
+    /// The messages that were sent, in order.
+    pub sends: Signals,
+    /// How many live paths were moved for a connection or a seat that a message made.
+    pub moved: Option<(u32, u32)>,
+    /// The records of the calls that ended, in order.
+    pub records: Records,
+}
+
+impl Outbox {
+    /// Nothing yet.
+    pub fn new() -> Outbox
+        ensures sends { result.sends ≡ [] }
+        ensures moved { result.moved ≡ None }
+        ensures records { result.records ≡ [] }
+    {
+        Outbox {
+            sends: Signals::new(),
+            moved: None,
+            records: Records::new(),
+        }
+    }
+
+    /// Nothing any more.
+    pub fn clear(&mut self)
+        ensures sends { self.new.sends ≡ [] }
+        ensures moved { self.new.moved ≡ None }
+        ensures records { self.new.records ≡ [] }
+    {
+        self.sends.clear();
+        self.moved = None;
+        self.records.clear();
+    }
+}
+
+/// A [`Reply`] without its lists, which are in the outbox that the step was lent.
+#[derive(Clone, Copy, Debug, PartialEq, Eq)]
+pub enum Response {
+    /// As [`Reply::Granted`].
+    Granted(u32, u32),
+    /// As [`Reply::Busy`].
+    Busy,
+    /// As [`Reply::Seated`].
+    Seated(u32, u32),
+    /// As [`Reply::NoPort`].
+    NoPort,
+    /// As [`Reply::Freed`].
+    Freed,
+    /// As [`Reply::NotNailed`].
+    NotNailed,
+    /// As [`Reply::Sent`].
+    Sent,
+    /// As [`Reply::Frame`], with the number of the frame.
+    Frame(u32),
+}
+
+impl Response {
+    /// The reply, with what is in the outbox.
+    pub fn with(self, out: Outbox) -> Reply
+        ensures { result ≡ reply_of self out }
+    {
+        match self {
+            Response::Granted(there, back) => Reply::Granted(there, back),
+            Response::Busy => Reply::Busy,
+            Response::Seated(there, back) => Reply::Seated(there, back),
+            Response::NoPort => Reply::NoPort,
+            Response::Freed => Reply::Freed,
+            Response::NotNailed => Reply::NotNailed,
+            Response::Sent => Reply::Sent {
+                sends: out.sends,
+                moved: out.moved,
+                records: out.records,
+            },
+            Response::Frame(number) => Reply::Frame {
+                number,
+                sends: out.sends,
+                records: out.records,
+            },
+        }
+    }
+}

@@ -1,0 +1,103 @@
+ghost use Rattle.std.specs.Prelude.{◌≡◌, ◌<◌, [], ◌∷◌, ◌++◌, length};
+ghost use Rattle.exchange_events.specs.Limits.{most_records};
+
+use arrayvec::ArrayVec;
+use circuit_model::Slot;
+use std::marker::Model;
+
+/// How many calls a step ends at most. Source: this exchange's own.
+pub const MOST_RECORDS: usize = 64;
+
+/// Whom a caller was connected with, or was to be.
+#[derive(Clone, Copy, Debug, PartialEq, Eq)]
+pub enum Party {
+    /// The slot of a called user.
+    Line(Slot),
+    /// A conference room, 0 to 63.
+    Room(u8),
+}
+
+/// What is told of a call once its clearing has begun.
+#[derive(Clone, Copy, Debug, PartialEq, Eq)]
+pub struct CallRecord {
+    /// The slot of the caller.
+    pub caller: Slot,
+    /// Whom the caller called.
+    pub called: Party,
+    /// Whether the call was answered.
+    pub answered: bool,
+    /// The first frame of the conversation; of a call that wasn't answered the same as `to`.
+    pub from: u32,
+    /// The number of the next frame when the clearing began.
+    pub to: u32,
+    /// The cause value (ITU-T Q.931, 4.5.12) with which the clearing began.
+    pub cause: u8,
+}
+
+impl Default for CallRecord {
+    fn default() -> CallRecord {
+        CallRecord {
+            caller: Slot { line: 0, place: 0 },
+            called: Party::Room(0),
+            answered: false,
+            from: 0,
+            to: 0,
+            cause: 0,
+        }
+    }
+}
+
+/// The records of the calls that a step ended, in order, at most 64. Contracts see their list.
+#[derive(Drop)]
+pub struct Records {
+    items: ArrayVec<CallRecord, MOST_RECORDS>,
+}
+
+impl Model for Records {
+    ghost use Rattle.std.specs.Prelude.{List};
+    ghost use Rattle.exchange_events.specs.declared.record.CallRecord.{CallRecord};
+
+    ghost Value = { List CallRecord };
+
+    ghost view = { λ r. r.items.items };
+}
+
+impl Records {
+    /// No records.
+    pub fn new() -> Records
+        ensures { result ≡ [] }
+    {
+        Records {
+            items: ArrayVec::new(),
+        }
+    }
+
+    /// These records.
+    pub fn of(items: ArrayVec<CallRecord, MOST_RECORDS>) -> Records
+        ensures { result ≡ items.items }
+    {
+        Records { items }
+    }
+
+    /// The records in order.
+    pub fn as_slice(&self) -> &[CallRecord]
+        ensures { result.now ≡ self.now }
+    {
+        self.items.as_slice()
+    }
+
+    /// No record any more.
+    pub fn clear(&mut self)
+        ensures { self.new ≡ [] }
+    {
+        self.items.clear();
+    }
+
+    /// One record more.
+    pub fn push(&mut self, told: CallRecord)
+        requires { length self.old < most_records }
+        ensures { self.new ≡ self.old ++ told ∷ [] }
+    {
+        self.items.push(told);
+    }
+}

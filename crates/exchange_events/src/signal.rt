@@ -1,0 +1,103 @@
+ghost use Rattle.std.specs.Prelude.{◌≡◌, ◌<◌, ◌≤◌, ◌+◌, [], ◌∷◌, ◌++◌, length};
+ghost use Rattle.exchange_events.specs.Limits.{most_sends};
+
+use arrayvec::ArrayVec;
+use q931_elements::LONGEST_MESSAGE;
+use std::marker::Model;
+
+/// How many messages a step sends at most. Source: this exchange's own.
+pub const MOST_SENDS: usize = 64;
+
+/// The octets of a message that is sent. Contracts see their list.
+#[derive(Clone, Debug, Default, Drop)]
+pub struct Encoded {
+    octets: ArrayVec<u8, LONGEST_MESSAGE>,
+}
+
+impl Model for Encoded {
+    ghost use Rattle.std.specs.Prelude.{List, ℕ};
+
+    ghost Value = { List ℕ };
+
+    ghost view = { λ e. e.octets.items };
+}
+
+impl Encoded {
+    /// These octets.
+    pub fn of(items: ArrayVec<u8, LONGEST_MESSAGE>) -> Encoded
+        ensures { result ≡ items.items }
+    {
+        Encoded { octets: items }
+    }
+
+    /// The octets in the order in which they are sent.
+    pub fn as_slice(&self) -> &[u8]
+        ensures { result.now ≡ self.now }
+    {
+        self.octets.as_slice()
+    }
+}
+
+/// A message that goes to the user of a line.
+#[derive(Clone, Debug, Default, Drop)]
+pub struct Signal {
+    /// The line, from 0 up.
+    pub line: u8,
+    /// The message.
+    pub octets: Encoded,
+}
+
+/// The messages that a step sends, in order, at most 64. Contracts see their list.
+#[derive(Drop)]
+pub struct Signals {
+    items: ArrayVec<Signal, MOST_SENDS>,
+}
+
+impl Model for Signals {
+    ghost use Rattle.std.specs.Prelude.{List};
+    ghost use Rattle.exchange_events.specs.declared.signal.Signal.{Signal};
+
+    ghost Value = { List Signal };
+
+    ghost view = { λ s. s.items.items };
+}
+
+impl Signals {
+    /// No messages.
+    pub fn new() -> Signals
+        ensures { result ≡ [] }
+    {
+        Signals {
+            items: ArrayVec::new(),
+        }
+    }
+
+    /// These messages.
+    pub fn of(items: ArrayVec<Signal, MOST_SENDS>) -> Signals
+        ensures { result ≡ items.items }
+    {
+        Signals { items }
+    }
+
+    /// The messages in the order in which they are sent.
+    pub fn as_slice(&self) -> &[Signal]
+        ensures { result.now ≡ self.now }
+    {
+        self.items.as_slice()
+    }
+
+    /// No message any more.
+    pub fn clear(&mut self)
+        ensures { self.new ≡ [] }
+    {
+        self.items.clear();
+    }
+
+    /// One message more.
+    pub fn push(&mut self, signal: Signal)
+        requires { length self.old < most_sends }
+        ensures { self.new ≡ self.old ++ signal ∷ [] }
+    {
+        self.items.push(signal);
+    }
+}
