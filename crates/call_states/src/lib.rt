@@ -23,6 +23,3 @@ pub use laws::{law_of_causes, law_of_channels, law_of_status};
 pub use leg::{Held, Leg, Peer, Side};
 pub use status_message::{status, unexpected};
 pub use table::on_message;
-
-#[cfg(test)]
-mod tests;

@@ -47,18 +47,3 @@ pub fn channel_of(place: u8) -> u8
 {
     if place < 15 { place + 1 } else { place + 2 }
 }
-
-#[cfg(test)]
-mod tests {
-    use super::{channel_of, slot_of_channel};
-
-    #[test]
-    fn thirty_channels_carry_bearers() {
-        prove!(slot_of_channel(0).is_none());
-        prove!(slot_of_channel(16).is_none());
-        prove!(slot_of_channel(32).is_none());
-        prove!(slot_of_channel(31) == Some(29));
-        prove!(channel_of(14) == 15);
-        prove!(channel_of(15) == 17);
-    }
-}

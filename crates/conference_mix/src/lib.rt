@@ -76,6 +76,3 @@ fn value_of(member: Option<u8>) -> i32
         None => 0,
     }
 }
-
-#[cfg(test)]
-mod tests;

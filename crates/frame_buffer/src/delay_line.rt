@@ -97,28 +97,3 @@ fn sent(octets: &Option<[u8; 30]>) -> [u8; 30]
         None => IDLE_ROW,
     }
 }
-
-#[cfg(test)]
-mod tests {
-    use super::DelayLine;
-    use circuit_model::{IDLE, Slot};
-    use std::alloc::AllocError;
-
-    #[test]
-    fn two_frames_late(rt: HostRuntime) -> Result<(), AllocError> {
-        let at = Slot { line: 1, place: 29 };
-        let mut heard = [0u8; 5];
-        let mut line = DelayLine::new(rt.alloc(), 2)?;
-        heard[0] = line.back_two(at);
-        line.push(&[None, Some([0x11; 30])]);
-        heard[1] = line.back_two(at);
-        line.push(&[Some([0x22; 30]), None]);
-        heard[2] = line.back_two(at);
-        line.push(&[None, Some([0x33; 30])]);
-        heard[3] = line.back_two(at);
-        line.push(&[None, None]);
-        heard[4] = line.back_two(at);
-        assert_eq!(&rt; heard, [IDLE, IDLE, 0x11, IDLE, 0x33]);
-        Ok(())
-    }
-}

@@ -113,38 +113,3 @@ fn put_row(octets: &mut [u8], line: u8, row: &[u8; 30])
     let start = usize::from(line) * usize::from(PLACES);
     octets[start..start + usize::from(PLACES)].copy_from_slice(row);
 }
-
-#[cfg(test)]
-mod tests {
-    use super::FrameBuffer;
-    use crate::{Crossed, Highway};
-    use circuit_model::{IDLE, Slot};
-    use std::alloc::AllocError;
-
-    #[test]
-    fn halves_change_places(rt: HostRuntime) -> Result<(), AllocError> {
-        let at = Slot { line: 1, place: 0 };
-        let mut buffer = FrameBuffer::new(rt.alloc(), 2)?;
-        buffer.put_line(1, &[0x11; 30]);
-        let unread = buffer.get(at);
-        buffer.swap();
-        buffer.put_line(1, &[0x22; 30]);
-        let first = buffer.get(at);
-        buffer.swap();
-        assert_eq!(&rt; [unread, first, buffer.get(at)], [IDLE, 0x11, 0x22]);
-        Ok(())
-    }
-
-    #[test]
-    fn highways_hold_octets(rt: HostRuntime) -> Result<(), AllocError> {
-        let mut highway = Highway::new(rt.alloc(), 2, 3)?;
-        let mut crossed = Crossed::new(rt.alloc(), 2, 3)?;
-        highway.set(1, 2, 0x11);
-        crossed.set(0, 1, highway.get(1, 2));
-        assert_eq!(&rt;
-            [crossed.get(0, 1), crossed.get(1, 0), highway.get(0, 0)],
-            [0x11, IDLE, IDLE]
-        );
-        Ok(())
-    }
-}

@@ -21,6 +21,3 @@ pub use exchange::Exchange;
 pub use hearing::{arriving, find_heard, heard, mixed};
 pub use laws::law_of_stories;
 pub use rows::Rows;
-
-#[cfg(test)]
-mod tests;

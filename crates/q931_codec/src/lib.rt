@@ -36,6 +36,3 @@ pub use laws::{
 pub use message::{Discard, Message, read};
 pub use numbers::{MOST_DIGITS, dialled};
 pub use outgoing::Outgoing;
-
-#[cfg(test)]
-mod tests;

@@ -37,6 +37,3 @@ pub fn carry(
     space_stage::cross(highway, image, crossed);
     outgoing(crossed, image, out);
 }
-
-#[cfg(test)]
-mod tests;

@@ -1,5 +1,8 @@
-use super::*;
+//! Worked calls: messages on two lines, and the last lines of the report.
 use circuit_model::{IDLE, Slot};
+use plain_calls::{
+    CallRecord, Number, Party, PlainEvent, PlainExchange, PlainRun, PlainTones, Target,
+};
 use std::alloc::{AllocError, Global};
 use std::process::Abort;
 use std::test::Fail;

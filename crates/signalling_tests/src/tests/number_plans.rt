@@ -1,4 +1,6 @@
-use super::*;
+//! The plan of numbers, step by step.
+use number_plan::{Found, Plan, PlanFault, Target, is_number};
+use std::alloc::Global;
 use std::test::*;
 
 // What a step asks of a plan, and what it is answered.
@@ -78,6 +80,11 @@ fn is_full_with_256(rt: HostRuntime) {
     assert_eq!(rt; plan.look(b"999"), Found::Nothing);
 }
 
+// Whether a fault has this number and this text.
+fn is_named(alloc: Global, fault: PlanFault, number: u8, text: &str) -> Result<bool, Fail> {
+    Ok(fault as u8 == number && format!(in alloc; "{fault}")?.as_str() == text)
+}
+
 #[test]
 fn names_faults(rt: HostRuntime) -> Result<(), Fail> {
     for (fault, number, text) in [
@@ -89,8 +96,7 @@ fn names_faults(rt: HostRuntime) -> Result<(), Fail> {
         (PlanFault::TooMany, 2, "the plan is full"),
         (PlanFault::Memory, 3, "out of memory"),
     ] {
-        assert_eq!(rt; fault as u8, number);
-        assert_eq!(rt; format!(in rt.alloc(); "{fault}")?.as_str(), text);
+        assert!(rt; is_named(rt.alloc(), fault, number, text)?, "{text}");
     }
     Ok(())
 }

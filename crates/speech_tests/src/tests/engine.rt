@@ -1,10 +1,11 @@
+//! An engine over two lines: a path that moves from frame to frame, and a tone.
 ghost use Rattle.std.specs.Prelude.{◌≡◌, ℕ, ◌+◌, ◌<◌};
 ghost use Rattle.circuit_model.specs.declared.circuit.Kind.{Kind};
 ghost use Rattle.tone_rules.specs.Tables.{IsGiven};
 
-use crate::{Carrier, Engine};
 use circuit_model::{IDLE, Kind, Slot};
 use control_memory::{Heard, Image};
+use frame_engine::{Carrier, Engine};
 use std::test::Fail;
 use tone_rules::{ToneOctets, Tones};
 
@@ -26,6 +27,23 @@ struct Turn {
     heard: (u8, u8),
 }
 
+// Writes the control memory of a frame.
+fn show(image: &mut Image, frame: u32, slot: u8)
+    requires sizes { (image.old.external ≡ 2) × (image.old.bridges ≡ 0) × (image.old.slots ≡ 2) }
+    requires slot { slot < 2 }
+    ensures sizes { (image.new.external ≡ 2) × (image.new.bridges ≡ 0) × (image.new.slots ≡ 2) }
+    ensures frame { image.new.frame ≡ frame }
+{
+    image.clear_all(frame);
+    image.set_path(NEAR, FAR, slot);
+    image.set_heard(FAR, Heard::Path { since: 0 });
+    if frame > 0 {
+        let kind = Kind::Ringback;
+        image.set_heard(RINGING, Heard::Tone { kind, since: 1 });
+    }
+}
+
+// Carries a frame, and tells what FAR and RINGING hear in it.
 fn carry(
     engine: &mut Engine,
     image: &mut Image,
@@ -45,13 +63,7 @@ fn carry(
     ensures slots { (engine.new.slots ≡ 2) × (image.new.slots ≡ 2) }
     ensures next { engine.new.next ≡ frame + 1 }
 {
-    image.clear_all(frame);
-    image.set_path(NEAR, FAR, slot);
-    image.set_heard(FAR, Heard::Path { since: 0 });
-    if frame > 0 {
-        let kind = Kind::Ringback;
-        image.set_heard(RINGING, Heard::Tone { kind, since: 1 });
-    }
+    show(image, frame, slot);
     let mut out = [[0; 30]; 2];
     engine.frame(image, tones, &[Some([sent; 30]), None], &mut out);
     (out[1][29], out[1][1])

@@ -1,22 +1,44 @@
-ghost use Rattle.std.specs.Prelude.{◌≡◌, IfOk};
+//! Octets that pass the three stages of a fabric of two lines.
+ghost use Rattle.std.specs.Prelude.{◌≡◌, ◌<◌, IfOk};
 
-use super::carry;
-use crate::interchange::incoming;
 use circuit_model::{IDLE, Slot};
 use control_memory::Image;
 use frame_buffer::{Crossed, FrameBuffer, Highway};
 use std::alloc::{AllocError, Global};
+use time_stage::{carry, incoming};
 
-// Two lines with two internal slots and three paths, two of which leave line 0.
+// Joins two slots by a path.
+fn join(image: &mut Image, from: Slot, to: Slot, slot: u8)
+    requires sizes { (image.old.external ≡ 2) × (image.old.bridges ≡ 0) × (image.old.slots ≡ 2) }
+    requires from { (from.line < 2) × (from.place < 30) }
+    requires to { (to.line < 2) × (to.place < 30) }
+    requires slot { slot < 2 }
+    ensures sizes { (image.new.external ≡ 2) × (image.new.bridges ≡ 0) × (image.new.slots ≡ 2) }
+{
+    image.set_path(from, to, slot);
+}
+
+// Joins slots by three paths, two of which leave line 0.
+fn join_three(image: &mut Image)
+    requires sizes { (image.old.external ≡ 2) × (image.old.bridges ≡ 0) × (image.old.slots ≡ 2) }
+    ensures sizes { (image.new.external ≡ 2) × (image.new.bridges ≡ 0) × (image.new.slots ≡ 2) }
+{
+    let first = Slot { line: 0, place: 0 };
+    let second = Slot { line: 0, place: 1 };
+    let other = Slot { line: 1, place: 0 };
+    join(image, first, other, 1);
+    join(image, other, first, 1);
+    join(image, second, second, 0);
+}
+
+// Two lines with two internal slots and three paths.
 fn three_paths(alloc: Global) -> Result<Image, AllocError>
     ensures external { IfOk result (λ m. m.external ≡ 2) }
     ensures bridges { IfOk result (λ m. m.bridges ≡ 0) }
     ensures slots { IfOk result (λ m. m.slots ≡ 2) }
 {
     let mut image = Image::new(alloc, 2, 0, 2)?;
-    image.set_path(Slot { line: 0, place: 0 }, Slot { line: 1, place: 0 }, 1);
-    image.set_path(Slot { line: 1, place: 0 }, Slot { line: 0, place: 0 }, 1);
-    image.set_path(Slot { line: 0, place: 1 }, Slot { line: 0, place: 1 }, 0);
+    join_three(&mut image);
     Ok(image)
 }
 
@@ -35,19 +57,12 @@ fn spoken(alloc: Global) -> Result<FrameBuffer, AllocError>
     Ok(buffer)
 }
 
-// How many slots of the two lines are not idle.
-fn speaking(out: &FrameBuffer) -> u8
-    requires { out.now.lines ≡ 2 }
-{
-    let mut count = 0u8;
-    for place in 0..30 {
-        for line in 0..2 {
-            if out.get(Slot { line, place }) != IDLE {
-                count = count.saturating_add(1);
-            }
-        }
-    }
-    count
+// How many slots of the lines are not idle.
+fn speaking(out: &FrameBuffer) -> usize {
+    out.rows_from(0)
+        .iter()
+        .filter(|octet| **octet != IDLE)
+        .count()
 }
 
 #[test]

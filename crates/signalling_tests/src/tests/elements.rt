@@ -1,4 +1,5 @@
-use super::*;
+//! Information elements: octets from strangers, and what is found in them.
+use q931_elements::{Elements, Writer};
 use std::test::*;
 
 // Whether the elements of the octets are those with these codes and contents.

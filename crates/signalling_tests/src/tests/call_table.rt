@@ -1,4 +1,5 @@
-use super::*;
+//! The call table, row by row, and the STATUS that answers what is not expected.
+use call_states::{Act, Leg, Peer, Side, on_message, status, unexpected};
 use circuit_model::Slot;
 use q931_codec::{MessageKind, read};
 use std::test::*;

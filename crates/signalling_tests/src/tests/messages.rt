@@ -1,5 +1,11 @@
-use super::*;
-use crate::codes::*;
+//! Messages read and written: octets as primary rate interfaces carry them, and from strangers.
+ghost use Rattle.q931_codec.specs.Outgoing.{IsWritable, outgoing_of};
+
+use q931_codec::codes::*;
+use q931_codec::{
+    BearerCapability, ChannelIdentification, Discard, MessageKind, Outgoing, dialled, read, write,
+};
+use std::alloc::Global;
 use std::test::*;
 
 // A message, and the parts that it has.
@@ -99,17 +105,24 @@ fn is_discarded(octets: &[u8], wanted: Discard) -> bool {
     matches!(read(octets), Err(discard) if discard == wanted)
 }
 
+// Octets that are no message, and why.
+const DISCARDED: [(&[u8], Discard); 7] = [
+    (b"\x08\x02\x80", Discard::Short),
+    (b"\x08\x02\x00\x01", Discard::Short),
+    (b"\x08\x01\x01\x05\x00", Discard::ReferenceLength),
+    (b"\x08\x00\x05", Discard::ReferenceLength),
+    (b"\x09\x02\x00\x01\x05", Discard::Discriminator),
+    (b"\x41", Discard::Discriminator),
+    (b"", Discard::Short),
+];
+
 #[test]
 fn discards(rt: HostRuntime) {
-    assert!(rt; is_discarded(b"\x08\x02\x80", Discard::Short));
-    assert!(rt; is_discarded(b"\x08\x02\x00\x01", Discard::Short));
-    assert!(rt; is_discarded(b"\x08\x01\x01\x05\x00", Discard::ReferenceLength));
-    assert!(rt; is_discarded(b"\x08\x00\x05", Discard::ReferenceLength));
-    assert!(rt; is_discarded(b"\x09\x02\x00\x01\x05", Discard::Discriminator));
-    assert!(rt; is_discarded(b"\x41", Discard::Discriminator));
+    for (octets, wanted) in DISCARDED {
+        assert!(rt; is_discarded(octets, wanted), "{octets:?}");
+    }
 
-    // Every message of no octet, of one, and of two.
-    assert!(rt; is_discarded(b"", Discard::Short));
+    // Every message of one octet, and of two.
     for (wanted, of_one, of_two) in [
         (Discard::Short, 1, 1),
         (Discard::Discriminator, 255, 65_280),
@@ -125,6 +138,11 @@ fn discards(rt: HostRuntime) {
     }
 }
 
+// Whether a discard has this number and this text.
+fn is_named(alloc: Global, discard: Discard, number: u8, text: &str) -> Result<bool, Fail> {
+    Ok(discard as u8 == number && format!(in alloc; "{discard}")?.as_str() == text)
+}
+
 #[test]
 fn names_discards(rt: HostRuntime) -> Result<(), Fail> {
     for (discard, number, text) in [
@@ -136,8 +154,7 @@ fn names_discards(rt: HostRuntime) -> Result<(), Fail> {
             "a call reference of another length",
         ),
     ] {
-        assert_eq!(rt; discard as u8, number);
-        assert_eq!(rt; format!(in rt.alloc(); "{discard}")?.as_str(), text);
+        assert!(rt; is_named(rt.alloc(), discard, number, text)?, "{text}");
     }
     Ok(())
 }
@@ -147,29 +164,27 @@ fn cause_in(octets: &[u8]) -> Option<u8> {
     read(octets).ok()?.cause()
 }
 
+// Messages, and the cause of each.
+const CAUSES: [(&[u8], Option<u8>); 7] = [
+    // A location and a value, a diagnostic behind it, and a recommendation before it.
+    (b"\x08\x02\x00\x01\x45\x08\x02\x80\x90", Some(16)),
+    (b"\x08\x02\x00\x01\x45\x08\x03\x82\xE0\x18", Some(96)),
+    (b"\x08\x02\x00\x01\x45\x08\x03\x02\x80\x91", Some(17)),
+    // No value, in the first cause though not in the second, and a cause of another codeset.
+    (b"\x08\x02\x00\x01\x45", None),
+    (b"\x08\x02\x00\x01\x45\x08\x02\x02\x80", None),
+    (b"\x08\x02\x00\x01\x45\x08\x00\x08\x02\x80\x90", None),
+    (
+        b"\x08\x02\x00\x01\x45\x98\x08\x02\x80\x91\x08\x02\x80\x90",
+        Some(16),
+    ),
+];
+
 #[test]
 fn reads_causes(rt: HostRuntime) {
-    // A location and a value, a diagnostic behind it, and a recommendation before it.
-    assert_eq!(rt; cause_in(b"\x08\x02\x00\x01\x45\x08\x02\x80\x90"), Some(16));
-    assert_eq!(rt;
-        cause_in(b"\x08\x02\x00\x01\x45\x08\x03\x82\xE0\x18"),
-        Some(96)
-    );
-    assert_eq!(rt;
-        cause_in(b"\x08\x02\x00\x01\x45\x08\x03\x02\x80\x91"),
-        Some(17)
-    );
-    // No value, in the first cause though not in the second, and a cause of another codeset.
-    assert_eq!(rt; cause_in(b"\x08\x02\x00\x01\x45"), None);
-    assert_eq!(rt; cause_in(b"\x08\x02\x00\x01\x45\x08\x02\x02\x80"), None);
-    assert_eq!(rt;
-        cause_in(b"\x08\x02\x00\x01\x45\x08\x00\x08\x02\x80\x90"),
-        None
-    );
-    assert_eq!(rt;
-        cause_in(b"\x08\x02\x00\x01\x45\x98\x08\x02\x80\x91\x08\x02\x80\x90"),
-        Some(16)
-    );
+    for (octets, wanted) in CAUSES {
+        assert_eq!(rt; cause_in(octets), wanted, "{octets:?}");
+    }
 }
 
 // What the one channel identification of a message asks for.
@@ -177,66 +192,85 @@ fn channel_in(octets: &[u8]) -> Option<ChannelIdentification> {
     read(octets).ok()?.channel()
 }
 
+const CHANNELS: [(&[u8], Option<ChannelIdentification>); 7] = [
+    (
+        b"\x08\x02\x00\x01\x05\x18\x03\xA9\x83\x1F",
+        Some(ChannelIdentification::Exclusive(31)),
+    ),
+    (
+        b"\x08\x02\x00\x01\x05\x18\x03\xA1\x83\x8F",
+        Some(ChannelIdentification::Preferred(15)),
+    ),
+    (
+        b"\x08\x02\x00\x01\x05\x18\x02\xA3\x00",
+        Some(ChannelIdentification::Any),
+    ),
+    (
+        b"\x08\x02\x00\x01\x05\x18\x03\xA9\x83\x90",
+        Some(ChannelIdentification::Invalid),
+    ),
+    (
+        b"\x08\x02\x00\x01\x05\x18\x03\xA9\x93\x81",
+        Some(ChannelIdentification::Invalid),
+    ),
+    (
+        b"\x08\x02\x00\x01\x05\x18\x01\x89",
+        Some(ChannelIdentification::Invalid),
+    ),
+    (b"\x08\x02\x00\x01\x05", None),
+];
+
 #[test]
 fn reads_channels(rt: HostRuntime) {
-    let asked = [
-        channel_in(b"\x08\x02\x00\x01\x05\x18\x03\xA9\x83\x1F"),
-        channel_in(b"\x08\x02\x00\x01\x05\x18\x03\xA1\x83\x8F"),
-        channel_in(b"\x08\x02\x00\x01\x05\x18\x02\xA3\x00"),
-        channel_in(b"\x08\x02\x00\x01\x05\x18\x03\xA9\x83\x90"),
-        channel_in(b"\x08\x02\x00\x01\x05\x18\x03\xA9\x93\x81"),
-        channel_in(b"\x08\x02\x00\x01\x05\x18\x01\x89"),
-        channel_in(b"\x08\x02\x00\x01\x05"),
-    ];
-    let wanted = [
-        Some(ChannelIdentification::Exclusive(31)),
-        Some(ChannelIdentification::Preferred(15)),
-        Some(ChannelIdentification::Any),
-        Some(ChannelIdentification::Invalid),
-        Some(ChannelIdentification::Invalid),
-        Some(ChannelIdentification::Invalid),
-        None,
-    ];
-    assert_eq!(rt; asked, wanted);
+    for (octets, wanted) in CHANNELS {
+        assert_eq!(rt; channel_in(octets), wanted, "{octets:?}");
+    }
+}
+
+// Whether a message is written as these octets.
+fn is_written(message: &Outgoing, octets: &[u8]) -> bool
+    requires { IsWritable (outgoing_of message.now) }
+{
+    write(message).as_slice() == octets
+}
+
+// The call state and the restart indicator of a message.
+fn state_and_class(octets: &[u8]) -> Option<(Option<u8>, Option<u8>)> {
+    let message = read(octets).ok()?;
+    Some((message.call_state(), message.restart_indicator()))
 }
 
 #[test]
-fn writes(rt: HostRuntime) -> Result<(), Fail> {
-    let released = write(&Outgoing {
+fn writes(rt: HostRuntime) {
+    let released = Outgoing {
         cause: Some(44),
         ..Outgoing::new(true, 1, MessageKind::ReleaseComplete)
-    });
-    assert_eq!(rt;
-        released.as_slice(),
-        b"\x08\x02\x80\x01\x5A\x08\x02\x82\xAC".as_slice()
-    );
-
-    let status = write(&Outgoing {
+    };
+    assert!(rt; is_written(&released, b"\x08\x02\x80\x01\x5A\x08\x02\x82\xAC"));
+    let status = Outgoing {
         cause: Some(30),
         state: Some(0),
         ..Outgoing::new(true, 1, MessageKind::Status)
-    });
-    assert_eq!(rt;
-        status.as_slice(),
-        b"\x08\x02\x80\x01\x7D\x08\x02\x82\x9E\x14\x01\x00".as_slice()
-    );
-    let status = read(status.as_slice())?;
-    assert_eq!(rt; status.call_state(), Some(0));
-    assert!(rt; status.restart_indicator().is_none());
-
-    let setup = write(&Outgoing {
+    };
+    assert!(rt; is_written(&status, STATUS));
+    assert_eq!(rt; state_and_class(STATUS), Some((Some(0), None)));
+    let setup = Outgoing {
         complete: true,
         bearer: b"\x80\x90\xA3",
         channel: Some(1),
         called: b"\x80101",
         ..Outgoing::new(false, 1, MessageKind::Setup)
-    });
-    assert_eq!(rt;
-        setup.as_slice(),
-        b"\x08\x02\x00\x01\x05\xA1\x04\x03\x80\x90\xA3\x18\x03\xA9\x83\x81\x70\x04\x80101".as_slice()
+    };
+    assert!(rt;
+        is_written(
+            &setup,
+            b"\x08\x02\x00\x01\x05\xA1\x04\x03\x80\x90\xA3\x18\x03\xA9\x83\x81\x70\x04\x80101",
+        )
     );
-    Ok(())
 }
+
+// A STATUS with cause 30 and state 0.
+const STATUS: &[u8] = b"\x08\x02\x80\x01\x7D\x08\x02\x82\x9E\x14\x01\x00";
 
 // Every element at its longest, in rising order of its identifier after Sending complete.
 const LONGEST: &[u8] = b"\x08\x02\xFF\xFF\x05\xA1\
@@ -248,8 +282,8 @@ const LONGEST: &[u8] = b"\x08\x02\xFF\xFF\x05\xA1\
     \x7D\x03\x05\x05\x05";
 
 #[test]
-fn writes_the_longest(rt: HostRuntime) -> Result<(), Fail> {
-    let octets = write(&Outgoing {
+fn writes_the_longest(rt: HostRuntime) {
+    let longest = Outgoing {
         flag: true,
         reference: 32_767,
         kind: MessageKind::Setup,
@@ -264,11 +298,10 @@ fn writes_the_longest(rt: HostRuntime) -> Result<(), Fail> {
         restart: Some(0x87),
         low: &[4; 16],
         high: &[5; 3],
-    });
-    assert_eq!(rt; octets.as_slice(), LONGEST);
-    assert_eq!(rt; octets.len(), 107);
-    assert_eq!(rt; read(LONGEST)?.restart_indicator(), Some(0x87));
-    Ok(())
+    };
+    assert!(rt; is_written(&longest, LONGEST));
+    assert_eq!(rt; LONGEST.len(), 107);
+    assert_eq!(rt; state_and_class(LONGEST), Some((Some(63), Some(0x87))));
 }
 
 // The contents of bearer capabilities, and what each asks for.

@@ -1,4 +1,5 @@
-use super::*;
+//! What answers a message on no call, and what a RESTART asks for.
+use clearing_rules::{Restart, acknowledgement, cause_in, restart, unknown_reference};
 use q931_codec::{MessageKind, read};
 use std::test::*;
 

@@ -1,4 +1,5 @@
-use super::*;
+//! That pseudo-random traces of calls come to each course of a message.
+use call_traffic::{Counts, Random, draw_traffic};
 use std::alloc::{AllocError, Global};
 use std::test::Fail;
 

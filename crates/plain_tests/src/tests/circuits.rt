@@ -1,5 +1,6 @@
-use crate::{Exchange, compress_by_search, expand_by_search};
+//! Worked exchanges of nails, rooms and tones.
 use circuit_model::{IDLE, Kind, Slot};
+use plain_model::{Exchange, compress_by_search, expand_by_search};
 use std::alloc::{AllocError, Global};
 use std::process::Abort;
 use std::test::Fail;
