@@ -22,11 +22,12 @@ ghost use Rattle.rearrange_chain.specs.Chain.{
   moves_for,
   ChangesBy,
 };
-ghost use Rattle.rearrange_chain.specs.Steps.{CanLift, CanPlace};
+ghost use Rattle.rearrange_chain.specs.InTurn.{CanLift, CanPlace};
 
 use crate::moves::Move;
 use arrayvec::ArrayVec;
-use paull_matrix::PaullMatrix;
+use paull_matrix::{PaullMatrix, Steps};
+use std::sync::ledger::Ledger;
 
 /// Makes room for a path of row `i` and column `j`, which each have fewer paths than slots, and
 /// answers a slot that is free in both afterwards. `moves` comes empty, and lists the moves made.
@@ -37,11 +38,20 @@ use paull_matrix::PaullMatrix;
 /// and so on form a chain. It never comes to row `i`, so with r lines it has at most 2r - 2 paths.
 /// They exchange `a` and `b`, they are listed in the order of the chain, and `a` is answered.
 ///
+/// `steps` counts the looks at the matrix: one for a common slot, one for `a`, one for `b`, one for
+/// each path of the chain and one that finds its end. Writes are not counted.
+///
 /// Source: M. C. Paull, "Reswitching of connection networks", Bell System Technical Journal 41
 /// (1962), for the chain and the exchange; the Slepian-Duguid theorem, that a row and a column with
 /// room each can always be given a slot, is what is proved of it. That the lowest slots are taken,
 /// and that the chain starts in the column, are this exchange's own rules.
-pub fn make_room(matrix: &mut PaullMatrix, i: u8, j: u8, moves: &mut ArrayVec<Move, 66>) -> u8
+pub fn make_room<L: Ledger>(
+    matrix: &mut PaullMatrix,
+    i: u8,
+    j: u8,
+    moves: &mut ArrayVec<Move, 66>,
+    steps: &mut Steps<L>,
+) -> u8
     requires row { i < matrix.old.lines }
     requires column { j < matrix.old.lines }
     requires row_room { paths_of_row matrix.old i < matrix.old.slots }
@@ -59,13 +69,14 @@ pub fn make_room(matrix: &mut PaullMatrix, i: u8, j: u8, moves: &mut ArrayVec<Mo
     ensures common { IfSome (lowest_in_both matrix.old i j) (λ s. (result ≡ s) × (moves.new.items ≡ []) × (matrix.new ≡ matrix.old)) }
     ensures legal { IsLegal matrix.new }
     ensures sizes { SameSizes matrix.old matrix.new }
+    ensures looks { steps.new ≤ steps.old + (2 * matrix.old.lines + 2) }
 {
-    if let Some(common) = matrix.common_free(i, j) {
+    if let Some(common) = matrix.common_free(i, j, steps) {
         return common;
     }
-    let a = matrix.free_in_row(i);
-    let b = matrix.free_in_column(j);
-    walk(matrix, j, a, b, moves);
+    let a = matrix.free_in_row(i, steps);
+    let b = matrix.free_in_column(j, steps);
+    walk(matrix, j, a, b, moves, steps);
     lift_all(matrix, moves);
     place_all(matrix, moves);
     a
@@ -73,23 +84,31 @@ pub fn make_room(matrix: &mut PaullMatrix, i: u8, j: u8, moves: &mut ArrayVec<Mo
 
 /// Lists the moves of the chain from column `j`, whose paths leave the slots `a` and `b` in turn: from
 /// a column to a row in `a`, and on to the next column in `b`.
-fn walk(matrix: &PaullMatrix, j: u8, a: u8, b: u8, moves: &mut ArrayVec<Move, 66>)
+fn walk<L: Ledger>(
+    matrix: &PaullMatrix,
+    j: u8,
+    a: u8,
+    b: u8,
+    moves: &mut ArrayVec<Move, 66>,
+    steps: &mut Steps<L>,
+)
     requires column { j < matrix.now.lines }
     requires slots { (a < matrix.now.slots) × (b < matrix.now.slots) }
     requires empty { moves.old.items ≡ [] }
     requires bound { length (chain (far_line matrix.now) (2 * matrix.now.lines) (Column j) a b) + 2 ≤ 2 * matrix.now.lines }
     requires few { matrix.now.lines ≤ 34 }
     ensures chain { moves.new.items ≡ chain (far_line matrix.now) (2 * matrix.now.lines) (Column j) a b }
+    ensures looks { steps.new ≡ steps.old + length moves.new.items + 1 }
 {
     let mut column = j;
-    while let Some(row) = matrix.column_slot(column, a) {
+    while let Some(row) = matrix.column_slot(column, a, steps) {
         moves.push(Move {
             row,
             column,
             old: a,
             new: b,
         });
-        let Some(next) = matrix.row_slot(row, b) else {
+        let Some(next) = matrix.row_slot(row, b, steps) else {
             return;
         };
         moves.push(Move {
