@@ -18,8 +18,10 @@ use Rattle.exchange_events.specs.declared.trace.Trace.{Trace}
 use Rattle.call_profile.specs.IdleSlots.{idle, nailed}
 use Rattle.exchange_events.specs.Kept.{kept}
 use Rattle.exchange_events.specs.Orders.{IsEvent}
-use Rattle.exchange_core.specs.Seats.{Board, Known, StartsWith, AnswersAt, before, setting_at, unseen, world_at}
-use Rattle.exchange_events.specs.Sizes.{Setting, Dimensions}
+use Rattle.seat_history.specs.declared.known.Known.{Known}
+use Rattle.seat_history.specs.Histories.{StartsWith, before, unseen}
+use Rattle.exchange_core.specs.Boards.{Board, AnswersAt, setting_at, world_at}
+use Rattle.call_profile.specs.Setup.{Setting}
 use Rattle.exchange_events.specs.Sound.{setting_of}
 use Rattle.call_profile.specs.Step.{MovesAtMost, events_of, may_nail, next, reply, run, world}
 use Rattle.exchange_core.specs.Working.{Entry, IsNumbered, order_of, world_after}

@@ -1,7 +1,8 @@
 use Rattle.std.proofs.Common.{rules, ◌≡◌, ◌+◌, ℕ, [], ◌∷◌, ◌++◌, length, sym, ap, ◌∙◌, subst, arith, length-take-le}
 use Rattle.circuit_model.specs.FrameInput.{Input}
 use Rattle.exchange_events.specs.Responses.{reply_of}
-use Rattle.exchange_core.specs.Seats.{AnswersAt, before, world_at, setting_at}
+use Rattle.seat_history.specs.Histories.{before}
+use Rattle.exchange_core.specs.Boards.{AnswersAt, world_at, setting_at}
 use Rattle.exchange_core.specs.Working.{IsNumbered}
 use Rattle.exchange_events.specs.Sizes.{Dimensions}
 use Rattle.exchange_events.specs.declared.trace.Event.TheVariants.{Frame}
