@@ -19,9 +19,9 @@ use Rattle.exchange_core.specs.declared.tool.Tool.{Tool}
 use Rattle.exchange_core.specs.declared.tool.Tool.TheVariants.{Image}
 use Rattle.seat_history.specs.Histories.{StartsWith, unseen}
 use Rattle.exchange_core.specs.Boards.{Board, IsFrame, NoFrames, IsToolAt, ShowsAt, setting_at, world_at}
-use Rattle.call_profile.specs.Setup.{Setting}
+use Rattle.exchange_events.specs.Sizes.{Setting}
 use Rattle.exchange_events.specs.Sound.{Fits, IsSound}
-use Rattle.call_control.specs.Standing.{IsMade}
+use Rattle.call_profile.specs.IsMade.{IsMade}
 use Rattle.call_profile.specs.Step.{next, world, events_of}
 use Rattle.exchange_core.specs.Working.{Entry, IsNumbered, IsOfSize, IsToolFor, ShowsWorld, order_of}
 use Rattle.call_profile.specs.World.{World, start, pass}

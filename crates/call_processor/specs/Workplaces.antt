@@ -3,7 +3,7 @@ use Rattle.std.specs.Prelude.{ℕ, List, All}
 use Rattle.circuit_model.specs.declared.circuit.Kind.{Kind}
 use Rattle.seat_history.specs.declared.known.Known.{Known}
 use Rattle.exchange_core.specs.Boards.{Board}
-use Rattle.call_profile.specs.World.{Dimensions}
+use Rattle.exchange_events.specs.Sizes.{Dimensions}
 use Rattle.call_processor.specs.declared.worked.Finished.{Finished}
 use Rattle.call_processor.specs.declared.worked.FinishedFrames.{FinishedFrames}
 use Rattle.call_processor.specs.declared.worked.Framed.{Framed}

@@ -8,7 +8,7 @@ use Rattle.exchange_core.specs.declared.tool.Tool.{Tool}
 use Rattle.exchange_events.specs.declared.trace.Event.{Event}
 use Rattle.exchange_events.specs.declared.trace.Event.TheVariants.{Frame}
 use Rattle.exchange_events.specs.declared.trace.Trace.{Trace}
-use Rattle.call_profile.specs.Setup.{Setting}
+use Rattle.exchange_events.specs.Sizes.{Setting}
 use Rattle.exchange_events.specs.Sound.{setting_of}
 use Rattle.call_profile.specs.Step.{reply}
 use Rattle.exchange_core.specs.Working.{IsNumbered, IsToolFor, ShowsWorld, order_of, world_after}

@@ -7,7 +7,7 @@ use Rattle.exchange_events.specs.declared.trace.Trace.{Trace}
 use Rattle.exchange_events.specs.Orders.{Processor}
 use Rattle.seat_history.specs.declared.known.Known.{Known}
 use Rattle.exchange_core.specs.Boards.{Board}
-use Rattle.call_profile.specs.World.{Dimensions}
+use Rattle.exchange_events.specs.Sizes.{Dimensions}
 use Rattle.call_processor.specs.declared.worked.Finished.{Finished}
 use Rattle.call_processor.specs.Frames.{Carrying, Plays, IsReady}
 use Rattle.call_processor.specs.Parts.{part_of}
