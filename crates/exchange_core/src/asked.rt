@@ -1,6 +1,6 @@
 //! What a SETUP asks for, and the cause with which it is refused for what it says.
 ghost use Rattle.std.specs.Prelude.{◌≡◌, ◌<◌, [], unwrap_or, option_map, IfSome};
-ghost use Rattle.number_plan.specs.Plan.{found};
+ghost use Rattle.number_plan.specs.Plan.{found_for};
 ghost use Rattle.exchange_core.specs.Setup.{digits_in, slot_of, slot_asked, element_checks, number_checks, first_cause};
 
 use arrayvec::ArrayVec;
@@ -10,18 +10,18 @@ use q931_codec::causes::{
     BEARER_CAPABILITY_NOT_IMPLEMENTED, INVALID_ELEMENT_CONTENTS, INVALID_NUMBER_FORMAT,
     MANDATORY_ELEMENT_MISSING, UNALLOCATED_NUMBER,
 };
-use q931_codec::{BearerCapability, ChannelIdentification, MOST_DIGITS, Message, dialled};
+use q931_codec::{BearerCapability, ChannelIdentification, MOST_DIGITS, Message, dialled_digits};
 
 /// The digits that a SETUP dials, `None` where it has no called party number that can be read.
 pub(crate) fn digits_in(message: &Message) -> Option<ArrayVec<u8, MOST_DIGITS>>
     ensures { option_map (λ digits. digits.items) result ≡ digits_in message.now }
 {
-    dialled(message.called_number()?)
+    dialled_digits(message.called_number()?)
 }
 
 /// What the plan knows of the digits that a SETUP dials.
 pub(crate) fn target_of(plan: &Plan, message: &Message) -> Found
-    ensures { result ≡ found plan.now (unwrap_or (digits_in message.now) []) }
+    ensures { result ≡ found_for plan.now (unwrap_or (digits_in message.now) []) }
 {
     match digits_in(message) {
         Some(digits) => plan.look(&digits),
