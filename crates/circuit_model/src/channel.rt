@@ -1,3 +1,5 @@
+//! Bearer channels: a slot of the exchange, and the channel numbers of a primary rate line.
+
 ghost use Rattle.std.specs.Prelude.{◌≡◌, ◌<◌, ◌+◌, ◌*◌};
 ghost use Rattle.circuit_model.specs.Channels.{place_of, channel_at};
 

@@ -8,7 +8,7 @@ use Rattle.std.proofs.Math.Seq.{take-append_seam, drop-append_seam}
 use Rattle.circuit_model.specs.declared.channel.Slot.{Slot}
 use Rattle.circuit_model.specs.declared.circuit.Kind.{Kind}
 use Rattle.circuit_model.specs.FrameInput.{Input}
-use Rattle.circuit_model.specs.Ports.{given, port_of}
+use Rattle.circuit_model.specs.Ports.{ports_with, port_of}
 use Rattle.control_memory.specs.Layout.{Layout}
 use Rattle.exchange_events.specs.declared.answer.Answer.{Answer}
 use Rattle.exchange_events.specs.declared.reply.Reply.{Reply}
@@ -109,7 +109,7 @@ module _ (rows others : List (List ℕ)) (n : ℕ) where
   command_line s w (Nail x y) other = same_either (may_nail w x y) _ _ refl refl
   command_line s w (Seat x room) other =
       same_either (not (idle w x)) _ _ refl
-      (same_either (is_full s.dimensions w) _ _ refl (same_seated s.dimensions w.layout x (port_of s.dimensions.external (given x w.ports) x)))
+      (same_either (is_full s.dimensions w) _ _ refl (same_seated s.dimensions w.layout x (port_of s.dimensions.external (ports_with x w.ports) x)))
   command_line s w (Free x) other = same_either (nailed w x) _ _ refl refl
   command_line s w (Message line octets) other = refl
   command_line s w (Frame input) other = absurd (other input refl)

@@ -1,3 +1,5 @@
+//! A delay line of two frames for every slot of the external lines.
+
 ghost use Rattle.std.specs.Prelude.{◌≡◌, ℕ, ◌<◌, EachIndex, slice_get, slice_index_or, List, [], ◌∷◌, ◌++◌, length, replicate, All, IfOk, vec_len};
 ghost use Rattle.circuit_model.specs.FrameInput.{Input, idle_octet, octet_at, line_of};
 ghost use Rattle.frame_buffer.specs.Delay.{Delay, Carries, octet_back, octet_of_row};
@@ -84,12 +86,12 @@ fn take_in(rows: &mut [[u8; 30]], input: &[Option<[u8; 30]>])
     ensures { EachIndex rows.new (λ line. (place : ℕ) → octet_of_row rows.new line place ≡ octet_at place (line_of (slice_get input.now line))) }
 {
     for (line, row) in rows.iter_mut().enumerate() {
-        *row = sent(&input[line]);
+        *row = octets_sent(&input[line]);
     }
 }
 
 // What a line sends in a frame.
-fn sent(octets: &Option<[u8; 30]>) -> [u8; 30]
+fn octets_sent(octets: &Option<[u8; 30]>) -> [u8; 30]
     ensures { (place : ℕ) → slice_index_or result place idle_octet ≡ octet_at place octets.now }
 {
     match octets {

@@ -1,6 +1,8 @@
+//! The speech memory, whose halves change places at each frame.
+
 ghost use Rattle.std.specs.Prelude.{◌≡◌, ℕ, ◌+◌, ◌-◌, ◌*◌, ◌<◌, ◌≤◌, length, slice_index, IfOk};
 ghost use Rattle.std.specs.Borrow.{Lends, Array, sem, u8 as octet_row};
-ghost use Rattle.frame_buffer.specs.Speech.{Speech, octet_of, IsIdle, PutsLine, refilled};
+ghost use Rattle.frame_buffer.specs.Speech.{Speech, octet_in_half, AllIdle, PutsLine, speech_with};
 ghost use Rattle.frame_buffer.specs.contracts.memory.FrameBuffer.{the_row};
 
 use circuit_model::{IDLE, PLACES, Slot};
@@ -31,8 +33,8 @@ impl FrameBuffer {
     /// A speech memory for so many lines, with the idle octet in every slot of both halves.
     pub fn new(alloc: Global, lines: u8) -> Result<FrameBuffer, AllocError>
         ensures lines { IfOk result (λ b. b.lines ≡ lines) }
-        ensures filled { IfOk result (λ b. IsIdle lines b.filled) }
-        ensures readable { IfOk result (λ b. IsIdle lines b.readable) }
+        ensures filled { IfOk result (λ b. AllIdle lines b.filled) }
+        ensures readable { IfOk result (λ b. AllIdle lines b.readable) }
     {
         let octets = usize::from(lines) * usize::from(PLACES);
         Ok(FrameBuffer {
@@ -60,8 +62,8 @@ impl FrameBuffer {
     }
 
     /// The octets of the half that is filled, line after line and thirty to a line, to be written.
-    pub fn filled(&mut self) -> &mut [u8]
-        ensures* writes_back { sem 𝓛 (Lends the_row (Array octet_row 0) self.entry result (refilled self.old)) }
+    pub fn half_to_fill(&mut self) -> &mut [u8]
+        ensures* writes_back { sem 𝓛 (Lends the_row (Array octet_row 0) self.entry result (speech_with self.old)) }
         ensures octets { result.now ≡ self.old.filled }
         ensures size { length result.now ≡ self.old.lines * 30 }
     {
@@ -72,7 +74,7 @@ impl FrameBuffer {
     pub fn row(&self, line: u8) -> &[u8]
         requires { line < self.now.lines }
         ensures size { length result.now ≡ 30 }
-        ensures octets { (place : ℕ) → place < 30 → slice_index result.now place ≡ octet_of self.now.readable (record { line = line; place = place }) }
+        ensures octets { (place : ℕ) → place < 30 → slice_index result.now place ≡ octet_in_half self.now.readable (record { line = line; place = place }) }
     {
         let start = usize::from(line) * usize::from(PLACES);
         &self.readable[start..start + usize::from(PLACES)]
@@ -92,7 +94,7 @@ impl FrameBuffer {
     pub fn get(&self, at: Slot) -> u8
         requires line { at.line < self.now.lines }
         requires place { at.place < 30 }
-        ensures { result ≡ octet_of self.now.readable at }
+        ensures { result ≡ octet_in_half self.now.readable at }
     {
         self.readable[usize::from(at.line) * usize::from(PLACES) + usize::from(at.place)]
     }

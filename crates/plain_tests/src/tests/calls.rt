@@ -314,6 +314,6 @@ fn tones_are_heard(rt: HostRuntime) -> Result<(), Fail> {
         8 frame 3\n"
     )?;
     let run = check_with(&rt, alloc, 0, true, &steps, wanted.as_str())?;
-    assert_eq!(rt; run.exchange().sounded(), (1, 1));
+    assert_eq!(rt; run.exchange().tones_given(), (1, 1));
     Ok(())
 }

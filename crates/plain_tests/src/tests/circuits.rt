@@ -62,7 +62,7 @@ fn check(
         take(rt, alloc, &mut exchange, *step)?;
     }
     for (frame, line, octet) in table {
-        let heard = exchange.heard(&[0x11, 0x22, 0x33], &[0x44], *frame, first(*line));
+        let heard = exchange.octet_heard(&[0x11, 0x22, 0x33], &[0x44], *frame, first(*line));
         assert_eq!(rt; heard, *octet, "line {line} in frame {frame}");
     }
     Ok(())

@@ -3,7 +3,8 @@ ghost use Rattle.q931_codec.specs.Outgoing.{IsWritable, outgoing_of};
 
 use q931_codec::codes::*;
 use q931_codec::{
-    BearerCapability, ChannelIdentification, Discard, MessageKind, Outgoing, dialled, read, write,
+    BearerCapability, ChannelIdentification, Discard, MessageKind, Outgoing, dialled_digits, read,
+    write,
 };
 use std::alloc::Global;
 use std::test::*;
@@ -332,7 +333,7 @@ fn has_digits(contents: &[u8], wanted: Option<&[u8]>) -> bool {
     if contents.len() > 21 {
         return false;
     }
-    match (dialled(contents), wanted) {
+    match (dialled_digits(contents), wanted) {
         (Some(digits), Some(wanted)) => digits.as_slice() == wanted,
         (None, None) => true,
         _ => false,

@@ -9,7 +9,7 @@ use Rattle.std.specs.declared.cmp.Ordering.TheVariants.{Less, Equal, Greater}
 use Rattle.std.proofs.lemmas.Bool.{and_parts, and_from, or_parts, cond-true, cond-false, cond_both, cases_Bool, cases_lt}
 use Rattle.std.proofs.lemmas.Option.{same_Some}
 use Rattle.number_plan.specs.declared.plan.Number.{Number}
-use Rattle.number_plan.specs.Plan.{begins, side_by_side, precedes, in_order, with_number, is_taken, AreApart}
+use Rattle.number_plan.specs.Plan.{begins, side_by_side, precedes, in_order, with_number, is_number_taken, AreApart}
 use Rattle.number_plan.specs.Search.{IsBesideAt, IsPlaceFor}
 use Rattle.number_plan.proofs.Side.{reversed, begins_equal, begun_equal, one_begins, not_both, rising, precedes_on, is_less}
 
@@ -84,11 +84,11 @@ before_unless m d p q after = by_order (side_by_side m d) refl
         clash : (b : Bool) → b ≡ false → b ≡ true → ⊥
         clash b p q = cc
 
-pub order_with : (xs : List Number) (y : Number) → in_order xs ≡ true → is_taken xs y.digits ≡ false → in_order (with_number xs y) ≡ true
+pub order_with : (xs : List Number) (y : Number) → in_order xs ≡ true → is_number_taken xs y.digits ≡ false → in_order (with_number xs y) ≡ true
 order_with [] y order free = refl
 order_with (n ∷ ns) y order free =
     let parts = and_parts (list_all (precedes n) ns) (in_order ns) order in
-    let apart = or_parts (begins n.digits y.digits || begins y.digits n.digits) (is_taken ns y.digits) free in
+    let apart = or_parts (begins n.digits y.digits || begins y.digits n.digits) (is_number_taken ns y.digits) free in
     let ways = or_parts (begins n.digits y.digits) (begins y.digits n.digits) apart.0 in
     elim (cases_Bool (precedes y n)) [
       | inl before ↦

@@ -3,7 +3,7 @@ use Rattle.std.proofs.Common.{◌≡◌, ℕ, suc, ◌<◌, ◌≤◌, min, true
 use Rattle.std.specs.Int.{int_min, int_max}
 use Rattle.std.proofs.lemmas.Int.{ints, clamps}
 use Rattle.std.proofs.lemmas.Bool.{le-leb}
-use Rattle.circuit_model.specs.ALaw.{octet_of, interval_of, compress}
+use Rattle.circuit_model.specs.ALaw.{octet_of_interval, interval_of, compress}
 use Rattle.circuit_model.proofs.PortSeats.{below_or_not}
 
 abbrev pub clamped : ℤ → ℤ
@@ -13,10 +13,10 @@ above : (n : ℕ) → 4096 ≤ n → compress (pos 4095) ≡ compress (pos n)
 above n far =
     let positive : int_le (pos 0) (pos n) ≡ true = le-leb 0 n (omega arith) in
     let size : min 4095 4095 ≡ min n 4095 = omega arith in
-    rw positive (ap (λ m. octet_of true (interval_of m)) size)
+    rw positive (ap (λ m. octet_of_interval true (interval_of m)) size)
 
 below : (n : ℕ) → 4095 ≤ n → compress (negsuc 4094) ≡ compress (negsuc n)
-below n far = let size : min 4095 4095 ≡ min (suc n) 4095 = omega arith in ap (λ m. octet_of false (interval_of m)) size
+below n far = let size : min 4095 4095 ≡ min (suc n) 4095 = omega arith in ap (λ m. octet_of_interval false (interval_of m)) size
 
 pub code_of_clamped : (value : ℤ) → compress (clamped value) ≡ compress value
 code_of_clamped (pos n) =

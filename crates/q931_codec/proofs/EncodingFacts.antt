@@ -9,28 +9,28 @@ use Rattle.q931_codec.specs.declared.kind.MessageKind.{MessageKind}
 use Rattle.q931_codec.specs.declared.kind.MessageKind.TheVariants as kind
 use Rattle.q931_codec.specs.MessageType.{IsKind, IsNamed}
 use Rattle.q931_codec.specs.Grammar.{header, IsMessage}
-use Rattle.q931_codec.specs.Outgoing.{OutgoingMessage, IsWritable, completed, given, rows, sent, encoding, received}
+use Rattle.q931_codec.specs.Outgoing.{OutgoingMessage, IsWritable, item_of_complete, item_of_row, rows, items_of, encoding, message_at_receiver}
 
 -- written grows by one row after the other
 abbrev pub Grows : List ℕ → List (ℕ × List ℕ) → List ℕ → Type 0
 Grows old [] new = new ≡ old
-Grows old (row ∷ rows) new = (mid : List ℕ) × (mid ≡ old ++ octets_of_all (given row)) × Grows mid rows new
+Grows old (row ∷ rows) new = (mid : List ℕ) × (mid ≡ old ++ octets_of_all (item_of_row row)) × Grows mid rows new
 
-grown : (old : List ℕ) (rows : List (ℕ × List ℕ)) (new : List ℕ) → Grows old rows new → new ≡ old ++ octets_of_all (flat_map given rows)
+grown : (old : List ℕ) (rows : List (ℕ × List ℕ)) (new : List ℕ) → Grows old rows new → new ≡ old ++ octets_of_all (flat_map item_of_row rows)
 grown old [] new is = is ∙ sym (append-nil old)
 grown old (row ∷ rows) new (mid, first, others) =
     grown mid rows new others
-    ∙ ap (λ (w : List ℕ). w ++ octets_of_all (flat_map given rows)) first
-    ∙ append_assoc old (octets_of_all (given row)) (octets_of_all (flat_map given rows))
-    ∙ ap (λ (w : List ℕ). old ++ w) (sym (flat_map-append octets_of (given row) (flat_map given rows)))
+    ∙ ap (λ (w : List ℕ). w ++ octets_of_all (flat_map item_of_row rows)) first
+    ∙ append_assoc old (octets_of_all (item_of_row row)) (octets_of_all (flat_map item_of_row rows))
+    ∙ ap (λ (w : List ℕ). old ++ w) (sym (flat_map-append octets_of (item_of_row row) (flat_map item_of_row rows)))
 
-pub written_is : (m : OutgoingMessage) (start after new : List ℕ) → start ≡ header m.flag m.reference m.kind → after ≡ start ++ octets_of_all (completed m.complete) → Grows after (rows m) new → new ≡ encoding m
+pub written_is : (m : OutgoingMessage) (start after new : List ℕ) → start ≡ header m.flag m.reference m.kind → after ≡ start ++ octets_of_all (item_of_complete m.complete) → Grows after (rows m) new → new ≡ encoding m
 written_is m start after new start-is after-is grows =
     grown after (rows m) new grows
-    ∙ ap (λ (w : List ℕ). w ++ octets_of_all (flat_map given (rows m))) after-is
-    ∙ append_assoc start (octets_of_all (completed m.complete)) (octets_of_all (flat_map given (rows m)))
-    ∙ ap (λ (w : List ℕ). start ++ w) (sym (flat_map-append octets_of (completed m.complete) (flat_map given (rows m))))
-    ∙ ap (λ (w : List ℕ). w ++ octets_of_all (sent m)) start-is
+    ∙ ap (λ (w : List ℕ). w ++ octets_of_all (flat_map item_of_row (rows m))) after-is
+    ∙ append_assoc start (octets_of_all (item_of_complete m.complete)) (octets_of_all (flat_map item_of_row (rows m)))
+    ∙ ap (λ (w : List ℕ). start ++ w) (sym (flat_map-append octets_of (item_of_complete m.complete) (flat_map item_of_row (rows m))))
+    ∙ ap (λ (w : List ℕ). w ++ octets_of_all (items_of m)) start-is
 
 -- ---- what is written is a message
 
@@ -63,25 +63,25 @@ AllByRecursion-append (x ∷ xs) ys p q = (p.0, AllByRecursion-append xs ys p.1 
 abbrev AreLow : List (ℕ × List ℕ) → Type 0
 AreLow rows = AllByRecursion (λ row. row.0 < 0x80) rows
 
-given_present : (code : ℕ) (contents : List ℕ) → code < 0x80 → AllByRecursion IsPresent (given (code, contents))
+given_present : (code : ℕ) (contents : List ℕ) → code < 0x80 → AllByRecursion IsPresent (item_of_row (code, contents))
 given_present code [] low = tt
 given_present code (octet ∷ octets) low = (low, tt)
 
-rows_present : (rows : List (ℕ × List ℕ)) → AreLow rows → AllByRecursion IsPresent (flat_map given rows)
+rows_present : (rows : List (ℕ × List ℕ)) → AreLow rows → AllByRecursion IsPresent (flat_map item_of_row rows)
 rows_present [] low = tt
-rows_present ((code, contents) ∷ rows) low = AllByRecursion-append (given (code, contents)) (flat_map given rows) (given_present code contents low.0) (rows_present rows low.1)
+rows_present ((code, contents) ∷ rows) low = AllByRecursion-append (item_of_row (code, contents)) (flat_map item_of_row rows) (given_present code contents low.0) (rows_present rows low.1)
 
-completed_present : (complete : Bool) → AllByRecursion IsPresent (completed complete)
+completed_present : (complete : Bool) → AllByRecursion IsPresent (item_of_complete complete)
 completed_present true = ((omega arith, inr (omega arith)), tt)
 completed_present false = tt
 
-pub encoding_read : (m : OutgoingMessage) → IsWritable m → IsMessage (encoding m) (received m)
+pub encoding_read : (m : OutgoingMessage) → IsWritable m → IsMessage (encoding m) (message_at_receiver m)
 encoding_read m is = record {
   value = is.reference;
   kind = named_kind m.kind is.kind;
-  rest = octets_of_all (sent m);
+  rest = octets_of_all (items_of m);
   octets_are = refl;
-  elements_are = written_read (sent m) (AllByRecursion-append (completed m.complete) (flat_map given (rows m)) (completed_present m.complete) (rows_present (rows m) low));
+  elements_are = written_read (items_of m) (AllByRecursion-append (item_of_complete m.complete) (flat_map item_of_row (rows m)) (completed_present m.complete) (rows_present (rows m) low));
 }
   where
     low : AreLow (rows m)

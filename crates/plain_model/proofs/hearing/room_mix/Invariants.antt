@@ -1,6 +1,6 @@
 use Rattle.std.proofs.Common.{◌≡◌, ◌≤◌, ◌*◌, ◌^◌, ◌+ℤ◌, drop, nat_abs}
 use Rattle.plain_model.proofs.Totals.{total}
-use Rattle.plain_model.proofs.hearing.mixed.Given as goal
+use Rattle.plain_model.proofs.hearing.room_mix.Given as goal
 
 abbrev pub invariant-loop-circuit : goal.invariant-loop-circuit
 invariant-loop-circuit l = record {

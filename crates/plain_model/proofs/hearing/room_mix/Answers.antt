@@ -2,7 +2,7 @@ use Rattle.std.proofs.Common.{◌≡◌, ◌+ℤ◌, arith, to_z, of_z}
 use Rattle.std.specs.Int.{w128}
 use Rattle.std.proofs.lemmas.Int.{ints}
 use Rattle.plain_model.proofs.Totals.{total-step}
-use Rattle.plain_model.proofs.hearing.mixed.Goals as goal
+use Rattle.plain_model.proofs.hearing.room_mix.Goals as goal
 
 pub loop-circuit-preserved : goal.loop-circuit-preserved
 loop-circuit-preserved c =
