@@ -40,9 +40,6 @@ loop-row-preserved g c =
     let rest = from_row c.args.matrix.now _ c.loop-row.moves.items c.push.new.self.items c.loop-row.column c.args.a c.args.b c.in-Some.row c.loop-row.invariant.rest c.requires.bound c.in-Some.ensures.row c.push.ensures.items in
     record {
       column = c.in-Some.ensures.legal.column_within c.in-Some.row c.args.b c.in-Some-row_slot.next (sym c.in-Some-row_slot.ensures.column);
-      looks =
-          let more = ap length c.push.ensures.items ∙ length-append c.loop-row.moves.items _ in
-          let last = ap length c.push-in-Some.ensures.items ∙ length-append c.push.new.self.items _ in
-          omega (arith, more, last, c.row_slot.ensures.looks, c.in-Some.ensures.looks, c.loop-row.invariant.looks);
+      looks = let more = ap length c.push.ensures.items ∙ length-append c.loop-row.moves.items _ in let last = ap length c.push-in-Some.ensures.items ∙ length-append c.push.new.self.items _ in omega (arith, more, last, c.row_slot.ensures.looks, c.in-Some.ensures.looks, c.loop-row.invariant.looks);
       rest = rw c.push-in-Some.ensures.items (next_rest (far_line c.args.matrix.now) c.args.matrix.now.lines _ c.push.new.self.items (Row c.in-Some.row) c.args.b c.args.a c.in-Some-row_slot.next rest c.requires.bound (sym c.in-Some-row_slot.ensures.column));
     }
