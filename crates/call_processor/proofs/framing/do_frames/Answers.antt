@@ -9,8 +9,8 @@ use Rattle.call_processor.specs.declared.worked.Placed.{Placed}
 use Rattle.call_processor.specs.Frames.{HasFrame}
 use Rattle.call_processor.specs.Parts.{is_its, part_of}
 use Rattle.call_processor.specs.Work.{Works}
-use Rattle.call_processor.proofs.Done.{Going, begins_next, frames_stay, going_said, next_of, works_front, works_lacking}
-use Rattle.call_processor.proofs.Segments.{up_to, rest_from, next_not, next_its, front_here, front_next, turn_left}
+use Rattle.call_processor.proofs.EventLemmas.{Going, begins_next, frames_stay, going_said, next_of, works_front, works_lacking}
+use Rattle.call_processor.proofs.PartLemmas.{up_to, rest_from, next_not, next_its, front_here, front_next, turn_left}
 use Rattle.call_processor.proofs.framing.do_frames.Goals as goal
 
 pub input_of-requires : goal.input_of-requires

@@ -8,28 +8,28 @@ use Rattle.exchange_core.specs.Working.{Entry, order_of}
 use Rattle.call_processor.specs.declared.worked.Placed.{Placed}
 use Rattle.call_processor.specs.declared.worked.Workplace.{Workplace}
 use Rattle.segment_run.specs.Nothing.{nothing}
-use Rattle.segment_run.specs.Team.{IsRising, IsWithin, all_of, filled}
-use Rattle.segment_run.proofs.Lists.{In, all_in, in_either, no_length, got_set, got_there}
+use Rattle.segment_run.specs.Team.{IsRising, IsWithin, all_of, put_from}
+use Rattle.segment_run.proofs.ListLemmas.{In, all_in, in_either, no_length, got_set, got_there}
 
 -- ---- put there one by one
 
-pub length_filled : (lo : ℕ) (ps : List Placed) (xs : List Answer) → length (filled lo ps xs) ≡ length xs
-unfolding filled
+pub length_filled : (lo : ℕ) (ps : List Placed) (xs : List Answer) → length (put_from lo ps xs) ≡ length xs
+unfolding put_from
 length_filled lo [] xs = refl
-length_filled lo (p ∷ ps) xs = length-set (filled lo ps xs) (p.place - lo) p.answer ∙ length_filled lo ps xs
+length_filled lo (p ∷ ps) xs = length-set (put_from lo ps xs) (p.place - lo) p.answer ∙ length_filled lo ps xs
 
-pub filled_append : (lo : ℕ) (ps qs : List Placed) (xs : List Answer) → filled lo (ps ++ qs) xs ≡ filled lo ps (filled lo qs xs)
-unfolding filled
+pub filled_append : (lo : ℕ) (ps qs : List Placed) (xs : List Answer) → put_from lo (ps ++ qs) xs ≡ put_from lo ps (put_from lo qs xs)
+unfolding put_from
 filled_append lo [] qs xs = refl
 filled_append lo (p ∷ ps) qs xs = ap (λ (l : List Answer). slice_set l (p.place - lo) p.answer) (filled_append lo ps qs xs)
 
-pub filled_none : (lo : ℕ) (xs : List Answer) → filled lo [] xs ≡ xs
-unfolding filled
+pub filled_none : (lo : ℕ) (xs : List Answer) → put_from lo [] xs ≡ xs
+unfolding put_from
 filled_none lo xs = refl
 
 -- the last is put there first
-pub filled_last : (lo : ℕ) (ps : List Placed) (p : Placed) (xs : List Answer) → filled lo (ps ++ p ∷ []) xs ≡ filled lo ps (slice_set xs (p.place - lo) p.answer)
-unfolding filled
+pub filled_last : (lo : ℕ) (ps : List Placed) (p : Placed) (xs : List Answer) → put_from lo (ps ++ p ∷ []) xs ≡ put_from lo ps (slice_set xs (p.place - lo) p.answer)
+unfolding put_from
 filled_last lo ps p xs = filled_append lo ps (p ∷ []) xs
 
 pub all_of_append : (us vs : List (Workplace)) → all_of (us ++ vs) ≡ all_of us ++ all_of vs
@@ -144,12 +144,12 @@ record Filling (lo : ℕ) (ps : List Placed) (xs : List Answer) : Type 0 where
   count : count_given xs ≡ length ps
   stands : (i : ℕ) (a : Answer) → slice_get xs i ≡ Some a → Stands lo ps i a
 
-filling : (lo count : ℕ) (ps : List Placed) → AreApart ps → ((p : Placed) → In p ps → IsWithin lo count p × (p.answer.event ≢ 0)) → Filling lo ps (filled lo ps (replicate count nothing))
-unfolding filled
-filling lo count [] apart each = record { count = none_given count; stands = λ i a at. inl (nothing_there count i a at) }
-filling lo count (p ∷ ps) apart each =
-    let rest = filling lo count ps apart.1 (λ q i. each q (inr i)) in
-    let xs = filled lo ps (replicate count nothing) in
+put_fills : (lo count : ℕ) (ps : List Placed) → AreApart ps → ((p : Placed) → In p ps → IsWithin lo count p × (p.answer.event ≢ 0)) → Filling lo ps (put_from lo ps (replicate count nothing))
+unfolding put_from
+put_fills lo count [] apart each = record { count = none_given count; stands = λ i a at. inl (nothing_there count i a at) }
+put_fills lo count (p ∷ ps) apart each =
+    let rest = put_fills lo count ps apart.1 (λ q i. each q (inr i)) in
+    let xs = put_from lo ps (replicate count nothing) in
     let long = length_filled lo ps (replicate count nothing) ∙ length-replicate count nothing in
     let mine = each p (inl refl) in
     let low = mine.0.0 in
@@ -166,8 +166,8 @@ filling lo count (p ∷ ps) apart each =
     empty a low (inl none) = none
     empty a low (inr t) = let same = t.2 in absurd (apart.0 t.0 t.1 (omega (arith, same, low)))
 
-    pick : (i : ℕ) (a : Answer) → lo ≤ p.place → ((p.place - lo ≡ i) × (p.answer ≡ a)) ⊎ (slice_get (filled lo ps (replicate count nothing)) i ≡ Some a)
-        → (slice_get (filled lo ps (replicate count nothing)) i ≡ Some a → Stands lo ps i a) → Stands lo (p ∷ ps) i a
+    pick : (i : ℕ) (a : Answer) → lo ≤ p.place → ((p.place - lo ≡ i) × (p.answer ≡ a)) ⊎ (slice_get (put_from lo ps (replicate count nothing)) i ≡ Some a)
+        → (slice_get (put_from lo ps (replicate count nothing)) i ≡ Some a → Stands lo ps i a) → Stands lo (p ∷ ps) i a
     pick i a low (inl t) old = let same = t.0 in inr (p, inl refl, omega (arith, same, low), t.1)
     pick i a low (inr here) old = wider (old here)
       where
@@ -177,12 +177,12 @@ filling lo count (p ∷ ps) apart each =
 
 -- as many answers as places, no two of them at one place: at each place stands one of them
 pub each_filled : (lo count : ℕ) (ps : List Placed) → AreApart ps → ((p : Placed) → In p ps → IsWithin lo count p × (p.answer.event ≢ 0)) → length ps ≡ count
-    → (i : ℕ) (a : Answer) → slice_get (filled lo ps (replicate count nothing)) i ≡ Some a → (p : Placed) × In p ps × (p.place ≡ lo + i) × (p.answer ≡ a)
+    → (i : ℕ) (a : Answer) → slice_get (put_from lo ps (replicate count nothing)) i ≡ Some a → (p : Placed) × In p ps × (p.place ≡ lo + i) × (p.answer ≡ a)
 each_filled lo count ps apart each size i a at =
-    let f = filling lo count ps apart each in
+    let f = put_fills lo count ps apart each in
     let long = length_filled lo ps (replicate count nothing) ∙ length-replicate count nothing in
     let all = f.count in
-    pick (all_given (filled lo ps (replicate count nothing)) (omega (arith, all, size, long)) i a at) (f.stands i a at)
+    pick (all_given (put_from lo ps (replicate count nothing)) (omega (arith, all, size, long)) i a at) (f.stands i a at)
   where
     pick : a.event ≢ 0 → Stands lo ps i a → (p : Placed) × In p ps × (p.place ≡ lo + i) × (p.answer ≡ a)
     pick some_one (inl none) = absurd (some_one none)
@@ -221,17 +221,17 @@ rising_few lo hi (p ∷ ps) r each =
     omega (arith, low, high, tail)
 
 -- what stands before all places stays
-filled_behind : (lo : ℕ) (ps : List Placed) (x : Answer) (xs : List Answer) → ((p : Placed) → In p ps → lo < p.place) → filled lo ps (x ∷ xs) ≡ x ∷ filled (lo + 1) ps xs
-unfolding filled
+filled_behind : (lo : ℕ) (ps : List Placed) (x : Answer) (xs : List Answer) → ((p : Placed) → In p ps → lo < p.place) → put_from lo ps (x ∷ xs) ≡ x ∷ put_from (lo + 1) ps xs
+unfolding put_from
 filled_behind lo [] x xs each = refl
 filled_behind lo (p ∷ ps) x xs each =
     let above = each p (inl refl) in
     let next : p.place - lo ≡ suc (p.place - (lo + 1)) = omega (arith, above) in
     ap (λ (l : List Answer). slice_set l (p.place - lo) p.answer) (filled_behind lo ps x xs (λ q i. each q (inr i)))
-    ∙ ap (λ (n : ℕ). slice_set (x ∷ filled (lo + 1) ps xs) n p.answer) next
+    ∙ ap (λ (n : ℕ). slice_set (x ∷ put_from (lo + 1) ps xs) n p.answer) next
 
-filled_in_order : (lo : ℕ) (ps : List Placed) (xs : List Answer) → Rising ps → ((p : Placed) → In p ps → IsWithin lo (length ps) p) → length xs ≡ length ps → filled lo ps xs ≡ map (λ (p : Placed). p.answer) ps
-unfolding filled
+filled_in_order : (lo : ℕ) (ps : List Placed) (xs : List Answer) → Rising ps → ((p : Placed) → In p ps → IsWithin lo (length ps) p) → length xs ≡ length ps → put_from lo ps xs ≡ map (λ (p : Placed). p.answer) ps
+unfolding put_from
 filled_in_order lo [] [] r each same = refl
 filled_in_order lo [] (x ∷ xs) r each same = absurd (omega (arith, same))
 filled_in_order lo (p ∷ ps) [] r each same = absurd (omega (arith, same))
@@ -243,7 +243,7 @@ filled_in_order lo (p ∷ ps) (x ∷ xs) r each same =
     let behind = filled_behind lo ps x xs (λ q i. let above = rising_above p ps r q i in omega (arith, above, low)) in
     let rest = filled_in_order (lo + 1) ps xs (rising_rest p ps r) (λ q i. let above = rising_above p ps r q i in let high = (each q (inr i)).1 in (omega (arith, above, low), omega (arith, high))) (omega (arith, same)) in
     ap (λ (l : List Answer). slice_set l (p.place - lo) p.answer) behind
-    ∙ (ap (λ (n : ℕ). slice_set (x ∷ filled (lo + 1) ps xs) n p.answer) first
+    ∙ (ap (λ (n : ℕ). slice_set (x ∷ put_from (lo + 1) ps xs) n p.answer) first
     ∙ ap (λ (l : List Answer). p.answer ∷ l) rest)
 
 -- where all answers lie at one workplace
@@ -260,10 +260,10 @@ module _ (used rest : List Workplace) (w : Workplace) (is : used ≡ rest ++ w �
   many_alone count many = sym (ap length all_there) ∙ many
 
   pub filled_alone : (lo count : ℕ) → All (IsWithin lo count) (all_of used) → length (all_of used) ≡ count → All IsRising used
-      → map (λ (p : Placed). p.answer) w.answers.items ≡ filled lo (all_of used) (replicate count nothing)
+      → map (λ (p : Placed). p.answer) w.answers.items ≡ put_from lo (all_of used) (replicate count nothing)
   filled_alone lo count within many rising =
       let size = many_alone count many in
       let inside = subst (λ (n : ℕ). All (IsWithin lo n) w.answers.items) (sym size) (subst (All (IsWithin lo count)) all_there within) in
       let up = subst (All IsRising) alone rising 0 w (omega arith) in
       sym (filled_in_order lo w.answers.items (replicate count nothing) up (λ p i. all_in (IsWithin lo (length w.answers.items)) w.answers.items inside p i) (length-replicate count nothing ∙ sym size))
-      ∙ ap (λ (l : List Placed). filled lo l (replicate count nothing)) (sym all_there)
+      ∙ ap (λ (l : List Placed). put_from lo l (replicate count nothing)) (sym all_there)
