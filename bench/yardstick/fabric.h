@@ -61,24 +61,38 @@ static Path lift(unsigned i, unsigned s) {
     return p;
 }
 
-// Frees slot a in outgoing line j, which leaves b free. The chain of paths that starts with the one to
-// line j in a and goes on in b, a, .. by turns, over incoming and outgoing lines, exchanges a and b.
-// Answers how many paths it has.
-static unsigned exchange(unsigned j, unsigned a, unsigned b) {
-    Path chain[2 * LINES];
-    unsigned len = 0;
+// A path that stands: its incoming line and its slot.
+typedef struct { unsigned char line, slot; } Place;
+
+// Lists the chain of paths that starts with the one to outgoing line j in a and goes on in b, a, .. by
+// turns, over incoming and outgoing lines, behind the len paths that are listed. Answers how many then are.
+static unsigned list_chain(Place *chain, unsigned len, unsigned j, unsigned a, unsigned b) {
     while (column[j] >> a & 1) {
         unsigned i = live.cross[j][a];
-        chain[len++] = lift(i, a);
+        chain[len++] = (Place){ i, a };
         if (!(row[i] >> b & 1)) break;
         j = to_line[i][b];
-        chain[len++] = lift(i, b);
-    }
-    for (unsigned k = 0; k < len; k++) {
-        chain[k].slot ^= a ^ b;
-        lay(chain[k]);
+        chain[len++] = (Place){ i, b };
     }
     return len;
+}
+
+// Makes room for a path from line i, which leaves a free, to line j, which leaves b free, where no slot is
+// free in both. The chain that starts with the path to line j in a exchanges a and b, and frees a; or that
+// which starts with the path from line i in b, where it is shorter, and frees b. Answers the freed slot, and
+// how many paths moved.
+static unsigned exchange(unsigned i, unsigned j, unsigned a, unsigned b, unsigned *moved) {
+    Place to[2 * LINES], from[2 * LINES] = { { i, b } }, *chain = to;
+    unsigned len = list_chain(to, 0, j, a, b), other = list_chain(from, 1, to_line[i][b], a, b), freed = a;
+    if (other < len) chain = from, len = other, freed = b;
+    Path lifted[2 * LINES];
+    for (unsigned k = 0; k < len; k++) lifted[k] = lift(chain[k].line, chain[k].slot);
+    for (unsigned k = 0; k < len; k++) {
+        lifted[k].slot ^= a ^ b;
+        lay(lifted[k]);
+    }
+    *moved = len;
+    return freed;
 }
 
 // Lays a path, and answers how many were moved for it.
@@ -88,8 +102,7 @@ static unsigned connect(Slot from, Slot to) {
     if (common) {
         slot = __builtin_ctz(common);
     } else {
-        slot = __builtin_ctz(~row[from.line]);
-        moved = exchange(to.line, slot, __builtin_ctz(~column[to.line]));
+        slot = exchange(from.line, to.line, __builtin_ctz(~row[from.line]), __builtin_ctz(~column[to.line]), &moved);
     }
     lay((Path){ from, to, slot });
     return moved;

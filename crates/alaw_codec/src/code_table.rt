@@ -1,3 +1,5 @@
+//! The octets of all values, as a table.
+
 ghost use Rattle.std.specs.Prelude.{◌≡◌, ◌≤◌};
 ghost use Rattle.circuit_model.specs.ALaw.{compress};
 

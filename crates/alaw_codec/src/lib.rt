@@ -108,6 +108,3 @@ fn interval_number(magnitude: u32) -> u8
 pub fn law_of_round_trip()
     ensures { (octet : ℕ) → octet < 256 → compress (expand octet) ≡ octet }
 {}
-
-#[cfg(test)]
-mod tests;

@@ -26,7 +26,7 @@ fn mix(codes: &CodeTable, octets: &[Option<u8>; MAX_MEMBERS], out: &mut [u8; MAX
 /// What place 0 hears in each of so many rounds, folded into a number.
 ///
 /// Each round one member repeats what it heard, so no round can be left out.
-fn heard(codes: &CodeTable, rounds: u32) -> u32 {
+fn sum_heard(codes: &CodeTable, rounds: u32) -> u32 {
     let mut octets = [Some(0x2A); MAX_MEMBERS];
     let mut out = [0; MAX_MEMBERS];
     let mut sum = 0u32;
@@ -52,6 +52,6 @@ fn main(rt: HostRuntime) -> io::Result<()> {
         return Ok(());
     };
     let codes = CodeTable::new(rt.alloc())?;
-    let sum = heard(&codes, rounds);
+    let sum = sum_heard(&codes, rounds);
     println!(rt; "{sum}")
 }

@@ -1,3 +1,5 @@
+//! A full fabric, through which frames are carried to and fro.
+
 ghost use Rattle.std.specs.Prelude.{◌≡◌, ◌<◌};
 
 use circuit_model::{IDLE, PLACES, Slot};

@@ -6,7 +6,7 @@ use Rattle.circuit_model.specs.declared.circuit.Circuit.TheVariants.{Member}
 use Rattle.circuit_model.specs.declared.circuit.Kind.{Kind}
 use Rattle.circuit_model.specs.Circuits.{heard_by}
 use Rattle.circuit_model.specs.Holding.{Connect, Seat, Give_tone, Clear, after}
-use Rattle.circuit_model.specs.Ports.{given, returned, port_of}
+use Rattle.circuit_model.specs.Ports.{ports_with, ports_without, port_of}
 use Rattle.circuit_model.proofs.Slots.{same_slot-refl}
 use Rattle.circuit_model.proofs.Validity.{count_by-append}
 use Rattle.control_memory.specs.Connecting.{moved}
@@ -32,7 +32,7 @@ module _ (m : Connections) (w : World) (s : StandsFor m w) where
   tone_stands n x kind holds layout = record { holds = holds; layout = layout ∙ s.layout }
 
   -- what is cleared takes its paths along
-  pub clear_stands : (n : Connections) (x : Slot) → Represents n (after w.holding (Clear x)) (returned x w.ports) → n.layout ≡ parted m x
+  pub clear_stands : (n : Connections) (x : Slot) → Represents n (after w.holding (Clear x)) (ports_without x w.ports) → n.layout ≡ parted m x
       → StandsFor n (obey (dimensions_of m) w (Clear x))
   clear_stands n x holds layout = record {
     holds = holds;
@@ -43,11 +43,11 @@ module _ (m : Connections) (w : World) (s : StandsFor m w) where
   }
 
   -- a member that was seated has a port
-  pub has_port : (n : Connections) (x : Slot) (room : ℕ) → Represents n (after w.holding (Seat x room)) (given x w.ports) → port_of m.external (given x w.ports) x ≡ None → ⊥
+  pub has_port : (n : Connections) (x : Slot) (room : ℕ) → Represents n (after w.holding (Seat x room)) (ports_with x w.ports) → port_of m.external (ports_with x w.ports) x ≡ None → ⊥
   has_port n x room holds none =
       let one : count_by (seats x) (Member room x w.holding.next ∷ []) ≡ 1 = rw (same_slot-refl x) refl in
       let sum = holds.ported x ∙ count_by-append (seats x) w.holding.circuits (Member room x w.holding.next ∷ []) in
-      ported m.external (given x w.ports) x _ sum (omega (arith, one)) none
+      ported m.external (ports_with x w.ports) x _ sum (omega (arith, one)) none
 
   seat_layout : (n : Connections) (x : Slot) (port : Option Slot) → (port ≡ None → ⊥) → IfSome port (λ p. n.layout ≡ joined_both m x p) → n.layout ≡ with_port (dimensions_of m) w.layout x port
   seat_layout n x None some layout = absurd (some refl)
@@ -58,17 +58,17 @@ module _ (m : Connections) (w : World) (s : StandsFor m w) where
   reply_to_seat x None a b some moves = absurd (some refl)
   reply_to_seat x (Some p) a b some moves = (λ i. Seated (moves.0 i) (moves.1 i)) ∙ ap (λ l. seat_reply (dimensions_of m) l x (Some p)) s.layout
 
-  pub seat_moves : (n : Connections) (x : Slot) (room a b : ℕ) → Represents n (after w.holding (Seat x room)) (given x w.ports)
+  pub seat_moves : (n : Connections) (x : Slot) (room a b : ℕ) → Represents n (after w.holding (Seat x room)) (ports_with x w.ports)
       → IfSome (port_of m.external n.ports x) (λ p. (a ≡ moved m.layout (joined_one m x p)) × (b ≡ moved (joined_one m x p) (joined_both m x p)))
-      → Seated a b ≡ seat_reply (dimensions_of m) w.layout x (port_of m.external (given x w.ports) x)
+      → Seated a b ≡ seat_reply (dimensions_of m) w.layout x (port_of m.external (ports_with x w.ports) x)
   seat_moves n x room a b holds moves =
-      reply_to_seat x (port_of m.external (given x w.ports) x) a b (has_port n x room holds)
+      reply_to_seat x (port_of m.external (ports_with x w.ports) x) a b (has_port n x room holds)
       (rw holds.members at moves)
 
-  pub seat_stands : (n : Connections) (x : Slot) (room : ℕ) → Represents n (after w.holding (Seat x room)) (given x w.ports)
+  pub seat_stands : (n : Connections) (x : Slot) (room : ℕ) → Represents n (after w.holding (Seat x room)) (ports_with x w.ports)
       → IfSome (port_of m.external n.ports x) (λ p. n.layout ≡ joined_both m x p)
       → StandsFor n (obey (dimensions_of m) w (Seat x room))
   seat_stands n x room holds layout = record {
     holds = holds;
-    layout = seat_layout n x (port_of m.external (given x w.ports) x) (has_port n x room holds) (rw holds.members at layout);
+    layout = seat_layout n x (port_of m.external (ports_with x w.ports) x) (has_port n x room holds) (rw holds.members at layout);
   }

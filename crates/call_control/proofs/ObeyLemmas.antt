@@ -5,7 +5,7 @@ use Rattle.circuit_model.specs.declared.channel.Slot.{Slot}
 use Rattle.circuit_model.specs.declared.circuit.Kind.{Kind}
 use Rattle.circuit_model.specs.Circuits.{is_idle, is_member}
 use Rattle.circuit_model.specs.Holding.{Connect, Seat, Give_tone, Clear, after}
-use Rattle.circuit_model.specs.Ports.{port_of, given}
+use Rattle.circuit_model.specs.Ports.{port_of, ports_with}
 use Rattle.circuit_model.proofs.Slots.{idle_is_deaf}
 use Rattle.circuit_map.specs.Connections.{Connections, SameSizes, Obeys, AreMoves, joined_both, parted, hears_at}
 use Rattle.call_profile.specs.Legs.{Legs}
@@ -75,14 +75,14 @@ module _ (d : Dimensions) (m : Connections) (legs : Legs) (w : World) (h : Holds
       let after_it = obeys w.holding w.ports h.circuits.holds in
       let external = ap (λ (e : Dimensions). e.external) h.sizes in
       let some = has_port m w h.circuits n x room after_it in
-      moves_at d m w x moves (port_of m.external (given x w.ports) x) h.sizes h.circuits.layout some (subst (λ ports. IfSome (port_of m.external ports x) (AreMoves moves m x)) after_it.members are)
-      ∙ ap (λ e. option_map (moves_for d w.layout x) (port_of e (given x w.ports) x)) external
+      moves_at d m w x moves (port_of m.external (ports_with x w.ports) x) h.sizes h.circuits.layout some (subst (λ ports. IfSome (port_of m.external ports x) (AreMoves moves m x)) after_it.members are)
+      ∙ ap (λ e. option_map (moves_for d w.layout x) (port_of e (ports_with x w.ports) x)) external
 
   -- the answer of a seat that was taken
   pub seat_answer : (n : Connections) (x : Slot) (room : ℕ) (moves : ℕ × ℕ) → Obeys m n (Seat x room) → IfSome (port_of m.external n.ports x) (AreMoves moves m x)
-      → Seated moves.0 moves.1 ≡ seat_reply d w.layout x (port_of d.external (given x w.ports) x)
+      → Seated moves.0 moves.1 ≡ seat_reply d w.layout x (port_of d.external (ports_with x w.ports) x)
   seat_answer n x room moves obeys are =
-      subst (λ (e : Dimensions). Seated moves.0 moves.1 ≡ seat_reply e w.layout x (port_of e.external (given x w.ports) x)) h.sizes
+      subst (λ (e : Dimensions). Seated moves.0 moves.1 ≡ seat_reply e w.layout x (port_of e.external (ports_with x w.ports) x)) h.sizes
       (Steps.seat_moves m w h.circuits n x room moves.0 moves.1 (obeys w.holding w.ports h.circuits.holds) are)
 
   -- whether every port is taken

@@ -10,7 +10,7 @@ use Rattle.number_plan.specs.declared.plan.Number.{Number}
 use Rattle.number_plan.specs.declared.target.Found.{Found}
 use Rattle.number_plan.specs.declared.target.Found.TheVariants.{Line, Room, More, Nothing}
 use Rattle.number_plan.specs.declared.target.Target.TheVariants as target
-use Rattle.number_plan.specs.Plan.{found, all_targets}
+use Rattle.number_plan.specs.Plan.{found_for, all_targets}
 use Rattle.number_plan.proofs.Meanings.{found_passes}
 use Rattle.call_control.specs.Choices.{IsReached, called_checks}
 use Rattle.exchange_events.specs.Sizes.{Setting, Dimensions}
@@ -44,7 +44,7 @@ slot_causes d w line channel target x taken is = rw (taken, is) refl
 
 -- ---- a line that is found exists, where those of the plan do
 
-pub reaches : (external : ℕ) (plan : List Number) (digits : List ℕ) (t : Found) → IsTrue (all_targets (is_reached external) plan) → found plan digits ≡ t → IsReached external t
+pub reaches : (external : ℕ) (plan : List Number) (digits : List ℕ) (t : Found) → IsTrue (all_targets (is_reached external) plan) → found_for plan digits ≡ t → IsReached external t
 reaches external plan digits (Line line) planned is = let passes = found_passes (is_reached external) plan digits (target.Line line) planned is in grind (arith, nat_tests, passes)
 reaches external plan digits (Room room) planned is = tt
 reaches external plan digits More planned is = tt
@@ -52,9 +52,9 @@ reaches external plan digits Nothing planned is = tt
 
 -- ---- the whole
 
-module _ (s : Setting) (w : World) (line : ℕ) (m : Message) (numbers : List Number) (target : Found) (plan : s.plan ≡ numbers) (is : target ≡ found numbers (unwrap_or (digits_in m) [])) where
+module _ (s : Setting) (w : World) (line : ℕ) (m : Message) (numbers : List Number) (target : Found) (plan : s.plan ≡ numbers) (is : target ≡ found_for numbers (unwrap_or (digits_in m) [])) where
   pub same_target : target_of s m ≡ target
-  same_target = ap (λ ns. found ns (unwrap_or (digits_in m) [])) plan ∙ sym is
+  same_target = ap (λ ns. found_for ns (unwrap_or (digits_in m) [])) plan ∙ sym is
 
   pub element_refused : (cause : ℕ) → first_cause (element_checks m) ≡ Some cause → refusal s w line m ≡ Some cause
   element_refused cause e = some_fails (element_checks m) (number_checks (target_of s m) ++ slot_checks s.dimensions w line (channel_in m.elements) (target_of s m)) cause e

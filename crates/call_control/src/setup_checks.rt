@@ -1,6 +1,6 @@
 //! The checks of a SETUP: what it asks for, which slots its call gets, and the cause with which it is refused.
 ghost use Rattle.std.specs.Prelude.{◌≡◌, ◌<◌, [], unwrap_or, option_map, IfSome, IsTrue};
-ghost use Rattle.number_plan.specs.Plan.{found, all_targets};
+ghost use Rattle.number_plan.specs.Plan.{found_for, all_targets};
 ghost use Rattle.call_profile.specs.Setup.{digits_in, slot_of, slot_asked, element_checks, number_checks, first_cause, caller_slot, is_taken, slot_checks, refusal};
 ghost use Rattle.circuit_model.specs.Extent.{IsExternal};
 ghost use Rattle.call_control.specs.Choices.{IsReached, idle_beside, called_checks};
@@ -20,7 +20,7 @@ use q931_codec::causes::{
     MANDATORY_ELEMENT_MISSING, NO_CHANNEL_AVAILABLE, REQUESTED_CHANNEL_NOT_AVAILABLE,
     SWITCHING_EQUIPMENT_CONGESTION, UNALLOCATED_NUMBER,
 };
-use q931_codec::{BearerCapability, ChannelIdentification, MOST_DIGITS, Message, dialled};
+use q931_codec::{BearerCapability, ChannelIdentification, MOST_DIGITS, Message, dialled_digits};
 
 impl<P: PathMap> CallControl<P> {
     /// The lowest idle slot of a line.
@@ -149,12 +149,12 @@ impl<P: PathMap> CallControl<P> {
 fn digits_in(message: &Message) -> Option<ArrayVec<u8, MOST_DIGITS>>
     ensures { option_map (λ digits. digits.items) result ≡ digits_in message.now }
 {
-    dialled(message.called_number()?)
+    dialled_digits(message.called_number()?)
 }
 
 /// What the plan knows of the digits that a SETUP dials.
 pub(crate) fn target_of(plan: &Plan, message: &Message) -> Found
-    ensures { result ≡ found plan.now (unwrap_or (digits_in message.now) []) }
+    ensures { result ≡ found_for plan.now (unwrap_or (digits_in message.now) []) }
 {
     match digits_in(message) {
         Some(digits) => plan.look(&digits),

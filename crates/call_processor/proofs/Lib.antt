@@ -1,4 +1,4 @@
-pub mod Segments
-pub mod Done
-pub mod FrameSteps
-pub mod Tools
+pub mod PartLemmas
+pub mod EventLemmas
+pub mod FrameLemmas
+pub mod ToolLemmas

@@ -8,7 +8,9 @@ use Rattle.circuit_model.specs.Ports.{Ports}
 use Rattle.frame_engine.specs.Frames.{PlaysOut}
 use Rattle.exchange_core.specs.declared.tool.Tool.{Tool}
 use Rattle.exchange_events.specs.declared.trace.Event.TheVariants.{Frame}
-use Rattle.exchange_core.specs.Seats.{Board, Known, before, setting_at, world_at}
+use Rattle.seat_history.specs.declared.known.Known.{Known}
+use Rattle.seat_history.specs.Histories.{before}
+use Rattle.exchange_core.specs.Boards.{Board, setting_at, world_at}
 use Rattle.exchange_core.specs.Working.{Entry, IsNumbered, IsToolFor}
 use Rattle.exchange_events.specs.Sizes.{Dimensions}
 use Rattle.call_profile.specs.World.{World, pass}

@@ -4,7 +4,10 @@ use Rattle.exchange_events.specs.declared.reply.Reply.{Reply}
 use Rattle.exchange_events.specs.declared.trace.Trace.{Trace}
 use Rattle.exchange_events.specs.Kept.{kept_of}
 use Rattle.exchange_events.specs.Orders.{Worker}
-use Rattle.exchange_core.specs.Seats.{Board, Known, StartsWith, AnswersAt, before, entries_of, handling}
+use Rattle.seat_history.specs.declared.known.Known.{Known}
+use Rattle.seat_history.specs.Histories.{StartsWith, before, entries_of}
+use Rattle.seat_history.specs.Seats.{after_step}
+use Rattle.exchange_core.specs.Boards.{Board, AnswersAt}
 use Rattle.call_profile.specs.Step.{MovesAtMost}
 use Rattle.exchange_core.specs.Working.{Entry}
 use Rattle.call_processor.specs.declared.worked.Placed.{Placed}
@@ -33,9 +36,9 @@ pub record Did (v : Known) (events : List ℕ) (w : Known) : Type 0 where
   pub others : w.kept ≡ v.kept
 
 -- From v to w the seat did one event, behind a history that begins with what it had seen.
-pub record Handled (v : Known) (event : ℕ) (w : Known) : Type 0 where
+pub record DidEvent (v : Known) (event : ℕ) (w : Known) : Type 0 where
   pub place : ℕ
-  pub seat : w ≡ handling (before place w.seen) event v
+  pub seat : w ≡ after_step (before place w.seen) event v
   pub begins : StartsWith (before place w.seen) v.seen
   pub last : length w.seen ≡ place + 1
   pub turn : 0 < v.left
@@ -50,8 +53,8 @@ pub record IsAnswer (board : Board) (seat : Known) (p : Placed) : Type 0 where
   pub keeps : p.answer.reply ≡ kept_of reply
 
 -- the numbers of the events that were answered
-abbrev pub answered : List Placed → List ℕ
-answered answers = map (λ (p : Placed). p.answer.event) answers
+abbrev pub answered_events : List Placed → List ℕ
+answered_events answers = map (λ (p : Placed). p.answer.event) answers
 
 -- from v to w the first events of the part were done, and all of them where the work is whole; but for the last one, if it isn't, all were
 -- answered, each behind the one before it in the history
@@ -59,8 +62,8 @@ pub record Works (board : Board) (part : List ℕ) (v : Known) (answers : List P
   pub done : List ℕ
   pub first : (rest : List ℕ) × (part ≡ done ++ rest)
   pub did : Did v done w
-  pub told : (lacking : List ℕ) × (done ≡ answered answers ++ lacking) × (length lacking ≤ 1)
+  pub told : (lacking : List ℕ) × (done ≡ answered_events answers ++ lacking) × (length lacking ≤ 1)
   pub each : All (IsAnswer board w) answers
   pub rising : AllPairs (λ (p q : Placed). p.place < q.place) answers
   pub beyond : All (λ (p : Placed). length v.seen ≤ p.place) answers
-  pub all : IsTrue whole → answered answers ≡ part
+  pub all : IsTrue whole → answered_events answers ≡ part

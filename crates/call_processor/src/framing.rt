@@ -5,7 +5,7 @@ ghost use Rattle.exchange_core.specs.Working.{IsNumbered};
 ghost use Rattle.tone_rules.specs.Tables.{table_of};
 ghost use Rattle.call_processor.specs.Frames.{IsReady, IsReadyFor, HasFrame, engine_dimensions};
 ghost use Rattle.call_processor.specs.Parts.{part_of};
-ghost use Rattle.call_processor.specs.Work.{Handled, IsAnswer, MayWork, Works};
+ghost use Rattle.call_processor.specs.Work.{DidEvent, IsAnswer, MayWork, Works};
 ghost use Rattle.call_processor.specs.Workplaces.{EndsReady, FinishesReady, HasFrames, HasWorked};
 
 use crate::segment::{input_of, numbers_of};
@@ -45,7 +45,7 @@ fn do_frame<B: Switchboard, G: Gate, C: Carrier, R: Wait>(
     requires tones { tones.now ≡ (B.board board.now).trace.tones }
     requires lines { length octets.old.items ≡ (B.board board.now).trace.external }
     ensures seated { B.seated board.now seat.new }
-    ensures handled { Handled (B.known seat.old) event (B.known seat.new) }
+    ensures handled { DidEvent (B.known seat.old) event (B.known seat.new) }
     ensures ready { IsReadyFor C.carries C.next C.external_lines C.bridge_lines C.depth (B.board board.now) (B.known seat.new) engine.new desk.new.tool }
     ensures lines { length octets.new.items ≡ (B.board board.now).trace.external }
     ensures place { IfOk result (λ p. length (B.known seat.new).seen ≡ p.place + 1) }
@@ -68,7 +68,7 @@ fn do_frame<B: Switchboard, G: Gate, C: Carrier, R: Wait>(
 }
 
 // Makes room for what so many lines send, unless there is.
-fn make_room(alloc: Global, octets: &mut Vec<[u8; 30]>, lines: usize) -> Result<(), AllocError>
+fn grow(alloc: Global, octets: &mut Vec<[u8; 30]>, lines: usize) -> Result<(), AllocError>
     ensures { OnOk result (length octets.new.items ≡ lines) }
 {
     if octets.len() != lines {
@@ -102,7 +102,7 @@ fn do_frames<B: Switchboard, G: Gate, C: Carrier, R: Wait>(
     ensures octets { All (HasFrame C.plays (table_of trace.now.tones) (B.board board.now) (B.known seat.new)) answers.new.items }
 {
     let worker = u32::from(trace.processors);
-    make_room(alloc, octets, usize::from(trace.external))?;
+    grow(alloc, octets, usize::from(trace.external))?;
     let (first, end) = numbers_of(trace, segment);
     for event in first..end {
         let Some(input) = input_of(trace, event) else {

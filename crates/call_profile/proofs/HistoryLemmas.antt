@@ -12,7 +12,7 @@ use Rattle.circuit_model.specs.Circuits.{is_idle, is_member, names}
 use Rattle.circuit_model.specs.Holding.{Holding, Command, empty, Connect, Seat, Give_tone, Clear, Frame, after, after_all, IsAllowed, AreAllowed, Valid}
 use Rattle.circuit_model.specs.Ports.{Ports, free_ports, ports_after, port_frames}
 use Rattle.circuit_model.specs.Extent.{CommandWithin, AreWithin}
-use Rattle.circuit_model.proofs.Recorded.{after_all-append, frames-boundary, frames-command, valid-after_all}
+use Rattle.circuit_model.proofs.FrameRecords.{after_all-append, frames-boundary, frames-command, valid-after_all}
 use Rattle.circuit_model.proofs.Slots.{true_or_false}
 use Rattle.circuit_model.proofs.Validity.{valid-empty}
 use Rattle.tone_rules.specs.declared.tones.Tones.{Tones}

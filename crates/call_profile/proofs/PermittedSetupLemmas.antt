@@ -7,7 +7,7 @@ use Rattle.circuit_model.specs.declared.channel.Slot.{Slot}
 use Rattle.circuit_model.specs.Channels.{channel_at}
 use Rattle.circuit_model.specs.Extent.{IsExternal}
 use Rattle.circuit_model.proofs.Slots.{true_or_false}
-use Rattle.q931_codec.specs.Contents.{is_bearer_channel, bearer_in, bearer_of, called_of, channel_in, contents_in, passed_on}
+use Rattle.q931_codec.specs.Contents.{is_bearer_channel, bearer_in, bearer_of, called_of, channel_in, contents_in, contents_passed_on}
 use Rattle.q931_codec.specs.Identifiers as identifier
 use Rattle.q931_codec.specs.Outgoing.{IsWritable, bare}
 use Rattle.q931_codec.specs.declared.kind.MessageKind.TheVariants as kind
@@ -46,7 +46,7 @@ called_short (Some contents) = elim (true_or_false (nat_le 1 (length contents) &
   | inr long ↦ rw long (omega arith)
 ]
 
-passed_short : (most : ℕ) (contents : List ℕ) → length (passed_on most contents) ≤ most
+passed_short : (most : ℕ) (contents : List ℕ) → length (contents_passed_on most contents) ≤ most
 passed_short most contents = elim (true_or_false (nat_le (length contents) most)) [
   | inl short ↦ rw short (grind (arith, nat_tests, short))
   | inr long ↦ rw long (omega arith)

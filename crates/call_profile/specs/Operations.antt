@@ -3,7 +3,7 @@ use Rattle.std.specs.Prelude.{ℕ, List, [], ◌∷◌, ◌++◌, Option, Some, 
 use Rattle.circuit_model.specs.declared.channel.Slot.{Slot}
 use Rattle.circuit_model.specs.declared.circuit.Kind.{Kind}
 use Rattle.circuit_model.specs.Holding.{Holding, Connect, Seat as Take_seat, Give_tone, Clear as Clear_slot, after}
-use Rattle.circuit_model.specs.Ports.{port_of, given}
+use Rattle.circuit_model.specs.Ports.{port_of, ports_with}
 use Rattle.control_memory.specs.Layout.{Layout}
 use Rattle.control_memory.specs.Connecting.{moved}
 use Rattle.q931_codec.specs.Outgoing.{OutgoingMessage, encoding}
@@ -43,7 +43,7 @@ abbrev pub moves_for : Dimensions → Layout → Slot → Slot → ℕ × ℕ
 moves_for d layout x y = (moved layout (one_way d layout x y), moved (one_way d layout x y) (both_ways d layout x y))
 
 abbrev pub moves_of_seat : Dimensions → World → Slot → Option (ℕ × ℕ)
-moves_of_seat d w x = option_map (moves_for d w.layout x) (port_of d.external (given x w.ports) x)
+moves_of_seat d w x = option_map (moves_for d w.layout x) (port_of d.external (ports_with x w.ports) x)
 
 -- the circuits once a slot got a tone, if there is one: it sounds from the next frame on
 abbrev pub with_tone : Holding → Slot → Option Kind → Holding

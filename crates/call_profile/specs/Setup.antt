@@ -12,7 +12,7 @@ use Rattle.q931_codec.specs.declared.kind.MessageKind.TheVariants as kind
 use Rattle.q931_codec.specs.declared.message.Message.{Message}
 use Rattle.q931_codec.specs.CallStates.{outgoing_call_proceeding, call_present, active}
 use Rattle.q931_codec.specs.Causes.{unallocated_number, invalid_number_format, no_channel_available, switching_equipment_congestion, requested_channel_not_available, bearer_capability_not_implemented, mandatory_element_missing, invalid_element_contents}
-use Rattle.q931_codec.specs.Contents.{channel_in, bearer_in, bearer_of, called_in, dialled, calling_in, low_layer_in, high_layer_in}
+use Rattle.q931_codec.specs.Contents.{channel_in, bearer_in, bearer_of, called_in, dialled_digits, calling_in, low_layer_in, high_layer_in}
 use Rattle.q931_codec.specs.Outgoing.{OutgoingMessage, bare}
 use Rattle.call_states.specs.declared.leg.Leg.{Leg}
 use Rattle.call_states.specs.declared.leg.Peer.{Peer}
@@ -20,7 +20,7 @@ use Rattle.call_states.specs.declared.leg.Peer.TheVariants as peer
 use Rattle.call_states.specs.declared.leg.Side.TheVariants.{Caller, Called}
 use Rattle.number_plan.specs.declared.target.Found.{Found}
 use Rattle.number_plan.specs.declared.target.Found.TheVariants.{Line, Room, More, Nothing}
-use Rattle.number_plan.specs.Plan.{found}
+use Rattle.number_plan.specs.Plan.{found_for}
 use Rattle.call_profile.specs.Acts.{message_to}
 use Rattle.call_profile.specs.Course.{Course, only}
 use Rattle.call_profile.specs.IdleSlots.{idle, lowest_idle, lowest_idle_beside}
@@ -36,11 +36,11 @@ abbrev pub bearer_asked : Message → Option BearerCapability
 bearer_asked m = option_map bearer_of (bearer_in m.elements)
 
 abbrev pub digits_in : Message → Option (List ℕ)
-digits_in m = option_and_then dialled (called_in m.elements)
+digits_in m = option_and_then dialled_digits (called_in m.elements)
 
 -- what the plan knows of them
 abbrev pub target_of : Setting → Message → Found
-target_of s m = found s.plan (unwrap_or (digits_in m) [])
+target_of s m = found_for s.plan (unwrap_or (digits_in m) [])
 
 -- ---- what is chosen
 

@@ -2,7 +2,7 @@
 use Rattle.std.specs.Prelude.{ℕ, ◌-◌, ◌≤◌, ◌&&◌, not, Bool, false, List, [], ◌∷◌, filter_map, slice_get, is_some, IfSome, if◌then◌else◌}
 use Rattle.circuit_model.specs.declared.channel.Slot.{Slot}
 use Rattle.circuit_model.specs.Holding.{Connect, Seat as Take_seat, Clear}
-use Rattle.circuit_model.specs.Ports.{port_of, given}
+use Rattle.circuit_model.specs.Ports.{port_of, ports_with}
 use Rattle.exchange_events.specs.declared.trace.Event.{Event}
 use Rattle.exchange_events.specs.declared.trace.Event.TheVariants.{Nail, Seat, Free, Message, Frame}
 use Rattle.exchange_events.specs.declared.reply.Reply.{Reply}
@@ -29,7 +29,7 @@ reply s w (Nail x y) = if may_nail w x y then nail_reply s.dimensions w.layout x
 reply s w (Seat x room) =
     if not (idle w x) then Busy
     else if is_full s.dimensions w then NoPort
-    else seat_reply s.dimensions w.layout x (port_of s.dimensions.external (given x w.ports) x)
+    else seat_reply s.dimensions w.layout x (port_of s.dimensions.external (ports_with x w.ports) x)
 reply s w (Free x) = if is_nailed w x then Freed else NotNailed
 reply s w (Message line octets) = message_reply (answer_to s w line octets)
 reply s w (Frame input) = Frame_reply w.holding.next [] []

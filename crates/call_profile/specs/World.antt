@@ -5,7 +5,7 @@ use Rattle.circuit_model.specs.declared.circuit.Circuit.{Circuit}
 use Rattle.circuit_model.specs.FrameInput.{Input}
 use Rattle.circuit_model.specs.Circuits.{is_member, heard_by}
 use Rattle.circuit_model.specs.Holding.{Holding, empty, Command, Connect, Seat as Take_seat, Give_tone, Clear, Frame as Boundary, after}
-use Rattle.circuit_model.specs.Ports.{Ports, free_ports, ports_after, port_of, given}
+use Rattle.circuit_model.specs.Ports.{Ports, free_ports, ports_after, port_of, ports_with}
 use Rattle.control_memory.specs.Layout.{Layout}
 use Rattle.control_memory.specs.Connecting.{connect, moved}
 use Rattle.circuit_map.specs.Connections.{without_both, partner}
@@ -56,7 +56,7 @@ with_port d layout x (Some port) = both_ways d layout x port
 -- takes its paths along
 abbrev pub layout_after : Dimensions → World → Command → Layout
 layout_after d w (Connect x y) = both_ways d w.layout x y
-layout_after d w (Take_seat x room) = with_port d w.layout x (port_of d.external (given x w.ports) x)
+layout_after d w (Take_seat x room) = with_port d w.layout x (port_of d.external (ports_with x w.ports) x)
 layout_after d w (Give_tone x kind) = w.layout
 layout_after d w (Clear x) = without_both w.layout x (partner d.external w.ports (heard_by w.holding.circuits x))
 layout_after d w Boundary = w.layout

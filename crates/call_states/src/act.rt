@@ -1,3 +1,5 @@
+//! What the exchange does for a message on a call.
+
 /// What the exchange does for a message. The number is a cause value (Q.931, 4.5.12).
 #[derive(Clone, Copy, Debug, PartialEq, Eq)]
 pub enum Act {

@@ -9,7 +9,7 @@ ghost use Rattle.call_states.specs.Acts.{act_on, cause_of_act};
 ghost use Rattle.call_states.specs.Status.{status, IsTold};
 
 /// The cause that a message asks to be passed on fits a message.
-pub fn law_of_causes()
+pub fn law_of_passed_causes()
     ensures { (state : ℕ) (m : Message) → IfSome (cause_of_act (act_on state m)) (λ cause. cause < 128) }
 {}
 

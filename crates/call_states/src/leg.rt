@@ -1,3 +1,5 @@
+//! The legs of calls: what the exchange keeps of a call on one line.
+
 use circuit_model::Slot;
 
 /// The two sides of a call.

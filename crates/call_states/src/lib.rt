@@ -19,10 +19,7 @@ mod status_message;
 mod table;
 
 pub use act::Act;
-pub use laws::{law_of_causes, law_of_channels, law_of_status};
+pub use laws::{law_of_channels, law_of_passed_causes, law_of_status};
 pub use leg::{Held, Leg, Peer, Side};
 pub use status_message::{status, unexpected};
 pub use table::on_message;
-
-#[cfg(test)]
-mod tests;

@@ -1,3 +1,5 @@
+//! The STATUS messages that tell a leg its state.
+
 ghost use Rattle.std.specs.Prelude.{◌≡◌, ◌<◌};
 ghost use Rattle.q931_codec.specs.Outgoing.{outgoing_of};
 ghost use Rattle.call_states.specs.Status.{status, unexpected_cause};

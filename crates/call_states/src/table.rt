@@ -1,3 +1,5 @@
+//! The call table: what each message asks of a leg in its state.
+
 ghost use Rattle.std.specs.Prelude.{◌≡◌};
 ghost use Rattle.call_states.specs.Acts.{act_of, act_on, is_among, before_release_request};
 

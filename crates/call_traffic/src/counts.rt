@@ -1,3 +1,5 @@
+//! How often each course of a message was drawn.
+
 use plain_calls::{Act, Course, Refusal};
 use std::fmt;
 

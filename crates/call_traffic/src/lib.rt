@@ -19,6 +19,3 @@ pub use counts::Counts;
 pub use random::Random;
 pub use script::{Post, Script};
 pub use traffic::{Drawn, LONGEST_TONE, draw_pace, draw_traffic};
-
-#[cfg(test)]
-mod tests;

@@ -1,3 +1,5 @@
+//! Pseudo-random numbers, and choices by them.
+
 ghost use Rattle.std.specs.Prelude.{◌<◌, length, IfSome};
 
 use circuit_model::{PLACES, Slot};

@@ -1,3 +1,5 @@
+//! A trace that is being written, line by line, and who does each event.
+
 use circuit_model::{Slot, channel_of};
 use plain_calls::{PlainEvent, append_octets};
 use std::alloc::{AllocError, Global};

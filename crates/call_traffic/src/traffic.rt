@@ -1,3 +1,5 @@
+//! A pseudo-random trace of calls, nails, seats and frames.
+
 ghost use Rattle.std.specs.Prelude.{◌<◌};
 
 use crate::counts::Counts;
@@ -186,9 +188,9 @@ pub fn draw_traffic(alloc: Global, random: &mut Random, events: u32) -> Result<D
         script,
         fresh: setting.exchange(alloc)?,
         counts,
-        moved: run.moved(),
+        moved: run.paths_moved(),
         tones: setting.lengths(),
-        sounded: run.exchange().sounded(),
+        sounded: run.exchange().tones_given(),
     })
 }
 

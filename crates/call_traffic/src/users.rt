@@ -1,3 +1,5 @@
+//! What the users of a line send, by the state of their legs.
+
 ghost use Rattle.std.specs.Prelude.{◌<◌};
 
 use crate::random::Random;

@@ -9,7 +9,7 @@ use Rattle.circuit_model.specs.declared.circuit.Circuit.{Circuit}
 use Rattle.circuit_model.specs.declared.circuit.Circuit.TheVariants.{Pair, Member, Tone}
 use Rattle.circuit_model.specs.Circuits.{same_slot, listener, names, heard_by, is_member, unless_naming}
 use Rattle.circuit_model.specs.Holding.{Holding, Valid, Clear, after}
-use Rattle.circuit_model.specs.Ports.{Ports, port_of, has, returned}
+use Rattle.circuit_model.specs.Ports.{Ports, port_of, has, ports_without}
 use Rattle.circuit_model.proofs.Age.{at_head, in_tail}
 use Rattle.circuit_model.proofs.Slots.{same_slot-refl, same_slot-false, same_slot-true, same_slot_cases}
 use Rattle.circuit_model.proofs.Validity.{valid-clear, heard_by-clear, heard_by-listener}
@@ -156,7 +156,7 @@ count-members x [] = refl
 count-members x (c ∷ cs) = members_step x c cs (count-members x cs)
 
 -- ---- the connections
-pub clears : (m : Connections) (h : Holding) (ports : Ports) (x : Slot) → x.line < m.external → Represents m h ports → Clears m.external ports (returned x ports) (heard_by h.circuits) (heard_by (after h (Clear x)).circuits) x
+pub clears : (m : Connections) (h : Holding) (ports : Ports) (x : Slot) → x.line < m.external → Represents m h ports → Clears m.external ports (ports_without x ports) (heard_by h.circuits) (heard_by (after h (Clear x)).circuits) x
 clears m h ports x line holds = record {
   line = line;
   hearing = hearing_in m h ports holds;
@@ -164,32 +164,32 @@ clears m h ports x line holds = record {
   others = λ z apart. returned_other m.external x z ports apart;
 }
 
-ported_after : (m : Connections) (h : Holding) (ports : Ports) (x z : Slot) → Represents m h ports → count_by (has z) (returned x ports) ≡ count_by (seats z) (after h (Clear x)).circuits
+ported_after : (m : Connections) (h : Holding) (ports : Ports) (x z : Slot) → Represents m h ports → count_by (has z) (ports_without x ports) ≡ count_by (seats z) (after h (Clear x)).circuits
 ported_after m h ports x z holds = elim (same_slot_cases z x) [
-  | inl here ↦ subst (λ t. count_by (has t) (returned x ports) ≡ count_by (seats t) (after h (Clear x)).circuits) (sym here) (count-returned_mine x ports ∙ sym (count-gone x h.circuits))
+  | inl here ↦ subst (λ t. count_by (has t) (ports_without x ports) ≡ count_by (seats t) (after h (Clear x)).circuits) (sym here) (count-returned_mine x ports ∙ sym (count-gone x h.circuits))
   | inr away ↦ count-returned_other x z ports away ∙ holds.ported z ∙ sym (count-kept x z h.circuits away)
 ]
 
 pub holds_clear : (m n : Connections) (x : Slot) → Heeded m n (Clear x) → (h : Holding) (ports : Ports) → Represents m h ports
-    → ((a b : Slot) → IsSlot (lines_of m) a → Joins n.layout a b ↔ Needs m.external (returned x ports) (heard_by (after h (Clear x)).circuits) a b)
-    → Represents n (after h (Clear x)) (returned x ports)
+    → ((a b : Slot) → IsSlot (lines_of m) a → Joins n.layout a b ↔ Needs m.external (ports_without x ports) (heard_by (after h (Clear x)).circuits) a b)
+    → Represents n (after h (Clear x)) (ports_without x ports)
 holds_clear m n x w h ports holds joins =
     let valid = valid-clear m.bridges h x holds.valid in
     record {
       next = w.next ∙ holds.next;
       valid = subst (λ b. Valid b (after h (Clear x))) (sym w.bridges) valid;
       heard = λ z. w.hears z ∙ ap (unless_naming x) (holds.heard z) ∙ sym (heard_by-clear h.circuits x z (holds.valid.standing z));
-      members = w.members ∙ ap (returned x) holds.members;
+      members = w.members ∙ ap (ports_without x) holds.members;
       ported = λ z. ported_after m h ports x z holds;
       taken = let a = count-returned x ports in let b = count-members x h.circuits in let c = holds.ported x in let d = holds.taken in omega (arith, a, b, c, d);
       joined = λ a b inside.
           let j = joins a b (subst (λ l. IsSlot l a) (λ i. w.external i + w.bridges i) inside) in
-          let needed = needed_is m.external (returned x ports) m.bridges (after h (Clear x)) a b valid in
+          let needed = needed_is m.external (ports_without x ports) m.bridges (after h (Clear x)) a b valid in
           rw w.external (λ is. needed.1 (j.0 is), λ is. j.1 (needed.0 is));
     }
 
 -- no path goes
-pub clear_pathless : (m n : Connections) (x : Slot) → x.line < m.external → is_pathless (hears_at m x) ≡ true → Heeded m n (Clear x) → n.layout ≡ m.layout → (h : Holding) (ports : Ports) → Represents m h ports → Represents n (after h (Clear x)) (returned x ports)
+pub clear_pathless : (m n : Connections) (x : Slot) → x.line < m.external → is_pathless (hears_at m x) ≡ true → Heeded m n (Clear x) → n.layout ≡ m.layout → (h : Holding) (ports : Ports) → Represents m h ports → Represents n (after h (Clear x)) (ports_without x ports)
 clear_pathless m n x line quiet w same h ports holds =
     let k = clears m h ports x line holds in
     let silent : is_pathless (heard_by h.circuits x) ≡ true = subst (λ o. is_pathless o ≡ true) (holds.heard x) quiet in
@@ -203,7 +203,7 @@ clear_pathless m n x line quiet w same h ports holds =
 -- the paths to a partner and back go
 pub clear_paths : (m n : Connections) (x q : Slot) → x.line < m.external → Heeded m n (Clear x)
     → ((a b : Slot) → IsSlot (lines_of m) a → Joins n.layout a b ↔ (Joins m.layout a b × (a ≡ x → ⊥) × (a ≡ q → ⊥)))
-    → (h : Holding) (ports : Ports) → Represents m h ports → Partner m.external ports (returned x ports) (heard_by h.circuits) (heard_by (after h (Clear x)).circuits) x q → Represents n (after h (Clear x)) (returned x ports)
+    → (h : Holding) (ports : Ports) → Represents m h ports → Partner m.external ports (ports_without x ports) (heard_by h.circuits) (heard_by (after h (Clear x)).circuits) x q → Represents n (after h (Clear x)) (ports_without x ports)
 clear_paths m n x q line w less h ports holds partner =
     let k = clears m h ports x line holds in
     holds_clear m n x w h ports holds (λ a b inside.
@@ -333,7 +333,7 @@ unseated h bridges x v never c inside e =
     let for_x : listener c ≡ x = ap listener s.3 ∙ sym s.4 in
     never s.0 s.1 s.2 (sym (ap (heard_by h.circuits) for_x) ∙ found ∙ ap (λ t. Some t) s.3)
 
-pub nobody_returns : (m : Connections) (h : Holding) (ports : Ports) (x : Slot) → ((room : ℕ) (at : Slot) (s : ℕ) → hears_at m x ≡ Some (Member room at s) → ⊥) → Represents m h ports → returned x m.ports ≡ m.ports
+pub nobody_returns : (m : Connections) (h : Holding) (ports : Ports) (x : Slot) → ((room : ℕ) (at : Slot) (s : ℕ) → hears_at m x ≡ Some (Member room at s) → ⊥) → Represents m h ports → ports_without x m.ports ≡ m.ports
 nobody_returns m h ports x never holds =
     let none = seats_none x h.circuits (λ c inside. not_true (seats x c) (unseated h m.bridges x holds.valid (λ room at s e. never room at s (holds.heard x ∙ e)) c inside)) in
     returned_none x m.ports (ap (count_by (has x)) holds.members ∙ holds.ported x ∙ none)

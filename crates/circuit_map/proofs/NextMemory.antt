@@ -12,8 +12,8 @@ use Rattle.circuit_model.specs.declared.channel.Slot.{Slot}
 use Rattle.circuit_model.specs.declared.circuit.Circuit.{Circuit}
 use Rattle.circuit_model.specs.declared.circuit.Circuit.TheVariants.{Pair, Member, Tone}
 use Rattle.circuit_model.specs.Circuits.{same_slot}
-use Rattle.circuit_model.specs.Holding.{Holding, Stands, Is_idle, Has_tone, Is_seated, Is_connected, naming}
-use Rattle.circuit_model.specs.Ports.{Ports, has, given, returned, port_of, port_numbered}
+use Rattle.circuit_model.specs.Holding.{Holding, Stands, Is_idle, Has_tone, Is_seated, Is_connected, circuits_naming}
+use Rattle.circuit_model.specs.Ports.{Ports, has, ports_with, ports_without, port_of, port_numbered}
 use Rattle.circuit_model.proofs.Slots.{true_or_false, same_slot-refl, same_slot-false, same_slot_cases}
 use Rattle.conference_ports.proofs.Indexes.{no_place}
 use Rattle.conference_ports.proofs.Positions.{none_passes}
@@ -125,13 +125,13 @@ not_port external p k at is near = same_slot-false at p (λ e. let line = ap (λ
 
 -- the lowest free port is given
 served_given : (external : ℕ) (ports : Ports) (hears : Slot → Option Circuit) (x p : Slot) (k : ℕ) (at : Slot) → position is_none ports ≡ Some k → p ≡ port_numbered external k → at.place < 30
-    → served external (given x ports) hears at ≡ (if same_slot at p then hears x else served external ports hears at)
+    → served external (ports_with x ports) hears at ≡ (if same_slot at p then hears x else served external ports hears at)
 served_given external ports hears x p k at lowest is place = elim (cases_lt at.line external) [
   | inl line ↦
-      serves_itself external (given x ports) hears at line ∙ sym (serves_itself external ports hears at line)
+      serves_itself external (ports_with x ports) hears at line ∙ sym (serves_itself external ports hears at line)
       ∙ sym (ap (λ b. if b then hears x else served external ports hears at) (not_port external p k at is line))
   | inr line ↦
-      serves_member external (given x ports) hears at line
+      serves_member external (ports_with x ports) hears at line
       ∙ ap (λ (ps : Ports). option_and_then hears (member_at external ps at)) (given_at x ports k lowest)
       ∙ elim (same_slot_cases at p) [
         | inl here ↦
@@ -145,12 +145,12 @@ served_given external ports hears x p k at lowest is place = elim (cases_lt at.l
 ]
 
 -- ---- a member has one port
-seats_named : (x : Slot) (c : Circuit) (cs : List Circuit) → count_by (seats x) cs ≡ count_by (seats x) (naming cs x) → count_by (seats x) (c ∷ cs) ≡ count_by (seats x) (naming (c ∷ cs) x)
+seats_named : (x : Slot) (c : Circuit) (cs : List Circuit) → count_by (seats x) cs ≡ count_by (seats x) (circuits_naming cs x) → count_by (seats x) (c ∷ cs) ≡ count_by (seats x) (circuits_naming (c ∷ cs) x)
 seats_named x (Pair from to since) cs rest = grind (arith, common_steps)
 seats_named x (Member room at since) cs rest = grind (arith, common_steps)
 seats_named x (Tone kind to since) cs rest = grind (arith, common_steps)
 
-seats_by_name : (x : Slot) (cs : List Circuit) → count_by (seats x) cs ≡ count_by (seats x) (naming cs x)
+seats_by_name : (x : Slot) (cs : List Circuit) → count_by (seats x) cs ≡ count_by (seats x) (circuits_naming cs x)
 seats_by_name x [] = refl
 seats_by_name x (c ∷ cs) = seats_named x c cs (seats_by_name x cs)
 
@@ -195,19 +195,19 @@ only_there x ports j k once at apart = elim (true_or_false (has x (get_or ports 
       ])
 ]
 
-returned_at : (x : Slot) (ports : Ports) (j : ℕ) → get_or (returned x ports) j None ≡ (if has x (get_or ports j None) then None else get_or ports j None)
+returned_at : (x : Slot) (ports : Ports) (j : ℕ) → get_or (ports_without x ports) j None ≡ (if has x (get_or ports j None) then None else get_or ports j None)
 returned_at x ports j = get_or-map (λ (port : Option Slot). if has x port then None else port) ports j None
 
 -- the member's port is free again
 served_returned : (external : ℕ) (ports : Ports) (hears : Slot → Option Circuit) (x p : Slot) (k : ℕ) (at : Slot) → position (has x) ports ≡ Some k → p ≡ port_numbered external k → count_by (has x) ports ≤ 1 → at.place < 30
-    → served external (returned x ports) hears at ≡ (if same_slot at p then None else served external ports hears at)
+    → served external (ports_without x ports) hears at ≡ (if same_slot at p then None else served external ports hears at)
 served_returned external ports hears x p k at found is once place = elim (cases_lt at.line external) [
   | inl line ↦
-      serves_itself external (returned x ports) hears at line ∙ sym (serves_itself external ports hears at line)
+      serves_itself external (ports_without x ports) hears at line ∙ sym (serves_itself external ports hears at line)
       ∙ sym (ap (λ b. if b then None else served external ports hears at) (not_port external p k at is line))
   | inr line ↦
       let j = 30 * (at.line - external) + at.place in
-      serves_member external (returned x ports) hears at line ∙ ap (option_and_then hears) (returned_at x ports j)
+      serves_member external (ports_without x ports) hears at line ∙ ap (option_and_then hears) (returned_at x ports j)
       ∙ elim (same_slot_cases at p) [
         | inl here ↦
             let same : same_slot at p ≡ true = rw here (same_slot-refl p) in
@@ -317,23 +317,23 @@ shown_port external bridges heard ports later hearing sitting p o n q old in_p f
 -- the lowest free port is given to a member
 pub shown_given : (external bridges : ℕ) (heard : List (Option Circuit)) (ports : Ports) (hearing : List Heard) (sitting : List (Option (ℕ × ℕ))) (x p : Slot) (k : ℕ) (o : Option Circuit) (n q : ℕ)
     → IsShown external bridges heard ports hearing sitting → position is_none ports ≡ Some k → p ≡ port_numbered external k → IsSlot (external + bridges) p → hears_in external heard x ≡ o → n ≡ number_of p → q ≡ port_number external p
-    → IsShown external bridges heard (given x ports) (set hearing n (heard_as o)) (set sitting q (seated_as o))
+    → IsShown external bridges heard (ports_with x ports) (set hearing n (heard_as o)) (set sitting q (seated_as o))
 shown_given external bridges heard ports hearing sitting x p k o n q old lowest is in_p hears_x number is_port =
-    shown_port external bridges heard ports (given x ports) hearing sitting p o n q old in_p (let line = ap (λ (s : Slot). s.line) is in omega (arith, line)) number is_port
+    shown_port external bridges heard ports (ports_with x ports) hearing sitting p o n q old in_p (let line = ap (λ (s : Slot). s.line) is in omega (arith, line)) number is_port
     (λ at place. served_given external ports (hears_in external heard) x p k at lowest is place ∙ ap (λ s. if same_slot at p then s else served_in external heard ports at) hears_x)
 
 -- a member's port is taken back
 pub shown_returned : (external bridges : ℕ) (heard : List (Option Circuit)) (ports : Ports) (hearing : List Heard) (sitting : List (Option (ℕ × ℕ))) (x p : Slot) (n q : ℕ)
     → IsShown external bridges heard ports hearing sitting → port_of external ports x ≡ Some p → count_by (has x) ports ≤ 1 → IsSlot (external + bridges) p → n ≡ number_of p → q ≡ port_number external p
-    → IsShown external bridges heard (returned x ports) (set hearing n Silent) (set sitting q None)
+    → IsShown external bridges heard (ports_without x ports) (set hearing n Silent) (set sitting q None)
 shown_returned external bridges heard ports hearing sitting x p n q old at_p once in_p number is_port =
     let f = port_found external ports x p at_p in
-    shown_port external bridges heard ports (returned x ports) hearing sitting p None n q old in_p (port_line external ports x p at_p) number is_port
+    shown_port external bridges heard ports (ports_without x ports) hearing sitting p None n q old in_p (port_line external ports x p at_p) number is_port
     (λ at place. served_returned external ports (hears_in external heard) x p f.0 at f.1 f.2 once place)
 
 -- ---- who has no port
-pub returned_portless : (external : ℕ) (ports : Ports) (x : Slot) → port_of external (returned x ports) x ≡ None
-returned_portless external ports x = portless external (returned x ports) x (count-returned_mine x ports)
+pub returned_portless : (external : ℕ) (ports : Ports) (x : Slot) → port_of external (ports_without x ports) x ≡ None
+returned_portless external ports x = portless external (ports_without x ports) x (count-returned_mine x ports)
 
 pub unseated_portless : (m : Connections) (h : Holding) (ports : Ports) (x : Slot) → ((room : ℕ) (at : Slot) (s : ℕ) → hears_at m x ≡ Some (Member room at s) → ⊥) → Represents m h ports → port_of m.external m.ports x ≡ None
 unseated_portless m h ports x never holds = ap (λ ps. port_of m.external ps x) (sym (nobody_returns m h ports x never holds)) ∙ returned_portless m.external m.ports x

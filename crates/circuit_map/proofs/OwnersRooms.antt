@@ -12,7 +12,7 @@ use Rattle.circuit_model.specs.Circuits.{same_slot, unless_naming}
 use Rattle.circuit_model.specs.Ports.{has}
 use Rattle.circuit_model.proofs.Slots.{true_or_false, same_slot-false}
 use Rattle.conference_ports.specs.declared.owner.Owner.{Owner}
-use Rattle.conference_ports.specs.Owners.{member_of, owned, disowned}
+use Rattle.conference_ports.specs.Owners.{member_of, owners_with, owners_without}
 use Rattle.conference_ports.proofs.Positions.{owned_at}
 use Rattle.circuit_map.specs.Connections.{AreRoomed}
 use Rattle.circuit_map.proofs.Rows.{kept_row}
@@ -31,7 +31,7 @@ some_owner a b e = cc
 
 -- the lowest free port is given to a member
 pub roomed_given : (hears after : Slot → Option Circuit) (owners : List (Option Owner)) (x : Slot) (room since k : ℕ) → AreRoomed hears owners → position is_none owners ≡ Some k → after x ≡ Some (Member room x since) → ((z : Slot) (c : Circuit) → hears z ≡ Some c → after z ≡ Some c)
-    → AreRoomed after (owned (record { room = room; member = x }) owners)
+    → AreRoomed after (owners_with (record { room = room; member = x }) owners)
 roomed_given hears after owners x room since k old lowest mine kept =
     let new : Owner = record { room = room; member = x } in
     let inside = (position-Some is_none owners k None lowest).0 in
@@ -59,7 +59,7 @@ still_owned x (Some other) owner e = elim (true_or_false (same_slot x other.memb
 ]
 
 -- a member's port is taken back
-pub roomed_returned : (hears after : Slot → Option Circuit) (owners : List (Option Owner)) (x : Slot) → AreRoomed hears owners → ((z : Slot) → after z ≡ unless_naming x (hears z)) → AreRoomed after (disowned x owners)
+pub roomed_returned : (hears after : Slot → Option Circuit) (owners : List (Option Owner)) (x : Slot) → AreRoomed hears owners → ((z : Slot) → after z ≡ unless_naming x (hears z)) → AreRoomed after (owners_without x owners)
 roomed_returned hears after owners x old cleared = λ k owner e.
     let still = still_owned x (get_or owners k None) owner (sym (get_or-map (λ (port : Option Owner). if has x (member_of port) then None else port) owners k None) ∙ e) in
     let was = old k owner still.0 in

@@ -11,7 +11,7 @@ use Rattle.circuit_model.specs.declared.circuit.Circuit.{Circuit}
 use Rattle.circuit_model.specs.declared.circuit.Circuit.TheVariants.{Pair, Member, Tone}
 use Rattle.circuit_model.specs.Circuits.{same_slot, heard_by, is_member, is_idle}
 use Rattle.circuit_model.specs.Holding.{Holding, Valid, Seat, after}
-use Rattle.circuit_model.specs.Ports.{Ports, port_of, port_numbered, has, given}
+use Rattle.circuit_model.specs.Ports.{Ports, port_of, port_numbered, has, ports_with}
 use Rattle.conference_ports.specs.declared.owner.Owner.{Owner}
 use Rattle.conference_ports.specs.Owners.{members, member_of}
 use Rattle.conference_ports.proofs.Positions.{none_passes}
@@ -33,7 +33,7 @@ pub record Seated (m n : Connections) (x p : Slot) (room k : ℕ) : Type 0 where
   pub hears : (z : Slot) → hears_at n z ≡ hears_after m (Seat x room) z
   pub lowest : position is_none m.ports ≡ Some k
   pub port : p ≡ port_numbered m.external k
-  pub members : n.ports ≡ given x m.ports
+  pub members : n.ports ≡ ports_with x m.ports
   pub joins : (a b : Slot) → IsSlot (lines_of m) a → Joins n.layout a b ↔ ((Joins m.layout a b ⊎ ((a ≡ x) × (b ≡ p))) ⊎ ((a ≡ p) × (b ≡ x)))
 
 -- who isn't x has the port that it had
@@ -71,34 +71,34 @@ holds_seat m n x p room k sockets none w h ports holds =
     let one : (z : Slot) → heard_by later.circuits z ≡ (if same_slot z x then Some (Member room x h.next) else heard_by h.circuits z) = λ z. heard_by-one h.circuits (Member room x h.next) z idle in
     let silent : heard_by h.circuits x ≡ None = sym (holds.heard x) ∙ none in
     let more = adds (heard_by h.circuits) (heard_by later.circuits) x (Some (Member room x h.next)) one silent in
-    let others : (z : Slot) → (z ≡ x → ⊥) → port_of m.external (given x ports) z ≡ port_of m.external ports z = λ z apart. given_other m.external x z ports k lowest apart in
+    let others : (z : Slot) → (z ≡ x → ⊥) → port_of m.external (ports_with x ports) z ≡ port_of m.external ports z = λ z apart. given_other m.external x z ports k lowest apart in
     let free_of_x : count_by (has x) ports ≡ 0 = holds.ported x ∙ idle_seats h.circuits x idle in
-    let at_p : port_of m.external (given x ports) x ≡ Some p = given_here m.external x ports k lowest free_of_x ∙ ap (λ q. Some q) (sym w.port) in
+    let at_p : port_of m.external (ports_with x ports) x ≡ Some p = given_here m.external x ports k lowest free_of_x ∙ ap (λ q. Some q) (sym w.port) in
     record {
       next = w.next ∙ holds.next;
       valid = subst (λ b. Valid b later) (sym w.bridges) valid;
       heard = λ z.
           w.hears z ∙ ap (λ r. if same_slot z x then Some (Member room x m.next) else r) (holds.heard z) ∙ ap (λ k. if same_slot z x then Some (Member room x k) else heard_by h.circuits z) holds.next
           ∙ sym (one z);
-      members = w.members ∙ ap (given x) holds.members;
+      members = w.members ∙ ap (ports_with x) holds.members;
       ported = λ z. count-given (has z) x ports k refl lowest ∙ ap (λ c. c + count_by (has z) (Some x ∷ [])) (holds.ported z) ∙ sym (count_by-append (seats z) h.circuits (Member room x h.next ∷ []));
       taken = count-given is_some x ports k refl lowest ∙ ap (λ c. c + 1) holds.taken ∙ sym (count_by-append is_member h.circuits (Member room x h.next ∷ []));
       joined = λ a b inside.
           let in_m : IsSlot (lines_of m) a = subst (λ l. IsSlot l a) (λ i. w.external i + w.bridges i) inside in
           let was = joins_needed m h ports a b holds in_m in
-          let needed = needed_is m.external (given x ports) m.bridges later a b valid in
+          let needed = needed_is m.external (ports_with x ports) m.bridges later a b valid in
           let joins = w.joins a b in_m in
           rw w.external (
             λ j. needed.1 (elim (joins.0 j) [
               | inl early ↦ elim early [
-                | inl old ↦ needs_kept m.external (given x ports) _ _ x _ a b more (moved_needs m.external ports (given x ports) (heard_by h.circuits) x a b silent others (was.0 old))
-                | inr there ↦ subst (λ t. Needs m.external (given x ports) (heard_by later.circuits) t b) (sym there.0) (subst (λ t. Needs m.external (given x ports) (heard_by later.circuits) x t) (sym there.1) (To_port room h.next more.new at_p))
+                | inl old ↦ needs_kept m.external (ports_with x ports) _ _ x _ a b more (moved_needs m.external ports (ports_with x ports) (heard_by h.circuits) x a b silent others (was.0 old))
+                | inr there ↦ subst (λ t. Needs m.external (ports_with x ports) (heard_by later.circuits) t b) (sym there.0) (subst (λ t. Needs m.external (ports_with x ports) (heard_by later.circuits) x t) (sym there.1) (To_port room h.next more.new at_p))
               ]
-              | inr back ↦ subst (λ t. Needs m.external (given x ports) (heard_by later.circuits) t b) (sym back.0) (subst (λ t. Needs m.external (given x ports) (heard_by later.circuits) p t) (sym back.1) (From_port room h.next more.new at_p))
+              | inr back ↦ subst (λ t. Needs m.external (ports_with x ports) (heard_by later.circuits) t b) (sym back.0) (subst (λ t. Needs m.external (ports_with x ports) (heard_by later.circuits) p t) (sym back.1) (From_port room h.next more.new at_p))
             ]),
-            λ is. joins.1 (elim (needs_split m.external (given x ports) _ _ x _ a b more (needed.0 is)) [
-              | inl fresh ↦ elim (fresh_member m.external (given x ports) x p room h.next a b at_p fresh) [ inl there ↦ inl (inr there) | inr back ↦ inr back ]
-              | inr old ↦ inl (inl (was.1 (moved_needs m.external (given x ports) ports (heard_by h.circuits) x a b silent (λ z apart. sym (others z apart)) old)))
+            λ is. joins.1 (elim (needs_split m.external (ports_with x ports) _ _ x _ a b more (needed.0 is)) [
+              | inl fresh ↦ elim (fresh_member m.external (ports_with x ports) x p room h.next a b at_p fresh) [ inl there ↦ inl (inr there) | inr back ↦ inr back ]
+              | inr old ↦ inl (inl (was.1 (moved_needs m.external (ports_with x ports) ports (heard_by h.circuits) x a b silent (λ z apart. sym (others z apart)) old)))
             ]),
           );
     }
@@ -192,16 +192,16 @@ pub port_beyond : (external : ℕ) (x p : Slot) → x.line < external → extern
 port_beyond external x p near far same = let line = ap (λ (s : Slot). s.line) same in omega (arith, near, far, line)
 
 -- the member has the port that it was given
-pub seated_port : (m : Connections) (h : Holding) (ports : Ports) (x p : Slot) (k : ℕ) → Represents m h ports → hears_at m x ≡ None → position is_none m.ports ≡ Some k → p ≡ port_numbered m.external k → port_of m.external (given x m.ports) x ≡ Some p
+pub seated_port : (m : Connections) (h : Holding) (ports : Ports) (x p : Slot) (k : ℕ) → Represents m h ports → hears_at m x ≡ None → position is_none m.ports ≡ Some k → p ≡ port_numbered m.external k → port_of m.external (ports_with x m.ports) x ≡ Some p
 seated_port m h ports x p k holds none free is =
     given_here m.external x m.ports k free (ap (count_by (has x)) holds.members ∙ holds.ported x ∙ idle_seats h.circuits x (idle_in m h ports x holds none)) ∙ ap (λ q. Some q) (sym is)
 
-pub given_full : (x : Slot) (ports : Ports) → ((k : ℕ) → k < length ports → is_none (get_or ports k None) ≡ false) → given x ports ≡ ports
+pub given_full : (x : Slot) (ports : Ports) → ((k : ℕ) → k < length ports → is_none (get_or ports k None) ≡ false) → ports_with x ports ≡ ports
 given_full x [] full = refl
 given_full x (None ∷ ports) full = let wrong = full 0 (omega arith) in absurd (cc)
 given_full x (Some other ∷ ports) full = ap (λ ps. Some other ∷ ps) (given_full x ports (λ k l. full (suc k) (omega (arith, l))))
 
-pub none_given : (x : Slot) (ports : Ports) → position is_none ports ≡ None → given x ports ≡ ports
+pub none_given : (x : Slot) (ports : Ports) → position is_none ports ≡ None → ports_with x ports ≡ ports
 none_given x ports none = given_full x ports (none_passes is_none ports None none)
 
 pub record FreePort (m : Connections) (p : Slot) : Type 0 where

@@ -7,7 +7,7 @@ use Rattle.std.proofs.lemmas.List.{length-map}
 use Rattle.std.proofs.lemmas.List.Quantifiers.{position-Some}
 use Rattle.circuit_model.specs.declared.channel.Slot.{Slot}
 use Rattle.circuit_model.specs.Circuits.{same_slot}
-use Rattle.circuit_model.specs.Ports.{Ports, has, given, returned, port_of, port_numbered}
+use Rattle.circuit_model.specs.Ports.{Ports, has, ports_with, ports_without, port_of, port_numbered}
 use Rattle.circuit_model.proofs.Slots.{same_slot-true, same_slot-refl, same_slot-false}
 use Rattle.conference_ports.proofs.Positions.{none_passes, position_none, position-set_other, position-set_here}
 
@@ -69,14 +69,14 @@ ported external ports x n counted some none = go external (position (has x) port
     go external (Some k) at none = cc
 
 -- ---- a port given
-given_set : (x : Slot) (ports : Ports) (k : ℕ) → k < length ports → is_none (get_or ports k None) ≡ true → ((i : ℕ) → i < k → is_none (get_or ports i None) ≡ false) → given x ports ≡ set ports k (Some x)
+given_set : (x : Slot) (ports : Ports) (k : ℕ) → k < length ports → is_none (get_or ports k None) ≡ true → ((i : ℕ) → i < k → is_none (get_or ports i None) ≡ false) → ports_with x ports ≡ set ports k (Some x)
 given_set x [] k inside free before = absurd (omega (arith, inside))
 given_set x (None ∷ ports) zero inside free before = refl
 given_set x (None ∷ ports) (suc k) inside free before = let wrong = before 0 (omega arith) in absurd (cc)
 given_set x (Some other ∷ ports) zero inside free before = absurd (cc)
 given_set x (Some other ∷ ports) (suc k) inside free before = ap (λ ps. Some other ∷ ps) (given_set x ports k (omega (arith, inside)) free (λ i l. before (suc i) (omega (arith, l))))
 
-pub given_at : (x : Slot) (ports : Ports) (k : ℕ) → position is_none ports ≡ Some k → given x ports ≡ set ports k (Some x)
+pub given_at : (x : Slot) (ports : Ports) (k : ℕ) → position is_none ports ≡ Some k → ports_with x ports ≡ set ports k (Some x)
 given_at x ports k at = let p = position-Some is_none ports k None at in given_set x ports k p.0 p.1 p.2
 
 free_is : (o : Option Slot) → is_none o ≡ true → o ≡ None
@@ -84,13 +84,13 @@ free_is None e = refl
 free_is (Some y) e = absurd (cc)
 
 -- the others' ports stay
-pub given_other : (external : ℕ) (x z : Slot) (ports : Ports) (k : ℕ) → position is_none ports ≡ Some k → (z ≡ x → ⊥) → port_of external (given x ports) z ≡ port_of external ports z
+pub given_other : (external : ℕ) (x z : Slot) (ports : Ports) (k : ℕ) → position is_none ports ≡ Some k → (z ≡ x → ⊥) → port_of external (ports_with x ports) z ≡ port_of external ports z
 given_other external x z ports k at apart =
     let p = position-Some is_none ports k None at in
     ap (λ ps. port_of external ps z) (given_at x ports k at)
     ∙ ap (option_map (port_numbered external)) (position-set_other (has z) ports k (Some x) None (same_slot-false z x apart ∙ sym (ap (has z) (free_is (get_or ports k None) p.1))))
 
-pub given_here : (external : ℕ) (x : Slot) (ports : Ports) (k : ℕ) → position is_none ports ≡ Some k → count_by (has x) ports ≡ 0 → port_of external (given x ports) x ≡ Some (port_numbered external k)
+pub given_here : (external : ℕ) (x : Slot) (ports : Ports) (k : ℕ) → position is_none ports ≡ Some k → count_by (has x) ports ≡ 0 → port_of external (ports_with x ports) x ≡ Some (port_numbered external k)
 given_here external x ports k at none =
     let p = position-Some is_none ports k None at in
     ap (λ ps. port_of external ps x) (given_at x ports k at)
@@ -99,21 +99,21 @@ given_here external x ports k at none =
 is_free : (ports : Ports) → position is_none ports ≢ None → 0 < count_by is_none ports
 is_free ports some = elim (count_by is_none ports) as (λ n. count_by is_none ports ≡ n → 0 < n) [ zero ↦ λ e. absurd (some (no_position is_none None ports e)) | suc n ↦ λ e. omega arith ] refl
 
-pub length-given : (x : Slot) (ports : Ports) → length (given x ports) ≡ length ports
+pub length-given : (x : Slot) (ports : Ports) → length (ports_with x ports) ≡ length ports
 length-given x [] = refl
 length-given x (None ∷ ports) = refl
 length-given x (Some other ∷ ports) = let rest = length-given x ports in omega (arith, rest)
 
 -- one port more is had, where one is free
-given_step : (p : Option Slot → Bool) (x other : Slot) (ports : Ports) → (0 < count_by is_none ports → count_by p (given x ports) ≡ count_by p ports + count_by p (Some x ∷ [])) → 0 < count_by is_none (Some other ∷ ports) → count_by p (given x (Some other ∷ ports)) ≡ count_by p (Some other ∷ ports) + count_by p (Some x ∷ [])
+given_step : (p : Option Slot → Bool) (x other : Slot) (ports : Ports) → (0 < count_by is_none ports → count_by p (ports_with x ports) ≡ count_by p ports + count_by p (Some x ∷ [])) → 0 < count_by is_none (Some other ∷ ports) → count_by p (ports_with x (Some other ∷ ports)) ≡ count_by p (Some other ∷ ports) + count_by p (Some x ∷ [])
 given_step p x other ports rest free = let more = rest free in grind (arith, common_steps)
 
-counted_given : (p : Option Slot → Bool) (x : Slot) (ports : Ports) → p None ≡ false → 0 < count_by is_none ports → count_by p (given x ports) ≡ count_by p ports + count_by p (Some x ∷ [])
+counted_given : (p : Option Slot → Bool) (x : Slot) (ports : Ports) → p None ≡ false → 0 < count_by is_none ports → count_by p (ports_with x ports) ≡ count_by p ports + count_by p (Some x ∷ [])
 counted_given p x [] none free = absurd (omega (arith, free))
 counted_given p x (None ∷ ports) none free = grind (arith, common_steps)
 counted_given p x (Some other ∷ ports) none free = given_step p x other ports (counted_given p x ports none) free
 
-pub count-given : (p : Option Slot → Bool) (x : Slot) (ports : Ports) (k : ℕ) → p None ≡ false → position is_none ports ≡ Some k → count_by p (given x ports) ≡ count_by p ports + count_by p (Some x ∷ [])
+pub count-given : (p : Option Slot → Bool) (x : Slot) (ports : Ports) (k : ℕ) → p None ≡ false → position is_none ports ≡ Some k → count_by p (ports_with x ports) ≡ count_by p ports + count_by p (Some x ∷ [])
 count-given p x ports k none at = counted_given p x ports none (is_free ports (λ e. let wrong = sym at ∙ e in cc))
 
 -- ports are taken or free
@@ -129,48 +129,48 @@ pub none_free : (ports : Ports) → position is_none ports ≡ None → count_by
 none_free ports none = let zero_of = not_counted is_none None ports none in let all = taken_or_free ports in omega (arith, zero_of, all)
 
 -- ---- a port returned
-pub length-returned : (x : Slot) (ports : Ports) → length (returned x ports) ≡ length ports
+pub length-returned : (x : Slot) (ports : Ports) → length (ports_without x ports) ≡ length ports
 length-returned x ports = length-map ports _
 
-same_found : (x z : Slot) (port : Option Slot) (ports : Ports) → same_slot z x ≡ false → position_or_len (has z) (returned x ports) ≡ position_or_len (has z) ports → position_or_len (has z) (returned x (port ∷ ports)) ≡ position_or_len (has z) (port ∷ ports)
+same_found : (x z : Slot) (port : Option Slot) (ports : Ports) → same_slot z x ≡ false → position_or_len (has z) (ports_without x ports) ≡ position_or_len (has z) ports → position_or_len (has z) (ports_without x (port ∷ ports)) ≡ position_or_len (has z) (port ∷ ports)
 same_found x z None ports apart rest = grind (arith, common_steps)
 same_found x z (Some y) ports apart rest = go (has x (Some y)) refl
   where
-    go : (b : Bool) → has x (Some y) ≡ b → position_or_len (has z) (returned x (Some y ∷ ports)) ≡ position_or_len (has z) (Some y ∷ ports)
+    go : (b : Bool) → has x (Some y) ≡ b → position_or_len (has z) (ports_without x (Some y ∷ ports)) ≡ position_or_len (has z) (Some y ∷ ports)
     go true mine = let is = same_slot-true x y mine in let off : has z (Some y) ≡ false = subst (λ t. same_slot z t ≡ false) is apart in grind (arith, common_steps)
     go false other = grind (arith, common_steps)
 
-still_found : (x z : Slot) (ports : Ports) → same_slot z x ≡ false → position_or_len (has z) (returned x ports) ≡ position_or_len (has z) ports
+still_found : (x z : Slot) (ports : Ports) → same_slot z x ≡ false → position_or_len (has z) (ports_without x ports) ≡ position_or_len (has z) ports
 still_found x z [] apart = refl
 still_found x z (port ∷ ports) apart = same_found x z port ports apart (still_found x z ports apart)
 
-pub returned_other : (external : ℕ) (x z : Slot) (ports : Ports) → (z ≡ x → ⊥) → port_of external (returned x ports) z ≡ port_of external ports z
+pub returned_other : (external : ℕ) (x z : Slot) (ports : Ports) → (z ≡ x → ⊥) → port_of external (ports_without x ports) z ≡ port_of external ports z
 returned_other external x z ports apart =
     ap (option_map (port_numbered external))
-    (ap (λ n. cond (ltb n (length (returned x ports))) (Some n) None) (still_found x z ports (same_slot-false z x apart)) ∙ ap (λ n. cond (ltb (position_or_len (has z) ports) n) (Some (position_or_len (has z) ports)) None) (length-returned x ports))
+    (ap (λ n. cond (ltb n (length (ports_without x ports))) (Some n) None) (still_found x z ports (same_slot-false z x apart)) ∙ ap (λ n. cond (ltb (position_or_len (has z) ports) n) (Some (position_or_len (has z) ports)) None) (length-returned x ports))
 
 -- what a port is counted for stays, or was the member's
-pub count-returned : (x : Slot) (ports : Ports) → count_by is_some (returned x ports) + count_by (has x) ports ≡ count_by is_some ports
+pub count-returned : (x : Slot) (ports : Ports) → count_by is_some (ports_without x ports) + count_by (has x) ports ≡ count_by is_some ports
 count-returned x [] = refl
 count-returned x (None ∷ ports) = let rest = count-returned x ports in grind (arith, common_steps)
 count-returned x (Some y ∷ ports) = let rest = count-returned x ports in grind (arith, common_steps)
 
-pub count-returned_mine : (x : Slot) (ports : Ports) → count_by (has x) (returned x ports) ≡ 0
+pub count-returned_mine : (x : Slot) (ports : Ports) → count_by (has x) (ports_without x ports) ≡ 0
 count-returned_mine x [] = refl
 count-returned_mine x (None ∷ ports) = let rest = count-returned_mine x ports in grind (arith, common_steps)
 count-returned_mine x (Some y ∷ ports) = let rest = count-returned_mine x ports in grind (arith, common_steps)
 
-returned_step : (x z y : Slot) (ports : Ports) → same_slot z x ≡ false → count_by (has z) (returned x ports) ≡ count_by (has z) ports → (b : Bool) → same_slot x y ≡ b → count_by (has z) (returned x (Some y ∷ ports)) ≡ count_by (has z) (Some y ∷ ports)
+returned_step : (x z y : Slot) (ports : Ports) → same_slot z x ≡ false → count_by (has z) (ports_without x ports) ≡ count_by (has z) ports → (b : Bool) → same_slot x y ≡ b → count_by (has z) (ports_without x (Some y ∷ ports)) ≡ count_by (has z) (Some y ∷ ports)
 returned_step x z y ports apart rest true mine = let is = same_slot-true x y mine in let off : same_slot z y ≡ false = subst (λ t. same_slot z t ≡ false) is apart in grind (arith, common_steps)
 returned_step x z y ports apart rest false other = grind (arith, common_steps)
 
-pub count-returned_other : (x z : Slot) (ports : Ports) → same_slot z x ≡ false → count_by (has z) (returned x ports) ≡ count_by (has z) ports
+pub count-returned_other : (x z : Slot) (ports : Ports) → same_slot z x ≡ false → count_by (has z) (ports_without x ports) ≡ count_by (has z) ports
 count-returned_other x z [] apart = refl
 count-returned_other x z (None ∷ ports) apart = let rest = count-returned_other x z ports apart in grind (arith, common_steps)
 count-returned_other x z (Some y ∷ ports) apart = returned_step x z y ports apart (count-returned_other x z ports apart) (same_slot x y) refl
 
 -- who has no port returns none
-pub returned_none : (x : Slot) (ports : Ports) → count_by (has x) ports ≡ 0 → returned x ports ≡ ports
+pub returned_none : (x : Slot) (ports : Ports) → count_by (has x) ports ≡ 0 → ports_without x ports ≡ ports
 returned_none x [] none = refl
 returned_none x (None ∷ ports) none = ap (λ ps. None ∷ ps) (returned_none x ports (grind (arith, common_steps)))
 returned_none x (Some y ∷ ports) none =

@@ -2,8 +2,8 @@ pub mod Age
 pub mod Slots
 pub mod Hearing
 pub mod Validity
-pub mod Recorded
-pub mod Refused
+pub mod FrameRecords
+pub mod InvalidHoldings
 pub mod Seats
 pub mod PortSeats
 pub mod Extents

@@ -8,13 +8,13 @@ use Rattle.circuit_model.specs.declared.channel.Slot.{Slot}
 use Rattle.circuit_model.specs.declared.circuit.Circuit.{Circuit}
 use Rattle.circuit_model.specs.declared.circuit.Circuit.TheVariants.{Pair, Member, Tone}
 use Rattle.circuit_model.specs.Circuits.{same_slot, names, is_member}
-use Rattle.circuit_model.specs.Holding.{Holding, empty, Command, Connect, Seat, Give_tone, Clear, Frame, after, frames, circuits_of, naming, Stands, Is_idle, Has_tone, Is_seated, Is_connected, IsAllowed, AreAllowed}
-use Rattle.circuit_model.specs.Ports.{Ports, free_ports, given, returned, ports_after, port_frames, ports_of, owner_of, sum_of_owners, sum_of_members}
+use Rattle.circuit_model.specs.Holding.{Holding, empty, Command, Connect, Seat, Give_tone, Clear, Frame, after, frames, circuits_of, circuits_naming, Stands, Is_idle, Has_tone, Is_seated, Is_connected, IsAllowed, AreAllowed}
+use Rattle.circuit_model.specs.Ports.{Ports, free_ports, ports_with, ports_without, ports_after, port_frames, ports_of, owner_of, sum_of_owners, sum_of_members}
 use Rattle.circuit_model.proofs.Slots.{true_or_false, same_slot-refl, same_slot-true}
 use Rattle.circuit_model.proofs.Age.{cons_cases, at_head, in_tail, none_in_nil, first_frame, age}
 use Rattle.std.proofs.Math.ListN.{get_or-eq_default}
 use Rattle.circuit_model.proofs.Validity.{count_by-append, valid-empty}
-use Rattle.circuit_model.proofs.Recorded.{valid-frames}
+use Rattle.circuit_model.proofs.FrameRecords.{valid-frames}
 
 -- a port whose member passes a test, and a member's circuit that does
 abbrev pub port_is : (Slot → Bool) → Option Slot → Bool
@@ -40,12 +40,12 @@ count_by-cons : {X : Type 0} (p : X → Bool) (x : X) (xs : List X) → count_by
 count_by-cons p x xs = grind (arith, common_steps)
 
 -- ---- a port is given
-given-length : (x : Slot) (ports : Ports) → length (given x ports) ≡ length ports
+given-length : (x : Slot) (ports : Ports) → length (ports_with x ports) ≡ length ports
 given-length x [] = refl
 given-length x (None ∷ ports) = refl
 given-length x (Some m ∷ ports) = ap suc (given-length x ports)
 
-given-count : (p : Slot → Bool) (x : Slot) (ports : Ports) → count_by (port_is any_slot) ports < length ports → count_by (port_is p) (given x ports) ≡ count_by (port_is p) ports + (if p x then 1 else 0)
+given-count : (p : Slot → Bool) (x : Slot) (ports : Ports) → count_by (port_is any_slot) ports < length ports → count_by (port_is p) (ports_with x ports) ≡ count_by (port_is p) ports + (if p x then 1 else 0)
 given-count p x [] free = absurd (omega arith)
 given-count p x (None ∷ ports) free = grind (arith, common_steps)
 given-count p x (Some m ∷ ports) free =
@@ -53,7 +53,7 @@ given-count p x (Some m ∷ ports) free =
     let rest = given-count p x ports less in
     grind (arith, common_steps)
 
-given-sum : (weight : Slot → ℤ) (x : Slot) (ports : Ports) → count_by (port_is any_slot) ports < length ports → sum_of_owners weight (given x ports) ≡ sum_of_owners weight ports +ℤ weight x
+given-sum : (weight : Slot → ℤ) (x : Slot) (ports : Ports) → count_by (port_is any_slot) ports < length ports → sum_of_owners weight (ports_with x ports) ≡ sum_of_owners weight ports +ℤ weight x
 given-sum weight x [] free = absurd (omega arith)
 given-sum weight x (None ∷ ports) free = omega (arith, ints)
 given-sum weight x (Some m ∷ ports) free =
@@ -61,7 +61,7 @@ given-sum weight x (Some m ∷ ports) free =
     let rest = given-sum weight x ports less in
     omega (arith, ints)
 
-given-kept : (x z : Slot) (ports : Ports) (k : ℕ) → owner_of ports k ≡ Some z → owner_of (given x ports) k ≡ Some z
+given-kept : (x z : Slot) (ports : Ports) (k : ℕ) → owner_of ports k ≡ Some z → owner_of (ports_with x ports) k ≡ Some z
 given-kept x z [] k has_z = has_z
 given-kept x z (None ∷ ports) zero has_z = let no : None ≡ Some z = has_z in absurd (cc)
 given-kept x z (None ∷ ports) (suc k) has_z = has_z
@@ -69,12 +69,12 @@ given-kept x z (Some m ∷ ports) zero has_z = has_z
 given-kept x z (Some m ∷ ports) (suc k) has_z = given-kept x z ports k has_z
 
 -- ---- a port is returned
-returned-count : (p : Slot → Bool) (x : Slot) (ports : Ports) → count_by (port_is p) (returned x ports) ≡ count_by (port_is (but x p)) ports
+returned-count : (p : Slot → Bool) (x : Slot) (ports : Ports) → count_by (port_is p) (ports_without x ports) ≡ count_by (port_is (but x p)) ports
 returned-count p x [] = refl
 returned-count p x (None ∷ ports) = returned-count p x ports
 returned-count p x (Some m ∷ ports) = let rest = returned-count p x ports in elim (true_or_false (same_slot x m)) [ inl here ↦ grind (arith, common_steps) | inr away ↦ grind (arith, common_steps) ]
 
-returned-sum : (weight : Slot → ℤ) (x : Slot) (ports : Ports) → sum_of_owners weight (returned x ports) ≡ sum_of_owners (without x weight) ports
+returned-sum : (weight : Slot → ℤ) (x : Slot) (ports : Ports) → sum_of_owners weight (ports_without x ports) ≡ sum_of_owners (without x weight) ports
 returned-sum weight x [] = refl
 returned-sum weight x (None ∷ ports) = returned-sum weight x ports
 returned-sum weight x (Some m ∷ ports) =
@@ -84,7 +84,7 @@ returned-sum weight x (Some m ∷ ports) =
       | inr away ↦ rw away (ap (λ (s : ℤ). weight m +ℤ s) rest)
     ]
 
-returned-kept : (x z : Slot) (ports : Ports) (k : ℕ) → same_slot x z ≡ false → owner_of ports k ≡ Some z → owner_of (returned x ports) k ≡ Some z
+returned-kept : (x z : Slot) (ports : Ports) (k : ℕ) → same_slot x z ≡ false → owner_of ports k ≡ Some z → owner_of (ports_without x ports) k ≡ Some z
 returned-kept x z [] k apart has_z = has_z
 returned-kept x z (None ∷ ports) zero apart has_z = let no : None ≡ Some z = has_z in absurd (cc)
 returned-kept x z (None ∷ ports) (suc k) apart has_z = returned-kept x z ports k apart has_z
@@ -176,9 +176,9 @@ matched-after bridges h ports Frame m allowed = m
 pub matched-frames : (bridges : ℕ) (h : Holding) (ports : Ports) (cs : List Command) (f : ℕ) → Matched bridges h.circuits ports → AreAllowed bridges h cs → f < length (frames h cs) → Matched bridges (circuits_of (frames h cs) f) (ports_of (port_frames ports cs) f)
 matched-frames bridges h ports [] f m allowed within = absurd (omega arith)
 matched-frames bridges h ports (Connect x y ∷ cs) f m allowed within = matched-frames bridges (after h (Connect x y)) ports cs f (matched-after bridges h ports (Connect x y) m allowed.0) allowed.1 within
-matched-frames bridges h ports (Seat x room ∷ cs) f m allowed within = matched-frames bridges (after h (Seat x room)) (given x ports) cs f (matched-after bridges h ports (Seat x room) m allowed.0) allowed.1 within
+matched-frames bridges h ports (Seat x room ∷ cs) f m allowed within = matched-frames bridges (after h (Seat x room)) (ports_with x ports) cs f (matched-after bridges h ports (Seat x room) m allowed.0) allowed.1 within
 matched-frames bridges h ports (Give_tone x kind ∷ cs) f m allowed within = matched-frames bridges (after h (Give_tone x kind)) ports cs f (matched-after bridges h ports (Give_tone x kind) m allowed.0) allowed.1 within
-matched-frames bridges h ports (Clear x ∷ cs) f m allowed within = matched-frames bridges (after h (Clear x)) (returned x ports) cs f (matched-after bridges h ports (Clear x) m tt) allowed.1 within
+matched-frames bridges h ports (Clear x ∷ cs) f m allowed within = matched-frames bridges (after h (Clear x)) (ports_without x ports) cs f (matched-after bridges h ports (Clear x) m tt) allowed.1 within
 matched-frames bridges h ports (Frame ∷ cs) zero m allowed within = m
 matched-frames bridges h ports (Frame ∷ cs) (suc f) m allowed within = matched-frames bridges (after h Frame) ports cs f m allowed.1 (omega (arith, within))
 
@@ -186,9 +186,9 @@ matched-frames bridges h ports (Frame ∷ cs) (suc f) m allowed within = matched
 pub frames_alike : (h : Holding) (ports : Ports) (cs : List Command) → length (port_frames ports cs) ≡ length (frames h cs)
 frames_alike h ports [] = refl
 frames_alike h ports (Connect x y ∷ cs) = frames_alike (after h (Connect x y)) ports cs
-frames_alike h ports (Seat x room ∷ cs) = frames_alike (after h (Seat x room)) (given x ports) cs
+frames_alike h ports (Seat x room ∷ cs) = frames_alike (after h (Seat x room)) (ports_with x ports) cs
 frames_alike h ports (Give_tone x kind ∷ cs) = frames_alike (after h (Give_tone x kind)) ports cs
-frames_alike h ports (Clear x ∷ cs) = frames_alike (after h (Clear x)) (returned x ports) cs
+frames_alike h ports (Clear x ∷ cs) = frames_alike (after h (Clear x)) (ports_without x ports) cs
 frames_alike h ports (Frame ∷ cs) = ap suc (frames_alike (after h Frame) ports cs)
 
 -- ---- what the counts tell
@@ -253,7 +253,7 @@ count_by-wider : {X : Type 0} (p q : X → Bool) → ((x : X) → p x ≡ true �
 count_by-wider p q wider [] = refl
 count_by-wider p q wider (x ∷ xs) = let rest = count_by-wider p q wider xs in grind (arith, common_steps, wider x)
 
-seated_among : (x : Slot) (circuits : List Circuit) → Stands circuits x → count_by (seat_is (same_slot x)) (naming circuits x) ≤ 1
+seated_among : (x : Slot) (circuits : List Circuit) → Stands circuits x → count_by (seat_is (same_slot x)) (circuits_naming circuits x) ≤ 1
 seated_among x circuits (Is_idle e) = rw e (omega arith)
 seated_among x circuits (Has_tone kind since e) = rw e (omega arith)
 seated_among x circuits (Is_seated room since e) = rw e (let same = same_slot-refl x in grind (arith, common_steps))
@@ -290,20 +290,20 @@ not_named x (d ∷ ds) c inside =
 first_port : (h : Holding) (ports : Ports) (cs : List Command) (k room since : ℕ) (x : Slot) → Contains (circuits_of (frames h cs) 0) (Member room x since) → since < h.next → owner_of ports k ≡ Some x → owner_of (ports_of (port_frames ports cs) 0) k ≡ Some x
 first_port h ports [] k room since x inside older owned = absurd (none_in_nil (Member room x since) inside)
 first_port h ports (Connect y z ∷ cs) k room since x inside older owned = first_port (after h (Connect y z)) ports cs k room since x inside older owned
-first_port h ports (Seat y q ∷ cs) k room since x inside older owned = first_port (after h (Seat y q)) (given y ports) cs k room since x inside older (given-kept y x ports k owned)
+first_port h ports (Seat y q ∷ cs) k room since x inside older owned = first_port (after h (Seat y q)) (ports_with y ports) cs k room since x inside older (given-kept y x ports k owned)
 first_port h ports (Give_tone y kind ∷ cs) k room since x inside older owned = first_port (after h (Give_tone y kind)) ports cs k room since x inside older owned
 first_port h ports (Clear y ∷ cs) k room since x inside older owned =
     let stood = first_frame (after h (Clear y)) cs (Member room x since) inside older in
     let apart : same_slot y x ≡ false = not_named y h.circuits (Member room x since) stood in
-    first_port (after h (Clear y)) (returned y ports) cs k room since x inside older (returned-kept y x ports k apart owned)
+    first_port (after h (Clear y)) (ports_without y ports) cs k room since x inside older (returned-kept y x ports k apart owned)
 first_port h ports (Frame ∷ cs) k room since x inside older owned = owned
 
 later_port : (h : Holding) (ports : Ports) (cs : List Command) (f k room since : ℕ) (x : Slot) → Contains (circuits_of (frames h cs) (suc f)) (Member room x since) → since < h.next + suc f → owner_of (ports_of (port_frames ports cs) f) k ≡ Some x → owner_of (ports_of (port_frames ports cs) (suc f)) k ≡ Some x
 later_port h ports [] f k room since x inside older owned = absurd (none_in_nil (Member room x since) inside)
 later_port h ports (Connect y z ∷ cs) f k room since x inside older owned = later_port (after h (Connect y z)) ports cs f k room since x inside older owned
-later_port h ports (Seat y q ∷ cs) f k room since x inside older owned = later_port (after h (Seat y q)) (given y ports) cs f k room since x inside older owned
+later_port h ports (Seat y q ∷ cs) f k room since x inside older owned = later_port (after h (Seat y q)) (ports_with y ports) cs f k room since x inside older owned
 later_port h ports (Give_tone y kind ∷ cs) f k room since x inside older owned = later_port (after h (Give_tone y kind)) ports cs f k room since x inside older owned
-later_port h ports (Clear y ∷ cs) f k room since x inside older owned = later_port (after h (Clear y)) (returned y ports) cs f k room since x inside older owned
+later_port h ports (Clear y ∷ cs) f k room since x inside older owned = later_port (after h (Clear y)) (ports_without y ports) cs f k room since x inside older owned
 later_port h ports (Frame ∷ cs) zero k room since x inside older owned = first_port (after h Frame) ports cs k room since x inside (omega (arith, older)) owned
 later_port h ports (Frame ∷ cs) (suc f) k room since x inside older owned = later_port (after h Frame) ports cs f k room since x inside (omega (arith, older)) owned
 

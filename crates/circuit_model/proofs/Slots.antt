@@ -6,7 +6,7 @@ use Rattle.circuit_model.specs.declared.channel.Slot.{Slot}
 use Rattle.circuit_model.specs.declared.circuit.Circuit.{Circuit}
 use Rattle.circuit_model.specs.declared.circuit.Circuit.TheVariants.{Pair, Member, Tone}
 use Rattle.circuit_model.specs.Circuits.{same_slot, listener, names, is_idle, heard_by}
-use Rattle.circuit_model.specs.Holding.{naming}
+use Rattle.circuit_model.specs.Holding.{circuits_naming}
 
 pub true_or_false : (b : Bool) → (b ≡ true) ⊎ (b ≡ false)
 true_or_false true = inl refl
@@ -45,15 +45,15 @@ listener_is_named x (Member room at since) h = h
 listener_is_named x (Tone kind to since) h = h
 
 -- a slot hears by the circuits that name it alone
-pub heard_by-naming : (circuits : List Circuit) (x : Slot) → heard_by (naming circuits x) x ≡ heard_by circuits x
+pub heard_by-naming : (circuits : List Circuit) (x : Slot) → heard_by (circuits_naming circuits x) x ≡ heard_by circuits x
 heard_by-naming circuits x = find-filter (λ c. same_slot x (listener c)) (names x) (listener_is_named x) circuits
 
 -- ---- idle slots
-pub naming-idle : (circuits : List Circuit) (x : Slot) → is_idle circuits x ≡ true → naming circuits x ≡ []
+pub naming-idle : (circuits : List Circuit) (x : Slot) → is_idle circuits x ≡ true → circuits_naming circuits x ≡ []
 naming-idle [] x h = refl
 naming-idle (c ∷ cs) x h = let rest = naming-idle cs x in grind (arith, common_steps)
 
-pub is_idle-naming : (circuits : List Circuit) (x : Slot) → naming circuits x ≡ [] → is_idle circuits x ≡ true
+pub is_idle-naming : (circuits : List Circuit) (x : Slot) → circuits_naming circuits x ≡ [] → is_idle circuits x ≡ true
 is_idle-naming [] x h = refl
 is_idle-naming (c ∷ cs) x h = let rest = is_idle-naming cs x in grind (arith, common_steps)
 

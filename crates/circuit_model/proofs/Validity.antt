@@ -8,7 +8,7 @@ use Rattle.circuit_model.specs.declared.circuit.Kind.{Kind}
 use Rattle.circuit_model.specs.declared.circuit.Circuit.{Circuit}
 use Rattle.circuit_model.specs.declared.circuit.Circuit.TheVariants.{Pair, Member, Tone}
 use Rattle.circuit_model.specs.Circuits.{same_slot, listener, names, is_idle, is_member, since_of, heard_by, unless_naming}
-use Rattle.circuit_model.specs.Holding.{Holding, empty, Command, Connect, Seat, Give_tone, Clear, Frame, after, naming, Stands, Is_idle, Has_tone, Is_seated, Is_connected, Valid, IsAllowed}
+use Rattle.circuit_model.specs.Holding.{Holding, empty, Command, Connect, Seat, Give_tone, Clear, Frame, after, circuits_naming, Stands, Is_idle, Has_tone, Is_seated, Is_connected, Valid, IsAllowed}
 use Rattle.circuit_model.proofs.Slots.{true_or_false, same_slot-refl, same_slot_cases, same_slot-false, naming-idle, is_idle-naming, heard_by-naming, listener_is_named, filter_filter}
 use Rattle.circuit_model.proofs.Age.{cons_cases, at_head, in_tail, none_in_nil, within_filtered}
 
@@ -23,30 +23,30 @@ count_by-filter p q (x ∷ xs) = let rest = count_by-filter p q xs in grind (ari
 
 -- ---- what names a slot, after a command
 -- an idle slot is named by what came alone
-naming-new : (circuits new : List Circuit) (z : Slot) → is_idle circuits z ≡ true → naming (circuits ++ new) z ≡ naming new z
-naming-new circuits new z idle = filter-append (names z) circuits new ∙ ap (λ cs. cs ++ naming new z) (naming-idle circuits z idle)
+naming-new : (circuits new : List Circuit) (z : Slot) → is_idle circuits z ≡ true → circuits_naming (circuits ++ new) z ≡ circuits_naming new z
+naming-new circuits new z idle = filter-append (names z) circuits new ∙ ap (λ cs. cs ++ circuits_naming new z) (naming-idle circuits z idle)
 
 -- what came doesn't name the slot
-naming-kept : (circuits new : List Circuit) (z : Slot) → naming new z ≡ [] → naming (circuits ++ new) z ≡ naming circuits z
-naming-kept circuits new z none = filter-append (names z) circuits new ∙ ap (λ cs. naming circuits z ++ cs) none ∙ append-nil (naming circuits z)
+naming-kept : (circuits new : List Circuit) (z : Slot) → circuits_naming new z ≡ [] → circuits_naming (circuits ++ new) z ≡ circuits_naming circuits z
+naming-kept circuits new z none = filter-append (names z) circuits new ∙ ap (λ cs. circuits_naming circuits z ++ cs) none ∙ append-nil (circuits_naming circuits z)
 
 -- of what names a slot, that goes which names the cleared one
-naming-clear : (circuits : List Circuit) (x z : Slot) → naming (filter (λ c. not (names x c)) circuits) z ≡ filter (λ c. not (names x c)) (naming circuits z)
+naming-clear : (circuits : List Circuit) (x z : Slot) → circuits_naming (filter (λ c. not (names x c)) circuits) z ≡ filter (λ c. not (names x c)) (circuits_naming circuits z)
 naming-clear circuits x z = filter_filter (names z) (λ c. not (names x c)) circuits
 
 -- the two directions of a connection name both slots and nobody else
-both_name_first : (x y : Slot) (n : ℕ) → naming (Pair x y n ∷ Pair y x n ∷ []) x ≡ Pair x y n ∷ Pair y x n ∷ []
+both_name_first : (x y : Slot) (n : ℕ) → circuits_naming (Pair x y n ∷ Pair y x n ∷ []) x ≡ Pair x y n ∷ Pair y x n ∷ []
 both_name_first x y n = let same = same_slot-refl x in grind (arith, common_steps)
 
-both_name_second : (x y : Slot) (n : ℕ) → naming (Pair x y n ∷ Pair y x n ∷ []) y ≡ Pair x y n ∷ Pair y x n ∷ []
+both_name_second : (x y : Slot) (n : ℕ) → circuits_naming (Pair x y n ∷ Pair y x n ∷ []) y ≡ Pair x y n ∷ Pair y x n ∷ []
 both_name_second x y n = let same = same_slot-refl y in grind (arith, common_steps)
 
-none_name_other : (x y z : Slot) (n : ℕ) → same_slot z x ≡ false → same_slot z y ≡ false → naming (Pair x y n ∷ Pair y x n ∷ []) z ≡ []
+none_name_other : (x y z : Slot) (n : ℕ) → same_slot z x ≡ false → same_slot z y ≡ false → circuits_naming (Pair x y n ∷ Pair y x n ∷ []) z ≡ []
 none_name_other x y z n off_x off_y = grind (arith, common_steps)
 
 -- ---- how a slot stands
 -- what names a slot says how it stands
-stands_alike : (cs ds : List Circuit) (z : Slot) → naming ds z ≡ naming cs z → Stands cs z → Stands ds z
+stands_alike : (cs ds : List Circuit) (z : Slot) → circuits_naming ds z ≡ circuits_naming cs z → Stands cs z → Stands ds z
 stands_alike cs ds z same (Is_idle e) = Is_idle (same ∙ e)
 stands_alike cs ds z same (Has_tone kind since e) = Has_tone kind since (same ∙ e)
 stands_alike cs ds z same (Is_seated room since e) = Is_seated room since (same ∙ e)
@@ -153,7 +153,7 @@ valid-after bridges h Frame v allowed = valid-frame bridges h v
 
 -- ---- whom a slot hears in a valid holding
 -- a slot that hears nothing is named by nothing
-named_by_none : (circuits : List Circuit) (x : Slot) → Stands circuits x → heard_by (naming circuits x) x ≡ None → naming circuits x ≡ []
+named_by_none : (circuits : List Circuit) (x : Slot) → Stands circuits x → heard_by (circuits_naming circuits x) x ≡ None → circuits_naming circuits x ≡ []
 named_by_none circuits x (Is_idle e) none = e
 named_by_none circuits x (Has_tone kind since e) none = let same = same_slot-refl x in let found = rw e at none in absurd (grind (arith, common_steps))
 named_by_none circuits x (Is_seated room since e) none = let same = same_slot-refl x in let found = rw e at none in absurd (grind (arith, common_steps))
@@ -164,7 +164,7 @@ pub deaf_is_idle : (circuits : List Circuit) (x : Slot) → Stands circuits x �
 deaf_is_idle circuits x s none = is_idle-naming circuits x (named_by_none circuits x s (heard_by-naming circuits x ∙ none))
 
 -- after a slot is cleared each hears what it heard, unless that named the slot
-cleared_among : (circuits : List Circuit) (x z : Slot) → Stands circuits z → heard_by (filter (λ c. not (names x c)) (naming circuits z)) z ≡ unless_naming x (heard_by (naming circuits z) z)
+cleared_among : (circuits : List Circuit) (x z : Slot) → Stands circuits z → heard_by (filter (λ c. not (names x c)) (circuits_naming circuits z)) z ≡ unless_naming x (heard_by (circuits_naming circuits z) z)
 cleared_among circuits x z (Is_idle e) = rw e refl
 cleared_among circuits x z (Has_tone kind since e) = rw e (let same = same_slot-refl z in grind (arith, common_steps))
 cleared_among circuits x z (Is_seated room since e) = rw e (let same = same_slot-refl z in grind (arith, common_steps))
@@ -195,7 +195,7 @@ one_of_two : (d e c : Circuit) → Contains (d ∷ e ∷ []) c → (d ≡ c) ⊎
 one_of_two d e c inside = ⊎_elim (λ (first : d ≡ c). inl first) (λ (rest : Contains (e ∷ []) c). inr (only_one e c rest)) (cons_cases d (e ∷ []) c inside)
 
 -- of what names the slot, only what it hears by is for it
-heard_alone : (circuits : List Circuit) (x : Slot) (c : Circuit) → Stands circuits x → Contains (naming circuits x) c → same_slot x (listener c) ≡ true → heard_by (naming circuits x) x ≡ Some c
+heard_alone : (circuits : List Circuit) (x : Slot) (c : Circuit) → Stands circuits x → Contains (circuits_naming circuits x) c → same_slot x (listener c) ≡ true → heard_by (circuits_naming circuits x) x ≡ Some c
 heard_alone circuits x c (Is_idle e) inside for_x = absurd (none_in_nil c (rw e at inside))
 heard_alone circuits x c (Has_tone kind since e) inside for_x = let same = only_one _ c (rw e at inside) in rw e (grind (arith, common_steps))
 heard_alone circuits x c (Is_seated room since e) inside for_x = let same = only_one _ c (rw e at inside) in rw e (grind (arith, common_steps))
@@ -214,7 +214,7 @@ heard_by-listener circuits c s inside =
     sym (heard_by-naming circuits x) ∙ heard_alone circuits x c s (in_filter (names x) circuits c inside (listener_is_named x c for_x)) for_x
 
 -- where x hears y, the other direction stands too
-other_way : (circuits : List Circuit) (x y : Slot) (since : ℕ) → Stands circuits x → heard_by (naming circuits x) x ≡ Some (Pair y x since) → Contains (naming circuits x) (Pair x y since)
+other_way : (circuits : List Circuit) (x y : Slot) (since : ℕ) → Stands circuits x → heard_by (circuits_naming circuits x) x ≡ Some (Pair y x since) → Contains (circuits_naming circuits x) (Pair x y since)
 other_way circuits x y since (Is_idle e) hears = let no : None ≡ Some (Pair y x since) = rw e at hears in absurd cc
 other_way circuits x y since (Has_tone kind s e) hears = let same = same_slot-refl x in let no = rw e at hears in absurd (grind (arith, common_steps))
 other_way circuits x y since (Is_seated room s e) hears = let same = same_slot-refl x in let no = rw e at hears in absurd (grind (arith, common_steps))

@@ -24,9 +24,10 @@ interval_of magnitude = position_or_len (λ upper. nat_lt magnitude upper) (drop
 abbrev pub middle : ℕ → ℕ
 middle k = (slice_index decision_values k + slice_index decision_values (k + 1)) / 2
 
--- a character: the sign in its first bit, 1 for positive, and below it the number of the interval. The octet on the line is the character with its even bits inverted
-abbrev pub octet_of : Bool → ℕ → ℕ
-octet_of positive interval = bit_xor (interval + (if positive then 128 else 0)) 0x55
+-- a character: the sign in its first bit, 1 for positive, and below it the number of the interval. The octet on the line is the character
+-- with its even bits inverted
+abbrev pub octet_of_interval : Bool → ℕ → ℕ
+octet_of_interval positive interval = bit_xor (interval + (if positive then 128 else 0)) 0x55
 
 abbrev pub character_of : ℕ → ℕ
 character_of octet = bit_xor octet 0x55
@@ -39,4 +40,4 @@ expand octet =
 
 -- the octet of a value: its sign, 0 being positive, and the interval of its magnitude, the highest one where the magnitude is beyond them all
 abbrev pub compress : ℤ → ℕ
-compress value = octet_of (int_le (pos 0) value) (interval_of (min (nat_abs value) 4095))
+compress value = octet_of_interval (int_le (pos 0) value) (interval_of (min (nat_abs value) 4095))

@@ -49,15 +49,23 @@ abbrev pub circuits_of : List (List Circuit) → ℕ → List Circuit
 circuits_of held f = slice_index_or held f []
 
 -- the circuits that stood in frame f of these commands, and the holding that they make at its boundary
-abbrev pub stood : List Command → ℕ → List Circuit
-stood cs f = circuits_of (frames empty cs) f
+abbrev pub circuits_in_frame : List Command → ℕ → List Circuit
+circuits_in_frame cs f = circuits_of (frames empty cs) f
 
 abbrev pub held_in : List Command → ℕ → Holding
-held_in cs f = record { circuits = stood cs f; next = f }
+held_in cs f = record { circuits = circuits_in_frame cs f; next = f }
 
 -- the circuit by which a slot hears in a holding
 abbrev pub hears_by : Holding → Slot → Option Circuit
 hears_by h x = heard_by h.circuits x
+
+-- by what each slot hears after a command, from that by which it heard before
+abbrev pub HearsAfter : Holding → Command → (Option Circuit → Slot → Option Circuit) → Type 0
+HearsAfter h c now = (z : Slot) → hears_by (after h c) z ≡ now (hears_by h z) z
+
+-- slot x hears y, since some frame
+abbrev pub HearsSlot : Holding → Slot → Slot → ℕ → Type 0
+HearsSlot h x y since = hears_by h x ≡ Some (Pair y x since)
 
 -- how many members there are
 abbrev pub members_of : Holding → ℕ
@@ -74,15 +82,15 @@ abbrev pub IsNoMember : Holding → Slot → Type 0
 IsNoMember h x = (room since : ℕ) → ¬ (hears_by h x ≡ Some (Member room x since))
 
 -- all that names a slot
-abbrev pub naming : List Circuit → Slot → List Circuit
-naming circuits x = filter (names x) circuits
+abbrev pub circuits_naming : List Circuit → Slot → List Circuit
+circuits_naming circuits x = filter (names x) circuits
 
 -- a slot stands in one way: idle, with one tone, as one room's member, or in a connection with one other slot, both ways
 pub data Stands (circuits : List Circuit) (x : Slot) : Type 0 where
-  Is_idle : naming circuits x ≡ [] → Stands circuits x
-  Has_tone : (kind : Kind) (since : ℕ) → naming circuits x ≡ Tone kind x since ∷ [] → Stands circuits x
-  Is_seated : (room since : ℕ) → naming circuits x ≡ Member room x since ∷ [] → Stands circuits x
-  Is_connected : (y : Slot) (since : ℕ) → ¬ (y ≡ x) → (naming circuits x ≡ Pair x y since ∷ Pair y x since ∷ []) ⊎ (naming circuits x ≡ Pair y x since ∷ Pair x y since ∷ []) → Stands circuits x
+  Is_idle : circuits_naming circuits x ≡ [] → Stands circuits x
+  Has_tone : (kind : Kind) (since : ℕ) → circuits_naming circuits x ≡ Tone kind x since ∷ [] → Stands circuits x
+  Is_seated : (room since : ℕ) → circuits_naming circuits x ≡ Member room x since ∷ [] → Stands circuits x
+  Is_connected : (y : Slot) (since : ℕ) → ¬ (y ≡ x) → (circuits_naming circuits x ≡ Pair x y since ∷ Pair y x since ∷ []) ⊎ (circuits_naming circuits x ≡ Pair y x since ∷ Pair x y since ∷ []) → Stands circuits x
 
 -- a holding of an exchange with so many bridge lines: no circuit is younger than the next frame, each member finds a port, and each slot stands in one way
 pub record Valid (bridges : ℕ) (h : Holding) : Type 0 where

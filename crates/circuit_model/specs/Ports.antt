@@ -4,7 +4,7 @@ use Rattle.circuit_model.specs.declared.channel.Slot.{Slot}
 use Rattle.circuit_model.specs.declared.circuit.Circuit.{Circuit}
 use Rattle.circuit_model.specs.declared.circuit.Circuit.TheVariants.{Pair, Member, Tone}
 use Rattle.circuit_model.specs.Circuits.{same_slot}
-use Rattle.circuit_model.specs.Holding.{Command, Connect, Seat, Give_tone, Clear, Frame}
+use Rattle.circuit_model.specs.Holding.{Command, Connect, Seat, Give_tone, Clear, Frame, empty, circuits_in_frame, AreAllowed}
 
 -- for each port, by line and then by place, the member that has it
 abbrev pub Ports : Type 0
@@ -15,34 +15,34 @@ abbrev pub free_ports : ℕ → Ports
 free_ports bridges = replicate (30 * bridges) None
 
 -- the lowest free port is given to the member
-abbrev pub given : Slot → Ports → Ports
-given x [] = []
-given x (None ∷ ports) = Some x ∷ ports
-given x (Some member ∷ ports) = Some member ∷ given x ports
+abbrev pub ports_with : Slot → Ports → Ports
+ports_with x [] = []
+ports_with x (None ∷ ports) = Some x ∷ ports
+ports_with x (Some member ∷ ports) = Some member ∷ ports_with x ports
 
 abbrev pub has : Slot → Option Slot → Bool
 has x None = false
 has x (Some member) = same_slot x member
 
 -- the member's port is free again
-abbrev pub returned : Slot → Ports → Ports
-returned x ports = map (λ port. if has x port then None else port) ports
+abbrev pub ports_without : Slot → Ports → Ports
+ports_without x ports = map (λ port. if has x port then None else port) ports
 
 -- what a command makes of the ports
 abbrev pub ports_after : Ports → Command → Ports
 ports_after ports (Connect x y) = ports
-ports_after ports (Seat x room) = given x ports
+ports_after ports (Seat x room) = ports_with x ports
 ports_after ports (Give_tone x kind) = ports
-ports_after ports (Clear x) = returned x ports
+ports_after ports (Clear x) = ports_without x ports
 ports_after ports Frame = ports
 
 -- the ports of each frame: as they were at its boundary
 abbrev pub port_frames : Ports → List Command → List Ports
 port_frames ports [] = []
 port_frames ports (Connect x y ∷ cs) = port_frames ports cs
-port_frames ports (Seat x room ∷ cs) = port_frames (given x ports) cs
+port_frames ports (Seat x room ∷ cs) = port_frames (ports_with x ports) cs
 port_frames ports (Give_tone x kind ∷ cs) = port_frames ports cs
-port_frames ports (Clear x ∷ cs) = port_frames (returned x ports) cs
+port_frames ports (Clear x ∷ cs) = port_frames (ports_without x ports) cs
 port_frames ports (Frame ∷ cs) = ports ∷ port_frames ports cs
 
 -- bridge lines are numbered behind the external ones
@@ -76,12 +76,16 @@ abbrev pub KeepsPort : Ports → Ports → Slot → Type 0
 KeepsPort before now x = (k : ℕ) → owner_of before k ≡ Some x → owner_of now k ≡ Some x
 
 -- a slot sits in some room
-abbrev pub IsSeated : List Circuit → Slot → Type 0
-IsSeated circuits x = (room since : ℕ) × Contains circuits (Member room x since)
+abbrev pub HasSeat : List Circuit → Slot → Type 0
+HasSeat circuits x = (room since : ℕ) × Contains circuits (Member room x since)
 
 -- and has since an earlier frame than this one
-abbrev pub IsSeatedBefore : ℕ → List Circuit → Slot → Type 0
-IsSeatedBefore f circuits x = (room since : ℕ) × Contains circuits (Member room x since) × (since < f)
+abbrev pub HasSeatBefore : ℕ → List Circuit → Slot → Type 0
+HasSeatBefore f circuits x = (room since : ℕ) × Contains circuits (Member room x since) × (since < f)
+
+-- so much holds of the circuits and the ports of each frame of allowed commands
+abbrev pub InEachFrame : ℕ → (List Circuit → Ports → Type 0) → Type 0
+InEachFrame bridges holds = (cs : List Command) (f : ℕ) → AreAllowed bridges empty cs → holds (circuits_in_frame cs f) (ports_in bridges cs f)
 
 -- what the members who have ports add up to, each by its weight
 abbrev pub sum_of_owners : (Slot → ℤ) → Ports → ℤ

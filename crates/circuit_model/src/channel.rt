@@ -1,3 +1,5 @@
+//! Bearer channels: a slot of the exchange, and the channel numbers of a primary rate line.
+
 ghost use Rattle.std.specs.Prelude.{◌≡◌, ◌<◌, ◌+◌, ◌*◌};
 ghost use Rattle.circuit_model.specs.Channels.{place_of, channel_at};
 
@@ -46,19 +48,4 @@ pub fn channel_of(place: u8) -> u8
     ensures { result ≡ channel_at place }
 {
     if place < 15 { place + 1 } else { place + 2 }
-}
-
-#[cfg(test)]
-mod tests {
-    use super::{channel_of, slot_of_channel};
-
-    #[test]
-    fn thirty_channels_carry_bearers() {
-        prove!(slot_of_channel(0).is_none());
-        prove!(slot_of_channel(16).is_none());
-        prove!(slot_of_channel(32).is_none());
-        prove!(slot_of_channel(31) == Some(29));
-        prove!(channel_of(14) == 15);
-        prove!(channel_of(15) == 17);
-    }
 }

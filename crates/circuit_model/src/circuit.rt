@@ -1,3 +1,5 @@
+//! Circuits: who hears whom, since when, and the kinds of tones.
+
 use crate::channel::Slot;
 
 /// The octet that an idle bearer channel sends: the A-law character of the value +1, with its even

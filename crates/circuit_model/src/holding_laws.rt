@@ -1,3 +1,5 @@
+//! Laws of holdings: which stay valid, whom a slot hears by them, and what each command changes.
+
 ghost use Rattle.std.specs.Prelude.{◌≡◌, ◌+◌, ◌<◌, ◌↔◌, ℕ, IsTrue, List, [], ◌∷◌, ◌++◌, Some, None, Contains, count_by, length, if◌then◌else◌};
 ghost use Rattle.circuit_model.specs.declared.channel.Slot.{Slot};
 ghost use Rattle.circuit_model.specs.declared.circuit.Kind.{Kind};
@@ -5,7 +7,7 @@ ghost use Rattle.circuit_model.specs.declared.circuit.Circuit.{Circuit};
 ghost use Rattle.circuit_model.specs.declared.circuit.Kind.TheVariants.{Busy};
 ghost use Rattle.circuit_model.specs.declared.circuit.Circuit.TheVariants.{Pair, Member, Tone};
 ghost use Rattle.circuit_model.specs.Circuits.{listener, is_idle, heard_by, unless_naming, with_circuit, with_pair};
-ghost use Rattle.circuit_model.specs.Holding.{Holding, empty, Command, Connect, Seat, Give_tone, Clear, Frame, after, after_all, frames, held_in, hears_by, members_of, IsIdle, IsMember, IsNoMember, naming, Valid, IsAllowed, AreAllowed};
+ghost use Rattle.circuit_model.specs.Holding.{Holding, empty, Command, Connect, Seat, Give_tone, Clear, Frame, after, after_all, frames, held_in, hears_by, members_of, HearsAfter, HearsSlot, IsIdle, IsMember, IsNoMember, circuits_naming, Valid, IsAllowed, AreAllowed};
 ghost use Rattle.circuit_model.specs.Examples.{first};
 
 /// A holding is valid at the start and after each command that is allowed, and so the circuits of
@@ -13,7 +15,7 @@ ghost use Rattle.circuit_model.specs.Examples.{first};
 pub fn law_of_validity()
     ensures start { (bridges : ℕ) → Valid bridges empty }
     ensures kept { (bridges : ℕ) (h : Holding) (c : Command) → Valid bridges h → IsAllowed bridges h c → Valid bridges (after h c) }
-    ensures recorded { (bridges : ℕ) (cs : List Command) (f : ℕ) → AreAllowed bridges empty cs → f < length (frames empty cs) → Valid bridges (held_in cs f) }
+    ensures recorded { (b : ℕ) (cs : List Command) (f : ℕ) → AreAllowed b empty cs → f < length (frames empty cs) → Valid b (held_in cs f) }
 {}
 
 /// What a valid holding rules out: a slot connected to itself, a connection that stands one way or
@@ -32,25 +34,26 @@ pub fn worked_holdings()
 /// A slot is idle where no circuit names it. In a valid holding these are the slots that hear by
 /// no circuit.
 pub fn law_of_idle_slots()
-    ensures unnamed { (circuits : List Circuit) (x : Slot) → IsTrue (is_idle circuits x) ↔ (naming circuits x ≡ []) }
+    ensures unnamed { (circuits : List Circuit) (x : Slot) → IsTrue (is_idle circuits x) ↔ (circuits_naming circuits x ≡ []) }
     ensures deaf { (bridges : ℕ) (h : Holding) (x : Slot) → Valid bridges h → IsIdle h x ↔ (hears_by h x ≡ None) }
 {}
 
-/// What a slot hears by stands and is for it. In a valid holding a slot hears by one circuit at most, whatever the order in which they are
-/// listed, and where a slot hears another one, that one hears it, since the same frame.
+/// What a slot hears by stands and is for it. In a valid holding a slot hears by one circuit at
+/// most, whatever the order in which they are listed, and where a slot hears another one, that one
+/// hears it, since the same frame.
 pub fn law_of_one_circuit()
     ensures stands { (circuits : List Circuit) (x : Slot) (c : Circuit) → heard_by circuits x ≡ Some c → Contains circuits c × (listener c ≡ x) }
     ensures alone { (bridges : ℕ) (h : Holding) (c : Circuit) → Valid bridges h → Contains h.circuits c → hears_by h (listener c) ≡ Some c }
-    ensures mutual { (bridges : ℕ) (h : Holding) (x y : Slot) (since : ℕ) → Valid bridges h → hears_by h x ≡ Some (Pair y x since) → hears_by h y ≡ Some (Pair x y since) }
+    ensures mutual { (b : ℕ) (h : Holding) (x y : Slot) (since : ℕ) → Valid b h → HearsSlot h x y since → HearsSlot h y x since }
 {}
 
 /// Whom a slot hears after a command. A new connection, member or tone changes only what the slots
 /// hear that it is for; clearing a slot takes away every circuit that names it and nothing else.
 pub fn law_of_commands()
-    ensures connect { (h : Holding) (x y z : Slot) → IsIdle h x → IsIdle h y → hears_by (after h (Connect x y)) z ≡ with_pair x y h.next (hears_by h z) z }
-    ensures seat { (h : Holding) (x z : Slot) (room : ℕ) → IsIdle h x → hears_by (after h (Seat x room)) z ≡ with_circuit (Member room x h.next) (hears_by h z) z }
-    ensures tone { (h : Holding) (x z : Slot) (kind : Kind) → IsIdle h x → hears_by (after h (Give_tone x kind)) z ≡ with_circuit (Tone kind x h.next) (hears_by h z) z }
-    ensures clear { (bridges : ℕ) (h : Holding) (x z : Slot) → Valid bridges h → hears_by (after h (Clear x)) z ≡ unless_naming x (hears_by h z) }
+    ensures connect { (h : Holding) (x y : Slot) → IsIdle h x → IsIdle h y → HearsAfter h (Connect x y) (with_pair x y h.next) }
+    ensures seat { (h : Holding) (x : Slot) (room : ℕ) → IsIdle h x → HearsAfter h (Seat x room) (with_circuit (Member room x h.next)) }
+    ensures tone { (h : Holding) (x : Slot) (kind : Kind) → IsIdle h x → HearsAfter h (Give_tone x kind) (with_circuit (Tone kind x h.next)) }
+    ensures clear { (b : ℕ) (h : Holding) (x : Slot) → Valid b h → HearsAfter h (Clear x) (λ before z. unless_naming x before) }
 {}
 
 /// Commands one after another: a frame's boundary records the circuits that stand, any other

@@ -1,33 +1,35 @@
+//! The law of age, and the definitions of what a slot hears evaluated on small exchanges.
+
 ghost use Rattle.std.specs.Prelude.{◌≡◌, ◌<◌, ◌-◌, ℕ, List, [], ◌∷◌, length, map, pos, negsuc, slice_index, Contains};
 ghost use Rattle.circuit_model.specs.declared.circuit.Circuit.{Circuit};
 ghost use Rattle.circuit_model.specs.Circuits.{since_of};
-ghost use Rattle.circuit_model.specs.Holding.{Command, empty, frames, stood};
+ghost use Rattle.circuit_model.specs.Holding.{Command, empty, frames, circuits_in_frame};
 ghost use Rattle.circuit_model.specs.ALaw.{decision_values, expand, compress};
 ghost use Rattle.circuit_model.specs.Hears.{hears};
-ghost use Rattle.circuit_model.specs.Examples.{first, heard, a_connection, two_lines, a_reused_slot, three_lines, a_room, loud_lines, alone, a_pair_of_members, soft_lines, a_tone, a_late_connection, a_renewed_connection, quiet_lines, a_changing_room, counting_lines, two_rooms, a_full_room, loud_and_low, two_tones};
+ghost use Rattle.circuit_model.specs.Examples.{first, heard_in_frames, a_connection, two_lines, a_reused_slot, three_lines, a_room, loud_lines, alone, a_pair_of_members, soft_lines, a_tone, a_late_connection, a_renewed_connection, quiet_lines, a_changing_room, counting_lines, two_rooms, a_full_room, loud_and_low, two_tones};
 
 /// The law of age: after any commands, a circuit that stands in frame `f` since an earlier frame
 /// stood in frame `f - 1` too.
 ///
 /// So an octet that crossed in the frame before, by a circuit that is heard now, was sent by it.
 pub fn law_of_age()
-    ensures { (commands : List Command) (f : ℕ) (c : Circuit) → Contains (stood commands f) c → since_of c < f → Contains (stood commands (f - 1)) c }
+    ensures { (commands : List Command) (f : ℕ) (c : Circuit) → Contains (circuits_in_frame commands f) c → since_of c < f → Contains (circuits_in_frame commands (f - 1)) c }
 {}
 
 /// The definitions of what a slot hears, evaluated on small exchanges: octets pass after exactly
 /// two frames, a slot taken anew lets nothing of the old connection through, a room is summed
 /// without the listener and coded once, and a tone begins with the frame that it stands since.
 pub fn worked_frames()
-    ensures delay { heard two_lines a_connection 1 (0 ∷ 1 ∷ 2 ∷ 3 ∷ 4 ∷ []) ≡ 0xD5 ∷ 0xD5 ∷ 0x01 ∷ 0x02 ∷ 0x03 ∷ [] }
-    ensures other_way { heard two_lines a_connection 0 (0 ∷ 1 ∷ 2 ∷ 3 ∷ 4 ∷ []) ≡ 0xD5 ∷ 0xD5 ∷ 0x81 ∷ 0x82 ∷ 0x83 ∷ [] }
-    ensures reused { heard three_lines a_reused_slot 0 (0 ∷ 1 ∷ 2 ∷ 3 ∷ 4 ∷ []) ≡ 0xD5 ∷ 0xD5 ∷ 0xD5 ∷ 0xD5 ∷ 0xC3 ∷ [] }
-    ensures left { heard three_lines a_reused_slot 1 (0 ∷ 1 ∷ 2 ∷ 3 ∷ 4 ∷ []) ≡ 0xD5 ∷ 0xD5 ∷ 0xD5 ∷ 0xD5 ∷ 0xD5 ∷ [] }
-    ensures joined { heard three_lines a_reused_slot 2 (0 ∷ 1 ∷ 2 ∷ 3 ∷ 4 ∷ []) ≡ 0xD5 ∷ 0xD5 ∷ 0xD5 ∷ 0xD5 ∷ 0x03 ∷ [] }
-    ensures room { heard loud_lines a_room 0 (0 ∷ 1 ∷ 2 ∷ 3 ∷ 4 ∷ 5 ∷ []) ≡ 0xD5 ∷ 0xD5 ∷ 0xD5 ∷ 0xD5 ∷ 0xAA ∷ 0xD5 ∷ [] }
-    ensures loudest { heard loud_lines a_room 2 (0 ∷ 1 ∷ 2 ∷ 3 ∷ 4 ∷ 5 ∷ []) ≡ 0xD5 ∷ 0xD5 ∷ 0xD5 ∷ 0xD5 ∷ 0xAA ∷ 0xAA ∷ [] }
-    ensures alone { heard soft_lines alone 0 (0 ∷ 1 ∷ 2 ∷ 3 ∷ 4 ∷ 5 ∷ []) ≡ 0xD5 ∷ 0xD5 ∷ 0xD5 ∷ 0xD5 ∷ 0xD5 ∷ 0xD5 ∷ [] }
-    ensures members { heard soft_lines a_pair_of_members 0 (0 ∷ 1 ∷ 2 ∷ 3 ∷ 4 ∷ 5 ∷ []) ≡ 0xD5 ∷ 0xD5 ∷ 0xD5 ∷ 0xD5 ∷ 0x91 ∷ 0x92 ∷ [] }
-    ensures tone { heard [] a_tone 0 (0 ∷ 1 ∷ 2 ∷ 3 ∷ 4 ∷ 5 ∷ []) ≡ 0xD5 ∷ 0x11 ∷ 0x22 ∷ 0x33 ∷ 0x11 ∷ 0xD5 ∷ [] }
+    ensures delay { heard_in_frames two_lines a_connection 1 (0 ∷ 1 ∷ 2 ∷ 3 ∷ 4 ∷ []) ≡ 0xD5 ∷ 0xD5 ∷ 0x01 ∷ 0x02 ∷ 0x03 ∷ [] }
+    ensures other_way { heard_in_frames two_lines a_connection 0 (0 ∷ 1 ∷ 2 ∷ 3 ∷ 4 ∷ []) ≡ 0xD5 ∷ 0xD5 ∷ 0x81 ∷ 0x82 ∷ 0x83 ∷ [] }
+    ensures reused { heard_in_frames three_lines a_reused_slot 0 (0 ∷ 1 ∷ 2 ∷ 3 ∷ 4 ∷ []) ≡ 0xD5 ∷ 0xD5 ∷ 0xD5 ∷ 0xD5 ∷ 0xC3 ∷ [] }
+    ensures left { heard_in_frames three_lines a_reused_slot 1 (0 ∷ 1 ∷ 2 ∷ 3 ∷ 4 ∷ []) ≡ 0xD5 ∷ 0xD5 ∷ 0xD5 ∷ 0xD5 ∷ 0xD5 ∷ [] }
+    ensures joined { heard_in_frames three_lines a_reused_slot 2 (0 ∷ 1 ∷ 2 ∷ 3 ∷ 4 ∷ []) ≡ 0xD5 ∷ 0xD5 ∷ 0xD5 ∷ 0xD5 ∷ 0x03 ∷ [] }
+    ensures room { heard_in_frames loud_lines a_room 0 (0 ∷ 1 ∷ 2 ∷ 3 ∷ 4 ∷ 5 ∷ []) ≡ 0xD5 ∷ 0xD5 ∷ 0xD5 ∷ 0xD5 ∷ 0xAA ∷ 0xD5 ∷ [] }
+    ensures loudest { heard_in_frames loud_lines a_room 2 (0 ∷ 1 ∷ 2 ∷ 3 ∷ 4 ∷ 5 ∷ []) ≡ 0xD5 ∷ 0xD5 ∷ 0xD5 ∷ 0xD5 ∷ 0xAA ∷ 0xAA ∷ [] }
+    ensures alone { heard_in_frames soft_lines alone 0 (0 ∷ 1 ∷ 2 ∷ 3 ∷ 4 ∷ 5 ∷ []) ≡ 0xD5 ∷ 0xD5 ∷ 0xD5 ∷ 0xD5 ∷ 0xD5 ∷ 0xD5 ∷ [] }
+    ensures members { heard_in_frames soft_lines a_pair_of_members 0 (0 ∷ 1 ∷ 2 ∷ 3 ∷ 4 ∷ 5 ∷ []) ≡ 0xD5 ∷ 0xD5 ∷ 0xD5 ∷ 0xD5 ∷ 0x91 ∷ 0x92 ∷ [] }
+    ensures tone { heard_in_frames [] a_tone 0 (0 ∷ 1 ∷ 2 ∷ 3 ∷ 4 ∷ 5 ∷ []) ≡ 0xD5 ∷ 0x11 ∷ 0x22 ∷ 0x33 ∷ 0x11 ∷ 0xD5 ∷ [] }
 {}
 
 /// Edges of the definitions of what a slot hears: connections made late or anew, lines that send
@@ -38,16 +40,16 @@ pub fn worked_frames()
 /// what a member sent before leaving is still heard for two frames, since it is mixed already. A
 /// member whose line sends nothing counts as the idle octet, whose value is 1.
 pub fn worked_edges()
-    ensures late { heard two_lines a_late_connection 1 (0 ∷ 1 ∷ 2 ∷ 3 ∷ 4 ∷ []) ≡ 0xD5 ∷ 0xD5 ∷ 0xD5 ∷ 0xD5 ∷ 0x03 ∷ [] }
-    ensures renewed { heard two_lines a_renewed_connection 1 (0 ∷ 1 ∷ 2 ∷ 3 ∷ 4 ∷ []) ≡ 0xD5 ∷ 0xD5 ∷ 0xD5 ∷ 0xD5 ∷ 0x03 ∷ [] }
-    ensures quiet { heard quiet_lines a_connection 1 (0 ∷ 1 ∷ 2 ∷ 3 ∷ 4 ∷ []) ≡ 0xD5 ∷ 0xD5 ∷ 0x01 ∷ 0xD5 ∷ 0x03 ∷ [] }
-    ensures quiet_members { heard quiet_lines a_room 2 (4 ∷ 5 ∷ []) ≡ 0x01 ∷ 0xD4 ∷ [] }
-    ensures stayed { heard counting_lines a_changing_room 0 (6 ∷ 7 ∷ 8 ∷ 9 ∷ 10 ∷ []) ≡ 0x55 ∷ 0xD6 ∷ 0xD1 ∷ 0xD0 ∷ 0x55 ∷ [] }
-    ensures newcomer { heard counting_lines a_changing_room 2 (4 ∷ 5 ∷ 6 ∷ 7 ∷ 8 ∷ []) ≡ 0xD5 ∷ 0xD4 ∷ 0xD4 ∷ 0xD4 ∷ 0xD5 ∷ [] }
-    ensures apart { heard soft_lines two_rooms 0 (3 ∷ 4 ∷ 5 ∷ []) ≡ 0xD5 ∷ 0xD5 ∷ 0xD5 ∷ [] }
-    ensures once { heard loud_and_low a_full_room 0 (4 ∷ []) ≡ 0xAA ∷ [] }
+    ensures late { heard_in_frames two_lines a_late_connection 1 (0 ∷ 1 ∷ 2 ∷ 3 ∷ 4 ∷ []) ≡ 0xD5 ∷ 0xD5 ∷ 0xD5 ∷ 0xD5 ∷ 0x03 ∷ [] }
+    ensures renewed { heard_in_frames two_lines a_renewed_connection 1 (0 ∷ 1 ∷ 2 ∷ 3 ∷ 4 ∷ []) ≡ 0xD5 ∷ 0xD5 ∷ 0xD5 ∷ 0xD5 ∷ 0x03 ∷ [] }
+    ensures quiet { heard_in_frames quiet_lines a_connection 1 (0 ∷ 1 ∷ 2 ∷ 3 ∷ 4 ∷ []) ≡ 0xD5 ∷ 0xD5 ∷ 0x01 ∷ 0xD5 ∷ 0x03 ∷ [] }
+    ensures quiet_members { heard_in_frames quiet_lines a_room 2 (4 ∷ 5 ∷ []) ≡ 0x01 ∷ 0xD4 ∷ [] }
+    ensures stayed { heard_in_frames counting_lines a_changing_room 0 (6 ∷ 7 ∷ 8 ∷ 9 ∷ 10 ∷ []) ≡ 0x55 ∷ 0xD6 ∷ 0xD1 ∷ 0xD0 ∷ 0x55 ∷ [] }
+    ensures newcomer { heard_in_frames counting_lines a_changing_room 2 (4 ∷ 5 ∷ 6 ∷ 7 ∷ 8 ∷ []) ≡ 0xD5 ∷ 0xD4 ∷ 0xD4 ∷ 0xD4 ∷ 0xD5 ∷ [] }
+    ensures apart { heard_in_frames soft_lines two_rooms 0 (3 ∷ 4 ∷ 5 ∷ []) ≡ 0xD5 ∷ 0xD5 ∷ 0xD5 ∷ [] }
+    ensures once { heard_in_frames loud_and_low a_full_room 0 (4 ∷ []) ≡ 0xAA ∷ [] }
     ensures no_octets { hears (λ kind. []) [] (frames empty a_tone) 1 (first 0) ≡ 0xD5 }
-    ensures tones { heard [] two_tones 0 (0 ∷ 1 ∷ 2 ∷ 3 ∷ 4 ∷ 5 ∷ []) ≡ 0x44 ∷ 0x44 ∷ 0x11 ∷ 0x22 ∷ 0x11 ∷ 0x22 ∷ [] }
+    ensures tones { heard_in_frames [] two_tones 0 (0 ∷ 1 ∷ 2 ∷ 3 ∷ 4 ∷ 5 ∷ []) ≡ 0x44 ∷ 0x44 ∷ 0x11 ∷ 0x22 ∷ 0x11 ∷ 0x22 ∷ [] }
 {}
 
 /// The A-law definitions, evaluated: how many decision values there are and the last of them, the

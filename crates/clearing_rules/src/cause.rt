@@ -1,3 +1,5 @@
+//! The readable cause of a message.
+
 ghost use Rattle.std.specs.Prelude.{◌≡◌};
 ghost use Rattle.q931_codec.specs.Contents.{cause_in};
 

@@ -28,10 +28,10 @@ pub fn law_of_global_reference()
 pub fn worked_answers()
     ensures enquiry { answer_to_octets worked.enquiry ≡ Some worked.no_call }
     ensures enquiry_from_called { answer_to_octets worked.enquiry_from_called ≡ Some worked.no_call_to_called }
-    ensures disconnect { answer_to_octets worked.disconnect ≡ Some worked.no_such_reference }
-    ensures release { answer_to_octets worked.release_from_called ≡ Some worked.no_such_reference_to_called }
-    ensures restart { answer_to_octets worked.restart_on_a_call ≡ Some worked.no_such_reference }
-    ensures unknown { answer_to_octets worked.unknown_type ≡ Some worked.no_such_reference }
+    ensures disconnect { answer_to_octets worked.disconnect ≡ Some worked.invalid_reference }
+    ensures release { answer_to_octets worked.release_from_called ≡ Some worked.invalid_reference_to_called }
+    ensures restart { answer_to_octets worked.restart_on_a_call ≡ Some worked.invalid_reference }
+    ensures unknown { answer_to_octets worked.unknown_type ≡ Some worked.invalid_reference }
     ensures release_complete { answer_to_octets worked.release_complete ≡ None }
     ensures status { answer_to_octets worked.status ≡ None }
     ensures setup { answer_to_octets worked.setup_from_called ≡ None }

@@ -23,6 +23,3 @@ pub use laws::{law_of_answers, law_of_global_reference, worked_answers, worked_r
 pub use restart_message::{GLOBAL_CALL_REFERENCE, acknowledgement, restart};
 pub use scope::Restart;
 pub use unknown_reference_message::unknown_reference;
-
-#[cfg(test)]
-mod tests;

@@ -1,3 +1,5 @@
+//! What a RESTART asks for, and what acknowledges it.
+
 ghost use Rattle.std.specs.Prelude.{◌≡◌, IfSome};
 ghost use Rattle.q931_codec.specs.Outgoing.{outgoing_of};
 ghost use Rattle.clearing_rules.specs.Restarting.{acknowledgement, restart_asked, IsOnLine};

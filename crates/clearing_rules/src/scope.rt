@@ -1,3 +1,5 @@
+//! What is restarted: a channel, or the line.
+
 /// What a RESTART asks to be restarted, which is what its restart indicator (Q.931, 4.5.25) and its channel
 /// identification (4.5.13) say.
 #[derive(Clone, Copy, Debug, PartialEq, Eq)]

@@ -1,3 +1,5 @@
+//! What answers a message on a call reference that names no call.
+
 ghost use Rattle.std.specs.Prelude.{◌≡◌, option_map};
 ghost use Rattle.q931_codec.specs.Outgoing.{outgoing_of};
 ghost use Rattle.clearing_rules.specs.UnknownReference.{answer_without_call};

@@ -1,3 +1,3 @@
 pub mod Sums
 pub mod RoomTotals
-pub mod Kept
+pub mod SeatFacts

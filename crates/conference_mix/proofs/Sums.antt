@@ -12,7 +12,7 @@ use Rattle.circuit_model.specs.ALaw.{decision_values, expand, compress}
 use Rattle.circuit_model.specs.FrameInput.{idle_octet}
 use Rattle.circuit_model.specs.Hears.{sum_of_values}
 use Rattle.alaw_codec.proofs.Tables.{round_trip}
-use Rattle.conference_mix.specs.Bridge.{present, others, value_of, mixed_for}
+use Rattle.conference_mix.specs.Bridge.{present_octets, others, value_of, mixed_for}
 
 plus_zero : (x : ℤ) → x ≡ pos 0 +ℤ x
 plus_zero x = omega (arith, ints)
@@ -28,15 +28,15 @@ sum_of_values-append [] ys = plus_zero _
 sum_of_values-append (x ∷ xs) ys = ap (λ (z : ℤ). expand x +ℤ z) (sum_of_values-append xs ys) ∙ associates (expand x) (sum_of_values xs) (sum_of_values ys)
 
 -- what one place adds
-sum_of_values-present : (member : Option ℕ) → sum_of_values (present (member ∷ [])) ≡ value_of member
+sum_of_values-present : (member : Option ℕ) → sum_of_values (present_octets (member ∷ [])) ≡ value_of member
 sum_of_values-present (Some octet) = omega (arith, ints)
 sum_of_values-present None = refl
 
 abbrev pub sum_of : List (Option ℕ) → ℤ
-sum_of members = sum_of_values (present members)
+sum_of members = sum_of_values (present_octets members)
 
 pub sum_of-append : (ms ns : List (Option ℕ)) → sum_of (ms ++ ns) ≡ sum_of ms +ℤ sum_of ns
-sum_of-append ms ns = ap sum_of_values (filter_map-append (λ (octet : Option ℕ). octet) ms ns) ∙ sum_of_values-append (present ms) (present ns)
+sum_of-append ms ns = ap sum_of_values (filter_map-append (λ (octet : Option ℕ). octet) ms ns) ∙ sum_of_values-append (present_octets ms) (present_octets ns)
 
 pub sum_of-cons : (m : Option ℕ) (ms : List (Option ℕ)) → sum_of (m ∷ ms) ≡ value_of m +ℤ sum_of ms
 sum_of-cons m ms = sum_of-append (m ∷ []) ms ∙ ap (λ (z : ℤ). z +ℤ sum_of ms) (sum_of_values-present m)

@@ -8,12 +8,12 @@ abbrev pub most_members : ℕ
 most_members = 60
 
 -- the octets that are there, in the order of their places
-abbrev pub present : List (Option ℕ) → List ℕ
-present members = filter_map (λ octet. octet) members
+abbrev pub present_octets : List (Option ℕ) → List ℕ
+present_octets members = filter_map (λ octet. octet) members
 
 -- what the bridge adds up for the member at place k: the octets at all other places
 abbrev pub others : ℕ → List (Option ℕ) → List ℕ
-others k members = present (remove members k)
+others k members = present_octets (remove members k)
 
 -- what the member at place k hears: the sum of the values of the others, coded once
 abbrev pub mixed_for : ℕ → List (Option ℕ) → ℕ

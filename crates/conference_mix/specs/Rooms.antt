@@ -3,7 +3,7 @@ use Rattle.std.specs.Prelude.{ℕ, ◌==◌, ℤ, List, Option, Some, None, map,
 use Rattle.circuit_model.specs.FrameInput.{idle_octet}
 use Rattle.circuit_model.specs.Hears.{sum_of_values}
 use Rattle.conference_mix.specs.declared.mixer.Seated.{Seated}
-use Rattle.conference_mix.specs.Bridge.{present, mixed_for}
+use Rattle.conference_mix.specs.Bridge.{present_octets, mixed_for}
 
 -- what counts of a place in a room: the octet of its member, where the member sits in that room
 abbrev pub counted_in : ℕ → Option Seated → Option ℕ
@@ -16,7 +16,7 @@ room_row room places = map (counted_in room) places
 
 -- the sum of the values of all members of a room
 abbrev pub room_total : ℕ → List (Option Seated) → ℤ
-room_total room places = sum_of_values (present (room_row room places))
+room_total room places = sum_of_values (present_octets (room_row room places))
 
 -- what a place is given: its member hears the others of its room; where nobody sits it is the idle octet
 abbrev pub given_to_member : List (Option Seated) → ℕ → Option Seated → ℕ

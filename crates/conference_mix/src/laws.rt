@@ -1,3 +1,5 @@
+//! Laws of the mix: small rooms, and the order of the places.
+
 ghost use Rattle.std.specs.Prelude.{◌≡◌, ℕ, ◌<◌, List, [], ◌∷◌, Option, IsPermutation};
 ghost use Rattle.circuit_model.specs.FrameInput.{idle_octet};
 ghost use Rattle.circuit_model.specs.Hears.{sum_of_values};

@@ -16,7 +16,7 @@
 
 ghost use Rattle.std.specs.Prelude.{◌≡◌, ℕ, ◌*◌, ◌≤◌, length, slice_index, map, All, EachIndex, nat_abs};
 ghost use Rattle.circuit_model.specs.Hears.{sum_of_values};
-ghost use Rattle.conference_mix.specs.Bridge.{most_members, present, value_of, mixed_for};
+ghost use Rattle.conference_mix.specs.Bridge.{most_members, present_octets, value_of, mixed_for};
 
 mod laws;
 mod mixer;
@@ -54,7 +54,7 @@ fn expand_each(members: &[Option<u8>], values: &mut [i32]) -> i32
     requires few { length members.now ≤ most_members }
     ensures each { values.new ≡ map value_of members.now }
     ensures small { All (λ value. nat_abs value ≤ 4032) values.new }
-    ensures total { result ≡ sum_of_values (present members.now) }
+    ensures total { result ≡ sum_of_values (present_octets members.now) }
     ensures within { nat_abs result ≤ 4032 * most_members }
 {
     let mut total = 0;
@@ -76,6 +76,3 @@ fn value_of(member: Option<u8>) -> i32
         None => 0,
     }
 }
-
-#[cfg(test)]
-mod tests;

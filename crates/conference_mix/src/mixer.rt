@@ -1,3 +1,5 @@
+//! A bridge that mixes all rooms of a frame at once.
+
 ghost use Rattle.std.specs.Prelude.{◌≡◌, ℕ, ◌≤◌, ◌<◌, None, Some, length, replicate, slice_set, slice_index, slice_index_or, EachIndex};
 ghost use Rattle.circuit_model.specs.ALaw.{compress};
 ghost use Rattle.conference_mix.specs.Bridge.{most_members};

@@ -24,18 +24,18 @@ abbrev pub port_number : ℕ → Slot → ℕ
 port_number external port = 30 * (port.line - external) + port.place
 
 -- a member has the slot of an external line, a port that of a bridge line
-abbrev pub IsMember : Bridges → Slot → Type 0
-IsMember b at = (at.line < b.external) × (at.place < 30)
+abbrev pub IsMemberSlot : Bridges → Slot → Type 0
+IsMemberSlot b at = (at.line < b.external) × (at.place < 30)
 
-abbrev pub IsPort : Bridges → Slot → Type 0
-IsPort b at = (b.external ≤ at.line) × (at.line < b.external + b.lines) × (at.place < 30)
+abbrev pub IsPortSlot : Bridges → Slot → Type 0
+IsPortSlot b at = (b.external ≤ at.line) × (at.line < b.external + b.lines) × (at.place < 30)
 
 -- the lowest free port gets an owner
-abbrev pub owned : Owner → List (Option Owner) → List (Option Owner)
-owned owner [] = []
-owned owner (None ∷ owners) = Some owner ∷ owners
-owned owner (Some other ∷ owners) = Some other ∷ owned owner owners
+abbrev pub owners_with : Owner → List (Option Owner) → List (Option Owner)
+owners_with owner [] = []
+owners_with owner (None ∷ owners) = Some owner ∷ owners
+owners_with owner (Some other ∷ owners) = Some other ∷ owners_with owner owners
 
 -- the ports of a member have no owner any more
-abbrev pub disowned : Slot → List (Option Owner) → List (Option Owner)
-disowned x owners = map (λ port. if has x (member_of port) then None else port) owners
+abbrev pub owners_without : Slot → List (Option Owner) → List (Option Owner)
+owners_without x owners = map (λ port. if has x (member_of port) then None else port) owners

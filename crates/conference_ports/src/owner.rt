@@ -1,3 +1,5 @@
+//! Who has a port.
+
 use circuit_model::Slot;
 
 /// Who has a port: a member, and the conference room that it sits in.

@@ -1,6 +1,8 @@
+//! The ports of the bridge lines, with an index from member to port.
+
 ghost use Rattle.std.specs.Prelude.{◌≡◌, ◌≢◌, ◌+◌, ◌*◌, ◌<◌, ◌≤◌, ℕ, None, Some, IfOk, is_none, position, replicate, option_map, slice_index_or};
-ghost use Rattle.circuit_model.specs.Ports.{port_numbered, port_of as port_of_member, given, returned};
-ghost use Rattle.conference_ports.specs.Owners.{Bridges, IsMember, IsPort, members, owned, disowned, port_number};
+ghost use Rattle.circuit_model.specs.Ports.{port_numbered, port_of as port_of_member, ports_with, ports_without};
+ghost use Rattle.conference_ports.specs.Owners.{Bridges, IsMemberSlot, IsPortSlot, members, owners_with, owners_without, port_number};
 ghost use Rattle.conference_ports.specs.declared.owner.Owner.{Owner};
 
 use crate::owner::Owner;
@@ -53,11 +55,11 @@ impl Ports {
     /// Gives the member the lowest free port by line, then place. `None` exactly where every port
     /// is taken; then nothing changes.
     pub fn take(&mut self, room: u8, member: Slot) -> Option<Slot>
-        requires external { IsMember self.old member }
+        requires external { IsMemberSlot self.old member }
         requires portless { port_of_member self.old.external (members self.old.owners) member ≡ None }
         ensures lowest { result ≡ option_map (port_numbered self.old.external) (position is_none self.old.owners) }
-        ensures owners { self.new.owners ≡ owned (record { room = room; member = member }) self.old.owners }
-        ensures members { members self.new.owners ≡ given member (members self.old.owners) }
+        ensures owners { self.new.owners ≡ owners_with (record { room = room; member = member }) self.old.owners }
+        ensures members { members self.new.owners ≡ ports_with member (members self.old.owners) }
         ensures sizes { (self.new.external ≡ self.old.external) × (self.new.lines ≡ self.old.lines) }
     {
         let Some(port) = lowest_free(&self.owners) else {
@@ -77,10 +79,10 @@ impl Ports {
 
     /// Takes the member's port back.
     pub fn give(&mut self, member: Slot)
-        requires external { IsMember self.old member }
+        requires external { IsMemberSlot self.old member }
         requires ported { port_of_member self.old.external (members self.old.owners) member ≢ None }
-        ensures owners { self.new.owners ≡ disowned member self.old.owners }
-        ensures members { members self.new.owners ≡ returned member (members self.old.owners) }
+        ensures owners { self.new.owners ≡ owners_without member self.old.owners }
+        ensures members { members self.new.owners ≡ ports_without member (members self.old.owners) }
         ensures sizes { (self.new.external ≡ self.old.external) × (self.new.lines ≡ self.old.lines) }
     {
         let index = member.number();
@@ -92,7 +94,7 @@ impl Ports {
 
     /// The member's port. `None` exactly where the member has none.
     pub fn port_of(&self, member: Slot) -> Option<Slot>
-        requires { IsMember self.now member }
+        requires { IsMemberSlot self.now member }
         ensures { result ≡ port_of_member self.now.external (members self.now.owners) member }
     {
         let port = self.ports[member.number()]?;
@@ -101,7 +103,7 @@ impl Ports {
 
     /// The port's room and member. `None` exactly where the port is free.
     pub fn room_of(&self, port: Slot) -> Option<(u8, Slot)>
-        requires { IsPort self.now port }
+        requires { IsPortSlot self.now port }
         ensures { result ≡ option_map (λ owner. (owner.room, owner.member)) (slice_index_or self.now.owners (port_number self.now.external port) None) }
     {
         let number = usize::from(port.line - self.external) * 30 + usize::from(port.place);
@@ -126,26 +128,5 @@ fn port_at(external: u8, number: usize) -> Slot
     Slot {
         line: external + (number / 30) as u8,
         place: (number % 30) as u8,
-    }
-}
-
-#[cfg(test)]
-mod tests {
-    use super::Ports;
-    use circuit_model::Slot;
-    use std::alloc::AllocError;
-
-    #[test]
-    fn a_port_given_back_is_given_again(rt: HostRuntime) -> Result<(), AllocError> {
-        let member = Slot { line: 0, place: 7 };
-        let other = Slot { line: 2, place: 29 };
-        let mut ports = Ports::new(rt.alloc(), 3, 2)?;
-        assert_eq!(rt; ports.take(5, member), Some(Slot { line: 3, place: 0 }));
-        assert_eq!(rt; ports.port_of(member), Some(Slot { line: 3, place: 0 }));
-        assert!(rt; ports.room_of(Slot { line: 3, place: 0 }) == Some((5, member)));
-        ports.give(member);
-        assert!(rt; ports.port_of(member).is_none());
-        assert_eq!(rt; ports.take(63, other), Some(Slot { line: 3, place: 0 }));
-        Ok(())
     }
 }

@@ -1,5 +1,5 @@
 -- Rows of what slots hear, line after line.
-use Rattle.std.proofs.Common.{◌≡◌, ℕ, zero, suc, ◌+◌, ◌*◌, ◌/◌, ◌%◌, ◌^◌, ◌<◌, ◌≤◌, List, length, length-set, get_or, set, replicate, get_or-set_other, refl, sym, ap, ◌∙◌, ◌⊎◌, inl, inr, w64, arith}
+use Rattle.std.proofs.Common.{◌≡◌, ℕ, zero, suc, ◌+◌, ◌*◌, ◌/◌, ◌%◌, ◌^◌, ◌<◌, List, length, length-set, get_or, set, replicate, get_or-set_other, refl, sym, ap, ◌∙◌, ◌⊎◌, inl, inr, w64, arith}
 use Rattle.std.specs.Prelude.{bit_or}
 use Rattle.std.specs.Int.{bit_at}
 use Rattle.std.proofs.lemmas.Bool.{cases_eq}

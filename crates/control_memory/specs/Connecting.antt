@@ -1,7 +1,7 @@
--- How a path joins a layout: in the lowest common slot, or after live paths are moved along an alternating chain of two slots. Source:
+-- How a path joins a layout: in the lowest common slot, or after live paths are moved along the shorter of two alternating chains. Source:
 -- M. C. Paull, "Reswitching of connection networks", Bell System Technical Journal 41 (1962); the Slepian-Duguid theorem says that as many
--- internal slots as a line has places are enough. In graph terms the chain is Kempe's.
-use Rattle.std.specs.Prelude.{◌≡◌, ℕ, zero, suc, ◌+◌, ◌*◌, ◌&&◌, not, Bool, ◌==◌, is_none, List, [], ◌∷◌, Option, Some, None, unwrap_or, slice_set, find, if◌then◌else◌}
+-- internal slots as a line has places are enough. In graph terms the chains are Kempe's. That the shorter is taken is this exchange's own.
+use Rattle.std.specs.Prelude.{◌≡◌, ℕ, zero, suc, ◌+◌, ◌*◌, ◌&&◌, not, Bool, true, false, nat_lt, length, ◌==◌, is_none, List, [], ◌∷◌, Option, Some, None, unwrap_or, slice_set, find, if◌then◌else◌}
 use Rattle.std.specs.List.{range_with_len}
 use Rattle.circuit_model.specs.declared.channel.Slot.{Slot}
 use Rattle.circuit_model.specs.Circuits.{same_slot}
@@ -61,10 +61,23 @@ abbrev pub exchanged : Layout → ℕ → ℕ → List Path → Layout
 exchanged layout a b [] = layout
 exchanged layout a b (p ∷ ps) = exchanged (with_path layout p.from p.to (if p.slot == a then b else a)) a b ps
 
--- room is made for a path from incoming line i to outgoing line j where no slot is free in both: a is the lowest slot that line i leaves
--- free, b the lowest that line j does, and the chain that starts at line j with a exchanges them. Then a is free in both
-abbrev pub exchange_for : ℕ → Layout → ℕ → ℕ → ℕ → Layout
-exchange_for lines layout j a b = exchanged layout a b (chain (2 * lines) layout Outgoing j a b)
+-- the two chains that make room for a path from incoming line i to outgoing line j where no slot is free in both: a is the lowest slot that
+-- line i leaves free, b the lowest that line j does. One starts with the path to line j in a, the other with the path from line i in b
+abbrev pub column_chain : ℕ → Layout → ℕ → ℕ → ℕ → List Path
+column_chain lines layout j a b = chain (2 * lines) layout Outgoing j a b
+
+abbrev pub row_chain : ℕ → Layout → ℕ → ℕ → ℕ → List Path
+row_chain lines layout i a b = chain (2 * lines) layout Incoming i b a
+
+-- the incoming line's chain is taken where it is strictly shorter
+abbrev pub takes_row : ℕ → Layout → ℕ → ℕ → ℕ → ℕ → Bool
+takes_row lines layout i j a b = nat_lt (length (row_chain lines layout i a b)) (length (column_chain lines layout j a b))
+
+-- The paths of the chain that is taken exchange a and b, and the new path gets the slot that is then free in both lines: b with the incoming
+-- line's chain, a with the outgoing line's
+abbrev pub joined_after : ℕ → Layout → Slot → Slot → ℕ → ℕ → Bool → Layout
+joined_after lines layout from to a b true = with_path (exchanged layout a b (row_chain lines layout from.line a b)) from to b
+joined_after lines layout from to a b false = with_path (exchanged layout a b (column_chain lines layout to.line a b)) from to a
 
 abbrev pub first_unsent : ℕ → Layout → ℕ → ℕ
 first_unsent slots layout i = unwrap_or (lowest (is_unsent layout i) slots) 0
@@ -76,7 +89,8 @@ abbrev pub connect_in : ℕ → ℕ → Layout → Slot → Slot → Option ℕ 
 connect_in lines slots layout from to (Some slot) = with_path layout from to slot
 connect_in lines slots layout from to None =
     let a = first_unsent slots layout from.line in
-    with_path (exchange_for lines layout to.line a (first_unreceived slots layout to.line)) from to a
+    let b = first_unreceived slots layout to.line in
+    joined_after lines layout from to a b (takes_row lines layout from.line to.line a b)
 
 -- the lowest slot that is free in both lines
 abbrev pub common_slot : ℕ → Layout → ℕ → ℕ → Option ℕ

@@ -2,7 +2,7 @@
 use Rattle.std.specs.Prelude.{ℕ, ◌+◌, ◌*◌, None, replicate, zero, suc}
 use Rattle.circuit_model.specs.declared.channel.Slot.{Slot}
 use Rattle.control_memory.specs.Layout.{Layout}
-use Rattle.control_memory.specs.Connecting.{connect}
+use Rattle.control_memory.specs.Connecting.{connect, with_path}
 
 abbrev pub at : ℕ → ℕ → Slot
 at line place = record { line = line; place = place }
@@ -22,3 +22,16 @@ halves (suc p) = nailed 3 (halves p) (at 0 p) (at 2 p)
 abbrev pub both_halves : ℕ → Layout
 both_halves zero = halves 15
 both_halves (suc p) = nailed 3 (both_halves p) (at 1 p) (at 2 (p + 15))
+
+-- Three lines and two internal slots, no slot common to incoming line 0 and an outgoing line. To outgoing line 0 the incoming line's chain
+-- has one path and the outgoing line's three
+abbrev pub row_shorter : Layout
+row_shorter = with_path (with_path (with_path (with_path (bare 3) (at 1 0) (at 0 0) 0) (at 1 1) (at 1 0) 1) (at 2 0) (at 1 1) 0) (at 0 0) (at 2 0) 1
+
+-- to outgoing line 0 the incoming line's chain has three paths and the outgoing line's one
+abbrev pub column_shorter : Layout
+column_shorter = with_path (with_path (with_path (with_path (bare 3) (at 0 0) (at 1 0) 0) (at 1 0) (at 1 1) 1) (at 1 1) (at 2 0) 0) (at 2 0) (at 0 0) 1
+
+-- to outgoing line 1 both have two
+abbrev pub same_length : Layout
+same_length = with_path (with_path (with_path (with_path (bare 3) (at 2 0) (at 1 0) 0) (at 2 1) (at 0 0) 1) (at 0 0) (at 2 0) 1) (at 1 0) (at 2 1) 0

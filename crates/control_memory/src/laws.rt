@@ -1,6 +1,12 @@
 ghost use Rattle.std.specs.Prelude.{◌≡◌};
-ghost use Rattle.control_memory.specs.Connecting.{connect, moved};
-ghost use Rattle.control_memory.specs.Examples.{at, both_halves};
+ghost use Rattle.control_memory.specs.Connecting.{connect, moved, with_path};
+ghost use Rattle.control_memory.specs.Examples.{
+  at,
+  both_halves,
+  row_shorter,
+  column_shorter,
+  same_length,
+};
 ghost use Rattle.control_memory.specs.Carrying.{Wiring, BringsAcross, BringsOut};
 
 /// The rule of rearrangement, evaluated on a full line: between lines 0 and 1 no internal slot is
@@ -8,6 +14,14 @@ ghost use Rattle.control_memory.specs.Carrying.{Wiring, BringsAcross, BringsOut}
 pub fn worked_layouts()
     ensures first { moved (both_halves 15) (connect 3 30 (both_halves 15) (at 0 15) (at 1 15)) ≡ 2 }
     ensures second { let once = connect 3 30 (both_halves 15) (at 0 15) (at 1 15) in moved once (connect 3 30 once (at 1 15) (at 0 15)) ≡ 0 }
+{}
+
+/// The rule of rearrangement where one of the two chains is shorter, and where neither is: which
+/// paths move, and which slot the new path gets.
+pub fn worked_chains()
+    ensures incoming { connect 3 2 row_shorter (at 0 1) (at 0 1) ≡ with_path (with_path row_shorter (at 0 0) (at 2 0) 0) (at 0 1) (at 0 1) 1 }
+    ensures outgoing { connect 3 2 column_shorter (at 0 1) (at 0 1) ≡ with_path (with_path column_shorter (at 2 0) (at 0 0) 0) (at 0 1) (at 0 1) 1 }
+    ensures tie { connect 3 2 same_length (at 0 1) (at 1 1) ≡ with_path (with_path (with_path same_length (at 2 0) (at 1 0) 1) (at 2 1) (at 0 0) 0) (at 0 1) (at 1 1) 0 }
 {}
 
 /// The tables of a legal layout do what the layout says. Where the incoming lines send by the first

@@ -31,6 +31,6 @@ pub use heard_table::HeardTable;
 pub use heard_word::HeardWord;
 pub use hop::Hop;
 pub use image::{Image, port_index};
-pub use laws::{tables_carry_their_layout, worked_layouts};
+pub use laws::{tables_carry_their_layout, worked_chains, worked_layouts};
 pub use path_map::PathMap;
 pub use path_table::PathTable;

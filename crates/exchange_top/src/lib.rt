@@ -6,7 +6,7 @@
 //! and the frame worker took their turns in, and the output got exactly the report of a run in that
 //! order; each meter was told of the calls that ended in it (`done`). With `Engine` each octet in it is
 //! what the definitions say its slot hears, also in the frame in which its path is moved; a connection
-//! moves at most 2r-2 live paths for r lines. For `gen` it is the same of a generated trace, whose
+//! moves at most r-1 live paths for r lines. For `gen` it is the same of a generated trace, whose
 //! summary is written (`summed`).
 //!
 //! - What is no trace is refused at its first line that fails (`turned_down`).

@@ -11,7 +11,7 @@ use Rattle.paull_matrix.specs.Matrix.{Matrix, row_slot, column_slot, IsLegal, wi
 use Rattle.paull_matrix.proofs.Laws.{legal_without as legal_matrix_without, legal_with as legal_matrix_with}
 use Rattle.rearrange_chain.specs.declared.moves.Move.{Move}
 use Rattle.rearrange_chain.specs.Chain.{lifted, placed}
-use Rattle.rearrange_chain.specs.Steps.{CanLift, CanPlace}
+use Rattle.rearrange_chain.specs.InTurn.{CanLift, CanPlace}
 use Rattle.control_memory.specs.declared.ends.Ends.{Ends}
 use Rattle.fabric_map.specs.Matching.{IsMatrixOf}
 use Rattle.fabric_map.specs.Rearranging.{without_all, AreTaken, laid, CanLay}

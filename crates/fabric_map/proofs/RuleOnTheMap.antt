@@ -1,18 +1,19 @@
 -- What a connection makes of the map.
 use Rattle.std.proofs.Common.{◌≡◌, ◌≢◌, ℕ, suc, ◌+◌, ◌*◌, ◌<◌, true, false, cond, eqb, Option, Some, None, List, [], ◌∷◌, map, length, refl, sym, ◌∙◌, ap, subst, ⊎_elim, zero-add}
-use Rattle.std.specs.Prelude.{slice_get, unwrap_or}
+use Rattle.std.specs.Prelude.{slice_get, unwrap_or, Bool, nat_lt, if◌then◌else◌}
 use Rattle.std.proofs.lemmas.Bool.{eq-eqb}
 use Rattle.std.proofs.lemmas.Bool.Decides.{eqb_tells}
 use Rattle.std.proofs.lemmas.List.{length-map}
 use Rattle.circuit_model.specs.declared.channel.Slot.{Slot}
 use Rattle.control_memory.specs.Layout.{Path, Layout, hop_of, IsSlot, Joins}
-use Rattle.control_memory.specs.Connecting.{Outgoing, chain, exchanged, with_path, without_path, connect, connect_in, common_slot, first_unreceived, moved}
+use Rattle.control_memory.specs.Connecting.{Incoming, Outgoing, exchanged, with_path, without_path, connect, connect_in, joined_after, takes_row, common_slot, first_unreceived, moved, row_chain as paths_of_row_chain, column_chain as paths_of_column_chain}
 use Rattle.paull_matrix.specs.Matrix.{Matrix, lowest_in_row, lowest_in_column, lowest_in_both, paths_of_row, paths_of_column}
 use Rattle.paull_matrix.proofs.Laws.{row_lacks_one, column_lacks_one}
 use Rattle.rearrange_chain.specs.declared.moves.Move.{Move}
-use Rattle.rearrange_chain.specs.Chain.{Column, slot_for, slot_by, moves_for, moves_by, slot_a, slot_b, column_chain, lifted, far_line as look_far, chain as matrix_chain, exchanged as exchanged_matrix}
+use Rattle.rearrange_chain.specs.Chain.{Column, slot_for, slot_by, moves_for, moves_by, slot_a, slot_b, column_chain, row_chain, is_shorter, Row, lifted, far_line as look_far, chain as matrix_chain, exchanged as exchanged_matrix}
 use Rattle.rearrange_chain.proofs.Exchange.{IsExchange, exchange_lifts, exchange_places, lifted_lines}
-use Rattle.rearrange_chain.proofs.Freed.{column_chain_makes_room}
+use Rattle.rearrange_chain.proofs.Freed.{chain_exchanges, Ways, ways}
+use Rattle.rearrange_chain.proofs.Closed.{turned_round}
 use Rattle.control_memory.specs.declared.ends.Ends.{Ends}
 use Rattle.fabric_map.specs.Rearranging.{without_all, AreTaken, taken_by, laid, CanLay}
 use Rattle.control_memory.specs.Paths.{ends_of}
@@ -91,9 +92,9 @@ some_lowest None lacks = absurd (lacks refl)
 some_lowest (Some n) lacks = refl
 
 -- by the ends that were lifted, and the chain that they are of
-made_by : (lines slots : ℕ) (m : Matrix) (layout : Layout) (from to : Slot) (a b : ℕ) (moves : List Move) (ps : List Path) → m.lines ≡ lines → m.slots ≡ slots → Beside lines slots m layout → IsSlot lines from → hop_of layout from ≡ None
-    → AllStand lines layout ps → moves ≡ map (moved_by a b) ps → IsExchange m moves → connect lines slots layout from to ≡ with_path (exchanged layout a b ps) from to a → Made lines slots m layout from to moves a
-made_by lines slots m layout from to a b moves ps of_lines of_slots beside inside free stand are exchange rule =
+made_by : (lines slots : ℕ) (m : Matrix) (layout : Layout) (from to : Slot) (a b t : ℕ) (moves : List Move) (ps : List Path) → m.lines ≡ lines → m.slots ≡ slots → Beside lines slots m layout → IsSlot lines from → hop_of layout from ≡ None
+    → AllStand lines layout ps → moves ≡ map (moved_by a b) ps → IsExchange m moves → connect lines slots layout from to ≡ with_path (exchanged layout a b ps) from to t → Made lines slots m layout from to moves t
+made_by lines slots m layout from to a b t moves ps of_lines of_slots beside inside free stand are exchange rule =
     let lift = lifts lines slots moves m layout beside (exchange_lifts m moves exchange) in
     let is = taken_is moves layout lift.ends lift.taken in
     let ends : lift.ends ≡ map ends_of ps = taken_chain lines slots layout a b beside.legal ps layout lift.ends beside.legal.inlets stand (λ x y s in_x has. has) (subst (λ v. AreTaken layout v lift.ends) are lift.taken) in
@@ -105,8 +106,8 @@ made_by lines slots m layout from to a b moves ps of_lines of_slots beside insid
     ap (λ v. laid (without_all layout lift.ends) lift.ends v) are ∙ ap (λ es. laid (without_all layout es) es (map (moved_by a b) ps)) ends ∙ laid_is lines a b ps layout slots_in apart in
     let were = all_were lines layout ps stand in
     let turn = all_turn a b ps (λ k v e. exchange.turns k v (subst (λ ms. slice_get ms k ≡ Some v) (sym are) e)) in
-    let Whole : List Ends → Type 0 = λ es. MadeWith lines slots m layout from to moves a es in
-    made_with lines slots m layout from to moves a
+    let Whole : List Ends → Type 0 = λ es. MadeWith lines slots m layout from to moves t es in
+    made_with lines slots m layout from to moves t
     (subst Whole is (record {
       taken = lift.taken;
       same = taken_same moves layout lift.ends lift.taken;
@@ -115,39 +116,61 @@ made_by lines slots m layout from to a b moves ps of_lines of_slots beside insid
       joins = λ x y in_x.
           let j = exchange_joins lines a b ps layout beside.legal.inlets slots_in apart were x y in_x in
           (λ q. j.0 (subst (λ l. Joins l x y) after q), λ q. subst (λ l. Joins l x y) (sym after) (j.1 q));
-      joined = ap (λ l. with_path l from to a) after ∙ sym rule;
-      count = ap (λ l. moved layout (with_path l from to a)) after
-          ∙ new_unmoved lines layout (exchanged layout a b ps) from to a beside.legal.inlets (exchanged_long a b ps layout ∙ beside.legal.inlets) inside free
+      joined = ap (λ l. with_path l from to t) after ∙ sym rule;
+      count = ap (λ l. moved layout (with_path l from to t)) after
+          ∙ new_unmoved lines layout (exchanged layout a b ps) from to t beside.legal.inlets (exchanged_long a b ps layout ∙ beside.legal.inlets) inside free
           ∙ chain_moved lines a b layout ps layout beside.legal.inlets beside.legal.inlets slots_in apart turn were were
           ∙ ap (λ n. n + length ps) (moved_same layout) ∙ zero-add (length ps) ∙ sym (ap length are ∙ length-map ps (moved_by a b));
     }))
 
 made_chain : (lines slots : ℕ) (m : Matrix) (layout : Layout) (from to : Slot) → m.lines ≡ lines → m.slots ≡ slots → Beside lines slots m layout → IsSlot lines from → IsSlot lines to → hop_of layout from ≡ None
-    → paths_of_row m from.line < m.slots → paths_of_column m to.line < m.slots → lowest_in_both m from.line to.line ≡ None → Made lines slots m layout from to (column_chain m from.line to.line) (slot_a m from.line)
+    → paths_of_row m from.line < m.slots → paths_of_column m to.line < m.slots → lowest_in_both m from.line to.line ≡ None
+    → Made lines slots m layout from to (moves_by m from.line to.line None) (slot_by m from.line to.line None)
 made_chain lines slots m layout from to of_lines of_slots b inside inside_to free row column none =
-    let i = from.line in
-    let j = to.line in
-    let a = slot_a m i in
-    let z = slot_b m j in
-    let in_row = some_lowest (lowest_in_row m i) (row_lacks_one m i m.slots refl row) in
-    let in_column = some_lowest (lowest_in_column m j) (column_lacks_one m j m.slots refl column) in
-    let room = column_chain_makes_room m i j a z b.legal_matrix (subst (λ n. i < n) (sym of_lines) inside.0) (subst (λ n. j < n) (sym of_lines) inside_to.0) none in_row in_column in
-    let ps = chain (2 * lines) layout Outgoing j a z in
-    let are : column_chain m i j ≡ map (moved_by a z) ps = ap (λ n. matrix_chain (look_far m) (2 * n) (Column j) a z) of_lines ∙ chains_match lines slots m layout a z b (2 * lines) Outgoing j a z (other_first a z) (other_second a z) in
-    let none_common : common_slot slots layout i j ≡ None = sym (common_is lines slots m layout of_slots b i j) ∙ none in
-    let is_a = unsent_slot lines slots m layout of_slots b i in
-    let is_z = unreceived_slot lines slots m layout of_slots b j in
-    let rule : connect lines slots layout from to ≡ with_path (exchanged layout a z ps) from to a =
-    ap (connect_in lines slots layout from to) none_common
-    ∙ ap (λ s. with_path (exchanged layout s (first_unreceived slots layout j) (chain (2 * lines) layout Outgoing j s (first_unreceived slots layout j))) from to s) (sym is_a)
-    ∙ ap (λ s. with_path (exchanged layout a s (chain (2 * lines) layout Outgoing j a s)) from to a) (sym is_z) in
-    made_by lines slots m layout from to a z (column_chain m i j) ps of_lines of_slots b inside free (chain_stands lines slots layout b.legal (2 * lines) Outgoing j a z) are room.exchange rule
+    by (is_shorter (row_chain m from.line to.line) (column_chain m from.line to.line)) refl
+  where
+    can : Ways m from.line to.line (slot_a m from.line) (slot_b m to.line)
+    can = ways m from.line to.line (slot_a m from.line) (slot_b m to.line) b.legal_matrix (subst (λ n. from.line < n) (sym of_lines) inside.0) (subst (λ n. to.line < n) (sym of_lines) inside_to.0) none
+        (some_lowest (lowest_in_row m from.line) (row_lacks_one m from.line m.slots refl row)) (some_lowest (lowest_in_column m to.line) (column_lacks_one m to.line m.slots refl column))
+
+    by_column : column_chain m from.line to.line ≡ map (moved_by (slot_a m from.line) (slot_b m to.line)) (paths_of_column_chain lines layout to.line (slot_a m from.line) (slot_b m to.line))
+    by_column = ap (λ n. matrix_chain (look_far m) (2 * n) (Column to.line) (slot_a m from.line) (slot_b m to.line)) of_lines
+        ∙ chains_match lines slots m layout (slot_a m from.line) (slot_b m to.line) b (2 * lines) Outgoing to.line (slot_a m from.line) (slot_b m to.line) (other_first (slot_a m from.line) (slot_b m to.line)) (other_second (slot_a m from.line) (slot_b m to.line))
+
+    by_row : row_chain m from.line to.line ≡ map (moved_by (slot_a m from.line) (slot_b m to.line)) (paths_of_row_chain lines layout from.line (slot_a m from.line) (slot_b m to.line))
+    by_row = ap (λ n. matrix_chain (look_far m) (2 * n) (Row from.line) (slot_b m to.line) (slot_a m from.line)) of_lines
+        ∙ chains_match lines slots m layout (slot_a m from.line) (slot_b m to.line) b (2 * lines) Incoming from.line (slot_b m to.line) (slot_a m from.line) (other_second (slot_a m from.line) (slot_b m to.line)) (other_first (slot_a m from.line) (slot_b m to.line))
+
+    same_choice : is_shorter (row_chain m from.line to.line) (column_chain m from.line to.line) ≡ takes_row lines layout from.line to.line (slot_a m from.line) (slot_b m to.line)
+    same_choice =
+        ap (λ n. nat_lt n (length (column_chain m from.line to.line))) (ap length by_row ∙ length-map (paths_of_row_chain lines layout from.line (slot_a m from.line) (slot_b m to.line)) (moved_by (slot_a m from.line) (slot_b m to.line)))
+        ∙ ap (λ n. nat_lt (length (paths_of_row_chain lines layout from.line (slot_a m from.line) (slot_b m to.line))) n) (ap length by_column ∙ length-map (paths_of_column_chain lines layout to.line (slot_a m from.line) (slot_b m to.line)) (moved_by (slot_a m from.line) (slot_b m to.line)))
+
+    rule : connect lines slots layout from to ≡ joined_after lines layout from to (slot_a m from.line) (slot_b m to.line) (is_shorter (row_chain m from.line to.line) (column_chain m from.line to.line))
+    rule =
+        ap (connect_in lines slots layout from to) (sym (common_is lines slots m layout of_slots b from.line to.line) ∙ none)
+        ∙ ap (λ s. joined_after lines layout from to s (first_unreceived slots layout to.line) (takes_row lines layout from.line to.line s (first_unreceived slots layout to.line))) (sym (unsent_slot lines slots m layout of_slots b from.line))
+        ∙ ap (λ s. joined_after lines layout from to (slot_a m from.line) s (takes_row lines layout from.line to.line (slot_a m from.line) s)) (sym (unreceived_slot lines slots m layout of_slots b to.line))
+        ∙ ap (joined_after lines layout from to (slot_a m from.line) (slot_b m to.line)) (sym same_choice)
+
+    by : (t : Bool) → is_shorter (row_chain m from.line to.line) (column_chain m from.line to.line) ≡ t
+        → Made lines slots m layout from to (if t then row_chain m from.line to.line else column_chain m from.line to.line) (if t then slot_b m to.line else slot_a m from.line)
+    by true less =
+        made_by lines slots m layout from to (slot_a m from.line) (slot_b m to.line) (slot_b m to.line) (row_chain m from.line to.line) (paths_of_row_chain lines layout from.line (slot_a m from.line) (slot_b m to.line)) of_lines of_slots b inside free
+        (chain_stands lines slots layout b.legal (2 * lines) Incoming from.line (slot_b m to.line) (slot_a m from.line)) by_row
+        (chain_exchanges m (slot_a m from.line) (slot_b m to.line) (Row from.line) (Column to.line) b.legal_matrix can.a_inside can.b_inside (turned_round (look_far m) (slot_a m from.line) (slot_b m to.line) m.lines (Column to.line) (Row from.line) can.opened))
+        (rule ∙ ap (joined_after lines layout from to (slot_a m from.line) (slot_b m to.line)) less)
+    by false more =
+        made_by lines slots m layout from to (slot_a m from.line) (slot_b m to.line) (slot_a m from.line) (column_chain m from.line to.line) (paths_of_column_chain lines layout to.line (slot_a m from.line) (slot_b m to.line)) of_lines of_slots b inside free
+        (chain_stands lines slots layout b.legal (2 * lines) Outgoing to.line (slot_a m from.line) (slot_b m to.line)) by_column
+        (chain_exchanges m (slot_a m from.line) (slot_b m to.line) (Column to.line) (Row from.line) b.legal_matrix can.a_inside can.b_inside can.opened)
+        (rule ∙ ap (joined_after lines layout from to (slot_a m from.line) (slot_b m to.line)) more)
 
 pub made : (lines slots : ℕ) (m : Matrix) (layout : Layout) (from to : Slot) → m.lines ≡ lines → m.slots ≡ slots → Beside lines slots m layout → IsSlot lines from → IsSlot lines to → hop_of layout from ≡ None
     → paths_of_row m from.line < m.slots → paths_of_column m to.line < m.slots → Made lines slots m layout from to (moves_for m from.line to.line) (slot_for m from.line to.line)
 made lines slots m layout from to of_lines of_slots b inside inside_to free row column =
     by_common (lowest_in_both m from.line to.line) refl
   where
-    by_common : (o : Option ℕ) → lowest_in_both m from.line to.line ≡ o → Made lines slots m layout from to (moves_by m from.line to.line o) (slot_by m from.line o)
+    by_common : (o : Option ℕ) → lowest_in_both m from.line to.line ≡ o → Made lines slots m layout from to (moves_by m from.line to.line o) (slot_by m from.line to.line o)
     by_common (Some c) e = made_common lines slots m layout from to c b inside free (sym (common_is lines slots m layout of_slots b from.line to.line) ∙ e)
     by_common None e = made_chain lines slots m layout from to of_lines of_slots b inside inside_to free row column e

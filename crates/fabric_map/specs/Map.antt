@@ -1,14 +1,14 @@
 -- A live map: a layout on thirty internal slots, and Paull's matrix of it. Source: this exchange's own.
-use Rattle.std.specs.Prelude.{◌≡◌, ℕ, ◌<◌, ◌*◌, ◌-◌}
+use Rattle.std.specs.Prelude.{◌≡◌, ℕ, ◌<◌, ◌-◌}
 use Rattle.control_memory.specs.Layout.{Legal}
 use Rattle.paull_matrix.specs.Matrix.{Matrix, IsLegal}
 use Rattle.control_memory.specs.Paths.{Fabric}
 use Rattle.fabric_map.specs.Matching.{IsMatrixOf}
 
--- how many live paths a new path moves at the most, on so many lines. Source: Paull 1962: a chain enters each row but one, and each column but
--- one, once
+-- how many live paths a new path moves at the most, on so many lines. Source: this exchange's own, from Paull's chains (1962): the one from
+-- the incoming line and the one from the outgoing line share no line, so the shorter has at most half of the paths that both could have
 abbrev pub most_moves : ℕ → ℕ
-most_moves lines = 2 * lines - 2
+most_moves lines = lines - 1
 
 -- the matrix is that of the layout, and both are legal
 pub record IsMap (m : Matrix) (f : Fabric) : Type 0 where

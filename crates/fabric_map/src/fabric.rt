@@ -3,6 +3,7 @@ ghost use Rattle.circuit_model.specs.declared.channel.Slot.{Slot};
 ghost use Rattle.control_memory.specs.Layout.{Layout, Legal, IsSlot, Joins, hop_of, path_to};
 ghost use Rattle.control_memory.specs.Connecting.{connect as joined, moved};
 ghost use Rattle.fabric_map.specs.Map.{most_moves};
+ghost use Rattle.paull_matrix.specs.Matrix.{lowest_in_both, IsLegal};
 ghost use Rattle.rearrange_chain.specs.declared.moves.Move.{Move};
 ghost use Rattle.control_memory.specs.declared.ends.Ends.{Ends};
 ghost use Rattle.control_memory.specs.Paths.{Fabric};
@@ -11,10 +12,11 @@ ghost use Rattle.fabric_map.specs.Rearranging.{without_all, AreTaken, taken_by, 
 use arrayvec::ArrayVec;
 use circuit_model::Slot;
 use control_memory::{Ends, Image, PathMap, PathTable};
-use paull_matrix::PaullMatrix;
+use paull_matrix::{PaullMatrix, Steps};
 use rearrange_chain::{Move, make_room};
 use std::alloc::{AllocError, Global};
-use std::marker::Model;
+use std::marker::{Brand, Model};
+use std::sync::ledger::{Blank, Ledger};
 
 /// How many internal slots a frame of a line has in this fabric: as many as the line has places
 /// are enough (Slepian-Duguid).
@@ -56,7 +58,8 @@ impl FabricMap {
 
     // Connects by the rule where paths may have to move for it. It stands apart, so that the lists of
     // moves are made only where no slot is free in both lines.
-    fn connect_by_moves(&mut self, from: Slot, to: Slot) -> u32
+    fn connect_by_moves<L: Ledger>(&mut self, from: Slot, to: Slot, blank: Blank) -> u32
+        requires ledger { (blank.name ≡ L.name) × (blank.parts ≡ L.parts) × (0 < L.parts) }
         requires from { IsSlot self.old.lines from }
         requires to { IsSlot self.old.lines to }
         requires inlet { hop_of self.old.layout from ≡ None }
@@ -69,15 +72,28 @@ impl FabricMap {
         ensures slots { self.new.slots ≡ self.old.slots }
         ensures legal { Legal self.new.lines self.new.slots self.new.layout }
     {
+        let mut steps = Steps::<L>::new(blank);
         let mut moves = ArrayVec::new();
         let mut lifted = ArrayVec::new();
-        let freed = make_room(&mut self.matrix, from.line, to.line, &mut moves);
+        let freed = make_room(&mut self.matrix, from.line, to.line, &mut moves, &mut steps);
         lift_all(&mut self.paths, &moves, &mut lifted);
         lay_all(&mut self.paths, &moves, &lifted);
         self.matrix.place(from.line, to.line, freed);
         self.paths.add(from, to, freed);
         moves.len() as u32
     }
+}
+
+// The lowest slot that is free in a row and in a column, by a counter of its own.
+fn common_slot<L: Ledger>(matrix: &PaullMatrix, i: u8, j: u8, blank: Blank) -> Option<u8>
+    requires ledger { (blank.name ≡ L.name) × (blank.parts ≡ L.parts) × (0 < L.parts) }
+    requires row { i < matrix.now.lines }
+    requires column { j < matrix.now.lines }
+    ensures lowest { result ≡ lowest_in_both matrix.now i j }
+    ensures legal { IsLegal matrix.now }
+{
+    let mut steps = Steps::<L>::new(blank);
+    matrix.common_free(i, j, &mut steps)
 }
 
 // Takes the paths that move out of the layout, and lists their ends.
@@ -130,8 +146,9 @@ impl PathMap for FabricMap {
     }
 
     fn connect(&mut self, from: Slot, to: Slot) -> u32 {
-        let Some(slot) = self.matrix.common_free(from.line, to.line) else {
-            return self.connect_by_moves(from, to);
+        let Some(slot) = common_slot::<Brand>(&self.matrix, from.line, to.line, Blank::new(1))
+        else {
+            return self.connect_by_moves::<Brand>(from, to, Blank::new(1));
         };
         self.matrix.place(from.line, to.line, slot);
         self.paths.add(from, to, slot);

@@ -3,7 +3,7 @@
 //! [`FabricMap`] keeps Paull's matrix beside the layout and its control tables.
 //!
 //! - `connect` never refuses: the new path joins by the rule of rearrangement (`layout`), and at
-//!   most 2r-2 live paths of r lines move (`few`). It returns how many (`moves`).
+//!   most r-1 live paths of r lines move (`few`). It returns how many (`moves`).
 //! - `disconnect` takes a path out and moves no other (`layout`).
 //! - `write_tables` writes the tables of the layout (`tables`). After each call the layout is legal
 //!   (`legal`).

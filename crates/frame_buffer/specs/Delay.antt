@@ -18,10 +18,10 @@ abbrev pub octet_of_row : List (List ℕ) → ℕ → ℕ → ℕ
 octet_of_row rows line place = slice_index_or (slice_index_or rows line []) place idle_octet
 
 -- the rows of the external lines hold what arrived so many frames before the next one
-abbrev pub Holds : ℕ → List (List ℕ) → ℕ → List Input → Type 0
-Holds external rows frames inputs = (at : Slot) → at.line < external → at.place < 30 → octet_of_row rows at.line at.place ≡ octet_back frames inputs at
+abbrev pub HoldsArrivals : ℕ → List (List ℕ) → ℕ → List Input → Type 0
+HoldsArrivals external rows frames inputs = (at : Slot) → at.line < external → at.place < 30 → octet_of_row rows at.line at.place ≡ octet_back frames inputs at
 
 -- the delay line stands behind these frames: it holds the last two of them, idle where there are fewer
 pub record Carries (delay : Delay) (inputs : List Input) : Type 0 where
-  pub latest : Holds delay.external delay.latest 1 inputs
-  pub earlier : Holds delay.external delay.earlier 2 inputs
+  pub latest : HoldsArrivals delay.external delay.latest 1 inputs
+  pub earlier : HoldsArrivals delay.external delay.earlier 2 inputs

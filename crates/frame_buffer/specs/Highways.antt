@@ -13,13 +13,13 @@ abbrev pub octet_on : Highways → ℕ → ℕ → ℕ
 octet_on h line slot = slice_index h.octets (line * h.slots + slot)
 
 -- as many lines, and as many internal slots
-pub record SameSize (a b : Highways) : Type 0 where
+pub record SameHighwaySize (a b : Highways) : Type 0 where
   pub lines : a.lines ≡ b.lines
   pub slots : a.slots ≡ b.slots
 
 -- the highways with these octets over theirs, as many as there are
-abbrev pub refilled : Highways → List ℕ → Highways
-refilled h ws = record { lines = h.lines; slots = h.slots; octets = take (length h.octets) (ws ++ drop (length ws) h.octets) }
+abbrev pub highways_with : Highways → List ℕ → Highways
+highways_with h ws = record { lines = h.lines; slots = h.slots; octets = take (length h.octets) (ws ++ drop (length ws) h.octets) }
 
 -- so many octets are the whole rows of some lines, from line `first` on, out of so many lines with rows of so many octets
 pub record IsPart (lines width first octets : ℕ) : Type 0 where

@@ -11,18 +11,18 @@ pub record Speech : Type 0 where
   pub readable : List ℕ
 
 -- the octet of a slot in a half
-abbrev pub octet_of : List ℕ → Slot → ℕ
-octet_of octets at = slice_index octets (at.line * 30 + at.place)
+abbrev pub octet_in_half : List ℕ → Slot → ℕ
+octet_in_half octets at = slice_index octets (at.line * 30 + at.place)
 
 -- each slot of so many lines holds the idle octet
-abbrev pub IsIdle : ℕ → List ℕ → Type 0
-IsIdle lines octets = (at : Slot) → at.line < lines → at.place < 30 → octet_of octets at ≡ idle_octet
+abbrev pub AllIdle : ℕ → List ℕ → Type 0
+AllIdle lines octets = (at : Slot) → at.line < lines → at.place < 30 → octet_in_half octets at ≡ idle_octet
 
 -- the memory with these octets over those of the half that is filled, as many as there are
-abbrev pub refilled : Speech → List ℕ → Speech
-refilled b ws = record { lines = b.lines; filled = take (length b.filled) (ws ++ drop (length ws) b.filled); readable = b.readable }
+abbrev pub speech_with : Speech → List ℕ → Speech
+speech_with b ws = record { lines = b.lines; filled = take (length b.filled) (ws ++ drop (length ws) b.filled); readable = b.readable }
 
 -- the octets of one line are these, by place, and those of the other lines are as before
 pub record PutsLine (line : ℕ) (row old new : List ℕ) : Type 0 where
-  pub written : (at : Slot) → at.line ≡ line → at.place < 30 → octet_of new at ≡ slice_index row at.place
-  pub others : (at : Slot) → ¬ (at.line ≡ line) → at.place < 30 → octet_of new at ≡ octet_of old at
+  pub written : (at : Slot) → at.line ≡ line → at.place < 30 → octet_in_half new at ≡ slice_index row at.place
+  pub others : (at : Slot) → ¬ (at.line ≡ line) → at.place < 30 → octet_in_half new at ≡ octet_in_half old at

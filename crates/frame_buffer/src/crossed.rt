@@ -1,7 +1,9 @@
+//! The highways between the space stage and the outgoing time stage.
+
 ghost use Rattle.std.specs.Prelude.{◌≡◌, ℕ, ◌*◌, ◌<◌, ◌≤◌, length, slice_index, IfOk};
 ghost use Rattle.std.specs.Borrow.{Lends, Array, sem, u8 as octet_row};
 ghost use Rattle.circuit_model.specs.FrameInput.{idle_octet};
-ghost use Rattle.frame_buffer.specs.Highways.{Highways, octet_on, SameSize, refilled};
+ghost use Rattle.frame_buffer.specs.Highways.{Highways, octet_on, SameHighwaySize, highways_with};
 ghost use Rattle.frame_buffer.specs.contracts.crossed.Crossed.{the_row};
 
 use circuit_model::IDLE;
@@ -70,7 +72,7 @@ impl Crossed {
     pub fn set(&mut self, line: u8, slot: u8, octet: u8)
         requires line { line < self.old.lines }
         requires slot { slot < self.old.slots }
-        ensures size { SameSize self.old self.new }
+        ensures size { SameHighwaySize self.old self.new }
         ensures here { octet_on self.new line slot ≡ octet }
         ensures others { (l s : ℕ) → s < self.old.slots → (l ≡ line → s ≡ slot → ⊥) → octet_on self.new l s ≡ octet_on self.old l s }
     {
@@ -80,7 +82,7 @@ impl Crossed {
 
     /// The octets of all lines, line after line, to be written.
     pub fn parts(&mut self) -> &mut [u8]
-        ensures* writes_back { sem 𝓛 (Lends the_row (Array octet_row 0) self.entry result (refilled self.old)) }
+        ensures* writes_back { sem 𝓛 (Lends the_row (Array octet_row 0) self.entry result (highways_with self.old)) }
         ensures octets { result.now ≡ self.old.octets }
         ensures size { length result.now ≡ self.old.lines * self.old.slots }
     {

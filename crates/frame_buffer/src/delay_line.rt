@@ -1,3 +1,5 @@
+//! A delay line of two frames for every slot of the external lines.
+
 ghost use Rattle.std.specs.Prelude.{◌≡◌, ℕ, ◌<◌, EachIndex, slice_get, slice_index_or, List, [], ◌∷◌, ◌++◌, length, replicate, All, IfOk, vec_len};
 ghost use Rattle.circuit_model.specs.FrameInput.{Input, idle_octet, octet_at, line_of};
 ghost use Rattle.frame_buffer.specs.Delay.{Delay, Carries, octet_back, octet_of_row};
@@ -84,41 +86,16 @@ fn take_in(rows: &mut [[u8; 30]], input: &[Option<[u8; 30]>])
     ensures { EachIndex rows.new (λ line. (place : ℕ) → octet_of_row rows.new line place ≡ octet_at place (line_of (slice_get input.now line))) }
 {
     for (line, row) in rows.iter_mut().enumerate() {
-        *row = sent(&input[line]);
+        *row = octets_sent(&input[line]);
     }
 }
 
 // What a line sends in a frame.
-fn sent(octets: &Option<[u8; 30]>) -> [u8; 30]
+fn octets_sent(octets: &Option<[u8; 30]>) -> [u8; 30]
     ensures { (place : ℕ) → slice_index_or result place idle_octet ≡ octet_at place octets.now }
 {
     match octets {
         Some(octets) => *octets,
         None => IDLE_ROW,
-    }
-}
-
-#[cfg(test)]
-mod tests {
-    use super::DelayLine;
-    use circuit_model::{IDLE, Slot};
-    use std::alloc::AllocError;
-
-    #[test]
-    fn two_frames_late(rt: HostRuntime) -> Result<(), AllocError> {
-        let at = Slot { line: 1, place: 29 };
-        let mut heard = [0u8; 5];
-        let mut line = DelayLine::new(rt.alloc(), 2)?;
-        heard[0] = line.back_two(at);
-        line.push(&[None, Some([0x11; 30])]);
-        heard[1] = line.back_two(at);
-        line.push(&[Some([0x22; 30]), None]);
-        heard[2] = line.back_two(at);
-        line.push(&[None, Some([0x33; 30])]);
-        heard[3] = line.back_two(at);
-        line.push(&[None, None]);
-        heard[4] = line.back_two(at);
-        assert_eq!(&rt; heard, [IDLE, IDLE, 0x11, IDLE, 0x33]);
-        Ok(())
     }
 }

@@ -1,3 +1,5 @@
+//! The idle octet over a whole row.
+
 ghost use Rattle.std.specs.Prelude.{◌≡◌, ℕ, ◌<◌, length, slice_index};
 ghost use Rattle.circuit_model.specs.FrameInput.{idle_octet};
 

@@ -1,6 +1,8 @@
+//! The speech memory, whose halves change places at each frame.
+
 ghost use Rattle.std.specs.Prelude.{◌≡◌, ℕ, ◌+◌, ◌-◌, ◌*◌, ◌<◌, ◌≤◌, length, slice_index, IfOk};
 ghost use Rattle.std.specs.Borrow.{Lends, Array, sem, u8 as octet_row};
-ghost use Rattle.frame_buffer.specs.Speech.{Speech, octet_of, IsIdle, PutsLine, refilled};
+ghost use Rattle.frame_buffer.specs.Speech.{Speech, octet_in_half, AllIdle, PutsLine, speech_with};
 ghost use Rattle.frame_buffer.specs.contracts.memory.FrameBuffer.{the_row};
 
 use circuit_model::{IDLE, PLACES, Slot};
@@ -31,8 +33,8 @@ impl FrameBuffer {
     /// A speech memory for so many lines, with the idle octet in every slot of both halves.
     pub fn new(alloc: Global, lines: u8) -> Result<FrameBuffer, AllocError>
         ensures lines { IfOk result (λ b. b.lines ≡ lines) }
-        ensures filled { IfOk result (λ b. IsIdle lines b.filled) }
-        ensures readable { IfOk result (λ b. IsIdle lines b.readable) }
+        ensures filled { IfOk result (λ b. AllIdle lines b.filled) }
+        ensures readable { IfOk result (λ b. AllIdle lines b.readable) }
     {
         let octets = usize::from(lines) * usize::from(PLACES);
         Ok(FrameBuffer {
@@ -60,8 +62,8 @@ impl FrameBuffer {
     }
 
     /// The octets of the half that is filled, line after line and thirty to a line, to be written.
-    pub fn filled(&mut self) -> &mut [u8]
-        ensures* writes_back { sem 𝓛 (Lends the_row (Array octet_row 0) self.entry result (refilled self.old)) }
+    pub fn half_to_fill(&mut self) -> &mut [u8]
+        ensures* writes_back { sem 𝓛 (Lends the_row (Array octet_row 0) self.entry result (speech_with self.old)) }
         ensures octets { result.now ≡ self.old.filled }
         ensures size { length result.now ≡ self.old.lines * 30 }
     {
@@ -72,7 +74,7 @@ impl FrameBuffer {
     pub fn row(&self, line: u8) -> &[u8]
         requires { line < self.now.lines }
         ensures size { length result.now ≡ 30 }
-        ensures octets { (place : ℕ) → place < 30 → slice_index result.now place ≡ octet_of self.now.readable (record { line = line; place = place }) }
+        ensures octets { (place : ℕ) → place < 30 → slice_index result.now place ≡ octet_in_half self.now.readable (record { line = line; place = place }) }
     {
         let start = usize::from(line) * usize::from(PLACES);
         &self.readable[start..start + usize::from(PLACES)]
@@ -92,7 +94,7 @@ impl FrameBuffer {
     pub fn get(&self, at: Slot) -> u8
         requires line { at.line < self.now.lines }
         requires place { at.place < 30 }
-        ensures { result ≡ octet_of self.now.readable at }
+        ensures { result ≡ octet_in_half self.now.readable at }
     {
         self.readable[usize::from(at.line) * usize::from(PLACES) + usize::from(at.place)]
     }
@@ -112,39 +114,4 @@ fn put_row(octets: &mut [u8], line: u8, row: &[u8; 30])
 {
     let start = usize::from(line) * usize::from(PLACES);
     octets[start..start + usize::from(PLACES)].copy_from_slice(row);
-}
-
-#[cfg(test)]
-mod tests {
-    use super::FrameBuffer;
-    use crate::{Crossed, Highway};
-    use circuit_model::{IDLE, Slot};
-    use std::alloc::AllocError;
-
-    #[test]
-    fn halves_change_places(rt: HostRuntime) -> Result<(), AllocError> {
-        let at = Slot { line: 1, place: 0 };
-        let mut buffer = FrameBuffer::new(rt.alloc(), 2)?;
-        buffer.put_line(1, &[0x11; 30]);
-        let unread = buffer.get(at);
-        buffer.swap();
-        buffer.put_line(1, &[0x22; 30]);
-        let first = buffer.get(at);
-        buffer.swap();
-        assert_eq!(&rt; [unread, first, buffer.get(at)], [IDLE, 0x11, 0x22]);
-        Ok(())
-    }
-
-    #[test]
-    fn highways_hold_octets(rt: HostRuntime) -> Result<(), AllocError> {
-        let mut highway = Highway::new(rt.alloc(), 2, 3)?;
-        let mut crossed = Crossed::new(rt.alloc(), 2, 3)?;
-        highway.set(1, 2, 0x11);
-        crossed.set(0, 1, highway.get(1, 2));
-        assert_eq!(&rt;
-            [crossed.get(0, 1), crossed.get(1, 0), highway.get(0, 0)],
-            [0x11, IDLE, IDLE]
-        );
-        Ok(())
-    }
 }

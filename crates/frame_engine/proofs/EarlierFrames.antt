@@ -15,7 +15,7 @@ use Rattle.circuit_model.specs.Hears.{mix, is_other, octets_of, sum_of_values}
 use Rattle.circuit_model.specs.Ports.{Ports, ports_of}
 use Rattle.std.specs.List.{filter}
 use Rattle.control_memory.specs.Shown.{member_at}
-use Rattle.frame_engine.specs.Frames.{AreCounted, mixed_through, mixed_at, brought}
+use Rattle.frame_engine.specs.Frames.{AreCounted, mixed_through, mixed_at, octet_brought}
 use Rattle.frame_engine.specs.Carries.{brought_before}
 
 pub length-push : {X : Type 0} (xs : List X) (x : X) → length (xs ++ x ∷ []) ≡ length xs + 1
@@ -77,7 +77,7 @@ mixed_at-earlier inputs input circuits f (Some y) before = mixed_through-earlier
 
 -- what a frame brought
 module _ (external : ℕ) (inputs : List Input) (held : List (List Circuit)) (ports : List Ports) (input : Input) (circuits : List Circuit) (seats : Ports) (n : ℕ) (counted : AreCounted n inputs held ports) where
-  pub brought-earlier : (f : ℕ) (at : Slot) → f < n → brought external (inputs ++ input ∷ []) (held ++ circuits ∷ []) (ports ++ seats ∷ []) f at ≡ brought external inputs held ports f at
+  pub brought-earlier : (f : ℕ) (at : Slot) → f < n → octet_brought external (inputs ++ input ∷ []) (held ++ circuits ∷ []) (ports ++ seats ∷ []) f at ≡ octet_brought external inputs held ports f at
   brought-earlier f at before =
       ap (λ octet. if nat_lt at.line external then octet else mixed_at (inputs ++ input ∷ []) (circuits_of (held ++ circuits ∷ []) f) f (member_at external (ports_of (ports ++ seats ∷ []) f) at)) (arrives-earlier inputs input f at (let i = counted.inputs_counted in let h = counted.held_counted in let p = counted.ports_counted in omega (arith, before, i, h, p)))
       ∙ ap (λ (cs : List Circuit). if nat_lt at.line external then arrives inputs f at else mixed_at (inputs ++ input ∷ []) cs f (member_at external (ports_of (ports ++ seats ∷ []) f) at)) (circuits-earlier held circuits f (let i = counted.inputs_counted in let h = counted.held_counted in let p = counted.ports_counted in omega (arith, before, i, h, p)))

@@ -19,10 +19,10 @@ use Rattle.circuit_model.specs.Ports.{Ports, free_ports, port_frames, ports_of, 
 use Rattle.circuit_model.proofs.Slots.{true_or_false}
 use Rattle.circuit_model.proofs.Age.{age, at_head, in_tail, none_in_nil}
 use Rattle.circuit_model.proofs.Validity.{heard_by-listener, valid-empty}
-use Rattle.circuit_model.proofs.Recorded.{valid-frames}
+use Rattle.circuit_model.proofs.FrameRecords.{valid-frames}
 use Rattle.circuit_model.proofs.Extents.{frames_within}
 use Rattle.circuit_model.proofs.PortSeats.{recorded, each_in, owned_in, alone_in, sums_in, had_port, matched-frames, matched-empty}
-use Rattle.frame_buffer.specs.Speech.{octet_of}
+use Rattle.frame_buffer.specs.Speech.{octet_in_half}
 use Rattle.frame_buffer.specs.Highways.{Highways, octet_on}
 use Rattle.control_memory.specs.Layout.{Layout, Legal, IsSlot, Joins}
 use Rattle.control_memory.specs.Tables.{HasTables}
@@ -30,8 +30,8 @@ use Rattle.control_memory.proofs.Carrying.{crossing_is}
 use Rattle.control_memory.specs.Image.{Control, lines_of, EachSlot, read, heard_at, room_at, sent, received}
 use Rattle.control_memory.specs.Carrying.{fetched, HoldsCrossing}
 use Rattle.control_memory.specs.Shown.{to_port, IsNeeded, member_at, served_by, heard_as, seated_as, circuit_of, ShowsBy}
-use Rattle.frame_engine.specs.Frames.{Come, brought, mixed_through, mixed_at}
-use Rattle.frame_engine.specs.Carries.{Stages, CarriesAt, CarriesLast, CarriesFrames, brought_before}
+use Rattle.frame_engine.specs.Frames.{Come, octet_brought, mixed_through, mixed_at}
+use Rattle.frame_engine.specs.Carries.{Stages, CarriesAt, CarriesLast, EngineCarries, brought_before}
 use Rattle.frame_engine.specs.Ports.{given_to}
 use Rattle.conference_mix.specs.Bridge.{mixed_for as mixed_for_port}
 use Rattle.frame_engine.specs.Playing.{played_as}
@@ -50,18 +50,18 @@ pub record IsAt (e : Stages) (m : Control) (out : List ℕ) : Type 0 where
   pub bridges : m.bridges ≡ e.bridges
   pub slots : m.slots ≡ e.slots
   pub frame : m.frame ≡ e.next
-  pub read_out : EachSlot (e.external + e.bridges) (λ at. octet_of out at ≡ fetched (read e.kept at.line at.place) (octet_on e.crossed at.line))
+  pub read_out : EachSlot (e.external + e.bridges) (λ at. octet_in_half out at ≡ fetched (read e.kept at.line at.place) (octet_on e.crossed at.line))
 
 -- what a frame does to the octets, stage by stage
 pub record Did (e : Stages) (m : Control) (input : Input) (out taken : List ℕ) (highway crossed : Highways) : Type 0 where
-  pub sends : (line slot : ℕ) → line < e.external + e.bridges → slot < e.slots → octet_on highway line slot ≡ fetched (sent m line slot) (λ place. octet_of e.taken (record { line = line; place = place }))
+  pub sends : (line slot : ℕ) → line < e.external + e.bridges → slot < e.slots → octet_on highway line slot ≡ fetched (sent m line slot) (λ place. octet_in_half e.taken (record { line = line; place = place }))
   pub crosses : (line slot : ℕ) → line < e.external + e.bridges → slot < e.slots → octet_on crossed line slot ≡ fetched (received m line slot) (λ from. octet_on highway from slot)
   pub lines : crossed.lines ≡ e.external + e.bridges
   pub slots : crossed.slots ≡ e.slots
-  pub takes : (at : Slot) → at.line < e.external → at.place < 30 → octet_of taken at ≡ octet_in input at
-  pub mixes : (k : ℕ) → k < 30 * e.bridges → octet_of taken (port_numbered m.external k) ≡ given_to m (octet_of out) k
+  pub takes : (at : Slot) → at.line < e.external → at.place < 30 → octet_in_half taken at ≡ octet_in input at
+  pub mixes : (k : ℕ) → k < 30 * e.bridges → octet_in_half taken (port_numbered m.external k) ≡ given_to m (octet_in_half out) k
 
-module _ (e : Stages) (m : Control) (out : List ℕ) (is : IsAt e m out) (inputs : List Input) (held : List (List Circuit)) (ports : List Ports) (input : Input) (circuits : List Circuit) (seats : Ports) (carries : CarriesFrames e inputs held ports) (layout : Layout) (shows : ShowsBy layout m circuits seats e.next) (come : Come e.external e.bridges (held ++ circuits ∷ []) (ports ++ seats ∷ [])) where
+module _ (e : Stages) (m : Control) (out : List ℕ) (is : IsAt e m out) (inputs : List Input) (held : List (List Circuit)) (ports : List Ports) (input : Input) (circuits : List Circuit) (seats : Ports) (carries : EngineCarries e inputs held ports) (layout : Layout) (shows : ShowsBy layout m circuits seats e.next) (come : Come e.external e.bridges (held ++ circuits ∷ []) (ports ++ seats ∷ [])) where
   abbrev lines : ℕ
   lines = e.external + e.bridges
 
@@ -110,7 +110,7 @@ module _ (e : Stages) (m : Control) (out : List ℕ) (is : IsAt e m out) (inputs
   abbrev last_of : ℕ → Type 0
   last_of k = CarriesLast e inputs held ports (suc k)
 
-  reads : (k : ℕ) → last_of k → (x y : Slot) → IsSlot lines x → IsSlot lines y → IsNeeded e.external (circuits_of held (suc k)) (ports_of ports (suc k)) x y → octet_of out y ≡ brought e.external inputs held ports k x
+  reads : (k : ℕ) → last_of k → (x y : Slot) → IsSlot lines x → IsSlot lines y → IsNeeded e.external (circuits_of held (suc k)) (ports_of ports (suc k)) x y → octet_in_half out y ≡ octet_brought e.external inputs held ports k x
   reads k last x y from to needed =
       let same_lines : lines_of e.kept ≡ lines = let a = is.kept_external in let b = is.kept_bridges in omega (arith, a, b) in
       let from_kept : IsSlot (lines_of e.kept) x = subst (λ l. IsSlot l x) (sym same_lines) from in
@@ -138,7 +138,7 @@ module _ (e : Stages) (m : Control) (out : List ℕ) (is : IsAt e m out) (inputs
   inside_line x external = (let l = external.0 in omega (arith, l), external.1)
 
   -- the octet of an external slot two frames before
-  arrived : (k : ℕ) (x : Slot) → n ≡ suc (suc k) → IsExternal e.external x → brought e.external inputs held ports k x ≡ arrives (inputs ++ input ∷ []) (n - 2) x
+  arrived : (k : ℕ) (x : Slot) → n ≡ suc (suc k) → IsExternal e.external x → octet_brought e.external inputs held ports k x ≡ arrives (inputs ++ input ∷ []) (n - 2) x
   arrived k x now external =
       let two : k ≡ n - 2 = omega (arith, now) in
       let before : k < length inputs = let i = carries.counted.inputs_counted in omega (arith, now, i) in
@@ -158,7 +158,7 @@ module _ (e : Stages) (m : Control) (out : List ℕ) (is : IsAt e m out) (inputs
       subst (λ (ds : List Circuit). Contains ds c) (ap (λ f. circuits_of (frames empty cs) f) one ∙ sym (circuits_then (suc t.k) (omega (arith, now)))) inside
 
   -- what a slot reads by a connection that is two frames old
-  pub pair_reads : (x y : Slot) (since : ℕ) → Contains circuits (Pair x y since) → is_through since n ≡ true → octet_of out y ≡ arrives (inputs ++ input ∷ []) (n - 2) x
+  pub pair_reads : (x y : Slot) (since : ℕ) → Contains circuits (Pair x y since) → is_through since n ≡ true → octet_in_half out y ≡ arrives (inputs ++ input ∷ []) (n - 2) x
   pair_reads x y since inside old =
       let t = through since old in
       let named = named_within (Pair x y since) inside in
@@ -219,7 +219,7 @@ module _ (e : Stages) (m : Control) (out : List ℕ) (is : IsAt e m out) (inputs
   to_port_second : (z p : Slot) (o : Option Slot) → o ≡ Some p → Contains (to_port z o) (p, z)
   to_port_second z p o found = rw found (in_tail (z, p) ((p, z) ∷ []) (p, z) (at_head (p, z) [] (p, z) refl))
 
-  pub port_reads : (k room since : ℕ) (y : Slot) → Contains circuits (Member room y since) → is_through since n ≡ true → owner_of seats k ≡ Some y → octet_of out (port_numbered e.external k) ≡ arrives (inputs ++ input ∷ []) (n - 2) y
+  pub port_reads : (k room since : ℕ) (y : Slot) → Contains circuits (Member room y since) → is_through since n ≡ true → owner_of seats k ≡ Some y → octet_in_half out (port_numbered e.external k) ≡ arrives (inputs ++ input ∷ []) (n - 2) y
   port_reads k room since y inside old owned =
       let t = through since old in
       let s = seated t k room since y inside old owned in
@@ -228,7 +228,7 @@ module _ (e : Stages) (m : Control) (out : List ℕ) (is : IsAt e m out) (inputs
       ∙ arrived t.k y t.now named
 
   -- what was brought to the port of a member two frames before
-  mixed_then : (t : Through) (k room since : ℕ) (y : Slot) → Seated t k room since y → brought e.external inputs held ports t.k (port_numbered e.external k) ≡ mix (inputs ++ input ∷ []) (circuits_of (held ++ circuits ∷ []) (n - 2)) room y (n - 2)
+  mixed_then : (t : Through) (k room since : ℕ) (y : Slot) → Seated t k room since y → octet_brought e.external inputs held ports t.k (port_numbered e.external k) ≡ mix (inputs ++ input ∷ []) (circuits_of (held ++ circuits ∷ []) (n - 2)) room y (n - 2)
   mixed_then t k room since y s =
       let now = t.now in
       let two : t.k ≡ n - 2 = omega (arith, now) in
@@ -243,7 +243,7 @@ module _ (e : Stages) (m : Control) (out : List ℕ) (is : IsAt e m out) (inputs
       ∙ ap (λ f. mix (inputs ++ input ∷ []) (circuits_of (held ++ circuits ∷ []) f) room y f) two
 
   -- and a member of its port
-  pub member_reads : (room since : ℕ) (y : Slot) → Contains circuits (Member room y since) → is_through since n ≡ true → octet_of out y ≡ mix (inputs ++ input ∷ []) (circuits_of (held ++ circuits ∷ []) (n - 2)) room y (n - 2)
+  pub member_reads : (room since : ℕ) (y : Slot) → Contains circuits (Member room y since) → is_through since n ≡ true → octet_in_half out y ≡ mix (inputs ++ input ∷ []) (circuits_of (held ++ circuits ∷ []) (n - 2)) room y (n - 2)
   member_reads room since y inside old =
       let t = through since old in
       let each = each_in e.bridges cs n room since y (recorded e.bridges cs n come.allowed) (subst (λ (ds : List Circuit). Contains ds (Member room y since)) circuits_now inside) in
@@ -257,30 +257,30 @@ module _ (e : Stages) (m : Control) (out : List ℕ) (is : IsAt e m out) (inputs
   abbrev hears_by : (Kind → List ℕ) → Option Circuit → ℕ
   hears_by tones by = heard_through tones (inputs ++ input ∷ []) (held ++ circuits ∷ []) n by
 
-  played_by : (tones : Kind → List ℕ) (y : Slot) (by : Option Circuit) → ((c : Circuit) → by ≡ Some c → Contains circuits c × (y ≡ listener c)) → played_as tones n (octet_of out y) (heard_as by) ≡ hears_by tones by
+  played_by : (tones : Kind → List ℕ) (y : Slot) (by : Option Circuit) → ((c : Circuit) → by ≡ Some c → Contains circuits c × (y ≡ listener c)) → played_as tones n (octet_in_half out y) (heard_as by) ≡ hears_by tones by
   played_by tones y None found = refl
   played_by tones y (Some (Pair x z since)) found =
       let f = found (Pair x z since) refl in
       elim (true_or_false (is_through since n)) [
-        | inl old ↦ rw old (ap (octet_of out) f.1 ∙ pair_reads x z since f.0 old)
+        | inl old ↦ rw old (ap (octet_in_half out) f.1 ∙ pair_reads x z since f.0 old)
         | inr young ↦ rw young refl
       ]
   played_by tones y (Some (Member room z since)) found =
       let f = found (Member room z since) refl in
       elim (true_or_false (is_through since n)) [
-        | inl old ↦ rw old (ap (octet_of out) f.1 ∙ member_reads room since z f.0 old)
+        | inl old ↦ rw old (ap (octet_in_half out) f.1 ∙ member_reads room since z f.0 old)
         | inr young ↦ rw young refl
       ]
   played_by tones y (Some (Tone kind z since)) found = refl
 
-  pub plays : (tones : Kind → List ℕ) (y : Slot) → y.line < e.external → y.place < 30 → played_as tones m.frame (octet_of out y) (heard_at m y) ≡ hears tones (inputs ++ input ∷ []) (held ++ circuits ∷ []) n y
+  pub plays : (tones : Kind → List ℕ) (y : Slot) → y.line < e.external → y.place < 30 → played_as tones m.frame (octet_in_half out y) (heard_at m y) ≡ hears tones (inputs ++ input ∷ []) (held ++ circuits ∷ []) n y
   plays tones y here near =
       let external_m : y.line < m.external = let a = is.external in omega (arith, here, a) in
       let serves : served_by m.external seats y ≡ Some y = cond-true (nat_lt y.line m.external) (Some y) _ (lt-ltb y.line m.external external_m) in
       let by : circuit_of m.external circuits seats y ≡ heard_by circuits y = ap (option_and_then (heard_by circuits)) serves in
       let heard : heard_at m y ≡ heard_as (heard_by circuits y) = shows.heard y (omega (arith, external_m)) near ∙ ap heard_as by in
-      ap (λ f. played_as tones f (octet_of out y) (heard_at m y)) is.frame
-      ∙ ap (played_as tones n (octet_of out y)) heard
+      ap (λ f. played_as tones f (octet_in_half out y) (heard_at m y)) is.frame
+      ∙ ap (played_as tones n (octet_in_half out y)) heard
       ∙ played_by tones y (heard_by circuits y) (λ c found. heard_is circuits y c found)
       ∙ ap (λ (ds : List Circuit). hears_by tones (heard_by ds y)) (sym (circuits-last held circuits n carries.counted.held_counted))
 
@@ -302,7 +302,7 @@ module _ (e : Stages) (m : Control) (out : List ℕ) (is : IsAt e m out) (inputs
   sent_before z = arrives (inputs ++ input ∷ []) (n - 2) z
 
   -- what a port adds to a room is what its owner sent two frames before
-  owner_adds : (room k : ℕ) (o : Option Slot) → owner_of seats k ≡ o → added n room (octet_of out (port_numbered e.external k)) (seat_of o) ≡ entry sent_before circuits n room o
+  owner_adds : (room k : ℕ) (o : Option Slot) → owner_of seats k ≡ o → added n room (octet_in_half out (port_numbered e.external k)) (seat_of o) ≡ entry sent_before circuits n room o
   owner_adds room k None owned = refl
   owner_adds room k (Some z) owned =
       let member = owned_in e.bridges cs n k z (recorded e.bridges cs n come.allowed) (subst (λ (ps : Ports). owner_of ps k ≡ Some z) seats_now owned) in
@@ -310,7 +310,7 @@ module _ (e : Stages) (m : Control) (out : List ℕ) (is : IsAt e m out) (inputs
       let heard = heard_alone (Member member.0 z member.1) inside in
       let seat : seat_of (Some z) ≡ Some (member.0, member.1) = ap seated_as heard in
       let by_seat = λ (octet : ℕ). ap (added n room octet) seat in
-      by_seat (octet_of out (port_numbered e.external k))
+      by_seat (octet_in_half out (port_numbered e.external k))
       ∙ elim (true_or_false (is_through member.1 n)) [
         | inl old ↦ ap (λ octet. added n room octet (Some (member.0, member.1))) (port_reads k member.0 member.1 z inside old owned)
         | inr young ↦ rw young refl
@@ -320,24 +320,24 @@ module _ (e : Stages) (m : Control) (out : List ℕ) (is : IsAt e m out) (inputs
   seats_size : length seats ≡ 30 * e.bridges
   seats_size = ap (λ (ps : Ports). length ps) seats_now ∙ (matched-frames e.bridges empty (free_ports e.bridges) cs n (matched-empty e.bridges) come.allowed recorded_now).size
 
-  row_is : (room : ℕ) → row_of m (octet_of out) room ≡ map (entry sent_before circuits n room) seats
+  row_is : (room : ℕ) → row_of m (octet_in_half out) room ≡ map (entry sent_before circuits n room) seats
   row_is room =
       let size : length seats ≡ 30 * m.bridges = let s = seats_size in let b = is.bridges in omega (arith, s, b) in
-      row_of-ports m (octet_of out) room
-      ∙ ext_get_or None (map (added_at m (octet_of out) room) (range_with_len 0 (30 * m.bridges))) (map (entry sent_before circuits n room) seats)
-      (length-map-range_with_len (added_at m (octet_of out) room) 0 (30 * m.bridges) ∙ sym size ∙ sym (length-map seats (entry sent_before circuits n room)))
+      row_of-ports m (octet_in_half out) room
+      ∙ ext_get_or None (map (added_at m (octet_in_half out) room) (range_with_len 0 (30 * m.bridges))) (map (entry sent_before circuits n room) seats)
+      (length-map-range_with_len (added_at m (octet_in_half out) room) 0 (30 * m.bridges) ∙ sym size ∙ sym (length-map seats (entry sent_before circuits n room)))
       (λ k low.
-      let long = length-map-range_with_len (added_at m (octet_of out) room) 0 (30 * m.bridges) in
+      let long = length-map-range_with_len (added_at m (octet_in_half out) room) 0 (30 * m.bridges) in
       let near : k < 30 * m.bridges = omega (arith, low, long) in
       let near_e : k < 30 * e.bridges = let b = is.bridges in omega (arith, near, b) in
-      get_or-map-range_with_len (added_at m (octet_of out) room) 0 (30 * m.bridges) k k None near (omega arith)
-      ∙ ap (λ f. added f room (octet_of out (port_numbered m.external k)) (room_at m (port_numbered m.external k))) is.frame
-      ∙ ap (added n room (octet_of out (port_numbered m.external k))) (room_is k near_e)
-      ∙ ap (λ x. added n room (octet_of out (port_numbered x k)) (seat_of (owner_of seats k))) is.external
+      get_or-map-range_with_len (added_at m (octet_in_half out) room) 0 (30 * m.bridges) k k None near (omega arith)
+      ∙ ap (λ f. added f room (octet_in_half out (port_numbered m.external k)) (room_at m (port_numbered m.external k))) is.frame
+      ∙ ap (added n room (octet_in_half out (port_numbered m.external k))) (room_is k near_e)
+      ∙ ap (λ x. added n room (octet_in_half out (port_numbered x k)) (seat_of (owner_of seats k))) is.external
       ∙ owner_adds room k (owner_of seats k) refl
       ∙ sym (get_or-map (entry sent_before circuits n room) seats k None None (omega (arith, near, size))))
 
-  mixed_by : (k : ℕ) (o : Option Slot) → k < 30 * e.bridges → owner_of seats k ≡ o → mixed_to m (octet_of out) k (seat_of o) ≡ mixed_at (inputs ++ input ∷ []) circuits n o
+  mixed_by : (k : ℕ) (o : Option Slot) → k < 30 * e.bridges → owner_of seats k ≡ o → mixed_to m (octet_in_half out) k (seat_of o) ≡ mixed_at (inputs ++ input ∷ []) circuits n o
   mixed_by k None low owned = refl
   mixed_by k (Some y) low owned =
       let owned_now : owner_of (ports_at n) k ≡ Some y = subst (λ (ps : Ports). owner_of ps k ≡ Some y) seats_now owned in
@@ -347,19 +347,19 @@ module _ (e : Stages) (m : Control) (out : List ℕ) (is : IsAt e m out) (inputs
       let size = seats_size in
       let alone = λ (j : ℕ) (other : owner_of seats j ≡ Some y). alone_in e.bridges cs n j k y (recorded e.bridges cs n come.allowed) (subst (λ (ps : Ports). owner_of ps j ≡ Some y) seats_now other) owned_now in
       let sums = λ (weight : Slot → ℤ). ap (sum_of_owners weight) seats_now ∙ sums_in e.bridges cs n weight (recorded e.bridges cs n come.allowed) ∙ ap (sum_of_members weight) (sym circuits_now) in
-      ap (λ (by : Option Circuit). mixed_to m (octet_of out) k (seated_as by)) heard
+      ap (λ (by : Option Circuit). mixed_to m (octet_in_half out) k (seated_as by)) heard
       ∙ ap (mixed_for_port k) (row_is member.0)
       ∙ mixed_is (inputs ++ input ∷ []) circuits n member.0 seats k y owned alone (omega (arith, low, size)) heard_alone sums
       ∙ sym (ap (mixed_through (inputs ++ input ∷ []) circuits n) heard)
 
-  pub mixes : (k : ℕ) → k < 30 * e.bridges → given_to m (octet_of out) k ≡ mixed_at (inputs ++ input ∷ []) circuits n (owner_of seats k)
-  mixes k low = given_to-seat m (octet_of out) k (let b = is.bridges in omega (arith, low, b)) ∙ ap (mixed_to m (octet_of out) k) (room_is k low) ∙ mixed_by k (owner_of seats k) low refl
+  pub mixes : (k : ℕ) → k < 30 * e.bridges → given_to m (octet_in_half out) k ≡ mixed_at (inputs ++ input ∷ []) circuits n (owner_of seats k)
+  mixes k low = given_to-seat m (octet_in_half out) k (let b = is.bridges in omega (arith, low, b)) ∙ ap (mixed_to m (octet_in_half out) k) (room_is k low) ∙ mixed_by k (owner_of seats k) low refl
 
   -- ---- what is taken in, and what crosses
   abbrev brought_now : ℕ → Slot → ℕ
-  brought_now f at = brought e.external (inputs ++ input ∷ []) (held ++ circuits ∷ []) (ports ++ seats ∷ []) f at
+  brought_now f at = octet_brought e.external (inputs ++ input ∷ []) (held ++ circuits ∷ []) (ports ++ seats ∷ []) f at
 
-  pub takes_in : (highway crossed : Highways) (taken : List ℕ) → Did e m input out taken highway crossed → (at : Slot) → at.line < lines → at.place < 30 → octet_of taken at ≡ brought_now n at
+  pub takes_in : (highway crossed : Highways) (taken : List ℕ) → Did e m input out taken highway crossed → (at : Slot) → at.line < lines → at.place < 30 → octet_in_half taken at ≡ brought_now n at
   takes_in highway crossed taken did at inside near =
       elim (leb_tells (suc at.line) e.external) [
         | inl here ↦
@@ -372,8 +372,8 @@ module _ (e : Stages) (m : Control) (out : List ℕ) (is : IsAt e m out) (inputs
             let low : k < 30 * e.bridges = omega (arith, past, inside, near) in
             let is_port : port_numbered e.external k ≡ at = numbered-member_at e.external at (omega (arith, past)) near in
             let owner : owner_of seats k ≡ member_at e.external seats at = sym (member_at-number e.external seats k) ∙ ap (member_at e.external seats) is_port in
-            ap (octet_of taken) (sym is_port)
-            ∙ ap (λ x. octet_of taken (port_numbered x k)) (sym is.external)
+            ap (octet_in_half taken) (sym is_port)
+            ∙ ap (λ x. octet_in_half taken (port_numbered x k)) (sym is.external)
             ∙ did.mixes k low
             ∙ mixes k low
             ∙ ap (mixed_at (inputs ++ input ∷ []) circuits n) owner
@@ -382,7 +382,7 @@ module _ (e : Stages) (m : Control) (out : List ℕ) (is : IsAt e m out) (inputs
             ∙ sym (cond-false (nat_lt at.line e.external) _ _ behind.0)
       ]
 
-  took : (f : ℕ) → CarriesAt e inputs held ports f → (x : Slot) → IsSlot lines x → octet_of e.taken x ≡ brought_before e.external inputs held ports f x
+  took : (f : ℕ) → CarriesAt e inputs held ports f → (x : Slot) → IsSlot lines x → octet_in_half e.taken x ≡ brought_before e.external inputs held ports f x
   took zero fresh x inside = fresh.taken x inside.0 inside.1
   took (suc f) last x inside = last.taken x inside.0 inside.1
 
@@ -391,15 +391,15 @@ module _ (e : Stages) (m : Control) (out : List ℕ) (is : IsAt e m out) (inputs
       let same_lines : lines_of m ≡ lines = let a = is.external in let b = is.bridges in omega (arith, a, b) in
       let legal = subst (λ s. Legal lines s layout) is.slots (subst (λ l. Legal l m.slots layout) same_lines shows.legal) in
       let tables = subst (λ s. HasTables lines s layout (sent m) (received m) (read m)) is.slots (subst (λ l. HasTables l m.slots layout (sent m) (received m) (read m)) same_lines shows.tables) in
-      crosses_alike lines e.slots layout (octet_of e.taken) (brought_before e.external (inputs ++ input ∷ []) (held ++ circuits ∷ []) (ports ++ seats ∷ []) n) (octet_on crossed) legal
+      crosses_alike lines e.slots layout (octet_in_half e.taken) (brought_before e.external (inputs ++ input ∷ []) (held ++ circuits ∷ []) (ports ++ seats ∷ []) n) (octet_on crossed) legal
       (λ x inside. took n carries.last x inside ∙ sym (brought_before-earlier e.external inputs held ports input circuits seats n carries.counted n x refl))
-      (λ line slot here near. did.crosses line slot here near ∙ crossing_is lines e.slots layout (sent m) (received m) (read m) (octet_of e.taken) legal tables (octet_on highway) did.sends line slot here near)
+      (λ line slot here near. did.crosses line slot here near ∙ crossing_is lines e.slots layout (sent m) (received m) (read m) (octet_in_half e.taken) legal tables (octet_on highway) did.sends line slot here near)
 
   -- the engine afterwards
   abbrev after_frame : List ℕ → Highways → Stages
   after_frame taken crossed = record { external = e.external; bridges = e.bridges; slots = e.slots; next = n + 1; kept = m; taken = taken; crossed = crossed }
 
-  pub carries_on : (highway crossed : Highways) (taken : List ℕ) → Did e m input out taken highway crossed → CarriesFrames (after_frame taken crossed) (inputs ++ input ∷ []) (held ++ circuits ∷ []) (ports ++ seats ∷ [])
+  pub carries_on : (highway crossed : Highways) (taken : List ℕ) → Did e m input out taken highway crossed → EngineCarries (after_frame taken crossed) (inputs ++ input ∷ []) (held ++ circuits ∷ []) (ports ++ seats ∷ [])
   carries_on highway crossed taken did =
       let last : CarriesLast (after_frame taken crossed) (inputs ++ input ∷ []) (held ++ circuits ∷ []) (ports ++ seats ∷ []) n = record {
         layout = layout;

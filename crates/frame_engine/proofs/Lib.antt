@@ -4,3 +4,4 @@ pub mod PortRows
 pub mod RoomSums
 pub mod ReadOut
 pub mod Frame
+pub mod GivenTones

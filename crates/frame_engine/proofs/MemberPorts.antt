@@ -13,7 +13,7 @@ use Rattle.circuit_model.proofs.Slots.{true_or_false, same_slot-true, same_slot-
 use Rattle.circuit_model.proofs.Age.{at_head, in_tail}
 use Rattle.control_memory.specs.Shown.{member_at}
 use Rattle.control_memory.specs.Image.{Control, room_at}
-use Rattle.frame_buffer.specs.Speech.{octet_of}
+use Rattle.frame_buffer.specs.Speech.{octet_in_half}
 
 -- ---- the circuit that is found for a slot
 found_in : {X : Type 0} (p : X → Bool) (xs : List X) (y : X) → find p xs ≡ Some y → Contains xs y × (p y ≡ true)
@@ -70,7 +70,7 @@ seat-numbered m k =
     ∙ ap (λ i. get_or m.rooms i None) number
 
 -- and its octet stands so far behind those of the external lines
-pub octet-numbered : (octets : List ℕ) (external k : ℕ) → octet_of octets (port_numbered external k) ≡ get_or octets (external * 30 + k) 0
+pub octet-numbered : (octets : List ℕ) (external k : ℕ) → octet_in_half octets (port_numbered external k) ≡ get_or octets (external * 30 + k) 0
 octet-numbered octets external k =
     let place : (external + k / 30) * 30 + k % 30 ≡ external * 30 + k = omega arith in
     ap (λ i. get_or octets i 0) place

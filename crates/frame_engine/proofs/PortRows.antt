@@ -10,7 +10,7 @@ use Rattle.control_memory.specs.Image.{Control, room_at}
 use Rattle.conference_mix.specs.declared.mixer.Seated.{Seated}
 use Rattle.conference_mix.specs.Bridge.{mixed_for}
 use Rattle.conference_mix.specs.Rooms.{counted_in, room_row, given_to_member}
-use Rattle.frame_engine.specs.Ports.{seated_by, member_in, members, given_to}
+use Rattle.frame_engine.specs.Ports.{seated_by, member_in, members_in_ports, given_to}
 
 -- what the member in a port adds to a room
 abbrev pub added : ℕ → ℕ → ℕ → Option (ℕ × ℕ) → Option ℕ
@@ -21,7 +21,7 @@ added_at m octet room k = added m.frame room (octet (port_numbered m.external k)
 
 -- all that is added to a room, port by port
 abbrev pub row_of : Control → (Slot → ℕ) → ℕ → List (Option ℕ)
-row_of m octet room = room_row room (members m octet)
+row_of m octet room = room_row room (members_in_ports m octet)
 
 -- what a port is given, by who sits there
 abbrev pub mixed_to : Control → (Slot → ℕ) → ℕ → Option (ℕ × ℕ) → ℕ
@@ -35,19 +35,19 @@ map-map g f (x ∷ xs) = ap (λ rest. g (f x) ∷ rest) (map-map g f xs)
 pub row_of-ports : (m : Control) (octet : Slot → ℕ) (room : ℕ) → row_of m octet room ≡ map (added_at m octet room) (range_with_len 0 (30 * m.bridges))
 row_of-ports m octet room = map-map (counted_in room) (member_in m octet) (range_with_len 0 (30 * m.bridges))
 
-by_seat : (m : Control) (octet : Slot → ℕ) (k sent : ℕ) (seat : Option (ℕ × ℕ)) → given_to_member (members m octet) k (seated_by m.frame sent seat) ≡ mixed_to m octet k seat
+by_seat : (m : Control) (octet : Slot → ℕ) (k sent : ℕ) (seat : Option (ℕ × ℕ)) → given_to_member (members_in_ports m octet) k (seated_by m.frame sent seat) ≡ mixed_to m octet k seat
 by_seat m octet k sent None = refl
 by_seat m octet k sent (Some seat) = refl
 
 pub given_to-seat : (m : Control) (octet : Slot → ℕ) (k : ℕ) → k < 30 * m.bridges → given_to m octet k ≡ mixed_to m octet k (room_at m (port_numbered m.external k))
 given_to-seat m octet k low =
-    ap (given_to_member (members m octet) k) (get_or-map-range_with_len (member_in m octet) 0 (30 * m.bridges) k k None low (omega arith))
+    ap (given_to_member (members_in_ports m octet) k) (get_or-map-range_with_len (member_in m octet) 0 (30 * m.bridges) k k None low (omega arith))
     ∙ by_seat m octet k (octet (port_numbered m.external k)) (room_at m (port_numbered m.external k))
 
 -- there is a place for each port
-pub members-length : (m : Control) (octet : Slot → ℕ) → length (members m octet) ≡ 30 * m.bridges
+pub members-length : (m : Control) (octet : Slot → ℕ) → length (members_in_ports m octet) ≡ 30 * m.bridges
 members-length m octet = length-map (range_with_len 0 (30 * m.bridges)) (member_in m octet) ∙ length-range_with_len 0 (30 * m.bridges)
 
 -- places that were taken one by one
-pub members-seated : (m : Control) (octet : Slot → ℕ) (places : List (Option Seated)) → length places ≡ 30 * m.bridges → ((k : ℕ) → k < 30 * m.bridges → get_or places k None ≡ member_in m octet k) → places ≡ members m octet
+pub members-seated : (m : Control) (octet : Slot → ℕ) (places : List (Option Seated)) → length places ≡ 30 * m.bridges → ((k : ℕ) → k < 30 * m.bridges → get_or places k None ≡ member_in m octet k) → places ≡ members_in_ports m octet
 members-seated m octet places size each = fill_by_all (member_in m octet) places (30 * m.bridges) None size each

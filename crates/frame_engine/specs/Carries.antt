@@ -5,13 +5,13 @@ use Rattle.circuit_model.specs.declared.circuit.Circuit.{Circuit}
 use Rattle.circuit_model.specs.FrameInput.{Input, idle_octet}
 use Rattle.circuit_model.specs.Holding.{circuits_of}
 use Rattle.circuit_model.specs.Ports.{Ports, ports_of}
-use Rattle.frame_buffer.specs.Speech.{Speech, octet_of}
+use Rattle.frame_buffer.specs.Speech.{Speech, octet_in_half}
 use Rattle.frame_buffer.specs.Highways.{Highways, octet_on}
 use Rattle.control_memory.specs.Layout.{Layout}
 use Rattle.control_memory.specs.Image.{Control, EachSlot, IsCleared, IsQuiet}
 use Rattle.control_memory.specs.Carrying.{HoldsCrossing}
 use Rattle.control_memory.specs.Shown.{ShowsBy}
-use Rattle.frame_engine.specs.Frames.{AreCounted, brought}
+use Rattle.frame_engine.specs.Frames.{AreCounted, octet_brought}
 
 -- an engine: its sizes, the number of its next frame, the control memory of the frame before that, what the frame before brought to each slot,
 -- and the octets that crossed in it
@@ -27,14 +27,14 @@ pub record Stages : Type 0 where
 -- what the frame before frame f brought; before the first frame everything is idle
 abbrev pub brought_before : ℕ → List Input → List (List Circuit) → List Ports → ℕ → Slot → ℕ
 brought_before external inputs held ports zero at = idle_octet
-brought_before external inputs held ports (suc f) at = brought external inputs held ports f at
+brought_before external inputs held ports (suc f) at = octet_brought external inputs held ports f at
 
 -- all lines of an engine: the external ones, and behind them the bridge lines
 abbrev pub lines_in : Stages → ℕ
 lines_in e = e.external + e.bridges
 
 -- the kept control memory and the octets that crossed have a line for each of the engine's, with as many internal slots
-pub record HasSizes (e : Stages) : Type 0 where
+pub record HasEngineSizes (e : Stages) : Type 0 where
   pub kept_external : e.kept.external ≡ e.external
   pub kept_bridges : e.kept.bridges ≡ e.bridges
   pub kept_slots : e.kept.slots ≡ e.slots
@@ -46,14 +46,14 @@ pub record HasSizes (e : Stages) : Type 0 where
 pub record CarriesLast (e : Stages) (inputs : List Input) (held : List (List Circuit)) (ports : List Ports) (f : ℕ) : Type 0 where
   pub layout : Layout
   pub shows : ShowsBy layout e.kept (circuits_of held f) (ports_of ports f) f
-  pub taken : EachSlot (lines_in e) (λ at. octet_of e.taken at ≡ brought e.external inputs held ports f at)
+  pub taken : EachSlot (lines_in e) (λ at. octet_in_half e.taken at ≡ octet_brought e.external inputs held ports f at)
   pub crossed : HoldsCrossing (lines_in e) e.slots layout (brought_before e.external inputs held ports f) (octet_on e.crossed)
 
 -- before the first frame all is idle: the kept control memory has no path, no slot hears anything, no port is taken, and every octet is the idle one
 pub record IsFresh (e : Stages) : Type 0 where
   pub paths : IsCleared e.kept
   pub quiet : IsQuiet e.kept
-  pub taken : EachSlot (lines_in e) (λ at. octet_of e.taken at ≡ idle_octet)
+  pub taken : EachSlot (lines_in e) (λ at. octet_in_half e.taken at ≡ idle_octet)
   pub crossed : (line slot : ℕ) → line < lines_in e → slot < e.slots → octet_on e.crossed line slot ≡ idle_octet
 
 abbrev pub CarriesAt : Stages → List Input → List (List Circuit) → List Ports → ℕ → Type 0
@@ -61,8 +61,8 @@ CarriesAt e inputs held ports zero = IsFresh e
 CarriesAt e inputs held ports (suc f) = CarriesLast e inputs held ports f
 
 -- the engine carries the frames with these inputs, circuits and ports
-pub record CarriesFrames (e : Stages) (inputs : List Input) (held : List (List Circuit)) (ports : List Ports) : Type 0 where
-  pub sizes : HasSizes e
+pub record EngineCarries (e : Stages) (inputs : List Input) (held : List (List Circuit)) (ports : List Ports) : Type 0 where
+  pub sizes : HasEngineSizes e
   pub counted : AreCounted e.next inputs held ports
   pub last : CarriesAt e inputs held ports e.next
 

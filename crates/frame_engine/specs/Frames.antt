@@ -66,8 +66,8 @@ mixed_at inputs circuits f None = idle_octet
 mixed_at inputs circuits f (Some member) = mixed_through inputs circuits f (heard_by circuits member)
 
 -- what frame f brings to a slot: an external one the octet that arrives, a port the mix for the member that has it, every other port the idle octet
-abbrev pub brought : ℕ → List Input → List (List Circuit) → List Ports → ℕ → Slot → ℕ
-brought external inputs held ports f at =
+abbrev pub octet_brought : ℕ → List Input → List (List Circuit) → List Ports → ℕ → Slot → ℕ
+octet_brought external inputs held ports f at =
     if nat_lt at.line external then arrives inputs f at else mixed_at inputs (circuits_of held f) f (member_at external (ports_of ports f) at)
 
 -- out has, for each external line and place, the octet of the slot

@@ -1,5 +1,5 @@
 -- What an engine plays on a slot. Source: this exchange's own.
-use Rattle.std.specs.Prelude.{◌≡◌, ℕ, ◌<◌, ◌-◌, Bool, false, List, slice_index, if◌then◌else◌}
+use Rattle.std.specs.Prelude.{◌≡◌, ℕ, ◌<◌, ◌-◌, Bool, false, List, slice_index, slice_index_or, if◌then◌else◌}
 use Rattle.circuit_model.specs.declared.channel.Slot.{Slot}
 use Rattle.circuit_model.specs.declared.circuit.Kind.{Kind}
 use Rattle.circuit_model.specs.FrameInput.{idle_octet}
@@ -7,8 +7,11 @@ use Rattle.circuit_model.specs.Hears.{is_through, tone_octet}
 use Rattle.control_memory.specs.declared.heard.Heard.{Heard}
 use Rattle.control_memory.specs.declared.heard.Heard.TheVariants.{Silent, Path, Tone}
 use Rattle.control_memory.specs.Image.{Control, heard_at}
+use Rattle.tone_rules.specs.declared.tones.Tones.{Tones}
+use Rattle.tone_rules.specs.Tables.{IsGiven}
 
--- what is played on a slot in frame f by what it hears: nothing, the octet that was read out for the slot once its path is two frames old, or the octet of a tone
+-- what is played on a slot in frame f by what it hears: nothing, the octet that was read out for the slot once its path is two frames old, or
+-- the octet of a tone
 abbrev pub played_as : (Kind → List ℕ) → ℕ → ℕ → Heard → ℕ
 played_as tones f octet Silent = idle_octet
 played_as tones f octet (Path since) = if is_through since f then octet else idle_octet
@@ -37,3 +40,11 @@ played_at tones m octet at = played_as tones m.frame (octet at) (heard_at m at)
 -- thirty octets are those of a line, by place
 abbrev pub HasLine : ℕ → (Slot → ℕ) → List ℕ → Type 0
 HasLine line octet octets = (place : ℕ) → place < 30 → slice_index octets place ≡ octet (record { line = line; place = place })
+
+-- the octet of each place of a line follows from what the place hears
+abbrev pub EachPlace : (ℕ → Heard → ℕ) → List Heard → List ℕ → Type 0
+EachPlace octet heard octets = (place : ℕ) → place < 30 → slice_index octets place ≡ octet place (slice_index_or heard place Silent)
+
+-- each tone that a place of a line hears is given
+abbrev pub AreGiven : Tones → List Heard → Type 0
+AreGiven tones heard = (place : ℕ) (kind : Kind) (since : ℕ) → place < 30 → slice_index_or heard place Silent ≡ Tone kind since → IsGiven tones kind

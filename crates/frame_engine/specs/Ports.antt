@@ -1,30 +1,35 @@
 -- The conference ports of an engine: whom the bridge finds in them, and what each is given. Source: this exchange's own.
-use Rattle.std.specs.Prelude.{ℕ, ◌*◌, List, Option, Some, None, map, if◌then◌else◌}
+use Rattle.std.specs.Prelude.{◌≡◌, ℕ, ◌*◌, ◌<◌, List, Option, Some, None, map, if◌then◌else◌}
 use Rattle.std.specs.List.{range_with_len}
 use Rattle.circuit_model.specs.declared.channel.Slot.{Slot}
 use Rattle.circuit_model.specs.Ports.{port_numbered}
 use Rattle.circuit_model.specs.Hears.{is_through}
+use Rattle.frame_buffer.specs.Speech.{octet_in_half}
 use Rattle.control_memory.specs.Image.{Control, room_at}
 use Rattle.conference_mix.specs.declared.mixer.Seated.{Seated}
 use Rattle.conference_mix.specs.Rooms.{given_at}
 
 -- the octet that was read out for a member counts in frame f once the member has sat in its port for two frames
-abbrev pub counted : ℕ → ℕ → ℕ → Option ℕ
-counted f octet since = if is_through since f then Some octet else None
+abbrev pub octet_that_counts : ℕ → ℕ → ℕ → Option ℕ
+octet_that_counts f octet since = if is_through since f then Some octet else None
 
 -- the member in a port, by its room and since when it sits there
 abbrev pub seated_by : ℕ → ℕ → Option (ℕ × ℕ) → Option Seated
 seated_by f octet None = None
-seated_by f octet (Some seat) = Some (record { room = seat.0; octet = counted f octet seat.1 })
+seated_by f octet (Some seat) = Some (record { room = seat.0; octet = octet_that_counts f octet seat.1 })
 
 -- the member in the port with a number, given the octets that were read out
 abbrev pub member_in : Control → (Slot → ℕ) → ℕ → Option Seated
 member_in m octet k = seated_by m.frame (octet (port_numbered m.external k)) (room_at m (port_numbered m.external k))
 
 -- the members in all ports
-abbrev pub members : Control → (Slot → ℕ) → List (Option Seated)
-members m octet = map (member_in m octet) (range_with_len 0 (30 * m.bridges))
+abbrev pub members_in_ports : Control → (Slot → ℕ) → List (Option Seated)
+members_in_ports m octet = map (member_in m octet) (range_with_len 0 (30 * m.bridges))
 
 -- the octet that a port is given: its member's room without the member, mixed, and the idle octet where nobody sits
 abbrev pub given_to : Control → (Slot → ℕ) → ℕ → ℕ
-given_to m octet k = given_at k (members m octet)
+given_to m octet k = given_at k (members_in_ports m octet)
+
+-- each port has, in the half that is filled, the octet that it is given
+abbrev pub ArePortsFilled : Control → (Slot → ℕ) → List ℕ → Type 0
+ArePortsFilled m octet filled = (k : ℕ) → k < 30 * m.bridges → octet_in_half filled (port_numbered m.external k) ≡ given_to m octet k

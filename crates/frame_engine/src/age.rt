@@ -1,3 +1,5 @@
+//! When a circuit is old enough to be heard.
+
 ghost use Rattle.std.specs.Prelude.{◌≡◌};
 ghost use Rattle.circuit_model.specs.Hears.{is_through};
 

@@ -1,6 +1,8 @@
+//! The engine of three stages and bridges, frame by frame.
+
 ghost use Rattle.std.specs.Prelude.{◌≡◌, ◌+◌, ◌<◌, length};
 ghost use Rattle.circuit_model.specs.Hears.{hears};
-ghost use Rattle.frame_engine.specs.Carries.{CarriesFrames};
+ghost use Rattle.frame_engine.specs.Carries.{EngineCarries};
 
 use crate::carrier::Carrier;
 use crate::intake::take_in;
@@ -69,7 +71,7 @@ impl Carrier for Engine {
 
     ghost next = { λ e. e.next };
 
-    ghost carries = { λ e inputs held ports. CarriesFrames e inputs held ports };
+    ghost carries = { λ e inputs held ports. EngineCarries e inputs held ports };
 
     ghost plays = { hears };
 

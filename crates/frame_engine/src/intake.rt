@@ -1,7 +1,9 @@
+//! What arrives on the external lines in a frame, written into the speech memory.
+
 ghost use Rattle.std.specs.Prelude.{◌≡◌, ◌<◌, ◌≤◌, length, slice_index_or};
 ghost use Rattle.circuit_model.specs.declared.channel.Slot.{Slot};
 ghost use Rattle.circuit_model.specs.FrameInput.{octet_in, octet_at, idle_octet};
-ghost use Rattle.frame_buffer.specs.Speech.{octet_of};
+ghost use Rattle.frame_buffer.specs.Speech.{octet_in_half};
 
 use circuit_model::IDLE;
 use frame_buffer::FrameBuffer;
@@ -14,8 +16,8 @@ pub(crate) fn take_in(input: &[Option<[u8; 30]>], external: u8, speech: &mut Fra
     requires input { length input.now ≡ external }
     requires lines { external ≤ speech.old.lines }
     ensures lines { speech.new.lines ≡ speech.old.lines }
-    ensures taken { (at : Slot) → at.line < external → at.place < 30 → octet_of speech.new.filled at ≡ octet_in input.now at }
-    ensures others { (at : Slot) → external ≤ at.line → at.place < 30 → octet_of speech.new.filled at ≡ octet_of speech.old.filled at }
+    ensures taken { (at : Slot) → at.line < external → at.place < 30 → octet_in_half speech.new.filled at ≡ octet_in input.now at }
+    ensures others { (at : Slot) → external ≤ at.line → at.place < 30 → octet_in_half speech.new.filled at ≡ octet_in_half speech.old.filled at }
     ensures readable { speech.new.readable ≡ speech.old.readable }
 {
     for line in 0..external {
@@ -27,8 +29,8 @@ pub(crate) fn take_in(input: &[Option<[u8; 30]>], external: u8, speech: &mut Fra
 fn put_sent(speech: &mut FrameBuffer, line: u8, octets: &Option<[u8; 30]>)
     requires { line < speech.old.lines }
     ensures lines { speech.new.lines ≡ speech.old.lines }
-    ensures taken { (at : Slot) → at.line ≡ line → at.place < 30 → octet_of speech.new.filled at ≡ octet_at at.place octets.now }
-    ensures others { (at : Slot) → ¬ (at.line ≡ line) → at.place < 30 → octet_of speech.new.filled at ≡ octet_of speech.old.filled at }
+    ensures taken { (at : Slot) → at.line ≡ line → at.place < 30 → octet_in_half speech.new.filled at ≡ octet_at at.place octets.now }
+    ensures others { (at : Slot) → ¬ (at.line ≡ line) → at.place < 30 → octet_in_half speech.new.filled at ≡ octet_in_half speech.old.filled at }
     ensures readable { speech.new.readable ≡ speech.old.readable }
 {
     match octets {
@@ -41,8 +43,8 @@ fn put_sent(speech: &mut FrameBuffer, line: u8, octets: &Option<[u8; 30]>)
 fn put_row(speech: &mut FrameBuffer, line: u8, octets: &[u8; 30])
     requires { line < speech.old.lines }
     ensures lines { speech.new.lines ≡ speech.old.lines }
-    ensures taken { (at : Slot) → at.line ≡ line → at.place < 30 → octet_of speech.new.filled at ≡ slice_index_or octets.now at.place idle_octet }
-    ensures others { (at : Slot) → ¬ (at.line ≡ line) → at.place < 30 → octet_of speech.new.filled at ≡ octet_of speech.old.filled at }
+    ensures taken { (at : Slot) → at.line ≡ line → at.place < 30 → octet_in_half speech.new.filled at ≡ slice_index_or octets.now at.place idle_octet }
+    ensures others { (at : Slot) → ¬ (at.line ≡ line) → at.place < 30 → octet_in_half speech.new.filled at ≡ octet_in_half speech.old.filled at }
     ensures readable { speech.new.readable ≡ speech.old.readable }
 {
     speech.put_line(line, octets);

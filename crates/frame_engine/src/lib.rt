@@ -19,8 +19,6 @@ mod intake;
 mod marker;
 mod play;
 mod ports;
-#[cfg(test)]
-mod tests;
 
 pub use carrier::Carrier;
 pub use engine::Engine;

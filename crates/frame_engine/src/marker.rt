@@ -1,3 +1,5 @@
+//! An engine for tests, which plays the number of the frame.
+
 ghost use Rattle.std.specs.Prelude.{◌≡◌, ◌+◌, ◌%◌, ◌<◌, ℕ, [], IfOk, IsOk, length, slice_index_or, replicate};
 ghost use Rattle.frame_engine.specs.Frames.{AreCounted};
 

@@ -1,17 +1,17 @@
-ghost use Rattle.std.specs.Prelude.{◌≡◌, ℕ, true, ◌<◌, ◌≤◌, [], length, slice_index, slice_index_or};
-ghost use Rattle.circuit_model.specs.declared.channel.Slot.{Slot};
+//! What each external slot sends in a frame: its path, its tone, or nothing.
+
+ghost use Rattle.std.specs.Prelude.{◌≡◌, ◌↔◌, ℕ, IsTrue, ◌<◌, ◌≤◌, length, slice_index};
 ghost use Rattle.circuit_model.specs.declared.circuit.Kind.{Kind};
-ghost use Rattle.frame_buffer.specs.Speech.{octet_of};
-ghost use Rattle.control_memory.specs.declared.heard.Heard.TheVariants.{Silent, Tone};
+ghost use Rattle.frame_buffer.specs.Speech.{octet_in_half};
 ghost use Rattle.control_memory.specs.Image.{lines_of, heard_at};
 ghost use Rattle.tone_rules.specs.Tables.{table_of, IsGiven};
 ghost use Rattle.frame_engine.specs.Frames.{PlaysOut, TonesGiven};
-ghost use Rattle.frame_engine.specs.Playing.{HasLine, by_path, played_as, played_at, with_tone};
+ghost use Rattle.frame_engine.specs.Playing.{AreGiven, EachPlace, HasLine, by_path, played_as, played_at, with_tone};
 
-use circuit_model::IDLE;
+use circuit_model::{IDLE, Kind};
 use control_memory::{Heard, HeardWord, Image};
 use frame_buffer::FrameBuffer;
-use tone_rules::{Tones, octet_of};
+use tone_rules::{Tones, tone_octet};
 
 const IDLE_LINE: [u8; 30] = [IDLE; 30];
 
@@ -21,7 +21,7 @@ pub(crate) fn play(read: &FrameBuffer, image: &Image, tones: &Tones, out: &mut [
     requires lines { lines_of image.now ≤ 255 }
     requires out { length out.old ≡ image.now.external }
     requires tones { TonesGiven tones.now image.now }
-    ensures { PlaysOut image.now.external (played_at (table_of tones.now) image.now (octet_of read.now.readable)) out.new }
+    ensures { PlaysOut image.now.external (played_at (table_of tones.now) image.now (octet_in_half read.now.readable)) out.new }
 {
     for line in 0..image.external() {
         let octets = &mut out[usize::from(line)];
@@ -48,8 +48,8 @@ fn play_line(read: &[u8], image: &Image, line: u8, tones: &Tones, octets: &mut [
 fn play_heard(read: &[u8], heard: &[HeardWord], tones: &Tones, frame: u32, octets: &mut [u8; 30])
     requires read { length read.now ≡ 30 }
     requires heard { length heard.now ≡ 30 }
-    requires tones { (place : ℕ) (kind : Kind) (since : ℕ) → place < 30 → slice_index_or heard.now place Silent ≡ Tone kind since → IsGiven tones.now kind }
-    ensures { (place : ℕ) → place < 30 → slice_index octets.new place ≡ played_as (table_of tones.now) frame (slice_index read.now place) (slice_index_or heard.now place Silent) }
+    requires tones { AreGiven tones.now heard.now }
+    ensures { EachPlace (λ place heard. played_as (table_of tones.now) frame (slice_index read.now place) heard) heard.now octets.new }
 {
     play_paths(read, heard, frame, octets);
     if !gives_none(tones) {
@@ -59,9 +59,9 @@ fn play_heard(read: &[u8], heard: &[HeardWord], tones: &Tones, frame: u32, octet
 
 // Whether no tone is given.
 fn gives_none(tones: &Tones) -> bool
-    ensures { result ≡ true → (kind : Kind) → IsGiven tones.now kind → ⊥ }
+    ensures { IsTrue result ↔ ((kind : Kind) → ¬ IsGiven tones.now kind) }
 {
-    tones.ringback.as_slice().is_empty() && tones.busy.as_slice().is_empty()
+    !tones.is_given(Kind::Ringback) && !tones.is_given(Kind::Busy)
 }
 
 // Writes what a line sends by its paths. Each octet is read before it is known whether it is heard, so
@@ -69,7 +69,7 @@ fn gives_none(tones: &Tones) -> bool
 fn play_paths(read: &[u8], heard: &[HeardWord], frame: u32, octets: &mut [u8; 30])
     requires read { length read.now ≡ 30 }
     requires heard { length heard.now ≡ 30 }
-    ensures { (place : ℕ) → place < 30 → slice_index octets.new place ≡ by_path frame (slice_index read.now place) (slice_index_or heard.now place Silent) }
+    ensures { EachPlace (λ place heard. by_path frame (slice_index read.now place) heard) heard.now octets.new }
 {
     let through = frame.saturating_sub(1);
     for (place, octet) in octets.iter_mut().enumerate() {
@@ -85,12 +85,12 @@ fn play_paths(read: &[u8], heard: &[HeardWord], frame: u32, octets: &mut [u8; 30
 // Writes the octets of the tones that are heard over what the paths gave.
 fn play_tones(heard: &[HeardWord], tones: &Tones, frame: u32, octets: &mut [u8; 30])
     requires heard { length heard.now ≡ 30 }
-    requires tones { (place : ℕ) (kind : Kind) (since : ℕ) → place < 30 → slice_index_or heard.now place Silent ≡ Tone kind since → IsGiven tones.now kind }
-    ensures { (at : ℕ) → at < 30 → slice_index octets.new at ≡ with_tone (table_of tones.now) frame (slice_index octets.old at) (slice_index_or heard.now at Silent) }
+    requires tones { AreGiven tones.now heard.now }
+    ensures { EachPlace (λ place heard. with_tone (table_of tones.now) frame (slice_index octets.old place) heard) heard.now octets.new }
 {
     for (place, octet) in octets.iter_mut().enumerate() {
         if let Heard::Tone { kind, since } = heard[place].heard() {
-            *octet = octet_of(tones, kind, frame.saturating_sub(since));
+            *octet = tone_octet(tones, kind, frame.saturating_sub(since));
         }
     }
 }

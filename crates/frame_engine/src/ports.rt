@@ -1,8 +1,9 @@
+//! What the conference ports are given in a frame: the rooms mixed.
+
 ghost use Rattle.std.specs.Prelude.{◌≡◌, ℕ, ◌+◌, ◌*◌, ◌≤◌, ◌<◌, None, replicate, slice_index};
-ghost use Rattle.circuit_model.specs.Ports.{port_numbered};
-ghost use Rattle.frame_buffer.specs.Speech.{octet_of};
+ghost use Rattle.frame_buffer.specs.Speech.{octet_in_half};
 ghost use Rattle.control_memory.specs.Image.{lines_of};
-ghost use Rattle.frame_engine.specs.Ports.{counted, members, given_to};
+ghost use Rattle.frame_engine.specs.Ports.{octet_that_counts, members_in_ports, given_to, ArePortsFilled};
 
 use crate::age::is_through;
 use alaw_codec::CodeTable;
@@ -23,7 +24,7 @@ pub(crate) fn mix_ports(
     requires read { read.now.lines ≡ lines_of image.now }
     requires speech { speech.old.lines ≡ lines_of image.now }
     ensures lines { speech.new.lines ≡ speech.old.lines }
-    ensures ports { (k : ℕ) → k < 30 * image.now.bridges → octet_of speech.new.filled (port_numbered image.now.external k) ≡ given_to image.now (octet_of read.now.readable) k }
+    ensures ports { ArePortsFilled image.now (octet_in_half read.now.readable) speech.new.filled }
     ensures readable { speech.new.readable ≡ speech.old.readable }
 {
     // Without a bridge nothing is made ready for a mix.
@@ -39,7 +40,7 @@ fn mix_bridges(read: &FrameBuffer, image: &Image, codes: &CodeTable, speech: &mu
     requires read { read.now.lines ≡ lines_of image.now }
     requires speech { speech.old.lines ≡ lines_of image.now }
     ensures lines { speech.new.lines ≡ speech.old.lines }
-    ensures ports { (k : ℕ) → k < 30 * image.now.bridges → octet_of speech.new.filled (port_numbered image.now.external k) ≡ given_to image.now (octet_of read.now.readable) k }
+    ensures ports { ArePortsFilled image.now (octet_in_half read.now.readable) speech.new.filled }
     ensures readable { speech.new.readable ≡ speech.old.readable }
 {
     let mut octets = [IDLE; MAX_MEMBERS];
@@ -54,7 +55,7 @@ fn mix_all(read: &FrameBuffer, image: &Image, codes: &CodeTable, octets: &mut [u
     requires few { image.now.bridges ≤ 2 }
     requires lines { lines_of image.now ≤ 255 }
     requires read { read.now.lines ≡ lines_of image.now }
-    ensures { (k : ℕ) → k < 30 * image.now.bridges → slice_index octets.new k ≡ given_to image.now (octet_of read.now.readable) k }
+    ensures { (k : ℕ) → k < 30 * image.now.bridges → slice_index octets.new k ≡ given_to image.now (octet_in_half read.now.readable) k }
 {
     let ports = usize::from(image.bridges() * PLACES);
     let mut mixer = Mixer::new(ports);
@@ -66,21 +67,21 @@ fn mix_all(read: &FrameBuffer, image: &Image, codes: &CodeTable, octets: &mut [u
 fn seat_members(read: &FrameBuffer, image: &Image, mixer: &mut Mixer)
     requires read { read.now.lines ≡ lines_of image.now }
     requires free { mixer.old ≡ replicate (30 * image.now.bridges) None }
-    ensures { mixer.new ≡ members image.now (octet_of read.now.readable) }
+    ensures { mixer.new ≡ members_in_ports image.now (octet_in_half read.now.readable) }
 {
     let octets = read.rows_from(image.external());
     let frame = image.frame();
     for (port, seat) in image.seats().iter().enumerate() {
         if let Some((room, since)) = *seat {
-            let octet = counted(octets[port], since, frame);
+            let octet = octet_that_counts(octets[port], since, frame);
             mixer.seat(port, Seated { room, octet });
         }
     }
 }
 
 // An octet that was read out, where who sent it has sat in its port for two frames.
-fn counted(octet: u8, since: u32, frame: u32) -> Option<u8>
-    ensures { result ≡ counted frame octet since }
+fn octet_that_counts(octet: u8, since: u32, frame: u32) -> Option<u8>
+    ensures { result ≡ octet_that_counts frame octet since }
 {
     if is_through(since, frame) {
         Some(octet)

@@ -10,7 +10,7 @@ use Rattle.hex.specs.Hex.{encode_upper}
 use Rattle.circuit_model.specs.declared.channel.Slot.{Slot}
 use Rattle.circuit_model.specs.Circuits.{same_slot}
 use Rattle.circuit_model.specs.FrameInput.{Input}
-use Rattle.number_plan.specs.Plan.{is_number, is_taken}
+use Rattle.number_plan.specs.Plan.{is_number, is_number_taken}
 use Rattle.number_plan.specs.declared.plan.Number.{Number}
 use Rattle.number_plan.specs.declared.target.Target.TheVariants as target
 use Rattle.exchange_events.specs.declared.trace.Event.{Event}
@@ -249,7 +249,7 @@ header_says s none =
     (line_words (Header 8 1 4) (record { solid = refl; filled = refl }, (digit_word 8 external, (digit_word 1 bridges, (digit_word 4 processors, tt)))))
     (rw (decimal_digit 8, decimal_digit 1, decimal_digit 4) refl)
 
-number_joins : (s : SoFar) (n : Number) → is_taken s.plan n.digits ≡ false → nat_eq (length s.plan) 256 ≡ false → joins s (said.Numbered n) ≡ Ok (said.Numbered n)
+number_joins : (s : SoFar) (n : Number) → is_number_taken s.plan n.digits ≡ false → nat_eq (length s.plan) 256 ≡ false → joins s (said.Numbered n) ≡ Ok (said.Numbered n)
 number_joins s n free few = rw (free, few) refl
 
 number_given : (s : SoFar) (reading : Result Number _) (n : Number) → s.events ≡ 0 → reading ≡ Ok n → before_events s (numbered reading) ≡ Ok (said.Numbered n)
@@ -268,7 +268,7 @@ pub record HasRoom (s : SoFar) (digits : List ℕ) : Type 0 where
   pub known : s.sizes ≡ Some eight
   pub early : s.events ≡ 0
   pub is : is_number digits ≡ true
-  pub free : is_taken s.plan digits ≡ false
+  pub free : is_number_taken s.plan digits ≡ false
   pub few : nat_eq (length s.plan) 256 ≡ false
 
 pub to_line_says : (s : SoFar) (digits : List ℕ) (line : ℕ) → Fits (ToLine digits line) → HasRoom s digits → says s (line_text (ToLine digits line)) ≡ Ok (said_by (ToLine digits line))

@@ -1,5 +1,5 @@
 pub mod Side
-pub mod Ordered
+pub mod OrderFacts
 pub mod Looks
 pub mod Searches
 pub mod Meanings

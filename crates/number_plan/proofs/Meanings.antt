@@ -9,22 +9,22 @@ use Rattle.number_plan.specs.declared.target.Target.{Target}
 use Rattle.number_plan.specs.declared.target.Target.TheVariants as target
 use Rattle.number_plan.specs.declared.target.Found.{Found}
 use Rattle.number_plan.specs.declared.target.Found.TheVariants as answer
-use Rattle.number_plan.specs.Plan.{begins, found, found_at, is_taken, precedes, with_number, AreApart, LeadsTo, IsUnfinished, IsHeld}
-use Rattle.number_plan.proofs.Ordered.{all_at}
+use Rattle.number_plan.specs.Plan.{begins, found_for, found_at, is_number_taken, precedes, with_number, AreApart, LeadsTo, IsUnfinishedNumber, IsHeld, PassesTest}
+use Rattle.number_plan.proofs.OrderFacts.{all_at}
 use Rattle.number_plan.proofs.Side.{begins_begins, begins_one}
 
 -- what is found, as a fact
 abbrev pub IsFound : List Number → List ℕ → Found → Type 0
 IsFound plan d (answer.Line l) = LeadsTo plan d (target.Line l)
 IsFound plan d (answer.Room r) = LeadsTo plan d (target.Room r)
-IsFound plan d answer.More = IsUnfinished plan d
-IsFound plan d answer.Nothing = is_taken plan d ≡ false
+IsFound plan d answer.More = IsUnfinishedNumber plan d
+IsFound plan d answer.Nothing = is_number_taken plan d ≡ false
 
 -- a number further on
 leads_on : (n : Number) (ns : List Number) (d : List ℕ) (t : Target) → LeadsTo ns d t → LeadsTo (n ∷ ns) d t
 leads_on n ns d t l = record { place = suc l.place; number = l.number; is_held = l.is_held; is_begun = l.is_begun; target_is = l.target_is }
 
-more_on : (n : Number) (ns : List Number) (d : List ℕ) → IsUnfinished ns d → IsUnfinished (n ∷ ns) d
+more_on : (n : Number) (ns : List Number) (d : List ℕ) → IsUnfinishedNumber ns d → IsUnfinishedNumber (n ∷ ns) d
 more_on n ns d l = record { place = suc l.place; number = l.number; is_held = l.is_held; is_begun = l.is_begun; is_longer = l.is_longer }
 
 at_target : (n : Number) (ns : List Number) (d : List ℕ) → begins n.digits d ≡ true → (t : Target) → n.target ≡ t → IsFound (n ∷ ns) d (found_at t)
@@ -37,12 +37,12 @@ later_found n ns d p q (answer.Room r) is = leads_on n ns d (target.Room r) is
 later_found n ns d p q answer.More is = more_on n ns d is
 later_found n ns d p q answer.Nothing is = rw (p, q) is
 
-by_tests : (n : Number) (ns : List Number) (d : List ℕ) (b c : Bool) → begins n.digits d ≡ b → begins d n.digits ≡ c → IsFound ns d (found ns d) → IsFound (n ∷ ns) d (cond b (found_at n.target) (cond c answer.More (found ns d)))
+by_tests : (n : Number) (ns : List Number) (d : List ℕ) (b c : Bool) → begins n.digits d ≡ b → begins d n.digits ≡ c → IsFound ns d (found_for ns d) → IsFound (n ∷ ns) d (cond b (found_at n.target) (cond c answer.More (found_for ns d)))
 by_tests n ns d true c p q rest = at_target n ns d p n.target refl
 by_tests n ns d false true p q rest = record { place = zero; number = n; is_held = refl; is_begun = q; is_longer = not_from_false _ p }
-by_tests n ns d false false p q rest = later_found n ns d p q (found ns d) rest
+by_tests n ns d false false p q rest = later_found n ns d p q (found_for ns d) rest
 
-pub is_found : (plan : List Number) (d : List ℕ) → IsFound plan d (found plan d)
+pub is_found : (plan : List Number) (d : List ℕ) → IsFound plan d (found_for plan d)
 is_found [] d = refl
 is_found (n ∷ ns) d = by_tests n ns d (begins n.digits d) (begins d n.digits) refl refl (is_found ns d)
 
@@ -60,7 +60,7 @@ one_target plan d s t apart p q =
     either_way (inl b) = same_number plan apart p.place q.place p.number q.number p.is_held q.is_held b
     either_way (inr b) = sym (same_number plan apart q.place p.place q.number p.number q.is_held p.is_held b)
 
-not_both : (plan : List Number) (d : List ℕ) (t : Target) → AreApart plan → LeadsTo plan d t → IsUnfinished plan d → ⊥
+not_both : (plan : List Number) (d : List ℕ) (t : Target) → AreApart plan → LeadsTo plan d t → IsUnfinishedNumber plan d → ⊥
 not_both plan d t apart p q =
     let same = same_number plan apart p.place q.place p.number q.number p.is_held q.is_held (begins_begins p.number.digits d q.number.digits p.is_begun q.is_begun) in
     both_ways (begins q.number.digits d) (not-true _ q.is_longer) (subst (λ n. begins n.digits d ≡ true) same p.is_begun)
@@ -70,44 +70,50 @@ any_at test [] k n is one = absurd cc
 any_at test (m ∷ ms) zero n is one = or_left (test m) (list_any test ms) (subst (λ w. test w ≡ true) (sym (same_Some m n is)) one)
 any_at test (m ∷ ms) (suc k) n is one = or_right (test m) (list_any test ms) (any_at test ms k n is one)
 
-lead_taken : (plan : List Number) (d : List ℕ) (t : Target) → LeadsTo plan d t → is_taken plan d ≡ true
+lead_taken : (plan : List Number) (d : List ℕ) (t : Target) → LeadsTo plan d t → is_number_taken plan d ≡ true
 lead_taken plan d t p = any_at (λ n. begins n.digits d || begins d n.digits) plan p.place p.number p.is_held (or_left _ _ p.is_begun)
 
-more_taken : (plan : List Number) (d : List ℕ) → IsUnfinished plan d → is_taken plan d ≡ true
+more_taken : (plan : List Number) (d : List ℕ) → IsUnfinishedNumber plan d → is_number_taken plan d ≡ true
 more_taken plan d p = any_at (λ n. begins n.digits d || begins d n.digits) plan p.place p.number p.is_held (or_right _ _ p.is_begun)
 
 exact : (plan : List Number) (d : List ℕ) → AreApart plan → (f g : Found) → IsFound plan d f → IsFound plan d g → f ≡ g
 exact plan d apart (answer.Line l) (answer.Line m) p q = ap found_at (one_target plan d (target.Line l) (target.Line m) apart p q)
 exact plan d apart (answer.Line l) (answer.Room r) p q = ap found_at (one_target plan d (target.Line l) (target.Room r) apart p q)
 exact plan d apart (answer.Line l) answer.More p q = absurd (not_both plan d (target.Line l) apart p q)
-exact plan d apart (answer.Line l) answer.Nothing p q = absurd (both_ways (is_taken plan d) q (lead_taken plan d (target.Line l) p))
+exact plan d apart (answer.Line l) answer.Nothing p q = absurd (both_ways (is_number_taken plan d) q (lead_taken plan d (target.Line l) p))
 exact plan d apart (answer.Room r) (answer.Line l) p q = ap found_at (one_target plan d (target.Room r) (target.Line l) apart p q)
 exact plan d apart (answer.Room r) (answer.Room s) p q = ap found_at (one_target plan d (target.Room r) (target.Room s) apart p q)
 exact plan d apart (answer.Room r) answer.More p q = absurd (not_both plan d (target.Room r) apart p q)
-exact plan d apart (answer.Room r) answer.Nothing p q = absurd (both_ways (is_taken plan d) q (lead_taken plan d (target.Room r) p))
+exact plan d apart (answer.Room r) answer.Nothing p q = absurd (both_ways (is_number_taken plan d) q (lead_taken plan d (target.Room r) p))
 exact plan d apart answer.More (answer.Line l) p q = absurd (not_both plan d (target.Line l) apart q p)
 exact plan d apart answer.More (answer.Room r) p q = absurd (not_both plan d (target.Room r) apart q p)
 exact plan d apart answer.More answer.More p q = refl
-exact plan d apart answer.More answer.Nothing p q = absurd (both_ways (is_taken plan d) q (more_taken plan d p))
-exact plan d apart answer.Nothing (answer.Line l) p q = absurd (both_ways (is_taken plan d) p (lead_taken plan d (target.Line l) q))
-exact plan d apart answer.Nothing (answer.Room r) p q = absurd (both_ways (is_taken plan d) p (lead_taken plan d (target.Room r) q))
-exact plan d apart answer.Nothing answer.More p q = absurd (both_ways (is_taken plan d) p (more_taken plan d q))
+exact plan d apart answer.More answer.Nothing p q = absurd (both_ways (is_number_taken plan d) q (more_taken plan d p))
+exact plan d apart answer.Nothing (answer.Line l) p q = absurd (both_ways (is_number_taken plan d) p (lead_taken plan d (target.Line l) q))
+exact plan d apart answer.Nothing (answer.Room r) p q = absurd (both_ways (is_number_taken plan d) p (lead_taken plan d (target.Room r) q))
+exact plan d apart answer.Nothing answer.More p q = absurd (both_ways (is_number_taken plan d) p (more_taken plan d q))
 exact plan d apart answer.Nothing answer.Nothing p q = refl
 
 -- a look answers so exactly where it is so
-pub means : (plan : List Number) (d : List ℕ) (r f : Found) → r ≡ found plan d → AreApart plan → (r ≡ f) ↔ IsFound plan d f
-means plan d r f e apart = (λ is. subst (IsFound plan d) (sym e ∙ is) (is_found plan d), λ fact. e ∙ exact plan d apart (found plan d) f (is_found plan d) fact)
+pub means : (plan : List Number) (d : List ℕ) (r f : Found) → r ≡ found_for plan d → AreApart plan → (r ≡ f) ↔ IsFound plan d f
+means plan d r f e apart = (λ is. subst (IsFound plan d) (sym e ∙ is) (is_found plan d), λ fact. e ∙ exact plan d apart (found_for plan d) f (is_found plan d) fact)
 
 -- ---- targets
 
-at_lead : (plan : List Number) (d : List ℕ) (t : Target) → found plan d ≡ found_at t → LeadsTo plan d t
+at_lead : (plan : List Number) (d : List ℕ) (t : Target) → found_for plan d ≡ found_at t → LeadsTo plan d t
 at_lead plan d (target.Line l) is = subst (IsFound plan d) is (is_found plan d)
 at_lead plan d (target.Room r) is = subst (IsFound plan d) is (is_found plan d)
 
-pub found_passes : (test : Target → Bool) (plan : List Number) (d : List ℕ) (t : Target) → list_all (λ m. test m.target) plan ≡ true → found plan d ≡ found_at t → test t ≡ true
+pub found_passes : (test : Target → Bool) (plan : List Number) (d : List ℕ) (t : Target) → list_all (λ m. test m.target) plan ≡ true → found_for plan d ≡ found_at t → test t ≡ true
 found_passes test plan d t all is =
     let lead = at_lead plan d t is in
     subst (λ w. test w ≡ true) lead.target_is (all_at (λ m. test m.target) plan all lead.place lead.number lead.is_held)
+
+pub answer_passes : (test : Target → Bool) (plan : List Number) (d : List ℕ) (found : Found) → list_all (λ m. test m.target) plan ≡ true → found_for plan d ≡ found → PassesTest test found
+answer_passes test plan d (answer.Line line) all is = found_passes test plan d (target.Line line) all is
+answer_passes test plan d (answer.Room room) all is = found_passes test plan d (target.Room room) all is
+answer_passes test plan d answer.More all is = tt
+answer_passes test plan d answer.Nothing all is = tt
 
 -- ---- what a plan has with one more number
 

@@ -3,16 +3,16 @@ use Rattle.std.proofs.Common.{◌≡◌, ℕ, true, false, List, length, Result,
 use Rattle.std.specs.Prelude.{IfOk, IfErr, IsTrue}
 use Rattle.std.specs.List.Sorted.{IsSearchInRange, IsBinarySearchResult}
 use Rattle.number_plan.specs.declared.plan.Number.{Number}
-use Rattle.number_plan.specs.Plan.{side_by_side, in_order, is_taken, AreApart}
+use Rattle.number_plan.specs.Plan.{side_by_side, in_order, is_number_taken, AreApart}
 use Rattle.number_plan.specs.Search.{IsBesideAt, IsPlaceFor}
-use Rattle.number_plan.proofs.Ordered.{searched, order_apart}
+use Rattle.number_plan.proofs.OrderFacts.{searched, order_apart}
 use Rattle.number_plan.proofs.Looks.{taken_beside, free_at_place}
 
 pub record Says (xs : List Number) (d : List ℕ) (r : Result ℕ ℕ) : Type 0 where
   pub beside : IfOk r (IsBesideAt xs d)
-  pub taken : IfOk r (λ _. IsTrue (is_taken xs d))
+  pub taken : IfOk r (λ _. IsTrue (is_number_taken xs d))
   pub place : IfErr r (IsPlaceFor xs d)
-  pub free : IfErr r (λ _. is_taken xs d ≡ false)
+  pub free : IfErr r (λ _. is_number_taken xs d ≡ false)
   pub apart : AreApart xs
 
 pub says : (xs : List Number) (d : List ℕ) (r : Result ℕ ℕ) → in_order xs ≡ true → IsSearchInRange r (length xs) → IsBinarySearchResult (λ n. side_by_side n.digits d) xs r → Says xs d r

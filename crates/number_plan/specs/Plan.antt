@@ -49,8 +49,8 @@ abbrev pub AreApart : List Number → Type 0
 AreApart plan = (j k : ℕ) (m n : Number) → slice_get plan j ≡ Some m → slice_get plan k ≡ Some n → IsTrue (begins m.digits n.digits) → j ≡ k
 
 -- some number of the plan equals, begins or continues the digits
-abbrev pub is_taken : List Number → List ℕ → Bool
-is_taken plan digits = list_any (λ n. begins n.digits digits || begins digits n.digits) plan
+abbrev pub is_number_taken : List Number → List ℕ → Bool
+is_number_taken plan digits = list_any (λ n. begins n.digits digits || begins digits n.digits) plan
 
 -- ---- what digits lead to
 
@@ -59,9 +59,9 @@ found_at (target.Line line) = answer.Line line
 found_at (target.Room room) = answer.Room room
 
 -- the target of the number that begins the digits, More where a number begins with them, and else Nothing
-abbrev pub found : List Number → List ℕ → Found
-found [] digits = answer.Nothing
-found (n ∷ ns) digits = if begins n.digits digits then found_at n.target else if begins digits n.digits then answer.More else found ns digits
+abbrev pub found_for : List Number → List ℕ → Found
+found_for [] digits = answer.Nothing
+found_for (n ∷ ns) digits = if begins n.digits digits then found_at n.target else if begins digits n.digits then answer.More else found_for ns digits
 
 -- a number of the plan begins the digits, and it stands for this target
 pub record LeadsTo (plan : List Number) (digits : List ℕ) (goal : Target) : Type 0 where
@@ -72,7 +72,7 @@ pub record LeadsTo (plan : List Number) (digits : List ℕ) (goal : Target) : Ty
   pub target_is : number.target ≡ goal
 
 -- the digits are the beginning of a number of the plan, and not the whole of it
-pub record IsUnfinished (plan : List Number) (digits : List ℕ) : Type 0 where
+pub record IsUnfinishedNumber (plan : List Number) (digits : List ℕ) : Type 0 where
   pub place : ℕ
   pub number : Number
   pub is_held : slice_get plan place ≡ Some number
@@ -81,11 +81,22 @@ pub record IsUnfinished (plan : List Number) (digits : List ℕ) : Type 0 where
 
 -- no number of the plan begins the digits, and none begins with them
 abbrev pub IsUnknown : List Number → List ℕ → Type 0
-IsUnknown plan digits = is_taken plan digits ≡ false
+IsUnknown plan digits = is_number_taken plan digits ≡ false
 
 -- the target of each number of the plan passes this test
 abbrev pub all_targets : (Target → Bool) → List Number → Bool
 all_targets test plan = list_all (λ n. test n.target) plan
+
+-- what digits lead to passes this test, where it is a line or a room
+abbrev pub PassesTest : (Target → Bool) → Found → Type 0
+PassesTest test (answer.Line line) = test (target.Line line) ≡ true
+PassesTest test (answer.Room room) = test (target.Room room) ≡ true
+PassesTest test answer.More = Unit {0}
+PassesTest test answer.Nothing = Unit {0}
+
+-- and so does the target of each number of the plan
+abbrev pub AllPass : (Target → Bool) → List Number → Type 0
+AllPass test plan = all_targets test plan ≡ true
 
 -- the plan has this number
 abbrev pub IsHeld : List Number → Number → Type 0

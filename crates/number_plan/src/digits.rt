@@ -1,3 +1,5 @@
+//! The digits of a number, and how two numbers stand side by side.
+
 use arrayvec::ArrayVec;
 use std::cmp::Ordering;
 use std::marker::Model;

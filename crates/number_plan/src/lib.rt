@@ -21,6 +21,3 @@ pub use digits::{Digits, LONGEST_NUMBER, is_number};
 pub use laws::{law_of_order, law_of_targets};
 pub use plan::{MOST_NUMBERS, Number, Plan, PlanFault};
 pub use target::{Found, Target};
-
-#[cfg(test)]
-mod tests;

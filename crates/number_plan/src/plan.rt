@@ -1,3 +1,5 @@
+//! The plan of numbers, in the order of their digits.
+
 use crate::digits::{Digits, side_by_side};
 use crate::target::{Found, Target};
 use std::alloc::{AllocError, Global};
@@ -62,7 +64,7 @@ impl Model for Plan {
 
 impl Plan {
     ghost use Rattle.std.specs.Prelude.{◌≡◌, ◌↔◌, ◌<◌, ◌≤◌, ℕ, [], true, false, IsTrue, length, OnOk, OnErr, IfOk, IfErr, IsErrOf};
-    ghost use Rattle.number_plan.specs.Plan.{side_by_side, in_order, with_number, found, is_taken, is_number, AreApart, LeadsTo, IsUnfinished, IsUnknown};
+    ghost use Rattle.number_plan.specs.Plan.{side_by_side, in_order, with_number, found_for, is_number_taken, is_number, AreApart, LeadsTo, IsUnfinishedNumber, IsUnknown};
     ghost use Rattle.number_plan.specs.Search.{IsBesideAt, IsPlaceFor};
 
     /// A plan without numbers.
@@ -87,8 +89,8 @@ impl Plan {
         requires { IsTrue (is_number digits.now) }
         ensures added { OnOk result (self.new ≡ with_number self.old (record { digits = digits.now; target = target })) }
         ensures refused { OnErr result (self.new ≡ self.old) }
-        ensures prefix { IsErrOf result PlanFault.Prefix ↔ IsTrue (is_taken self.old digits.now) }
-        ensures too_many { IsErrOf result PlanFault.TooMany ↔ ((is_taken self.old digits.now ≡ false) × (length self.old ≡ 256)) }
+        ensures prefix { IsErrOf result PlanFault.Prefix ↔ IsTrue (is_number_taken self.old digits.now) }
+        ensures too_many { IsErrOf result PlanFault.TooMany ↔ ((is_number_taken self.old digits.now ≡ false) × (length self.old ≡ 256)) }
         ensures apart { AreApart self.new }
     {
         match self.search(digits) {
@@ -103,10 +105,10 @@ impl Plan {
 
     /// What the digits lead to.
     pub fn look(&self, digits: &[u8]) -> Found
-        ensures found { result ≡ found self.now digits.now }
+        ensures found { result ≡ found_for self.now digits.now }
         ensures line { (l : ℕ) → (result ≡ Found.Line l) ↔ LeadsTo self.now digits.now (Target.Line l) }
         ensures room { (r : ℕ) → (result ≡ Found.Room r) ↔ LeadsTo self.now digits.now (Target.Room r) }
-        ensures more { (result ≡ Found.More) ↔ IsUnfinished self.now digits.now }
+        ensures more { (result ≡ Found.More) ↔ IsUnfinishedNumber self.now digits.now }
         ensures nothing { (result ≡ Found.Nothing) ↔ IsUnknown self.now digits.now }
         ensures apart { AreApart self.now }
     {
@@ -114,7 +116,7 @@ impl Plan {
     }
 
     fn find(&self, digits: &[u8]) -> Found
-        ensures found { result ≡ found self.now digits.now }
+        ensures found { result ≡ found_for self.now digits.now }
         ensures apart { AreApart self.now }
     {
         match self.search(digits) {
@@ -133,9 +135,9 @@ impl Plan {
     // Where a number begins the digits or begins with them, or else where the digits have their place.
     fn search(&self, digits: &[u8]) -> Result<usize, usize>
         ensures beside { IfOk result (IsBesideAt self.now digits.now) }
-        ensures taken { IfOk result (λ _. IsTrue (is_taken self.now digits.now)) }
+        ensures taken { IfOk result (λ _. IsTrue (is_number_taken self.now digits.now)) }
         ensures place { IfErr result (IsPlaceFor self.now digits.now) }
-        ensures free { IfErr result (λ _. is_taken self.now digits.now ≡ false) }
+        ensures free { IfErr result (λ _. is_number_taken self.now digits.now ≡ false) }
         ensures order { in_order self.now ≡ true }
         ensures apart { AreApart self.now }
         ensures few { length self.now ≤ 256 }

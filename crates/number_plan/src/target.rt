@@ -1,3 +1,5 @@
+//! What a number stands for, and what a look for digits finds.
+
 /// What a number stands for.
 #[derive(Clone, Copy, Debug, PartialEq, Eq)]
 pub enum Target {

@@ -19,8 +19,10 @@ ghost use Rattle.paull_matrix.specs.Matrix.{
   IsLegal,
 };
 
+use crate::steps::Steps;
 use std::alloc::{AllocError, Global};
 use std::marker::Model;
+use std::sync::ledger::Ledger;
 
 /// The paths of a three-stage switch: each has a row (its incoming line), a column (its outgoing
 /// line) and an internal slot. There are as many rows as columns, 1 to 34, and 1 to 59 slots.
@@ -71,44 +73,52 @@ impl PaullMatrix {
     }
 
     /// The column of the path of row `i` in slot `s`, `None` exactly where there is no such path.
-    pub fn row_slot(&self, i: u8, s: u8) -> Option<u8>
+    pub fn row_slot<L: Ledger>(&self, i: u8, s: u8, steps: &mut Steps<L>) -> Option<u8>
         requires row { i < self.now.lines }
         requires slot { s < self.now.slots }
         ensures column { result ≡ row_slot_of self.now i s }
         ensures legal { IsLegal self.now }
+        ensures looks { steps.new ≡ steps.old + 1 }
     {
+        steps.tick();
         self.columns[place_of(self.slots, i, s)]
     }
 
     /// The row of the path of column `j` in slot `s`, `None` exactly where there is no such path.
-    pub fn column_slot(&self, j: u8, s: u8) -> Option<u8>
+    pub fn column_slot<L: Ledger>(&self, j: u8, s: u8, steps: &mut Steps<L>) -> Option<u8>
         requires column { j < self.now.lines }
         requires slot { s < self.now.slots }
         ensures row { result ≡ column_slot_of self.now j s }
         ensures legal { IsLegal self.now }
+        ensures looks { steps.new ≡ steps.old + 1 }
     {
+        steps.tick();
         self.rows[place_of(self.slots, j, s)]
     }
 
     /// The lowest slot that is missing both in row `i` and in column `j`, `None` exactly where every
     /// slot stands in one of them.
-    pub fn common_free(&self, i: u8, j: u8) -> Option<u8>
+    pub fn common_free<L: Ledger>(&self, i: u8, j: u8, steps: &mut Steps<L>) -> Option<u8>
         requires row { i < self.now.lines }
         requires column { j < self.now.lines }
         ensures lowest { result ≡ lowest_in_both self.now i j }
         ensures legal { IsLegal self.now }
+        ensures looks { steps.new ≡ steps.old + 1 }
     {
+        steps.tick();
         let used = self.row_words[usize::from(i)] | self.column_words[usize::from(j)];
         lowest_missing(used, self.slots)
     }
 
     /// The lowest slot that is missing in row `i`, which has fewer paths than there are slots.
-    pub fn free_in_row(&self, i: u8) -> u8
+    pub fn free_in_row<L: Ledger>(&self, i: u8, steps: &mut Steps<L>) -> u8
         requires row { i < self.now.lines }
         requires room { paths_of_row self.now i < self.now.slots }
         ensures lowest { lowest_in_row self.now i ≡ Some result }
         ensures legal { IsLegal self.now }
+        ensures looks { steps.new ≡ steps.old + 1 }
     {
+        steps.tick();
         match lowest_missing(self.row_words[usize::from(i)], self.slots) {
             Some(s) => s,
             None => unreachable!(),
@@ -116,12 +126,14 @@ impl PaullMatrix {
     }
 
     /// The lowest slot that is missing in column `j`, which has fewer paths than there are slots.
-    pub fn free_in_column(&self, j: u8) -> u8
+    pub fn free_in_column<L: Ledger>(&self, j: u8, steps: &mut Steps<L>) -> u8
         requires column { j < self.now.lines }
         requires room { paths_of_column self.now j < self.now.slots }
         ensures lowest { lowest_in_column self.now j ≡ Some result }
         ensures legal { IsLegal self.now }
+        ensures looks { steps.new ≡ steps.old + 1 }
     {
+        steps.tick();
         match lowest_missing(self.column_words[usize::from(j)], self.slots) {
             Some(s) => s,
             None => unreachable!(),

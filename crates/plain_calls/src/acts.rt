@@ -1,3 +1,5 @@
+//! What each act does to the calls.
+
 use crate::elements::Received;
 use crate::exchange::PlainExchange;
 use crate::legs::{Leg, Peer, State, leg_at, replace_leg};

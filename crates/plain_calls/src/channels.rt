@@ -1,3 +1,5 @@
+//! The channels of a line and their places.
+
 ghost use Rattle.std.specs.Prelude.{◌<◌, IfSome};
 
 use circuit_model::PLACES;

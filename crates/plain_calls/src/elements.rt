@@ -1,3 +1,5 @@
+//! How messages are read.
+
 ghost use Rattle.std.specs.Prelude.{◌<◌, ◌+◌, IfSome, length};
 
 use crate::types::{CALL_STATE, CAUSE, NORMAL_CLEARING};

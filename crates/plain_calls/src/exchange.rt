@@ -1,3 +1,5 @@
+//! The plain exchange: its events, one by one.
+
 ghost use Rattle.std.specs.Prelude.{◌<◌, IfSome, IfOk};
 
 use crate::elements::receive;
@@ -146,13 +148,13 @@ impl PlainExchange {
     }
 
     /// The octet that is heard on a slot in a frame.
-    pub fn heard(&self, frame: u32, at: Slot) -> u8 {
+    pub fn octet_heard(&self, frame: u32, at: Slot) -> u8 {
         let tones = &self.tones;
-        self.circuits.heard(tones.ringback.as_slice(), tones.busy.as_slice(), frame, at)
+        self.circuits.octet_heard(tones.ringback.as_slice(), tones.busy.as_slice(), frame, at)
     }
 
     /// How often ringing tone and busy tone were put on a slot.
-    pub fn sounded(&self) -> (u32, u32) {
+    pub fn tones_given(&self) -> (u32, u32) {
         (self.rung, self.busy)
     }
 

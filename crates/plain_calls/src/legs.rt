@@ -1,3 +1,5 @@
+//! The legs of calls, as a list.
+
 use circuit_model::Slot;
 
 /// The call state of a leg (ITU-T Q.931 (05/98), 2.1.2); the numbers are those of 4.5.7.

@@ -37,6 +37,3 @@ pub use report::{PlainEvent, PlainRun, append_octets, plain_report};
 pub use sent::{CallRecord, Course, Party, Sent, Signal};
 pub use setup::Refusal;
 pub use table::Act;
-
-#[cfg(test)]
-mod tests;

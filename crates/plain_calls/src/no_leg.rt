@@ -1,3 +1,5 @@
+//! What answers a message that names no leg.
+
 use crate::elements::Received;
 use crate::sent::{Course, Sent};
 use crate::types::{

@@ -1,3 +1,5 @@
+//! The number plan, as a list.
+
 /// Where calls to a number go.
 #[derive(Clone, Copy, Debug, PartialEq, Eq)]
 pub enum Target {

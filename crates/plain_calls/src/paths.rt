@@ -1,3 +1,5 @@
+//! The paths of the fabric, as a list, and the rule by which they move.
+
 use circuit_model::Slot;
 use std::alloc::{AllocError, Global};
 

@@ -1,3 +1,5 @@
+//! The conference ports, as a list.
+
 ghost use Rattle.std.specs.Prelude.{◌+◌, ◌≤◌};
 
 use circuit_model::{PLACES, Slot};

@@ -1,3 +1,5 @@
+//! A run over a list of events, and its report.
+
 use crate::exchange::{PlainExchange, PlainTones};
 use crate::numbers::Number;
 use crate::sent::{CallRecord, Course, Sent};
@@ -57,7 +59,7 @@ impl PlainRun {
     }
 
     /// How many paths were moved so far.
-    pub fn moved(&self) -> u32 {
+    pub fn paths_moved(&self) -> u32 {
         self.moved
     }
 
@@ -153,7 +155,7 @@ impl PlainRun {
     fn line(&mut self, frame: u32, line: u8) -> Result<(), AllocError> {
         let mut octets = [IDLE; 30];
         for place in 0..PLACES {
-            octets[usize::from(place)] = self.exchange.heard(frame, Slot { line, place });
+            octets[usize::from(place)] = self.exchange.octet_heard(frame, Slot { line, place });
         }
         if octets.iter().all(|octet| *octet == IDLE) {
             return Ok(());

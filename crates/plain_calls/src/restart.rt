@@ -1,3 +1,5 @@
+//! RESTART, as this plain program does it.
+
 use crate::channels::place_of_channel;
 use crate::elements::Received;
 use crate::exchange::PlainExchange;

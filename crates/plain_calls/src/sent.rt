@@ -1,3 +1,5 @@
+//! What is sent for a message, and what is recorded.
+
 use crate::legs::Leg;
 use crate::setup::Refusal;
 use crate::table::Act;

@@ -1,3 +1,5 @@
+//! The checks of a SETUP, in their order.
+
 use crate::channels::place_of_channel;
 use crate::elements::Received;
 use crate::numbers::are_digits;

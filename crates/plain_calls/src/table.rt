@@ -1,3 +1,5 @@
+//! The call table, as this plain program has it.
+
 use crate::elements::Received;
 use crate::legs::State;
 use crate::types::{

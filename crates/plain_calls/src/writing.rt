@@ -1,3 +1,5 @@
+//! How messages are written.
+
 ghost use Rattle.std.specs.Prelude.{◌<◌, length};
 
 use crate::channels::channel_at;

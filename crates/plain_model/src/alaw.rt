@@ -1,3 +1,5 @@
+//! A-law by adding up the widths of the intervals.
+
 ghost use Rattle.std.specs.Prelude.{◌≡◌, ◌<◌, ◌≤◌, slice_index};
 ghost use Rattle.circuit_model.specs.ALaw.{widths, decision_values, interval_of, expand, compress};
 

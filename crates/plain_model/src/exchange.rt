@@ -1,4 +1,6 @@
-use crate::hearing::heard;
+//! An exchange that keeps everything, and looks up what is heard.
+
+use crate::hearing::octet_heard;
 use crate::names::remove_naming;
 use crate::rows::Rows;
 use circuit_model::{Circuit, Kind, Slot};
@@ -30,7 +32,7 @@ impl Exchange {
     ghost use Rattle.circuit_model.specs.Holding.{Connect, Seat, Give_tone, Clear};
     ghost use Rattle.circuit_model.specs.Hears.{hears};
     ghost use Rattle.plain_model.specs.Tones.{tones_of};
-    ghost use Rattle.plain_model.specs.Story.{start, commanded, passed};
+    ghost use Rattle.plain_model.specs.Story.{start, after_command, after_frame};
 
     /// An exchange before its first frame, in which nothing stands.
     pub fn new(alloc: Global) -> Exchange
@@ -60,7 +62,7 @@ impl Exchange {
 
     /// Connects two slots, both ways. Where memory runs out nothing changes.
     pub fn connect(&mut self, x: Slot, y: Slot) -> Result<(), AllocError>
-        ensures ok { OnOk result (self.new ≡ commanded self.old (Connect x y)) }
+        ensures ok { OnOk result (self.new ≡ after_command self.old (Connect x y)) }
         ensures err { OnErr result (self.new ≡ self.old) }
     {
         let since = self.next;
@@ -80,7 +82,7 @@ impl Exchange {
 
     /// Seats a slot in a conference room. Where memory runs out nothing changes.
     pub fn seat(&mut self, x: Slot, room: u8) -> Result<(), AllocError>
-        ensures ok { OnOk result (self.new ≡ commanded self.old (Seat x room)) }
+        ensures ok { OnOk result (self.new ≡ after_command self.old (Seat x room)) }
         ensures err { OnErr result (self.new ≡ self.old) }
     {
         self.circuits.push(Circuit::Member {
@@ -93,7 +95,7 @@ impl Exchange {
 
     /// Gives a slot a tone. Where memory runs out nothing changes.
     pub fn give_tone(&mut self, x: Slot, kind: Kind) -> Result<(), AllocError>
-        ensures ok { OnOk result (self.new ≡ commanded self.old (Give_tone x kind)) }
+        ensures ok { OnOk result (self.new ≡ after_command self.old (Give_tone x kind)) }
         ensures err { OnErr result (self.new ≡ self.old) }
     {
         self.circuits.push(Circuit::Tone {
@@ -106,7 +108,7 @@ impl Exchange {
 
     /// Takes away every circuit that names a slot.
     pub fn clear(&mut self, x: Slot)
-        ensures { self.new ≡ commanded self.old (Clear x) }
+        ensures { self.new ≡ after_command self.old (Clear x) }
     {
         remove_naming(&mut self.circuits, x);
     }
@@ -115,7 +117,7 @@ impl Exchange {
     /// memory runs out nothing changes.
     pub fn frame(&mut self, alloc: Global, input: &[Option<[u8; 30]>]) -> Result<(), AllocError>
         requires { self.old.holding.next + 1 < 2 ^ 32 }
-        ensures ok { OnOk result (self.new ≡ passed self.old input.now) }
+        ensures ok { OnOk result (self.new ≡ after_frame self.old input.now) }
         ensures err { OnErr result (self.new ≡ self.old) }
     {
         let frames = self.inputs.len();
@@ -129,9 +131,9 @@ impl Exchange {
     }
 
     /// The octet that a slot hears in frame `f`, given the octets of the two tones.
-    pub fn heard(&self, ringback: &[u8], busy: &[u8], f: u32, y: Slot) -> u8
+    pub fn octet_heard(&self, ringback: &[u8], busy: &[u8], f: u32, y: Slot) -> u8
         ensures { result ≡ hears (tones_of ringback.now busy.now) self.now.inputs self.now.held f y }
     {
-        heard(ringback, busy, &self.inputs, &self.held, f, y)
+        octet_heard(ringback, busy, &self.inputs, &self.held, f, y)
     }
 }

@@ -1,3 +1,5 @@
+//! What a slot hears, by walking over lists.
+
 ghost use Rattle.std.specs.Prelude.{◌≡◌, ◌≤◌, slice_get};
 ghost use Rattle.circuit_model.specs.Circuits.{listener, heard_by};
 ghost use Rattle.circuit_model.specs.FrameInput.{arrives, line_of, octet_at};
@@ -31,7 +33,7 @@ fn listener_of(circuit: Circuit) -> Slot
 }
 
 /// The octet that arrives on a slot in frame `f`.
-pub fn arriving(inputs: &Rows<Option<[u8; 30]>>, f: u32, at: Slot) -> u8
+pub fn octet_arriving(inputs: &Rows<Option<[u8; 30]>>, f: u32, at: Slot) -> u8
     ensures { result ≡ arrives inputs.now f at }
 {
     octet_of_place(octets_of_line(inputs.row(f as usize), at.line), at.place)
@@ -56,7 +58,7 @@ fn octet_of_place(octets: Option<[u8; 30]>, place: u8) -> u8
 
 /// The octet that slot `y` hears in frame `f`, given the octets of the two tones and, for each frame,
 /// what arrived in it and which circuits stood in it.
-pub fn heard(
+pub fn octet_heard(
     ringback: &[u8],
     busy: &[u8],
     inputs: &Rows<Option<[u8; 30]>>,
@@ -74,9 +76,11 @@ pub fn heard(
         Circuit::Tone { kind, since, .. } => {
             tone_octet(table_of(kind, ringback, busy), f.saturating_sub(since))
         }
-        Circuit::Pair { from, since, .. } if is_through(since, f) => arriving(inputs, sent, from),
+        Circuit::Pair { from, since, .. } if is_through(since, f) => octet_arriving(
+            inputs, sent, from,
+        ),
         Circuit::Member { room, at, since } if is_through(since, f) => {
-            mixed(inputs, held.row(sent as usize), room, at, sent)
+            room_mix(inputs, held.row(sent as usize), room, at, sent)
         }
         Circuit::Pair { .. } | Circuit::Member { .. } => IDLE,
     }
@@ -94,7 +98,13 @@ fn table_of<'a>(kind: Kind, ringback: &'a [u8], busy: &'a [u8]) -> &'a [u8]
 
 /// What the bridge mixes for slot `y` in frame `g`: the values of the octets that the other members
 /// of the room sent two frames before are added up, and the sum is coded once.
-pub fn mixed(inputs: &Rows<Option<[u8; 30]>>, circuits: &[Circuit], room: u8, y: Slot, g: u32) -> u8
+pub fn room_mix(
+    inputs: &Rows<Option<[u8; 30]>>,
+    circuits: &[Circuit],
+    room: u8,
+    y: Slot,
+    g: u32,
+) -> u8
     ensures { result ≡ mix inputs.now circuits.now room y g }
 {
     let mut sum = 0;
@@ -111,7 +121,7 @@ fn value_in_mix(inputs: &Rows<Option<[u8; 30]>>, circuit: Circuit, room: u8, y: 
     ensures { result ≡ value_in_mix inputs.now room y g circuit }
 {
     if is_other(room, y, g, circuit) {
-        expand_by_search(arriving(inputs, g.saturating_sub(2), listener_of(circuit)))
+        expand_by_search(octet_arriving(inputs, g.saturating_sub(2), listener_of(circuit)))
     } else {
         0
     }

@@ -1,3 +1,5 @@
+//! Which circuits name a slot.
+
 ghost use Rattle.std.specs.Prelude.{◌≡◌, not, filter};
 ghost use Rattle.circuit_model.specs.Circuits.{names};
 

@@ -1,3 +1,5 @@
+//! Lists of any length, one for each frame.
+
 use std::alloc::{AllocError, Global};
 use std::marker::Model;
 

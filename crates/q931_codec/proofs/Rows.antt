@@ -5,7 +5,7 @@ use Rattle.std.specs.List.{flat_map}
 use Rattle.std.proofs.lemmas.Bool.Decides.{nat_tests}
 use Rattle.q931_elements.specs.InformationElement.{InformationElement, first_of}
 use Rattle.q931_elements.specs.Grammar.{element_of}
-use Rattle.q931_codec.specs.Outgoing.{OutgoingMessage, IsWritable, completed, given, rows, received, cause_contents, one_octet, channel_contents, progress_contents}
+use Rattle.q931_codec.specs.Outgoing.{OutgoingMessage, IsWritable, item_of_complete, item_of_row, rows, message_at_receiver, cause_contents, one_octet, channel_contents, progress_contents}
 use Rattle.q931_codec.specs.declared.contents.ChannelIdentification.TheVariants.{Exclusive}
 use Rattle.q931_codec.specs.Contents.{cause_of, call_state_of, channel_of, one_channel, is_bearer_channel, first_octet}
 use Rattle.q931_codec.specs.Fields.{contents_given, HasFields}
@@ -14,7 +14,7 @@ abbrev Rows : Type 0
 Rows = List (ℕ × List ℕ)
 
 abbrev elements_of_rows : Rows → List InformationElement
-elements_of_rows rows = map element_of (flat_map given rows)
+elements_of_rows rows = map element_of (flat_map item_of_row rows)
 
 -- no row has the code
 abbrev lacks : ℕ → Rows → Bool
@@ -54,15 +54,15 @@ once_first : (code : ℕ) (rows : Rows) → has_once code rows ≡ true → firs
 once_first code [] is = refl
 once_first code ((c, contents) ∷ rows) is = once_by (eqb c code) c code contents rows refl is (once_first code rows)
 
-after_complete : (code : ℕ) (complete : Bool) (rows : Rows) → eqb 0xA1 code ≡ false → first_of code (map element_of (completed complete ++ flat_map given rows)) ≡ first_of code (elements_of_rows rows)
+after_complete : (code : ℕ) (complete : Bool) (rows : Rows) → eqb 0xA1 code ≡ false → first_of code (map element_of (item_of_complete complete ++ flat_map item_of_row rows)) ≡ first_of code (elements_of_rows rows)
 after_complete code true rows other = rw other refl
 after_complete code false rows other = refl
 
 -- the contents of a row are found by its code
-row_first : (m : OutgoingMessage) (code : ℕ) → eqb 0xA1 code ≡ false → has_once code (rows m) ≡ true → first_of code (received m).elements ≡ contents_given (contents_at code (rows m))
+row_first : (m : OutgoingMessage) (code : ℕ) → eqb 0xA1 code ≡ false → has_once code (rows m) ≡ true → first_of code (message_at_receiver m).elements ≡ contents_given (contents_at code (rows m))
 row_first m code other once = after_complete code m.complete (rows m) other ∙ once_first code (rows m) once
 
-complete_first : (complete : Bool) (rows : Rows) → lacks 0xA1 rows ≡ true → is_some (first_of 0xA1 (map element_of (completed complete ++ flat_map given rows))) ≡ complete
+complete_first : (complete : Bool) (rows : Rows) → lacks 0xA1 rows ≡ true → is_some (first_of 0xA1 (map element_of (item_of_complete complete ++ flat_map item_of_row rows))) ≡ complete
 complete_first true rows none = refl
 complete_first false rows none = ap is_some (lacks_first 0xA1 rows none)
 
@@ -91,7 +91,7 @@ channel_back (Some channel) is =
     let number : (0x80 + channel) % 0x80 ≡ channel = omega (arith, small) in
     ap (λ (n : ℕ). Some (one_channel 0xA9 n)) number ∙ rw is refl
 
-pub fields_back : (m : OutgoingMessage) → IsWritable m → HasFields (received m) m
+pub fields_back : (m : OutgoingMessage) → IsWritable m → HasFields (message_at_receiver m) m
 fields_back m is = record {
   flag = refl;
   reference = refl;

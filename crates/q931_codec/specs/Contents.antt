@@ -81,7 +81,9 @@ is_carried _ = false
 
 -- a bearer capability has 2 to 10 octets of contents
 abbrev pub bearer_of : List ℕ → BearerCapability
-bearer_of contents = if nat_lt (length contents) 2 || nat_lt 10 (length contents) then bearer.Invalid else if is_carried contents then bearer.Carried else bearer.NotCarried
+bearer_of contents =
+    if nat_lt (length contents) 2 || nat_lt 10 (length contents) then bearer.Invalid
+    else if is_carried contents then bearer.Carried else bearer.NotCarried
 
 abbrev pub bearer_in : List InformationElement → Option (List ℕ)
 bearer_in elements = first_of identifier.bearer_capability elements
@@ -100,26 +102,26 @@ abbrev pub decimal_digits : List ℕ → Option (List ℕ)
 decimal_digits octets = let digits = map (λ octet. octet % 0x80) octets in if list_all is_ascii_digit digits then Some digits else None
 
 -- the digits of a called party number
-abbrev pub dialled : List ℕ → Option (List ℕ)
-dialled contents = decimal_digits (drop 1 contents)
+abbrev pub dialled_digits : List ℕ → Option (List ℕ)
+dialled_digits contents = decimal_digits (drop 1 contents)
 
 -- ---- what is passed on from the calling to the called user as it was received
 
 -- contents of at most so many octets; else nothing
-abbrev pub passed_on : ℕ → List ℕ → List ℕ
-passed_on most contents = if nat_le (length contents) most then contents else []
+abbrev pub contents_passed_on : ℕ → List ℕ → List ℕ
+contents_passed_on most contents = if nat_le (length contents) most then contents else []
 
 abbrev pub contents_in : ℕ → List InformationElement → List ℕ
 contents_in code elements = unwrap_or (first_of code elements) []
 
 -- calling party number (4.5.10)
 abbrev pub calling_in : List InformationElement → List ℕ
-calling_in elements = passed_on 22 (contents_in identifier.calling_party_number elements)
+calling_in elements = contents_passed_on 22 (contents_in identifier.calling_party_number elements)
 
 -- low layer compatibility (4.5.19)
 abbrev pub low_layer_in : List InformationElement → List ℕ
-low_layer_in elements = passed_on 16 (contents_in identifier.low_layer_compatibility elements)
+low_layer_in elements = contents_passed_on 16 (contents_in identifier.low_layer_compatibility elements)
 
 -- high layer compatibility (4.5.17)
 abbrev pub high_layer_in : List InformationElement → List ℕ
-high_layer_in elements = passed_on 3 (contents_in identifier.high_layer_compatibility elements)
+high_layer_in elements = contents_passed_on 3 (contents_in identifier.high_layer_compatibility elements)

@@ -27,7 +27,10 @@ type_of (kind.Unknown octet) = octet
 
 -- the message types with a name
 abbrev pub named_kinds : List MessageKind
-named_kinds = kind.Alerting ∷ kind.CallProceeding ∷ kind.Progress ∷ kind.Setup ∷ kind.Connect ∷ kind.SetupAcknowledge ∷ kind.ConnectAcknowledge ∷ kind.UserInformation ∷ kind.Disconnect ∷ kind.Restart ∷ kind.Release ∷ kind.RestartAcknowledge ∷ kind.ReleaseComplete ∷ kind.Facility ∷ kind.Notify ∷ kind.StatusEnquiry ∷ kind.Information ∷ kind.Status ∷ []
+named_kinds =
+    kind.Alerting ∷ kind.CallProceeding ∷ kind.Progress ∷ kind.Setup ∷ kind.Connect ∷ kind.SetupAcknowledge ∷ kind.ConnectAcknowledge
+    ∷ kind.UserInformation ∷ kind.Disconnect ∷ kind.Restart ∷ kind.Release ∷ kind.RestartAcknowledge ∷ kind.ReleaseComplete
+    ∷ kind.Facility ∷ kind.Notify ∷ kind.StatusEnquiry ∷ kind.Information ∷ kind.Status ∷ []
 
 -- the kind in the list with this octet
 abbrev pub kind_among : List MessageKind → ℕ → MessageKind

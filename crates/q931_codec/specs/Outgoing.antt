@@ -101,14 +101,14 @@ progress_contents false = []
 
 -- ---- the elements in the order in which they are written
 
-abbrev pub completed : Bool → List Item
-completed true = SingleOctet identifier.sending_complete ∷ []
-completed false = []
+abbrev pub item_of_complete : Bool → List Item
+item_of_complete true = SingleOctet identifier.sending_complete ∷ []
+item_of_complete false = []
 
 -- empty contents stand for no element
-abbrev pub given : ℕ × List ℕ → List Item
-given (code, []) = []
-given (code, octet ∷ octets) = VariableLength code (octet ∷ octets) ∷ []
+abbrev pub item_of_row : ℕ × List ℕ → List Item
+item_of_row (code, []) = []
+item_of_row (code, octet ∷ octets) = VariableLength code (octet ∷ octets) ∷ []
 
 -- the variable length elements in ascending order of their identifiers (4.5.1)
 abbrev pub rows : OutgoingMessage → List (ℕ × List ℕ)
@@ -125,13 +125,13 @@ rows m =
     ∷ (identifier.high_layer_compatibility, m.high)
     ∷ []
 
-abbrev pub sent : OutgoingMessage → List Item
-sent m = completed m.complete ++ flat_map given (rows m)
+abbrev pub items_of : OutgoingMessage → List Item
+items_of m = item_of_complete m.complete ++ flat_map item_of_row (rows m)
 
 -- the octets of an outgoing message
 abbrev pub encoding : OutgoingMessage → List ℕ
-encoding m = header m.flag m.reference m.kind ++ octets_of_all (sent m)
+encoding m = header m.flag m.reference m.kind ++ octets_of_all (items_of m)
 
 -- the message that its receiver reads
-abbrev pub received : OutgoingMessage → Message
-received m = record { flag = m.flag; reference = m.reference; kind = m.kind; elements = map element_of (sent m) }
+abbrev pub message_at_receiver : OutgoingMessage → Message
+message_at_receiver m = record { flag = m.flag; reference = m.reference; kind = m.kind; elements = map element_of (items_of m) }

@@ -1,3 +1,5 @@
+//! The bearer service that a received message asks for, and the compatibilities that go with it.
+
 use crate::codes::{BEARER_CAPABILITY, HIGH_LAYER_COMPATIBILITY, LOW_LAYER_COMPATIBILITY};
 use crate::message::Message;
 
@@ -49,7 +51,7 @@ impl<'a> Message<'a> {
         ensures { result.now ≡ low_layer_in self.now.elements }
     {
         match self.elements.first(LOW_LAYER_COMPATIBILITY) {
-            Some(contents) => passed_on(contents, 16),
+            Some(contents) => contents_passed_on(contents, 16),
             None => &[],
         }
     }
@@ -60,18 +62,18 @@ impl<'a> Message<'a> {
         ensures { result.now ≡ high_layer_in self.now.elements }
     {
         match self.elements.first(HIGH_LAYER_COMPATIBILITY) {
-            Some(contents) => passed_on(contents, 3),
+            Some(contents) => contents_passed_on(contents, 3),
             None => &[],
         }
     }
 }
 
 ghost use Rattle.std.specs.Prelude.{◌≡◌};
-ghost use Rattle.q931_codec.specs.Contents.{passed_on};
+ghost use Rattle.q931_codec.specs.Contents.{contents_passed_on};
 
 // What is passed on to the called user as it was received, where it isn't too long.
-pub(crate) fn passed_on(contents: &[u8], most: usize) -> &[u8]
-    ensures { result.now ≡ passed_on most contents.now }
+pub(crate) fn contents_passed_on(contents: &[u8], most: usize) -> &[u8]
+    ensures { result.now ≡ contents_passed_on most contents.now }
 {
     if contents.len() <= most {
         contents

@@ -1,3 +1,5 @@
+//! What a received message says of causes, call states, channels and restarts.
+
 use crate::codes::{CALL_STATE, CAUSE, CHANNEL_IDENTIFICATION, RESTART_INDICATOR};
 use crate::message::Message;
 

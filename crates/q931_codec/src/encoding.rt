@@ -1,10 +1,12 @@
+//! How an outgoing message is written.
+
 ghost use Rattle.std.specs.Prelude.{◌≡◌, ◌+◌, ◌^◌, ◌<◌, ◌≤◌, IsTrue, List, [], ◌++◌, length, IfSome};
 ghost use Rattle.q931_elements.specs.Grammar.{octets_of_all};
 ghost use Rattle.q931_elements.specs.Limits.{longest_message};
 ghost use Rattle.q931_codec.specs.Identifiers as identifier;
 ghost use Rattle.q931_codec.specs.Contents.{is_bearer_channel};
 ghost use Rattle.q931_codec.specs.Grammar.{IsMessage, header};
-ghost use Rattle.q931_codec.specs.Outgoing.{outgoing_of, IsWritable, encoding, received, completed, given, cause_contents, one_octet, channel_contents, progress_contents};
+ghost use Rattle.q931_codec.specs.Outgoing.{outgoing_of, IsWritable, encoding, message_at_receiver, item_of_complete, item_of_row, cause_contents, one_octet, channel_contents, progress_contents};
 
 use crate::codes::{
     BEARER_CAPABILITY, CALL_STATE, CALLED_PARTY_NUMBER, CALLING_PARTY_NUMBER, CAUSE,
@@ -26,7 +28,7 @@ const LOCATION: u8 = 0x82;
 pub fn write(message: &Outgoing) -> ArrayVec<u8, LONGEST_MESSAGE>
     requires { IsWritable (outgoing_of message.now) }
     ensures encoded { result.items ≡ encoding (outgoing_of message.now) }
-    ensures read_back { IsMessage result.items (received (outgoing_of message.now)) }
+    ensures read_back { IsMessage result.items (message_at_receiver (outgoing_of message.now)) }
     ensures fits { length result.items ≤ 107 }
 {
     let mut writer = Writer::new();
@@ -61,7 +63,7 @@ fn header(writer: &mut Writer, message: &Outgoing)
 
 fn complete(writer: &mut Writer, complete: bool)
     requires { length writer.old + 1 ≤ longest_message }
-    ensures octets { writer.new ≡ writer.old ++ octets_of_all (completed complete) }
+    ensures octets { writer.new ≡ writer.old ++ octets_of_all (item_of_complete complete) }
     ensures room { length writer.new ≤ length writer.old + 1 }
 {
     if complete {
@@ -72,7 +74,7 @@ fn complete(writer: &mut Writer, complete: bool)
 // The element with these contents, where there are some.
 fn element(writer: &mut Writer, code: u8, contents: &[u8])
     requires { length writer.old + 2 + length contents.now ≤ longest_message }
-    ensures octets { writer.new ≡ writer.old ++ octets_of_all (given (code, contents.now)) }
+    ensures octets { writer.new ≡ writer.old ++ octets_of_all (item_of_row (code, contents.now)) }
     ensures room { length writer.new ≤ length writer.old + 2 + length contents.now }
 {
     if !contents.is_empty() {
@@ -83,7 +85,7 @@ fn element(writer: &mut Writer, code: u8, contents: &[u8])
 // The element of one octet, where there is one.
 fn octet(writer: &mut Writer, code: u8, octet: Option<u8>)
     requires { length writer.old + 3 ≤ longest_message }
-    ensures octets { writer.new ≡ writer.old ++ octets_of_all (given (code, one_octet octet)) }
+    ensures octets { writer.new ≡ writer.old ++ octets_of_all (item_of_row (code, one_octet octet)) }
     ensures room { length writer.new ≤ length writer.old + 3 }
 {
     if let Some(octet) = octet {
@@ -94,7 +96,7 @@ fn octet(writer: &mut Writer, code: u8, octet: Option<u8>)
 fn cause(writer: &mut Writer, value: Option<u8>)
     requires room { length writer.old + 4 ≤ longest_message }
     requires value { IfSome value (λ v. v < 128) }
-    ensures octets { writer.new ≡ writer.old ++ octets_of_all (given (identifier.cause, cause_contents value)) }
+    ensures octets { writer.new ≡ writer.old ++ octets_of_all (item_of_row (identifier.cause, cause_contents value)) }
     ensures room { length writer.new ≤ length writer.old + 4 }
 {
     if let Some(value) = value {
@@ -107,7 +109,7 @@ fn cause(writer: &mut Writer, value: Option<u8>)
 fn channel(writer: &mut Writer, channel: Option<u8>)
     requires room { length writer.old + 5 ≤ longest_message }
     requires channel { IfSome channel (λ c. IsTrue (is_bearer_channel c)) }
-    ensures octets { writer.new ≡ writer.old ++ octets_of_all (given (identifier.channel_identification, channel_contents channel)) }
+    ensures octets { writer.new ≡ writer.old ++ octets_of_all (item_of_row (identifier.channel_identification, channel_contents channel)) }
     ensures room { length writer.new ≤ length writer.old + 5 }
 {
     if let Some(channel) = channel {
@@ -118,7 +120,7 @@ fn channel(writer: &mut Writer, channel: Option<u8>)
 // Progress description 8: in-band information or an appropriate pattern is now available.
 fn progress(writer: &mut Writer, progress: bool)
     requires { length writer.old + 4 ≤ longest_message }
-    ensures octets { writer.new ≡ writer.old ++ octets_of_all (given (identifier.progress_indicator, progress_contents progress)) }
+    ensures octets { writer.new ≡ writer.old ++ octets_of_all (item_of_row (identifier.progress_indicator, progress_contents progress)) }
     ensures room { length writer.new ≤ length writer.old + 4 }
 {
     if progress {

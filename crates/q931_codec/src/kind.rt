@@ -1,3 +1,5 @@
+//! The message types and their octets.
+
 /// A message type (Q.931, 4.4), named as in table 4-2. Each variant names the section that describes
 /// the message.
 #[derive(Clone, Copy, Debug, PartialEq, Eq)]

@@ -5,7 +5,7 @@ ghost use Rattle.q931_codec.specs.Causes as cause;
 ghost use Rattle.q931_codec.specs.RestartClasses as class;
 ghost use Rattle.q931_codec.specs.declared.message.Message.{Message};
 ghost use Rattle.q931_codec.specs.Grammar.{IsMessage};
-ghost use Rattle.q931_codec.specs.Outgoing.{OutgoingMessage, IsWritable, received};
+ghost use Rattle.q931_codec.specs.Outgoing.{OutgoingMessage, IsWritable, message_at_receiver};
 ghost use Rattle.q931_codec.specs.Fields.{HasFields};
 
 use crate::causes::{
@@ -28,7 +28,7 @@ pub fn one_message()
 
 /// Each field of an outgoing message is read again from what was written.
 pub fn written_fields_are_read()
-    ensures { (m : OutgoingMessage) → IsWritable m → HasFields (received m) m }
+    ensures { (m : OutgoingMessage) → IsWritable m → HasFields (message_at_receiver m) m }
 {}
 
 /// The call state values of the code are those of the definitions.
@@ -45,7 +45,7 @@ pub fn law_of_states()
 {}
 
 /// The cause values of the code are those of the definitions.
-pub fn law_of_causes()
+pub fn law_of_cause_values()
     ensures unallocated { UNALLOCATED_NUMBER ≡ cause.unallocated_number }
     ensures normal { NORMAL_CALL_CLEARING ≡ cause.normal_call_clearing }
     ensures busy { USER_BUSY ≡ cause.user_busy }

@@ -31,11 +31,9 @@ pub use contents::ChannelIdentification;
 pub use encoding::write;
 pub use kind::MessageKind;
 pub use laws::{
-    law_of_causes, law_of_restart_classes, law_of_states, one_message, written_fields_are_read,
+    law_of_cause_values, law_of_restart_classes, law_of_states, one_message,
+    written_fields_are_read,
 };
 pub use message::{Discard, Message, read};
-pub use numbers::{MOST_DIGITS, dialled};
+pub use numbers::{MOST_DIGITS, dialled_digits};
 pub use outgoing::Outgoing;
-
-#[cfg(test)]
-mod tests;

@@ -1,3 +1,5 @@
+//! A message as it is read, and why octets are none.
+
 use crate::codes::{PROTOCOL_DISCRIMINATOR, REFERENCE_LENGTH};
 use crate::kind::MessageKind;
 use q931_elements::Elements;

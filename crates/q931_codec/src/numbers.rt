@@ -1,4 +1,6 @@
-use crate::bearer::passed_on;
+//! The numbers of a received message, and the digits that were dialled.
+
+use crate::bearer::contents_passed_on;
 use crate::codes::{CALLED_PARTY_NUMBER, CALLING_PARTY_NUMBER};
 use crate::message::Message;
 use arrayvec::ArrayVec;
@@ -30,22 +32,22 @@ impl<'a> Message<'a> {
         ensures { result.now ≡ calling_in self.now.elements }
     {
         match self.elements.first(CALLING_PARTY_NUMBER) {
-            Some(contents) => passed_on(contents, 22),
+            Some(contents) => contents_passed_on(contents, 22),
             None => &[],
         }
     }
 }
 
 ghost use Rattle.std.specs.Prelude.{◌≡◌, ◌≤◌, length, option_map};
-ghost use Rattle.q931_codec.specs.Contents.{dialled};
+ghost use Rattle.q931_codec.specs.Contents.{dialled_digits};
 
 /// The digits of the contents of a called party number (4.5.8) as IA5 characters: the low seven bits of
 /// the octets after the first. `None` where one of them isn't a digit 0 to 9.
 ///
 /// The contents have at most 21 octets.
-pub fn dialled(contents: &[u8]) -> Option<ArrayVec<u8, MOST_DIGITS>>
+pub fn dialled_digits(contents: &[u8]) -> Option<ArrayVec<u8, MOST_DIGITS>>
     requires { length contents.now ≤ 21 }
-    ensures { option_map (λ digits. digits.items) result ≡ dialled contents.now }
+    ensures { option_map (λ digits. digits.items) result ≡ dialled_digits contents.now }
 {
     match contents {
         [] => Some(ArrayVec::new()),

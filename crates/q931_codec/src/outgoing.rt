@@ -1,3 +1,5 @@
+//! A message that is to be sent.
+
 use crate::kind::MessageKind;
 
 /// A message that is to be sent. An element is written where its field has something: an empty slice,

@@ -4,28 +4,28 @@ use Rattle.std.specs.List.{AllByRecursion}
 use Rattle.std.proofs.lemmas.Bool.{cases_lt, le-ltb, lt-ltb}
 use Rattle.std.proofs.lemmas.List.{take_at, drop_at, take-append-drop, length-take, length-drop, nil_from_length}
 use Rattle.q931_elements.specs.InformationElement.{InformationElement}
-use Rattle.q931_elements.specs.Grammar.{Item, SingleOctet, VariableLength, IsItem, octets_of, element_of, IsLockingShift, IsNonLockingShift, Piece, Present, Shifted, IsPiece, octets_of_pieces, present, IsUnfinished, IsTail, IsElementList, IsPresent, octets_of_all}
-use Rattle.q931_elements.specs.Reading.{Whole, LockingShift, NonLockingShift, Unfinished, front, variable_front, after_item, elements_of}
+use Rattle.q931_elements.specs.Grammar.{Item, SingleOctet, VariableLength, IsItem, octets_of, element_of, IsLockingShift, IsNonLockingShift, Piece, Present, Shifted, IsPiece, octets_of_pieces, present_elements, IsUnfinishedElement, IsTail, IsElementList, IsPresent, octets_of_all}
+use Rattle.q931_elements.specs.Reading.{Whole, LockingShift, NonLockingShift, Unfinished, front_in, variable_front, after_item, elements_of}
 use Rattle.q931_elements.proofs.Steps.{elements_step, elements_from}
 
 -- ---- one octet at the front
 
-variable_at : (octet : ℕ) (rest : List ℕ) → octet < 0x80 → front (octet ∷ rest) ≡ variable_front octet rest
+variable_at : (octet : ℕ) (rest : List ℕ) → octet < 0x80 → front_in (octet ∷ rest) ≡ variable_front octet rest
 variable_at octet rest low = rw (lt-ltb octet 0x80 low) refl
 
-single_at : (octet : ℕ) (rest : List ℕ) → 0x80 ≤ octet → (octet < 0x90) ⊎ (0xA0 ≤ octet) → front (octet ∷ rest) ≡ Whole (record { code = octet; contents = [] }) rest
+single_at : (octet : ℕ) (rest : List ℕ) → 0x80 ≤ octet → (octet < 0x90) ⊎ (0xA0 ≤ octet) → front_in (octet ∷ rest) ≡ Whole (record { code = octet; contents = [] }) rest
 single_at octet rest high (inl below) = rw (le-ltb octet 0x80 high, lt-ltb octet 0x90 below) refl
 single_at octet rest high (inr above) = rw (le-ltb octet 0x80 high, le-ltb octet 0x90 (omega arith), le-ltb octet 0x98 (omega arith), le-ltb octet 0xA0 above) refl
 
-locking_at : (octet : ℕ) (rest : List ℕ) → IsLockingShift octet → front (octet ∷ rest) ≡ LockingShift
+locking_at : (octet : ℕ) (rest : List ℕ) → IsLockingShift octet → front_in (octet ∷ rest) ≡ LockingShift
 locking_at octet rest (from, to) = rw (le-ltb octet 0x80 (omega arith), le-ltb octet 0x90 from, lt-ltb octet 0x98 to) refl
 
-non_locking_at : (octet : ℕ) (rest : List ℕ) → IsNonLockingShift octet → front (octet ∷ rest) ≡ NonLockingShift rest
+non_locking_at : (octet : ℕ) (rest : List ℕ) → IsNonLockingShift octet → front_in (octet ∷ rest) ≡ NonLockingShift rest
 non_locking_at octet rest (from, to) = rw (le-ltb octet 0x80 (omega arith), le-ltb octet 0x90 (omega arith), le-ltb octet 0x98 from, lt-ltb octet 0xA0 to) refl
 
 -- ---- a piece or a tail at the front
 
-front_present : (item : Item) (rest : List ℕ) → IsPiece (Present item) → front (octets_of item ++ rest) ≡ Whole (element_of item) rest
+front_present : (item : Item) (rest : List ℕ) → IsPiece (Present item) → front_in (octets_of item ++ rest) ≡ Whole (element_of item) rest
 front_present (SingleOctet octet) rest is = single_at octet rest is.0 is.1
 front_present (VariableLength code contents) rest low =
     variable_at code (length contents ∷ (contents ++ rest)) low
@@ -35,12 +35,12 @@ after_is : (item : Item) (rest : List ℕ) → IsItem item → after_item (octet
 after_is (SingleOctet octet) rest high = rw (le-ltb octet 0x80 high) refl
 after_is (VariableLength code contents) rest low = rw (lt-ltb code 0x80 low) (drop_at contents rest (length contents) refl)
 
-unfinished_at : (octets : List ℕ) → IsUnfinished octets → front octets ≡ Unfinished
+unfinished_at : (octets : List ℕ) → IsUnfinishedElement octets → front_in octets ≡ Unfinished
 unfinished_at [] is = refl
 unfinished_at (code ∷ []) low = variable_at code [] low
 unfinished_at (code ∷ len ∷ rest) (low, short) = variable_at code (len ∷ rest) low ∙ rw (lt-ltb (length rest) len short) refl
 
-after_unfinished : (octets : List ℕ) → IsUnfinished octets → after_item octets ≡ []
+after_unfinished : (octets : List ℕ) → IsUnfinishedElement octets → after_item octets ≡ []
 after_unfinished [] is = refl
 after_unfinished (code ∷ []) low = rw (lt-ltb code 0x80 low) refl
 after_unfinished (code ∷ len ∷ rest) (low, short) = rw (lt-ltb code 0x80 low) (nil_from_length (drop len rest) (omega (arith, length-drop len rest)))
@@ -55,7 +55,7 @@ read_shifted shift item rest is item-is =
 pub read_nothing : elements_of [] ≡ []
 read_nothing = elements_step []
 
-read_unfinished : (octets : List ℕ) → IsUnfinished octets → elements_of octets ≡ []
+read_unfinished : (octets : List ℕ) → IsUnfinishedElement octets → elements_of octets ≡ []
 read_unfinished octets is = elements_from octets _ (sym (unfinished_at octets is))
 
 read_tail : (tail : List ℕ) → IsTail tail → elements_of tail ≡ []
@@ -67,7 +67,7 @@ read_tail (octet ∷ rest) (inr (inr unfinished)) = read_unfinished (octet ∷ r
 
 -- ---- at most one reading
 
-read_pieces : (pieces : List Piece) (tail : List ℕ) → AllByRecursion IsPiece pieces → IsTail tail → elements_of (octets_of_pieces pieces ++ tail) ≡ present pieces
+read_pieces : (pieces : List Piece) (tail : List ℕ) → AllByRecursion IsPiece pieces → IsTail tail → elements_of (octets_of_pieces pieces ++ tail) ≡ present_elements pieces
 read_pieces [] tail are is = read_tail tail is
 read_pieces (Present item ∷ pieces) tail (one, others) is =
     ap elements_of (append_assoc (octets_of item) (octets_of_pieces pieces) tail)
@@ -87,7 +87,7 @@ reading_is octets elements is =
 
 -- octets begin with an item or are unfinished
 abbrev Begins : List ℕ → Type 0
-Begins octets = ((item : Item) × (rest : List ℕ) × IsItem item × (octets ≡ octets_of item ++ rest)) ⊎ IsUnfinished octets
+Begins octets = ((item : Item) × (rest : List ℕ) × IsItem item × (octets ≡ octets_of item ++ rest)) ⊎ IsUnfinishedElement octets
 
 begins : (octets : List ℕ) → Begins octets
 begins [] = inr tt
@@ -129,7 +129,7 @@ with_shifted octets shift item rest is item-is parts others = record {
 tail_alone : (tail : List ℕ) → IsTail tail → IsElementList tail (elements_of tail)
 tail_alone tail is = record { pieces = []; tail = tail; are_pieces = tt; is_tail = is; octets_are = refl; elements_are = read_tail tail is }
 
-unfinished_tail : (octets : List ℕ) → IsUnfinished octets → IsTail octets
+unfinished_tail : (octets : List ℕ) → IsUnfinishedElement octets → IsTail octets
 unfinished_tail [] is = tt
 unfinished_tail (octet ∷ rest) is = inr (inr is)
 
@@ -181,7 +181,7 @@ read_longer n again octets le =
         ]
 
 read_within : (n : ℕ) (octets : List ℕ) → length octets ≤ n → IsElementList octets (elements_of octets)
-read_within zero octets le = tail_alone octets (unfinished_tail octets (subst IsUnfinished (sym (nil_from_length octets (omega arith))) tt))
+read_within zero octets le = tail_alone octets (unfinished_tail octets (subst IsUnfinishedElement (sym (nil_from_length octets (omega arith))) tt))
 read_within (suc n) octets le = read_longer n (read_within n) octets le
 
 -- each string of octets has a reading
@@ -204,7 +204,7 @@ unfolding written_pieces
 written_octets [] = refl
 written_octets (item ∷ items) = ap (λ left. octets_of item ++ left) (written_octets items) ∙ sym (append_assoc (octets_of item) (octets_of_pieces (written_pieces items)) [])
 
-written_elements : (items : List Item) → map element_of items ≡ present (written_pieces items)
+written_elements : (items : List Item) → map element_of items ≡ present_elements (written_pieces items)
 unfolding written_pieces
 written_elements [] = refl
 written_elements (item ∷ items) = ap (λ es. element_of item ∷ es) (written_elements items)

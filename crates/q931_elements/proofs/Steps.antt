@@ -1,7 +1,7 @@
 -- The elements, by what stands at the front: the bound on the pieces doesn't matter.
 use Rattle.std.proofs.Common.{◌≡◌, ℕ, zero, suc, ◌≤◌, List, [], ◌∷◌, length, Bool, true, false, cond, ltb, refl, sym, ap, ◌∙◌, arith, length-drop}
 use Rattle.q931_elements.specs.InformationElement.{InformationElement}
-use Rattle.q931_elements.specs.Reading.{Front, Whole, LockingShift, NonLockingShift, Unfinished, front, variable_front, after_contents, after_item, elements_at, elements_within, elements_of}
+use Rattle.q931_elements.specs.Reading.{Front, Whole, LockingShift, NonLockingShift, Unfinished, front_in, variable_front, after_contents, after_item, elements_at, elements_within, elements_of}
 
 -- what is left is at most n long
 abbrev pub IsWithin : ℕ → Front → Type 0
@@ -18,7 +18,7 @@ variable_within : (code : ℕ) (octets : List ℕ) → IsWithin (length octets) 
 variable_within code [] = tt
 variable_within code (len ∷ rest) = either (IsWithin (suc (length rest))) (ltb (length rest) len) _ _ tt (omega (arith, length-drop len rest))
 
-pub front_within : (octet : ℕ) (rest : List ℕ) → IsWithin (length rest) (front (octet ∷ rest))
+pub front_within : (octet : ℕ) (rest : List ℕ) → IsWithin (length rest) (front_in (octet ∷ rest))
 front_within octet rest =
     let P : Front → Type 0 = IsWithin (length rest) in
     let same : length rest ≤ length rest = omega arith in
@@ -48,16 +48,16 @@ same_bound (suc m) zero [] p q = refl
 same_bound (suc m) zero (x ∷ xs) p q = absurd (omega arith)
 same_bound (suc m) (suc n) [] p q = refl
 same_bound (suc m) (suc n) (x ∷ xs) p q =
-    same_at (elements_within m) (elements_within n) (length xs) (λ octets le. same_bound m n octets (omega arith) (omega arith)) (front (x ∷ xs)) (front_within x xs)
+    same_at (elements_within m) (elements_within n) (length xs) (λ octets le. same_bound m n octets (omega arith) (omega arith)) (front_in (x ∷ xs)) (front_within x xs)
 
-pub elements_step : (octets : List ℕ) → elements_of octets ≡ elements_at elements_of (front octets)
+pub elements_step : (octets : List ℕ) → elements_of octets ≡ elements_at elements_of (front_in octets)
 unfolding elements_of elements_within
 elements_step [] = refl
 elements_step (x ∷ xs) =
-    same_at (elements_within (length xs)) elements_of (length xs) (λ octets le. same_bound (length xs) (length octets) octets le (omega arith)) (front (x ∷ xs)) (front_within x xs)
+    same_at (elements_within (length xs)) elements_of (length xs) (λ octets le. same_bound (length xs) (length octets) octets le (omega arith)) (front_in (x ∷ xs)) (front_within x xs)
 
 -- the same, where what stands at the front is known
-pub elements_from : (octets : List ℕ) (at : Front) → at ≡ front octets → elements_of octets ≡ elements_at elements_of at
+pub elements_from : (octets : List ℕ) (at : Front) → at ≡ front_in octets → elements_of octets ≡ elements_at elements_of at
 elements_from octets at is = elements_step octets ∙ ap (elements_at elements_of) (sym is)
 
 count_at : (others : List ℕ → List InformationElement) (n : ℕ) → ((octets : List ℕ) → length (others octets) ≤ length octets) → (at : Front) → IsWithin n at → length (elements_at others at) ≤ suc n
@@ -70,7 +70,7 @@ count_within : (n : ℕ) (octets : List ℕ) → length (elements_within n octet
 unfolding elements_within
 count_within zero octets = omega arith
 count_within (suc n) [] = omega arith
-count_within (suc n) (x ∷ xs) = count_at (elements_within n) (length xs) (count_within n) (front (x ∷ xs)) (front_within x xs)
+count_within (suc n) (x ∷ xs) = count_at (elements_within n) (length xs) (count_within n) (front_in (x ∷ xs)) (front_within x xs)
 
 -- there are no more elements than octets
 pub elements_few : (octets : List ℕ) → length (elements_of octets) ≤ length octets

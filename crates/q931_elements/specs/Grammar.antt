@@ -46,21 +46,21 @@ octets_of_pieces (Present item ∷ pieces) = octets_of item ++ octets_of_pieces 
 octets_of_pieces (Shifted shift item ∷ pieces) = shift ∷ octets_of item ++ octets_of_pieces pieces
 
 -- the elements that no shift hides
-abbrev pub present : List Piece → List InformationElement
-present [] = []
-present (Present item ∷ pieces) = element_of item ∷ present pieces
-present (Shifted shift item ∷ pieces) = present pieces
+abbrev pub present_elements : List Piece → List InformationElement
+present_elements [] = []
+present_elements (Present item ∷ pieces) = element_of item ∷ present_elements pieces
+present_elements (Shifted shift item ∷ pieces) = present_elements pieces
 
 -- no octet, or a variable length element that is cut short
-abbrev pub IsUnfinished : List ℕ → Type 0
-IsUnfinished [] = Unit {0}
-IsUnfinished (code ∷ []) = code < 0x80
-IsUnfinished (code ∷ len ∷ rest) = (code < 0x80) × (length rest < len)
+abbrev pub IsUnfinishedElement : List ℕ → Type 0
+IsUnfinishedElement [] = Unit {0}
+IsUnfinishedElement (code ∷ []) = code < 0x80
+IsUnfinishedElement (code ∷ len ∷ rest) = (code < 0x80) × (length rest < len)
 
 -- a locking shift and all that follows, or something unfinished, which a non-locking shift may stand before
 abbrev pub IsTail : List ℕ → Type 0
 IsTail [] = Unit {0}
-IsTail (octet ∷ rest) = IsLockingShift octet ⊎ ((IsNonLockingShift octet × IsUnfinished rest) ⊎ IsUnfinished (octet ∷ rest))
+IsTail (octet ∷ rest) = IsLockingShift octet ⊎ ((IsNonLockingShift octet × IsUnfinishedElement rest) ⊎ IsUnfinishedElement (octet ∷ rest))
 
 -- these are the elements of these octets
 pub record IsElementList (octets : List ℕ) (elements : List InformationElement) : Type 0 where
@@ -69,7 +69,7 @@ pub record IsElementList (octets : List ℕ) (elements : List InformationElement
   pub are_pieces : AllByRecursion IsPiece pieces
   pub is_tail : IsTail tail
   pub octets_are : octets ≡ octets_of_pieces pieces ++ tail
-  pub elements_are : elements ≡ present pieces
+  pub elements_are : elements ≡ present_elements pieces
 
 -- ---- written elements: these are pieces too, and no shift stands among them
 

@@ -15,9 +15,9 @@ variable_front code [] = Unfinished
 variable_front code (len ∷ rest) =
     if nat_lt (length rest) len then Unfinished else Whole (record { code = code; contents = take len rest }) (drop len rest)
 
-abbrev pub front : List ℕ → Front
-front [] = Unfinished
-front (octet ∷ rest) =
+abbrev pub front_in : List ℕ → Front
+front_in [] = Unfinished
+front_in (octet ∷ rest) =
     if nat_lt octet 0x80 then variable_front octet rest
     else (if nat_lt octet 0x90 then Whole (record { code = octet; contents = [] }) rest
     else (if nat_lt octet 0x98 then LockingShift
@@ -42,7 +42,7 @@ elements_at others Unfinished = []
 -- the elements, of at most so many pieces
 unfoldable pub elements_within : ℕ → List ℕ → List InformationElement
 elements_within zero octets = []
-elements_within (suc n) octets = elements_at (elements_within n) (front octets)
+elements_within (suc n) octets = elements_at (elements_within n) (front_in octets)
 
 unfoldable pub elements_of : List ℕ → List InformationElement
 elements_of octets = elements_within (length octets) octets

@@ -1,5 +1,7 @@
+//! What stands at the front of the octets behind a header.
+
 ghost use Rattle.std.specs.Prelude.{◌≡◌, []};
-ghost use Rattle.q931_elements.specs.Reading.{front, variable_front, after_item, Whole};
+ghost use Rattle.q931_elements.specs.Reading.{front_in, variable_front, after_item, Whole};
 ghost use Rattle.q931_elements.specs.Front.{front_of};
 
 /// An information element as it was received: its identifier octet, and its contents without the
@@ -23,7 +25,7 @@ pub(crate) enum Front<'a> {
 }
 
 pub(crate) fn look(octets: &[u8]) -> Front<'_>
-    ensures { front_of result ≡ front octets.now }
+    ensures { front_of result ≡ front_in octets.now }
 {
     match octets {
         [] => Front::Unfinished,

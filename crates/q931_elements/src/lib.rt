@@ -20,6 +20,3 @@ pub use front::Element;
 pub use laws::{each_string_is_read, one_reading, written_is_read};
 pub use list::Elements;
 pub use writer::{LONGEST_MESSAGE, Writer};
-
-#[cfg(test)]
-mod tests;

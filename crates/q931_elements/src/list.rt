@@ -1,3 +1,5 @@
+//! The information elements of a message, found one after the other.
+
 use crate::front::{Element, Front, look, past};
 use std::alloc::AllocError;
 use std::marker::Model;

@@ -1,3 +1,5 @@
+//! A message as it is written, octet by octet and element by element.
+
 use arrayvec::ArrayVec;
 use std::marker::Model;
 

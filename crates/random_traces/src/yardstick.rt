@@ -218,7 +218,7 @@ impl Yardstick {
     fn heard(&self, frame: u32, at: Slot) -> u8 {
         match self.kind {
             Kind::Nails => self.delayed(frame, at),
-            Kind::Rooms => self.plain.heard(&[], &[], frame, at),
+            Kind::Rooms => self.plain.octet_heard(&[], &[], frame, at),
         }
     }
 

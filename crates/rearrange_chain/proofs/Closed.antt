@@ -1,11 +1,14 @@
--- A chain takes every path that its slots have at its rows and columns, and is no longer than twice the other rows.
-use Rattle.std.proofs.Common.{◌≡◌, ◌≢◌, ℕ, zero, suc, ◌+◌, ◌*◌, ◌<◌, ◌≤◌, Option, Some, None, List, length, arith, refl, sym, ap, subst, ◌∙◌}
-use Rattle.std.specs.Prelude.{slice_get}
+-- A chain takes every path that its slots have at its rows and columns. The chains from two ends share none of them, so together they have
+-- fewer paths than there are rows and columns.
+use Rattle.std.proofs.Common.{◌≡◌, ◌≢◌, ℕ, zero, suc, ◌+◌, ◌-◌, ◌*◌, ◌<◌, ◌≤◌, true, false, Option, Some, None, List, length, arith, refl, sym, ap, subst, ◌∙◌}
+use Rattle.std.specs.Prelude.{slice_get, nat_lt, if◌then◌else◌, ◌⊎◌}
+use Rattle.std.proofs.lemmas.Bool.{cases_lt}
+use Rattle.std.proofs.lemmas.Bool.Decides.{nat_tests}
 use Rattle.std.proofs.lemmas.Option.{same_Some}
 use mathlib.Core.Logic.{inl, inr}
 use Rattle.rearrange_chain.specs.declared.moves.Move.{Move}
 use Rattle.rearrange_chain.specs.Chain.{End, Row, Column, far_end, move_of}
-use Rattle.rearrange_chain.proofs.Walk.{line_of, leave, enter, step, end_at, IsMirrored, IsWithin, IsEndOf, own_chain, then_cases, map_cases, entered_by, turned, next_at, is_step, has_step, end_cases, old_of, new_of, walk_ends, chain_length, comes_to_ends, never_comes_to}
+use Rattle.rearrange_chain.proofs.Walk.{line_of, leave, enter, step, end_at, IsMirrored, IsWithin, IsEndOf, own_chain, then_cases, map_cases, entered_by, turned, next_at, is_step, has_step, end_cases, old_of, new_of, chain_length, comes_to_ends, never_comes_to, no_meeting, no_return, been_before, end_within, pigeonhole, number, number_below, number_same, numbered, numbered_is}
 
 -- What a chain from a start needs, so that it comes to an end and comes back nowhere: the paths are found from both of their ends, what is
 -- looked up lies within the lines, nothing leads to the start, and nothing leads to some other end
@@ -19,15 +22,90 @@ pub record IsOpen (look : End → ℕ → Option ℕ) (a b lines : ℕ) (start o
   pub other_inside : line_of other < lines
   pub two_slots : a ≢ b
 
-pub ends_before : (look : End → ℕ → Option ℕ) (a b lines : ℕ) (start other : End) → IsOpen look a b lines start other → (n : ℕ) (x : End) → end_at look a b start n ≡ Some x → n + 2 ≤ 2 * lines
-ends_before look a b lines start other opened n x h = walk_ends look a b lines start other opened.mirror opened.within opened.free opened.other_free opened.apart opened.inside opened.other_inside n x h
+-- from the other end there is such a chain too
+pub turned_round : (look : End → ℕ → Option ℕ) (a b lines : ℕ) (start other : End) → IsOpen look a b lines start other → IsOpen look a b lines other start
+turned_round look a b lines start other opened = record {
+  mirror = opened.mirror;
+  within = opened.within;
+  free = opened.other_free;
+  other_free = opened.free;
+  apart = λ e. opened.apart (sym e);
+  inside = opened.other_inside;
+  other_inside = opened.inside;
+  two_slots = opened.two_slots;
+}
 
--- the bound on the moves
-pub chain_bound : (look : End → ℕ → Option ℕ) (a b lines n : ℕ) (start other : End) → IsOpen look a b lines start other → length (own_chain look a b n start) + 2 ≤ 2 * lines
-chain_bound look a b lines n start other opened =
-    let last = chain_length look a b start n zero start refl in
-    let few = ends_before look a b lines start other opened (length (own_chain look a b n start) + zero) last.0 last.1 in
-    omega arith
+-- the ends of two walks, one walk after the other
+both : (End → ℕ → Option ℕ) → ℕ → ℕ → ℕ → End → End → ℕ → ℕ → ℕ
+both look a b lines start other p k = if nat_lt k p then numbered look a b lines start k else numbered look a b lines other (k - p)
+
+-- the end that is the k-th of both, and which walk comes to it
+record Visit (look : End → ℕ → Option ℕ) (a b lines : ℕ) (start other : End) (p k : ℕ) : Type 0 where
+  first : End
+  is : both look a b lines start other p k ≡ number lines first
+  inside : line_of first < lines
+  source : ((k < p) × (end_at look a b start k ≡ Some first)) ⊎ ((p ≤ k) × (end_at look a b other (k - p) ≡ Some first))
+
+-- The ends of both walks are different rows and columns, so the walks have no more than there are
+pub two_walks : (look : End → ℕ → Option ℕ) (a b lines : ℕ) (start other : End) → IsOpen look a b lines start other
+    → (p q : ℕ) (x y : End) → end_at look a b start p ≡ Some x → end_at look a b other q ≡ Some y → p + q + 2 ≤ 2 * lines
+unfolding both
+two_walks look a b lines start other opened p q x y g h =
+    let few = pigeonhole (both look a b lines start other (suc p)) (suc p + suc q) (2 * lines) below different in
+    omega (arith, few)
+  where
+    visit : (k : ℕ) → k < suc p + suc q → Visit look a b lines start other (suc p) k
+    visit k early = elim (cases_lt k (suc p)) [
+      | inl less ↦
+          let e = been_before look a b start p k x g (omega (arith, less)) in
+          record {
+            first = e.0;
+            is = ap (λ t. if t then numbered look a b lines start k else numbered look a b lines other (k - suc p)) (let yes : nat_lt k (suc p) ≡ true = grind (arith, nat_tests, less) in yes) ∙ numbered_is look a b lines start k e.0 e.1;
+            inside = end_within look a b lines start opened.within opened.inside k e.0 e.1;
+            source = inl (less, e.1);
+          }
+      | inr more ↦
+          let e = been_before look a b other q (k - suc p) y h (omega (arith, more, early)) in
+          record {
+            first = e.0;
+            is = ap (λ t. if t then numbered look a b lines start k else numbered look a b lines other (k - suc p)) (let no_less : nat_lt k (suc p) ≡ false = grind (arith, nat_tests, more) in no_less) ∙ numbered_is look a b lines other (k - suc p) e.0 e.1;
+            inside = end_within look a b lines other opened.within opened.other_inside (k - suc p) e.0 e.1;
+            source = inr (more, e.1);
+          }
+    ]
+
+    below : (k : ℕ) → k < suc p + suc q → both look a b lines start other (suc p) k < 2 * lines
+    below k early = let v = visit k early in subst (λ c. c < 2 * lines) (sym v.is) (number_below lines v.first v.inside)
+
+    different : (k l : ℕ) → k < l → l < suc p + suc q → both look a b lines start other (suc p) k ≡ both look a b lines start other (suc p) l → ⊥
+    different k l less early same =
+        let u = visit k (omega (arith, less, early)) in
+        let v = visit l early in
+        let one : u.first ≡ v.first = number_same lines u.first v.first u.inside v.inside (sym u.is ∙ same ∙ v.is) in
+        elim u.source [
+          | inl s ↦ elim v.source [
+            | inl t ↦ let twice = no_return look a b start opened.mirror opened.free k l v.first (s.1 ∙ ap Some one) t.1 in omega (arith, less, twice)
+            | inr t ↦ no_meeting look a b start other opened.mirror opened.free opened.other_free opened.apart k (l - suc p) v.first (s.1 ∙ ap Some one) t.1
+          ]
+          | inr s ↦ elim v.source [
+            | inl t ↦ omega (arith, less, s.0, t.0)
+            | inr t ↦ let twice = no_return look a b other opened.mirror opened.other_free (k - suc p) (l - suc p) v.first (s.1 ∙ ap Some one) t.1 in omega (arith, less, s.0, t.0, twice)
+          ]
+        ]
+
+-- one walk alone: the start of the other is an end that it never comes to
+pub ends_before : (look : End → ℕ → Option ℕ) (a b lines : ℕ) (start other : End) → IsOpen look a b lines start other → (n : ℕ) (x : End) → end_at look a b start n ≡ Some x → n + 2 ≤ 2 * lines
+ends_before look a b lines start other opened n x h = let few = two_walks look a b lines start other opened n zero x other h refl in omega (arith, few)
+
+-- The bound on the moves: both chains together have two paths fewer than there are rows and columns, so the shorter has at most
+-- lines - 1 paths
+pub both_bound : (look : End → ℕ → Option ℕ) (a b lines n : ℕ) (start other : End) → IsOpen look a b lines start other
+    → length (own_chain look a b n start) + length (own_chain look a b n other) + 2 ≤ 2 * lines
+both_bound look a b lines n start other opened =
+    let one = chain_length look a b start n zero start refl in
+    let two = chain_length look a b other n zero other refl in
+    let few = two_walks look a b lines start other opened (length (own_chain look a b n start) + zero) (length (own_chain look a b n other) + zero) one.0 two.0 one.1 two.1 in
+    omega (arith, few)
 
 turned_move : (e : End) (line s t : ℕ) → move_of e line s t ≡ move_of (far_end e line) (line_of e) s t
 turned_move (Row i) line s t = refl

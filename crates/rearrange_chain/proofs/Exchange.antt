@@ -10,7 +10,7 @@ use Rattle.paull_matrix.specs.Matrix.{Matrix, row_slot, with_path, without_path,
 use Rattle.paull_matrix.proofs.Laws.{with_path_here, with_path_other, without_path_here, without_path_other, here_or_other, new_or_old, stood_before, legal_with, legal_without, no_column, cell_differs}
 use Rattle.rearrange_chain.specs.declared.moves.Move.{Move}
 use Rattle.rearrange_chain.specs.Chain.{lifted, placed, exchanged, ChangesBy}
-use Rattle.rearrange_chain.specs.Steps.{CanLift, CanPlace}
+use Rattle.rearrange_chain.specs.InTurn.{CanLift, CanPlace}
 
 -- a list of moves has one of a row from a slot, of a row to a slot
 abbrev pub LeavesNone : List Move → ℕ → ℕ → Type 0

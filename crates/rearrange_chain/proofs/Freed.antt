@@ -1,15 +1,16 @@
--- The chain from a column makes room in a row and that column.
+-- The chain from a row or from a column makes room in both, and the shorter of the two moves few paths.
 use Rattle.std.proofs.Common.{◌≡◌, ◌≢◌, ℕ, zero, ◌+◌, ◌*◌, ◌-◌, ◌<◌, ◌≤◌, Bool, true, false, Option, Some, None, List, length, arith, refl, sym, ap, subst, ◌∙◌}
-use Rattle.std.specs.Prelude.{slice_get, ◌&&◌, is_none}
+use Rattle.std.specs.Prelude.{slice_get, ◌&&◌, is_none, nat_lt, if◌then◌else◌}
+use Rattle.std.proofs.lemmas.Bool.Decides.{nat_tests}
 use mathlib.Core.Logic.{inl, inr}
 use Rattle.paull_matrix.specs.Matrix.{Matrix, row_slot, column_slot, is_free_in_row, is_free_in_column, lowest_in_row, lowest_in_column, lowest_in_both, paths_of_cell, SameSizes, IsLegal}
 use Rattle.paull_matrix.proofs.Numbers.{lowest_passes, lowest_none}
 use Rattle.paull_matrix.proofs.Laws.{column_of_row, row_of_column, row_inside, no_column}
 use Rattle.paull_matrix.proofs.Bools.{both_true}
 use Rattle.rearrange_chain.specs.declared.moves.Move.{Move}
-use Rattle.rearrange_chain.specs.Chain.{End, Row, Column, far_line, far_end, move_of, chain, lifted, exchanged, ChangesBy}
+use Rattle.rearrange_chain.specs.Chain.{End, Row, Column, far_line, far_end, move_of, chain, lifted, exchanged, is_shorter, shorter, ChangesBy}
 use Rattle.rearrange_chain.proofs.Walk.{leave, enter, IsMirrored, IsWithin, own_chain, is_step, has_step, rows_leave_once, rows_take_once, columns_take_once, not_entered, new_of, old_of}
-use Rattle.rearrange_chain.proofs.Closed.{IsOpen, chain_bound, takes_neighbour, other_untouched}
+use Rattle.rearrange_chain.proofs.Closed.{IsOpen, turned_round, both_bound, takes_neighbour, other_untouched}
 use Rattle.rearrange_chain.proofs.Exchange.{IsExchange, lifted_keeps, lifted_from, lifted_takes, placed_keeps, placed_from, exchange_changes, exchange_cells, exchange_legal, exchange_sizes}
 
 -- in a legal matrix a path is found from both of its ends
@@ -76,39 +77,46 @@ chain_exchanges m a b start other legal a_inside b_inside opened = record {
     enter_inside (Row i) = a_inside
     enter_inside (Column j) = b_inside
 
--- afterwards the row has a free still
-pub row_free_after : (m : Matrix) (i j a b : ℕ) → IsOpen (far_line m) a b m.lines (Column j) (Row i) → row_slot (exchanged m (own_chain (far_line m) a b (2 * m.lines) (Column j))) i a ≡ None
-row_free_after m i j a b opened =
-    placed_keeps moves (lifted m moves) i a (λ k v h row _. untouched k v h row)
-    ∙ lifted_keeps moves m i a (λ k v h row _. untouched k v h row)
-    ∙ opened.other_free
+-- After the exchange of a chain the other end stays free in the slot in which it would be entered
+pub other_free_after : (m : Matrix) (a b : ℕ) (start other : End) → IsLegal m → IsOpen (far_line m) a b m.lines start other
+    → far_line (exchanged m (own_chain (far_line m) a b (2 * m.lines) start)) other (enter a b other) ≡ None
+other_free_after m a b start (Row i) legal opened =
+    placed_keeps moves (lifted m moves) i a (λ k v h row _. untouched k v h row) ∙ lifted_keeps moves m i a (λ k v h row _. untouched k v h row) ∙ opened.other_free
   where
     moves : List Move
-    moves = own_chain (far_line m) a b (2 * m.lines) (Column j)
+    moves = own_chain (far_line m) a b (2 * m.lines) start
 
-    untouched : (k : ℕ) (v : Move) → slice_get (own_chain (far_line m) a b (2 * m.lines) (Column j)) k ≡ Some v → v.row ≡ i → ⊥
-    untouched k v h row = other_untouched (far_line m) a b m.lines (2 * m.lines) (Column j) (Row i) opened k v h (inl (ap Row (sym row)))
+    untouched : (k : ℕ) (v : Move) → slice_get (own_chain (far_line m) a b (2 * m.lines) start) k ≡ Some v → v.row ≡ i → ⊥
+    untouched k v h row = other_untouched (far_line m) a b m.lines (2 * m.lines) start (Row i) opened k v h (inl (ap Row (sym row)))
+other_free_after m a b start (Column j) legal opened =
+    no_column (exchanged m (own_chain (far_line m) a b (2 * m.lines) start)) j b (λ x e. elim (placed_from moves (lifted m moves) x b j e) [
+      | inl before ↦
+          let stood = column_of_row m x b j legal (lifted_from moves m x b j before) in
+          clash stood opened.other_free
+      | inr moved ↦ other_untouched (far_line m) a b m.lines (2 * m.lines) start (Column j) opened moved.0 moved.1 moved.2 (inr (ap Column (sym moved.5)))
+    ])
+  where
+    moves : List Move
+    moves = own_chain (far_line m) a b (2 * m.lines) start
 
--- what walks into a column over a path in slot a leaves a row
-left_a_row : (a b : ℕ) (e : End) (line : ℕ) → a ≢ b → enter a b e ≡ a → Column (move_of e line (leave a b e) (enter a b e)).column ≡ far_end e line
-left_a_row a b (Row i) line apart e = refl
-left_a_row a b (Column j) line apart e = absurd (apart (sym e))
+    clash : {o : Option ℕ} {x : ℕ} → o ≡ Some x → o ≡ None → ⊥
+    clash g h = let wrong = sym g ∙ h in cc
 
--- and so has the column
-pub column_free_after : (m : Matrix) (i j a b : ℕ) → IsLegal m → IsOpen (far_line m) a b m.lines (Column j) (Row i)
-    → (x : ℕ) → row_slot (exchanged m (own_chain (far_line m) a b (2 * m.lines) (Column j))) x a ≡ Some j → ⊥
-column_free_after m i j a b legal opened x e = elim (placed_from moves (lifted m moves) x a j e) [
-  | inl before ↦
-      let stood = lifted_from moves m x a j before in
-      let first = has_step (far_line m) a b (Column j) (2 * m.lines) zero (Column j) x some_lines refl (column_of_row m x a j legal stood) in
-      let gone = lifted_takes moves m zero (record { row = x; column = j; old = a; new = b }) first in
-      clash before gone
-  | inr moved ↦
-      let at = is_step (far_line m) a b (Column j) (2 * m.lines) moved.0 moved.1 moved.2 in
-      let entered : enter a b at.near ≡ a = sym (new_of at.near at.line (leave a b at.near) (enter a b at.near)) ∙ ap (λ (w : Move). w.new) (sym at.is) ∙ moved.4 in
-      let comes : far_end at.near at.line ≡ Column j = sym (left_a_row a b at.near at.line opened.two_slots entered) ∙ ap (λ (w : Move). Column w.column) (sym at.is) ∙ ap Column moved.5 in
-      not_entered (far_line m) a b at.near (Column j) opened.mirror opened.free (rw at.goes (ap Some comes))
-]
+-- and its own end becomes free in the slot in which it was left
+pub start_free_after : (m : Matrix) (a b : ℕ) (start other : End) → IsLegal m → IsOpen (far_line m) a b m.lines start other
+    → far_line (exchanged m (own_chain (far_line m) a b (2 * m.lines) start)) start (leave a b start) ≡ None
+start_free_after m a b (Column j) other legal opened =
+    no_column (exchanged m (own_chain (far_line m) a b (2 * m.lines) (Column j))) j a (λ x e. elim (placed_from moves (lifted m moves) x a j e) [
+      | inl before ↦
+          let stood = lifted_from moves m x a j before in
+          let first = has_step (far_line m) a b (Column j) (2 * m.lines) zero (Column j) x some_lines refl (column_of_row m x a j legal stood) in
+          clash before (lifted_takes moves m zero (record { row = x; column = j; old = a; new = b }) first)
+      | inr moved ↦
+          let at = is_step (far_line m) a b (Column j) (2 * m.lines) moved.0 moved.1 moved.2 in
+          let entered : enter a b at.near ≡ a = sym (new_of at.near at.line (leave a b at.near) (enter a b at.near)) ∙ ap (λ (w : Move). w.new) (sym at.is) ∙ moved.4 in
+          let comes : far_end at.near at.line ≡ Column j = sym (to_column a b at.near at.line opened.two_slots entered) ∙ ap (λ (w : Move). Column w.column) (sym at.is) ∙ ap Column moved.5 in
+          not_entered (far_line m) a b at.near (Column j) opened.mirror opened.free (rw at.goes (ap Some comes))
+    ])
   where
     moves : List Move
     moves = own_chain (far_line m) a b (2 * m.lines) (Column j)
@@ -116,8 +124,40 @@ column_free_after m i j a b legal opened x e = elim (placed_from moves (lifted m
     some_lines : zero < 2 * m.lines
     some_lines = let few = legal.lines_within in omega arith
 
-    clash : row_slot (lifted m (own_chain (far_line m) a b (2 * m.lines) (Column j))) x a ≡ Some j → row_slot (lifted m (own_chain (far_line m) a b (2 * m.lines) (Column j))) x a ≡ None → ⊥
-    clash g h = cc
+    clash : {o : Option ℕ} {x : ℕ} → o ≡ Some x → o ≡ None → ⊥
+    clash g h = let wrong = sym g ∙ h in cc
+
+    to_column : (c d : ℕ) (e : End) (line : ℕ) → c ≢ d → enter c d e ≡ c → Column (move_of e line (leave c d e) (enter c d e)).column ≡ far_end e line
+    to_column c d (Row i) line apart e = refl
+    to_column c d (Column k) line apart e = absurd (apart (sym e))
+start_free_after m a b (Row i) other legal opened = is_none_by (row_slot (exchanged m (own_chain (far_line m) a b (2 * m.lines) (Row i))) i b) (λ l e. elim (placed_from moves (lifted m moves) i b l e) [
+  | inl before ↦
+      let stood = lifted_from moves m i b l before in
+      let first = has_step (far_line m) a b (Row i) (2 * m.lines) zero (Row i) l some_lines refl stood in
+      clash before (lifted_takes moves m zero (record { row = i; column = l; old = b; new = a }) first)
+  | inr moved ↦
+      let at = is_step (far_line m) a b (Row i) (2 * m.lines) moved.0 moved.1 moved.2 in
+      let entered : enter a b at.near ≡ b = sym (new_of at.near at.line (leave a b at.near) (enter a b at.near)) ∙ ap (λ (w : Move). w.new) (sym at.is) ∙ moved.4 in
+      let comes : far_end at.near at.line ≡ Row i = sym (to_row a b at.near at.line opened.two_slots entered) ∙ ap (λ (w : Move). Row w.row) (sym at.is) ∙ ap Row moved.3 in
+      not_entered (far_line m) a b at.near (Row i) opened.mirror opened.free (rw at.goes (ap Some comes))
+])
+  where
+    moves : List Move
+    moves = own_chain (far_line m) a b (2 * m.lines) (Row i)
+
+    some_lines : zero < 2 * m.lines
+    some_lines = let few = legal.lines_within in omega arith
+
+    clash : {o : Option ℕ} {x : ℕ} → o ≡ Some x → o ≡ None → ⊥
+    clash g h = let wrong = sym g ∙ h in cc
+
+    is_none_by : (o : Option ℕ) → ((l : ℕ) → o ≡ Some l → ⊥) → o ≡ None
+    is_none_by None nothing = refl
+    is_none_by (Some l) nothing = absurd (nothing l refl)
+
+    to_row : (c d : ℕ) (e : End) (line : ℕ) → c ≢ d → enter c d e ≡ d → Row (move_of e line (leave c d e) (enter c d e)).row ≡ far_end e line
+    to_row c d (Row k) line apart e = absurd (apart e)
+    to_row c d (Column k) line apart e = refl
 
 -- where no slot is missing in both, those that are missing in one differ
 both_free : (c d : Bool) → (c && d) ≡ false → c ≡ true → d ≡ true → ⊥
@@ -149,50 +189,83 @@ lowest_in_both_is m i j s e =
     (is_none_of (row_slot m i s) both.0, is_none_of (column_slot m j s) both.1, is.1)
 
 -- All that the rule promises of a row and a column without a common slot
-pub record MakesRoom (m : Matrix) (i j a : ℕ) (moves : List Move) : Type 0 where
+pub record Room (m : Matrix) (i j s : ℕ) (moves : List Move) : Type 0 where
   pub exchange : IsExchange m moves
-  pub row_free : row_slot (exchanged m moves) i a ≡ None
-  pub column_free : column_slot (exchanged m moves) j a ≡ None
-  pub bound : length moves + 2 ≤ 2 * m.lines
+  pub row_free : row_slot (exchanged m moves) i s ≡ None
+  pub column_free : column_slot (exchanged m moves) j s ≡ None
+  pub inside : s < m.slots
+  pub bound : length moves ≤ m.lines - 1
 
-pub column_chain_makes_room : (m : Matrix) (i j a b : ℕ) → IsLegal m → i < m.lines → j < m.lines → lowest_in_both m i j ≡ None → lowest_in_row m i ≡ Some a → lowest_in_column m j ≡ Some b
-    → MakesRoom m i j a (chain (far_line m) (2 * m.lines) (Column j) a b)
-column_chain_makes_room m i j a b legal row column none row_lowest column_lowest =
+-- what both chains need: the one from the column, and turned round the one from the row
+pub record Ways (m : Matrix) (i j a b : ℕ) : Type 0 where
+  pub legal : IsLegal m
+  pub a_inside : a < m.slots
+  pub b_inside : b < m.slots
+  pub opened : IsOpen (far_line m) a b m.lines (Column j) (Row i)
+
+pub ways : (m : Matrix) (i j a b : ℕ) → IsLegal m → i < m.lines → j < m.lines → lowest_in_both m i j ≡ None → lowest_in_row m i ≡ Some a → lowest_in_column m j ≡ Some b → Ways m i j a b
+ways m i j a b legal row column none row_lowest column_lowest =
     let in_row = lowest_in_row_is m i a row_lowest in
     let in_column = lowest_in_column_is m j b column_lowest in
-    let opened = column_open m i j a b legal row column in_row.0 in_column.0 (two_slots m i j a b none row_lowest column_lowest) in
     record {
-      exchange = chain_exchanges m a b (Column j) (Row i) legal in_row.1 in_column.1 opened;
-      row_free = row_free_after m i j a b opened;
-      column_free = no_column (exchanged m (chain (far_line m) (2 * m.lines) (Column j) a b)) j a (column_free_after m i j a b legal opened);
-      bound = chain_bound (far_line m) a b m.lines (2 * m.lines) (Column j) (Row i) opened;
+      legal = legal;
+      a_inside = in_row.1;
+      b_inside = in_column.1;
+      opened = column_open m i j a b legal row column in_row.0 in_column.0 (two_slots m i j a b none row_lowest column_lowest);
     }
 
--- what stands after the moves of the chain
+abbrev pub from_column : Matrix → ℕ → ℕ → ℕ → List Move
+from_column m j a b = chain (far_line m) (2 * m.lines) (Column j) a b
+
+abbrev pub from_row : Matrix → ℕ → ℕ → ℕ → List Move
+from_row m i a b = chain (far_line m) (2 * m.lines) (Row i) b a
+
+pub bounds : (m : Matrix) (i j a b : ℕ) → Ways m i j a b → length (from_column m j a b) + length (from_row m i a b) + 2 ≤ 2 * m.lines
+bounds m i j a b w = both_bound (far_line m) a b m.lines (2 * m.lines) (Column j) (Row i) w.opened
+
+pub shorter_room : (m : Matrix) (i j a b : ℕ) → Ways m i j a b → Room m i j (if is_shorter (from_row m i a b) (from_column m j a b) then b else a) (shorter (from_row m i a b) (from_column m j a b))
+shorter_room m i j a b w = by (is_shorter (from_row m i a b) (from_column m j a b)) refl
+  where
+    by : (t : Bool) → nat_lt (length (from_row m i a b)) (length (from_column m j a b)) ≡ t → Room m i j (if t then b else a) (if t then from_row m i a b else from_column m j a b)
+    by true less = record {
+      exchange = chain_exchanges m a b (Row i) (Column j) w.legal w.a_inside w.b_inside (turned_round (far_line m) a b m.lines (Column j) (Row i) w.opened);
+      row_free = start_free_after m a b (Row i) (Column j) w.legal (turned_round (far_line m) a b m.lines (Column j) (Row i) w.opened);
+      column_free = other_free_after m a b (Row i) (Column j) w.legal (turned_round (far_line m) a b m.lines (Column j) (Row i) w.opened);
+      inside = w.b_inside;
+      bound = let both = bounds m i j a b w in let fewer : length (from_row m i a b) < length (from_column m j a b) = grind (arith, nat_tests, less) in omega (arith, both, fewer);
+    }
+    by false more = record {
+      exchange = chain_exchanges m a b (Column j) (Row i) w.legal w.a_inside w.b_inside w.opened;
+      row_free = other_free_after m a b (Column j) (Row i) w.legal w.opened;
+      column_free = start_free_after m a b (Column j) (Row i) w.legal w.opened;
+      inside = w.a_inside;
+      bound = let both = bounds m i j a b w in let fewer : length (from_column m j a b) ≤ length (from_row m i a b) = grind (arith, nat_tests, more) in omega (arith, both, fewer);
+    }
+
+-- what stands after moves that make room
 pub record Rearranged (m after : Matrix) (i j a : ℕ) (moves : List Move) : Type 0 where
   pub changes : ChangesBy m after moves
   pub cells : (k l : ℕ) → paths_of_cell after k l ≡ paths_of_cell m k l
   pub row_free : row_slot after i a ≡ None
   pub column_free : column_slot after j a ≡ None
   pub within : a < after.slots
-  pub bound : length moves ≤ 2 * m.lines - 2
+  pub bound : length moves ≤ m.lines - 1
   pub legal : IsLegal after
   pub sizes : SameSizes m after
 
-pub rearranges : (m : Matrix) (i j a b : ℕ) (moves : List Move) → IsLegal m → i < m.lines → j < m.lines → lowest_in_both m i j ≡ None → lowest_in_row m i ≡ Some a → lowest_in_column m j ≡ Some b
-    → moves ≡ chain (far_line m) (2 * m.lines) (Column j) a b → Rearranged m (exchanged m moves) i j a moves
-rearranges m i j a b moves legal row column none row_lowest column_lowest are =
-    subst (λ ms. Rearranged m (exchanged m ms) i j a ms) (sym are)
-    (let made = column_chain_makes_room m i j a b legal row column none row_lowest column_lowest in
-    let few = made.bound in
-    let ms : List Move = chain (far_line m) (2 * m.lines) (Column j) a b in
+-- what stands after the moves of the shorter chain
+pub rearranges_shorter : (m : Matrix) (i j a b s : ℕ) (moves : List Move) → Ways m i j a b → moves ≡ shorter (from_row m i a b) (from_column m j a b) → s ≡ (if is_shorter (from_row m i a b) (from_column m j a b) then b else a) → Rearranged m (exchanged m moves) i j s moves
+rearranges_shorter m i j a b s moves w are is =
+    subst (λ ms. Rearranged m (exchanged m ms) i j s ms) (sym are) (subst (λ t. Rearranged m (exchanged m (shorter (from_row m i a b) (from_column m j a b))) i j t (shorter (from_row m i a b) (from_column m j a b))) (sym is)
+    (let room = shorter_room m i j a b w in
+    let ms : List Move = shorter (from_row m i a b) (from_column m j a b) in
     record {
-      changes = exchange_changes m ms made.exchange;
-      cells = exchange_cells m ms legal made.exchange;
-      row_free = made.row_free;
-      column_free = made.column_free;
-      within = subst (λ s. a < s) (sym (exchange_sizes m ms).1) (lowest_in_row_is m i a row_lowest).1;
-      bound = omega arith;
-      legal = exchange_legal m ms legal made.exchange;
+      changes = exchange_changes m ms room.exchange;
+      cells = exchange_cells m ms w.legal room.exchange;
+      row_free = room.row_free;
+      column_free = room.column_free;
+      within = subst (λ n. (if is_shorter (from_row m i a b) (from_column m j a b) then b else a) < n) (sym (exchange_sizes m ms).1) room.inside;
+      bound = room.bound;
+      legal = exchange_legal m ms w.legal room.exchange;
       sizes = exchange_sizes m ms;
-    })
+    }))

@@ -1,4 +1,4 @@
--- The walk of an alternating chain. Rows are left in slot b and entered in slot a, columns are left in a and entered in b.
+-- The walk of an alternating chain, and two such walks over the same paths. Rows are left in slot b and entered in slot a, columns are left in a and entered in b.
 use Rattle.std.proofs.Common.{◌≡◌, ◌≢◌, ◌⊎◌, ℕ, zero, suc, ◌+◌, ◌*◌, ◌<◌, ◌≤◌, true, Option, Some, None, List, [], ◌∷◌, length, arith, zero-add, add-zero, refl, sym, ap, subst, ◌∙◌}
 use Rattle.std.specs.Prelude.{slice_get, option_map, option_and_then}
 use Rattle.std.specs.Prelude.{map, nat_eq, unwrap_or}
@@ -63,7 +63,7 @@ same_end (Column i) (Row k) x l m g h same = absurd (cc)
 same_end (Column i) (Column k) x l m g h same = ap Column same
 
 -- the walk comes to an end over one path alone
-one_way : (look : End → ℕ → Option ℕ) (a b : ℕ) (e f x : End) → IsMirrored look → step look a b e ≡ Some x → step look a b f ≡ Some x → e ≡ f
+pub one_way : (look : End → ℕ → Option ℕ) (a b : ℕ) (e f x : End) → IsMirrored look → step look a b e ≡ Some x → step look a b f ≡ Some x → e ≡ f
 one_way look a b e f x mirror g h =
     let from_e = entered_by look a b e x mirror g in
     let from_f = entered_by look a b f x mirror h in
@@ -101,8 +101,22 @@ never_comes_to look a b start other mirror free apart (suc k) h =
     let last = then_cases (step look a b) (end_at look a b start k) other h in
     not_entered look a b last.0 other mirror free last.2
 
+-- Two walks over the same paths, from different ends that nothing leads to, share no end: where they meet, the steps before lead back
+-- together until one walk is at its start, to which the other would have come
+pub no_meeting : (look : End → ℕ → Option ℕ) (a b : ℕ) (start other : End) → IsMirrored look → look start (enter a b start) ≡ None → look other (enter a b other) ≡ None → other ≢ start
+    → (k n : ℕ) (x : End) → end_at look a b start k ≡ Some x → end_at look a b other n ≡ Some x → ⊥
+no_meeting look a b start other mirror free other_free apart zero n x g h =
+    never_comes_to look a b other start mirror free (λ e. apart (sym e)) n (h ∙ ap Some (sym (same_Some start x g)))
+no_meeting look a b start other mirror free other_free apart (suc k) zero x g h =
+    never_comes_to look a b start other mirror other_free apart (suc k) (g ∙ ap Some (sym (same_Some other x h)))
+no_meeting look a b start other mirror free other_free apart (suc k) (suc n) x g h =
+    let at_k = then_cases (step look a b) (end_at look a b start k) x g in
+    let at_n = then_cases (step look a b) (end_at look a b other n) x h in
+    let same = one_way look a b at_k.0 at_n.0 x mirror at_k.2 at_n.2 in
+    no_meeting look a b start other mirror free other_free apart k n at_k.0 at_k.1 (at_n.1 ∙ ap Some (sym same))
+
 -- the walk has been at each earlier place
-been_before : (look : End → ℕ → Option ℕ) (a b : ℕ) (start : End) (n k : ℕ) (x : End) → end_at look a b start n ≡ Some x → k ≤ n → (e : End) × (end_at look a b start k ≡ Some e)
+pub been_before : (look : End → ℕ → Option ℕ) (a b : ℕ) (start : End) (n k : ℕ) (x : End) → end_at look a b start n ≡ Some x → k ≤ n → (e : End) × (end_at look a b start k ≡ Some e)
 been_before look a b start zero k x h early = let first : k ≡ zero = omega arith in (x, ap (end_at look a b start) first ∙ h)
 been_before look a b start (suc n) k x h early = elim (cases_lt k (suc n)) [
   | inl less ↦
@@ -131,15 +145,15 @@ pigeonhole f len n below apart =
     omega arith
 
 -- rows and columns, numbered one after the other
-abbrev number : ℕ → End → ℕ
+abbrev pub number : ℕ → End → ℕ
 number lines (Row i) = i
 number lines (Column j) = lines + j
 
-number_below : (lines : ℕ) (e : End) → line_of e < lines → number lines e < 2 * lines
+pub number_below : (lines : ℕ) (e : End) → line_of e < lines → number lines e < 2 * lines
 number_below lines (Row i) inside = omega arith
 number_below lines (Column j) inside = omega arith
 
-number_same : (lines : ℕ) (e f : End) → line_of e < lines → line_of f < lines → number lines e ≡ number lines f → e ≡ f
+pub number_same : (lines : ℕ) (e f : End) → line_of e < lines → line_of f < lines → number lines e ≡ number lines f → e ≡ f
 number_same lines (Row i) (Row k) inside within same = ap Row same
 number_same lines (Row i) (Column k) inside within same = absurd (omega arith)
 number_same lines (Column i) (Row k) inside within same = absurd (omega arith)
@@ -160,47 +174,13 @@ end_within look a b lines start within inside (suc n) x h =
     let way = map_cases last.0 (look last.0 (leave a b last.0)) x last.2 in
     subst (λ e. line_of e < lines) way.2 (rw (far_line_is last.0 way.0) (within last.0 (leave a b last.0) way.0 way.1))
 
--- the numbers of the ends of a walk, and that of another end before them
-coded : (End → ℕ → Option ℕ) → ℕ → ℕ → ℕ → End → End → ℕ → ℕ
-coded look a b lines start other zero = number lines other
-coded look a b lines start other (suc k) = unwrap_or (option_map (number lines) (end_at look a b start k)) 0
+-- the ends of a walk, by number
+pub numbered : (End → ℕ → Option ℕ) → ℕ → ℕ → ℕ → End → ℕ → ℕ
+numbered look a b lines start k = unwrap_or (option_map (number lines) (end_at look a b start k)) 0
 
-coded_is : (look : End → ℕ → Option ℕ) (a b lines : ℕ) (start other : End) (k : ℕ) (e : End) → end_at look a b start k ≡ Some e → coded look a b lines start other (suc k) ≡ number lines e
-unfolding coded
-coded_is look a b lines start other k e h = rw h refl
-
--- Where some other end is free in its entering slot, the walk has two ends fewer than there are rows and columns
-pub walk_ends : (look : End → ℕ → Option ℕ) (a b lines : ℕ) (start other : End) → IsMirrored look → IsWithin lines look
-    → look start (enter a b start) ≡ None → look other (enter a b other) ≡ None → other ≢ start → line_of start < lines → line_of other < lines
-    → (n : ℕ) (x : End) → end_at look a b start n ≡ Some x → n + 2 ≤ 2 * lines
-unfolding coded
-walk_ends look a b lines start other mirror within free other_free apart inside other_inside n x h =
-    pigeonhole (coded look a b lines start other) (n + 2) (2 * lines) below different
-  where
-    been : (k : ℕ) → suc k < n + 2 → (e : End) × (end_at look a b start k ≡ Some e)
-    been k early = been_before look a b start n k x h (omega arith)
-
-    at : (k : ℕ) (e : End) → end_at look a b start k ≡ Some e → line_of e < lines
-    at k e g = end_within look a b lines start within inside k e g
-
-    below : (k : ℕ) → k < n + 2 → coded look a b lines start other k < 2 * lines
-    below zero early = number_below lines other other_inside
-    below (suc k) early =
-        let e = been k early in
-        subst (λ c. c < 2 * lines) (sym (coded_is look a b lines start other k e.0 e.1)) (number_below lines e.0 (at k e.0 e.1))
-
-    different : (k l : ℕ) → k < l → l < n + 2 → coded look a b lines start other k ≡ coded look a b lines start other l → ⊥
-    different k zero less early same = absurd (omega arith)
-    different zero (suc l) less early same =
-        let f = been l early in
-        let one : other ≡ f.0 = number_same lines other f.0 other_inside (at l f.0 f.1) (same ∙ coded_is look a b lines start other l f.0 f.1) in
-        never_comes_to look a b start other mirror other_free apart l (f.1 ∙ ap Some (sym one))
-    different (suc k) (suc l) less early same =
-        let e = been k (omega arith) in
-        let f = been l early in
-        let one : e.0 ≡ f.0 = number_same lines e.0 f.0 (at k e.0 e.1) (at l f.0 f.1) (sym (coded_is look a b lines start other k e.0 e.1) ∙ same ∙ coded_is look a b lines start other l f.0 f.1) in
-        let again = no_return look a b start mirror free k l e.0 e.1 (f.1 ∙ ap Some (sym one)) in
-        omega arith
+pub numbered_is : (look : End → ℕ → Option ℕ) (a b lines : ℕ) (start : End) (k : ℕ) (e : End) → end_at look a b start k ≡ Some e → numbered look a b lines start k ≡ number lines e
+unfolding numbered
+numbered_is look a b lines start k e h = rw h refl
 
 -- The list of a chain is that of its walk: each move is of the path over which the walk goes on
 pub record IsStep (look : End → ℕ → Option ℕ) (a b : ℕ) (start : End) (k : ℕ) (v : Move) : Type 0 where

@@ -1,8 +1,8 @@
--- How room is made in Paull's matrix for one path more, by moving paths that stand along an alternating chain of two slots.
--- The rule and its chain are those of M. C. Paull, "Reswitching of connection networks", Bell System Technical Journal 41 (1962); in terms
--- of graphs the chain is Kempe's. That the chain never comes back to the row that it makes room in is what proves the Slepian-Duguid
--- theorem: as many slots are enough as a line has places.
-use Rattle.std.specs.Prelude.{◌≡◌, ℕ, zero, suc, ◌*◌, Option, Some, None, unwrap_or, List, [], ◌∷◌, ◌≢◌, All, AllPairs}
+-- How room is made in Paull's matrix for one path more, by moving paths that stand along the shorter of two alternating chains.
+-- The rule and its chains are those of M. C. Paull, "Reswitching of connection networks", Bell System Technical Journal 41 (1962); in terms
+-- of graphs the chains are Kempe's. That the chain from a column never comes to the row that room is made in is what proves the
+-- Slepian-Duguid theorem: as many slots are enough as a line has places. That the shorter is taken is this exchange's own.
+use Rattle.std.specs.Prelude.{◌≡◌, ℕ, zero, suc, ◌-◌, ◌*◌, ◌++◌, Bool, nat_lt, length, if◌then◌else◌, Option, Some, None, unwrap_or, List, [], ◌∷◌, ◌≢◌, All, AllPairs}
 use Rattle.paull_matrix.specs.Matrix.{Matrix, row_slot, column_slot, lowest_in_row, lowest_in_column, lowest_in_both, with_path, without_path}
 use Rattle.rearrange_chain.specs.declared.moves.Move.{Move}
 
@@ -32,6 +32,10 @@ abbrev pub chain : (End → ℕ → Option ℕ) → ℕ → End → ℕ → ℕ 
 chain look zero end a b = []
 chain look (suc n) end a b = elim (look end a) [ None ↦ [] | Some line ↦ move_of end line a b ∷ chain look n (far_end end line) b a ]
 
+-- moves that are listed already, and behind them those of the chain from a column, for at most twice as many in all as there are lines
+abbrev pub with_chain : Matrix → List Move → ℕ → ℕ → ℕ → List Move
+with_chain m moves j a b = moves ++ chain (far_line m) (2 * m.lines - length moves) (Column j) a b
+
 -- the matrix without the paths that move, and with them in their new slots
 abbrev pub lifted : Matrix → List Move → Matrix
 lifted m [] = m
@@ -52,22 +56,32 @@ slot_a m i = unwrap_or (lowest_in_row m i) 0
 abbrev pub slot_b : Matrix → ℕ → ℕ
 slot_b m j = unwrap_or (lowest_in_column m j) 0
 
--- the chain from the column
+-- the chain from the column, and the chain from the row
 abbrev pub column_chain : Matrix → ℕ → ℕ → List Move
 column_chain m i j = chain (far_line m) (2 * m.lines) (Column j) (slot_a m i) (slot_b m j)
 
--- The rule: a slot that is missing in both is taken, the lowest, and nothing moves. Where there is none, a is taken and the paths of the
--- chain exchange a and b
-abbrev pub slot_by : Matrix → ℕ → Option ℕ → ℕ
-slot_by m i (Some common) = common
-slot_by m i None = slot_a m i
+abbrev pub row_chain : Matrix → ℕ → ℕ → List Move
+row_chain m i j = chain (far_line m) (2 * m.lines) (Row i) (slot_b m j) (slot_a m i)
+
+-- the row's chain is taken where it is strictly shorter than the column's
+abbrev pub is_shorter : List Move → List Move → Bool
+is_shorter by_row by_column = nat_lt (length by_row) (length by_column)
+
+abbrev pub shorter : List Move → List Move → List Move
+shorter by_row by_column = if is_shorter by_row by_column then by_row else by_column
+
+-- The rule: a slot that is missing in both is taken, the lowest, and nothing moves. Where there is none, the paths of the shorter chain
+-- exchange a and b; the new path takes b with the row's chain, and a with the column's
+abbrev pub slot_by : Matrix → ℕ → ℕ → Option ℕ → ℕ
+slot_by m i j (Some common) = common
+slot_by m i j None = if is_shorter (row_chain m i j) (column_chain m i j) then slot_b m j else slot_a m i
 
 abbrev pub moves_by : Matrix → ℕ → ℕ → Option ℕ → List Move
 moves_by m i j (Some common) = []
-moves_by m i j None = column_chain m i j
+moves_by m i j None = shorter (row_chain m i j) (column_chain m i j)
 
 abbrev pub slot_for : Matrix → ℕ → ℕ → ℕ
-slot_for m i j = slot_by m i (lowest_in_both m i j)
+slot_for m i j = slot_by m i j (lowest_in_both m i j)
 
 abbrev pub moves_for : Matrix → ℕ → ℕ → List Move
 moves_for m i j = moves_by m i j (lowest_in_both m i j)

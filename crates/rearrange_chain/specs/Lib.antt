@@ -1,2 +1,2 @@
 pub mod Chain
-pub mod Steps
+pub mod InTurn

@@ -2,7 +2,8 @@
 use Rattle.std.specs.Prelude.{◌≡◌, ℕ, ◌+◌, ◌-◌, ◌≤◌, List, length, replicate, All, vec_capacity}
 use Rattle.exchange_events.specs.declared.answer.Answer.{Answer}
 use Rattle.exchange_events.specs.declared.trace.Trace.{Trace}
-use Rattle.exchange_core.specs.Seats.{Board, Known}
+use Rattle.seat_history.specs.declared.known.Known.{Known}
+use Rattle.exchange_core.specs.Boards.{Board}
 use Rattle.exchange_events.specs.Sizes.{Dimensions}
 use Rattle.tone_rules.specs.Tables.{table_of}
 use Rattle.call_processor.specs.Frames.{Carrying, Plays, IsReady}
@@ -11,7 +12,7 @@ use Rattle.segment_run.specs.Nothing.{nothing}
 use Rattle.segment_run.specs.Rooms.{HasRoom}
 use Rattle.segment_run.specs.Segment.{AreAnswered, RanWhole}
 use Rattle.segment_run.specs.Segments.{events_before}
-use Rattle.segment_run.specs.Team.{IsRising, IsWithin, all_of, filled}
+use Rattle.segment_run.specs.Team.{IsRising, IsWithin, all_of, put_from}
 
 -- the places of the segment's events in the history: so many from lo on
 abbrev pub IsSpan : Trace → ℕ → ℕ → ℕ → Type 0
@@ -33,5 +34,5 @@ pub record AllDone {T E : Type 0} (plays : Plays) (carries : Carrying E) (next :
   pub within : (lo count : ℕ) → IsSpan trace segment lo count → All (IsWithin lo count) (all_of g.used.items)
   pub many : (lo count : ℕ) → IsSpan trace segment lo count → length (all_of g.used.items) ≡ count
   pub rising : All IsRising g.used.items
-  pub answered : (lo count : ℕ) → IsSpan trace segment lo count → (m : List Answer) → m ≡ filled lo (all_of g.used.items) (replicate count nothing)
+  pub answered : (lo count : ℕ) → IsSpan trace segment lo count → (m : List Answer) → m ≡ put_from lo (all_of g.used.items) (replicate count nothing)
       → AreAnswered plays (table_of trace.tones) board v w m

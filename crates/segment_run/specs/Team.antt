@@ -3,7 +3,8 @@ use Rattle.std.specs.Prelude.{◌≡◌, ℕ, zero, suc, ◌+◌, ◌-◌, ◌<�
 use Rattle.exchange_events.specs.declared.answer.Answer.{Answer}
 use Rattle.exchange_events.specs.declared.trace.Trace.{Trace}
 use Rattle.exchange_events.specs.Orders.{Worker, Processor, Frame_worker}
-use Rattle.exchange_core.specs.Seats.{Known, joining}
+use Rattle.seat_history.specs.declared.known.Known.{Known}
+use Rattle.seat_history.specs.Seats.{after_join}
 use Rattle.call_processor.specs.declared.worked.Placed.{Placed}
 use Rattle.call_processor.specs.declared.worked.Workplace.{Workplace}
 use Rattle.call_processor.specs.Parts.{part_of}
@@ -57,18 +58,18 @@ pub record HasDealt (v : Known) (seats : ℕ) (w : Known) : Type 0 where
   pub made : w.made ≡ v.made + seats
 
 -- seat 0 with these seats joined, the last first
-abbrev pub joined_all : Known → List Known → Known
-joined_all v [] = v
-joined_all v (w ∷ ws) = joining (joined_all v ws) w
+abbrev pub after_joins : Known → List Known → Known
+after_joins v [] = v
+after_joins v (w ∷ ws) = after_join (after_joins v ws) w
 
 -- the answer's place is one of so many, from lo on
 abbrev pub IsWithin : ℕ → ℕ → Placed → Type 0
 IsWithin lo count p = (lo ≤ p.place) × (p.place < lo + count)
 
 -- the answers once each of these stands at its place, counted from lo; the last is put there first
-unfoldable pub filled : ℕ → List Placed → List Answer → List Answer
-filled lo [] xs = xs
-filled lo (p ∷ ps) xs = slice_set (filled lo ps xs) (p.place - lo) p.answer
+unfoldable pub put_from : ℕ → List Placed → List Answer → List Answer
+put_from lo [] xs = xs
+put_from lo (p ∷ ps) xs = slice_set (put_from lo ps xs) (p.place - lo) p.answer
 
 -- the answers at all workplaces
 unfoldable pub all_of : List Workplace → List Placed

@@ -1,5 +1,5 @@
 ghost use Rattle.std.specs.Prelude.{◌≡◌, ◌<◌, ◌≤◌, ◌+◌, ◌∷◌, [], length, map, replicate, All, AllPairs, OnOk, IfOk, vec_len, vec_capacity};
-ghost use Rattle.segment_run.specs.Team.{IsRising, IsWithin, all_of, filled};
+ghost use Rattle.segment_run.specs.Team.{IsRising, IsWithin, all_of, put_from};
 ghost use Rattle.segment_run.specs.Nothing.{nothing};
 
 use call_processor::{Placed, Workplace};
@@ -20,7 +20,7 @@ fn no_answer(alloc: Global) -> Answer
 // Puts each answer at its place.
 fn put_all(answers: &mut Vec<Answer>, lo: u32, placed: &mut Vec<Placed>)
     requires within { All (IsWithin lo (length answers.old.items)) placed.old.items }
-    ensures answers { answers.new.items ≡ filled lo placed.old.items answers.old.items }
+    ensures answers { answers.new.items ≡ put_from lo placed.old.items answers.old.items }
 {
     while let Some(one) = placed.pop() {
         let Placed { place, answer } = one;
@@ -60,7 +60,7 @@ fn merge_several(
 ) -> Result<Vec<Answer>, AllocError>
     requires within { All (IsWithin lo count) (all_of used.old.items) }
     requires room { vec_len workplaces.old + vec_len used.old ≤ vec_capacity workplaces.old }
-    ensures answers { IfOk result (λ m. m.items ≡ filled lo (all_of used.old.items) (replicate count nothing)) }
+    ensures answers { IfOk result (λ m. m.items ≡ put_from lo (all_of used.old.items) (replicate count nothing)) }
     ensures back { OnOk result (length workplaces.new.items ≡ length workplaces.old.items + length used.old.items) }
     ensures gone { OnOk result ((used.new.items ≡ []) × (vec_capacity used.new ≡ vec_capacity used.old)) }
 {
@@ -87,7 +87,7 @@ pub fn merge(
     requires many { length (all_of used.old.items) ≡ count }
     requires rising { All IsRising used.old.items }
     requires room { vec_len workplaces.old + vec_len used.old ≤ vec_capacity workplaces.old }
-    ensures answers { IfOk result (λ m. m.items ≡ filled lo (all_of used.old.items) (replicate count nothing)) }
+    ensures answers { IfOk result (λ m. m.items ≡ put_from lo (all_of used.old.items) (replicate count nothing)) }
     ensures back { OnOk result (length workplaces.new.items ≡ length workplaces.old.items + length used.old.items) }
     ensures gone { OnOk result ((used.new.items ≡ []) × (vec_capacity used.new ≡ vec_capacity used.old)) }
 {

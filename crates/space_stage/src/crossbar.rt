@@ -1,5 +1,7 @@
+//! The crossbar of the space stage, one outgoing line after the other.
+
 ghost use Rattle.std.specs.Prelude.{◌≡◌, ℕ, ◌<◌, length, slice_index};
-ghost use Rattle.frame_buffer.specs.Highways.{SameSize, IsPart};
+ghost use Rattle.frame_buffer.specs.Highways.{SameHighwaySize, IsPart};
 ghost use Rattle.control_memory.specs.Image.{lines_of};
 ghost use Rattle.space_stage.specs.Crossing.{gets, IsCrossedPart, IsCrossed, AreStarts};
 
@@ -11,8 +13,8 @@ use frame_buffer::{Crossed, Highway, make_idle};
 pub fn cross(highway: &Highway, image: &Image, crossed: &mut Crossed)
     requires lines { highway.now.lines ≡ lines_of image.now }
     requires slots { highway.now.slots ≡ image.now.slots }
-    requires size { SameSize highway.now crossed.old }
-    ensures size { SameSize crossed.old crossed.new }
+    requires size { SameHighwaySize highway.now crossed.old }
+    ensures size { SameHighwaySize crossed.old crossed.new }
     ensures octets { IsCrossed image.now highway.now crossed.new }
 {
     let slots = crossed.slots();

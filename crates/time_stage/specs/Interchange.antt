@@ -2,14 +2,15 @@
 -- speech memory at random, in the order that its control memory gives.
 use Rattle.std.specs.Prelude.{◌≡◌, ℕ, ◌<◌}
 use Rattle.circuit_model.specs.declared.channel.Slot.{Slot}
-use Rattle.frame_buffer.specs.Speech.{Speech, octet_of}
+use Rattle.frame_buffer.specs.Speech.{Speech, octet_in_half}
 use Rattle.frame_buffer.specs.Highways.{Highways, octet_on}
-use Rattle.control_memory.specs.Image.{Control, sent, read}
-use Rattle.control_memory.specs.Carrying.{fetched}
+use Rattle.control_memory.specs.Layout.{Layout, Legal}
+use Rattle.control_memory.specs.Image.{Control, lines_of, sent, read, EachSlot, HasLayout}
+use Rattle.control_memory.specs.Carrying.{carried, fetched}
 
 -- an incoming line sends in an internal slot the octet of the place that its table names, and the idle octet where it names none
 abbrev pub sends : Control → Speech → ℕ → ℕ → ℕ
-sends control speech line slot = fetched (sent control line slot) (λ place. octet_of speech.readable (record { line = line; place = place }))
+sends control speech line slot = fetched (sent control line slot) (λ place. octet_in_half speech.readable (record { line = line; place = place }))
 
 -- a place of an outgoing line reads the octet of the internal slot that its table names, and the idle octet where it names none
 abbrev pub reads : Control → Highways → ℕ → ℕ → ℕ
@@ -21,4 +22,9 @@ IsSent control speech highway = (line slot : ℕ) → line < highway.lines → s
 
 -- every outgoing line has in every place of the half that is filled what its table reads
 abbrev pub IsRead : Control → Highways → Speech → Type 0
-IsRead control crossed out = (at : Slot) → at.line < out.lines → at.place < 30 → octet_of out.filled at ≡ reads control crossed at.line at.place
+IsRead control crossed out = (at : Slot) → at.line < out.lines → at.place < 30 → octet_in_half out.filled at ≡ reads control crossed at.line at.place
+
+-- by whatever legal layout has the tables of the control memory, each outlet has the octet of the inlet of its path, and every other slot is idle
+abbrev pub IsCarried : Control → (Slot → ℕ) → (Slot → ℕ) → Type 0
+IsCarried control from to =
+    (layout : Layout) → Legal (lines_of control) control.slots layout → HasLayout control layout → EachSlot (lines_of control) (λ at. to at ≡ carried layout from at)

@@ -1,9 +1,10 @@
+//! All three stages in a row: what reaches each outlet under a legal layout.
+
 ghost use Rattle.std.specs.Prelude.{◌≡◌, ◌<◌};
-ghost use Rattle.frame_buffer.specs.Speech.{octet_of};
-ghost use Rattle.frame_buffer.specs.Highways.{SameSize};
-ghost use Rattle.control_memory.specs.Layout.{Layout, Legal};
-ghost use Rattle.control_memory.specs.Image.{lines_of, HasLayout, EachSlot};
-ghost use Rattle.control_memory.specs.Carrying.{carried};
+ghost use Rattle.frame_buffer.specs.Speech.{octet_in_half};
+ghost use Rattle.frame_buffer.specs.Highways.{SameHighwaySize};
+ghost use Rattle.control_memory.specs.Image.{lines_of};
+ghost use Rattle.time_stage.specs.Interchange.{IsCarried};
 
 use crate::interchange::{incoming, outgoing};
 use control_memory::Image;
@@ -24,19 +25,15 @@ pub fn carry(
     requires buffer { buffer.now.lines ≡ lines_of image.now }
     requires lines { highway.old.lines ≡ lines_of image.now }
     requires slots { highway.old.slots ≡ image.now.slots }
-    requires size { SameSize highway.old crossed.old }
+    requires size { SameHighwaySize highway.old crossed.old }
     requires out { out.old.lines ≡ lines_of image.now }
-    ensures highway_size { SameSize highway.old highway.new }
-    ensures crossed_size { SameSize crossed.old crossed.new }
+    ensures highway_size { SameHighwaySize highway.old highway.new }
+    ensures crossed_size { SameHighwaySize crossed.old crossed.new }
     ensures lines { out.new.lines ≡ out.old.lines }
-    ensures octets { (layout : Layout) → Legal (lines_of image.now) image.now.slots layout → HasLayout image.now layout
-        → EachSlot (lines_of image.now) (λ at. octet_of out.new.filled at ≡ carried layout (octet_of buffer.now.readable) at) }
+    ensures octets { IsCarried image.now (octet_in_half buffer.now.readable) (octet_in_half out.new.filled) }
     ensures readable { out.new.readable ≡ out.old.readable }
 {
     incoming(buffer, image, highway);
     space_stage::cross(highway, image, crossed);
     outgoing(crossed, image, out);
 }
-
-#[cfg(test)]
-mod tests;

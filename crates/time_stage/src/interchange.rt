@@ -1,5 +1,7 @@
+//! The time slot interchange on both sides of the space stage.
+
 ghost use Rattle.std.specs.Prelude.{◌≡◌, ℕ, ◌<◌, length, slice_index};
-ghost use Rattle.frame_buffer.specs.Highways.{SameSize, IsPart, RowsHold};
+ghost use Rattle.frame_buffer.specs.Highways.{SameHighwaySize, IsPart, RowsHold};
 ghost use Rattle.control_memory.specs.Image.{lines_of};
 ghost use Rattle.time_stage.specs.Interchange.{sends, reads, IsSent, IsRead};
 
@@ -15,7 +17,7 @@ pub fn incoming(buffer: &FrameBuffer, image: &Image, highway: &mut Highway)
     requires buffer { buffer.now.lines ≡ lines_of image.now }
     requires lines { highway.old.lines ≡ lines_of image.now }
     requires slots { highway.old.slots ≡ image.now.slots }
-    ensures size { SameSize highway.old highway.new }
+    ensures size { SameHighwaySize highway.old highway.new }
     ensures octets { IsSent image.now buffer.now highway.new }
 {
     let slots = highway.slots();
@@ -75,7 +77,7 @@ pub fn outgoing(crossed: &Crossed, table: &Image, out: &mut FrameBuffer)
     ensures octets { IsRead table.now crossed.now out.new }
     ensures readable { out.new.readable ≡ out.old.readable }
 {
-    read_part(crossed, table, 0, out.filled());
+    read_part(crossed, table, 0, out.half_to_fill());
 }
 
 // What some lines read, from line `first` on: `part` holds their rows, of thirty octets each.

@@ -1,3 +1,5 @@
+//! The octets of one line while a time stage fetches them in another order.
+
 ghost use Rattle.std.specs.Prelude.{◌≡◌, ℕ, ◌<◌, ◌≤◌, length, slice_index};
 ghost use Rattle.circuit_model.specs.FrameInput.{idle_octet};
 

@@ -1,3 +1,5 @@
+//! Which tone a leg hears in its state.
+
 ghost use Rattle.std.specs.Prelude.{◌≡◌, IfSome};
 ghost use Rattle.tone_rules.specs.Tables.{IsGiven};
 ghost use Rattle.tone_rules.specs.CallTones.{tone_for, tone_given};

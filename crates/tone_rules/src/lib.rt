@@ -3,7 +3,7 @@
 //! - [`tone_for`] returns the tone of a state and a cause: ringing tone in call delivered, busy
 //!   tone where a leg was cleared with user busy. [`tone_given`] returns it where its octets are
 //!   given (`tone`, `octets`).
-//! - [`octet_of`] returns the octets of a tone in order, over and over.
+//! - [`tone_octet`] returns the octets of a tone in order, over and over.
 //!
 //! Nothing here allocates.
 //!
@@ -17,5 +17,5 @@ mod tones;
 
 pub use call_tones::{tone_for, tone_given};
 pub use laws::{law_of_given_tones, worked_tones};
-pub use table::octet_of;
+pub use table::tone_octet;
 pub use tones::{ToneOctets, Tones};

@@ -1,3 +1,5 @@
+//! The octet of a tone after so many frames.
+
 ghost use Rattle.std.specs.Prelude.{◌≡◌};
 ghost use Rattle.tone_rules.specs.Tables.{table_of, IsGiven};
 ghost use Rattle.circuit_model.specs.Hears.{tone_octet};
@@ -7,7 +9,7 @@ use circuit_model::Kind;
 
 /// The octet of a given tone after it has sounded for so many frames: the table is played over and
 /// over, from its first octet on.
-pub fn octet_of(tones: &Tones, kind: Kind, frames: u32) -> u8
+pub fn tone_octet(tones: &Tones, kind: Kind, frames: u32) -> u8
     requires { IsGiven tones.now kind }
     ensures { result ≡ tone_octet (table_of tones.now kind) frames }
 {

@@ -1,3 +1,5 @@
+//! The tones that a trace gives.
+
 ghost use Rattle.std.specs.Prelude.{◌≡◌, ◌%◌, ◌<◌, ℕ, [], length, slice_index_or};
 ghost use Rattle.circuit_model.specs.FrameInput.{idle_octet};
 ghost use Rattle.circuit_model.specs.Hears.{tone_octet};

@@ -26,8 +26,8 @@ use Rattle.exchange_events.specs.declared.trace.Event.TheVariants.{Nail, Seat, F
 use Rattle.number_plan.specs.declared.plan.Number.{Number}
 use Rattle.number_plan.specs.declared.target.Target.{Target}
 use Rattle.number_plan.specs.declared.target.Target.TheVariants as goal
-use Rattle.number_plan.specs.Plan.{is_number, is_taken, all_targets}
-use Rattle.number_plan.proofs.Ordered.{all_with}
+use Rattle.number_plan.specs.Plan.{is_number, is_number_taken, all_targets}
+use Rattle.number_plan.proofs.OrderFacts.{all_with}
 use Rattle.exchange_events.specs.declared.trace.Trace.{Trace}
 use Rattle.trace_text.specs.TraceFields.{slash, numeral_in, external_line, slot, room, octets_written, thirty, at_most, longest_message, header}
 use Rattle.trace_text.specs.TraceWords.{cut_at, numeral, lines, words, two, one_or_two, three, is_comment, is_blank, is_printable}
@@ -404,7 +404,7 @@ joins_same s (Happens e) other h =
       | inr many ↦ let failed = rw many at h in absurd (grind (arith, failed))
     ]
 joins_same s (Numbered n) other h =
-    elim (true_or_false (is_taken s.plan n.digits)) [
+    elim (true_or_false (is_number_taken s.plan n.digits)) [
       | inl taken ↦ let failed = rw taken at h in absurd (grind (arith, failed))
       | inr apart ↦ elim (true_or_false (nat_eq (length s.plan) 256)) [
         | inl full ↦ let failed = rw (apart, full) at h in absurd (grind (arith, failed))

@@ -9,7 +9,7 @@ use Rattle.circuit_model.specs.Circuits.{same_slot}
 use Rattle.number_plan.specs.declared.plan.Number.{Number}
 use Rattle.number_plan.specs.declared.target.Target.{Target}
 use Rattle.number_plan.specs.declared.target.Target.TheVariants as goal
-use Rattle.number_plan.specs.Plan.{is_number, is_taken}
+use Rattle.number_plan.specs.Plan.{is_number, is_number_taken}
 use Rattle.tone_rules.specs.declared.tones.Tones.{Tones}
 use Rattle.tone_rules.specs.CallTones.{is_given}
 use Rattle.exchange_events.specs.declared.trace.Event.{Event}
@@ -205,7 +205,7 @@ reads so_far line = if is_comment line || is_blank line then Ok said.Nothing els
 -- the last checks of a line: no number equals, begins or continues an earlier one, and there are at most 256 numbers and 65,535 events
 abbrev pub joins : SoFar → Said → Result Said Reason
 joins so_far (said.Numbered number) =
-    if is_taken so_far.plan number.digits then Err reason.Prefix
+    if is_number_taken so_far.plan number.digits then Err reason.Prefix
     else if length so_far.plan == 256 then Err reason.Limit
     else Ok (said.Numbered number)
 joins so_far (said.Happens event) = if nat_lt so_far.events most_events then Ok (said.Happens event) else Err reason.Limit

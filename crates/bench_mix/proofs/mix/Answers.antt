@@ -1,6 +1,6 @@
 use Rattle.std.proofs.Common.{List, Option, length, get_or, None, ap, ◌∙◌}
 use Rattle.conference_mix.specs.declared.mixer.Seated.{Seated}
-use Rattle.conference_mix.proofs.Kept.{one_value}
+use Rattle.conference_mix.proofs.SeatFacts.{one_value}
 use Rattle.bench_mix.proofs.mix.Goals as goal
 
 pub loop-place-init : goal.loop-place-init

@@ -4,13 +4,13 @@ use Rattle.std.proofs.lemmas.List.Elements.{All-push}
 use Rattle.tone_rules.specs.Tables.{table_of}
 use Rattle.exchange_events.specs.declared.trace.Trace.{Trace}
 use Rattle.exchange_events.specs.Orders.{Frame_worker, IsEvent}
-use Rattle.exchange_core.specs.Seats.{before}
+use Rattle.seat_history.specs.Histories.{before}
 use Rattle.call_processor.specs.declared.worked.Placed.{Placed}
 use Rattle.call_processor.specs.Frames.{HasFrame}
 use Rattle.call_processor.specs.Parts.{is_its, part_of}
 use Rattle.call_processor.specs.Work.{Works}
-use Rattle.call_processor.proofs.Done.{Going, begins_next, frames_stay, going_said, next_of, works_front, works_lacking}
-use Rattle.call_processor.proofs.Segments.{up_to, rest_from, next_not, next_its, front_here, front_next, turn_left}
+use Rattle.call_processor.proofs.EventLemmas.{Going, begins_next, frames_stay, going_said, next_of, works_front, works_lacking}
+use Rattle.call_processor.proofs.PartLemmas.{up_to, rest_from, next_not, next_its, front_here, front_next, turn_left}
 use Rattle.call_processor.proofs.framing.do_frames.Goals as goal
 
 pub input_of-requires : goal.input_of-requires

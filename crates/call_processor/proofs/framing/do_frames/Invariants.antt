@@ -3,8 +3,8 @@ use Rattle.std.specs.List.{All}
 use Rattle.tone_rules.specs.Tables.{table_of}
 use Rattle.exchange_events.specs.Orders.{Frame_worker}
 use Rattle.call_processor.specs.Frames.{IsReady, HasFrame, engine_dimensions}
-use Rattle.call_processor.proofs.Done.{Going}
-use Rattle.call_processor.proofs.Segments.{up_to}
+use Rattle.call_processor.proofs.EventLemmas.{Going}
+use Rattle.call_processor.proofs.PartLemmas.{up_to}
 use Rattle.call_processor.proofs.framing.do_frames.Given as goal
 
 abbrev pub invariant-loop-event : goal.invariant-loop-event

@@ -4,13 +4,13 @@ use Rattle.std.proofs.lemmas.List.Elements.{All-push}
 use Rattle.exchange_events.specs.declared.trace.Trace.{Trace}
 use Rattle.exchange_events.specs.Orders.{Processor, IsEvent}
 use Rattle.exchange_events.specs.Responses.{reply_of}
-use Rattle.exchange_core.specs.Seats.{before}
+use Rattle.seat_history.specs.Histories.{before}
 use Rattle.call_processor.specs.declared.worked.Placed.{Placed}
 use Rattle.call_processor.specs.Parts.{is_its, part_of}
 use Rattle.call_processor.specs.Work.{Works}
-use Rattle.call_processor.proofs.Done.{Going, Next, going_with, works_front, works_lacking}
-use Rattle.call_processor.proofs.Segments.{up_to, rest_from, next_not, next_its, front_here, front_next, turn_left}
-use Rattle.call_processor.proofs.Tools.{no_tool_asked, no_tool_left}
+use Rattle.call_processor.proofs.EventLemmas.{Going, Next, going_with, works_front, works_lacking}
+use Rattle.call_processor.proofs.PartLemmas.{up_to, rest_from, next_not, next_its, front_here, front_next, turn_left}
+use Rattle.call_processor.proofs.ToolLemmas.{no_tool_asked, no_tool_left}
 use Rattle.call_processor.proofs.processing.do_events.Goals as goal
 
 pub is_of_processor-requires-clause-event : goal.is_of_processor-requires-clause-event

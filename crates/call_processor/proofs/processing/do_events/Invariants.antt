@@ -3,7 +3,7 @@ use Rattle.std.specs.List.{All, range_with_len}
 use Rattle.exchange_core.specs.declared.tool.Tool.TheVariants.{Nothing}
 use Rattle.exchange_events.specs.Orders.{Processor}
 use Rattle.call_processor.specs.Parts.{is_its}
-use Rattle.call_processor.proofs.Done.{Going}
+use Rattle.call_processor.proofs.EventLemmas.{Going}
 use Rattle.call_processor.proofs.processing.do_events.Given as goal
 
 abbrev pub invariant-loop-event : goal.invariant-loop-event

@@ -1,6 +1,6 @@
 use Rattle.std.proofs.Common.{arith}
 use Rattle.circuit_model.specs.Holding.{empty}
-use Rattle.circuit_model.proofs.Recorded.{after_all-append, frames-boundary, frames-command, length-frames}
+use Rattle.circuit_model.proofs.FrameRecords.{after_all-append, frames-boundary, frames-command, length-frames}
 use Rattle.circuit_model.proofs.holding_laws.law_of_frames.Goals as goal
 
 pub returns-clause-state : goal.returns-clause-state

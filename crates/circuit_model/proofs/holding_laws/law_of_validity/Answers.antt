@@ -1,7 +1,7 @@
 use Rattle.std.proofs.Common.{◌+◌, ◌≡◌, subst, arith}
 use Rattle.circuit_model.specs.Holding.{empty, frames, circuits_of, Valid}
 use Rattle.circuit_model.proofs.Validity.{valid-empty, valid-after}
-use Rattle.circuit_model.proofs.Recorded.{valid-frames}
+use Rattle.circuit_model.proofs.FrameRecords.{valid-frames}
 use Rattle.circuit_model.proofs.holding_laws.law_of_validity.Goals as goal
 
 pub returns-clause-kept : goal.returns-clause-kept

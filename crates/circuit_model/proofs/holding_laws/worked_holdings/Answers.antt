@@ -3,7 +3,7 @@ use Rattle.circuit_model.specs.declared.circuit.Kind.TheVariants.{Busy}
 use Rattle.circuit_model.specs.declared.circuit.Circuit.TheVariants.{Pair, Member, Tone}
 use Rattle.circuit_model.specs.Holding.{empty, Connect, after}
 use Rattle.circuit_model.specs.Examples.{first}
-use Rattle.circuit_model.proofs.Refused.{stands_once, stands_both_ways}
+use Rattle.circuit_model.proofs.InvalidHoldings.{stands_once, stands_both_ways}
 use Rattle.circuit_model.proofs.holding_laws.worked_holdings.Goals as goal
 
 pub returns-clause-to_itself : goal.returns-clause-to_itself

@@ -1,13 +1,13 @@
 use Rattle.std.proofs.Common.{◌≡◌, ◌<◌, ◌≤◌}
 use Rattle.circuit_model.specs.declared.channel.Slot.{Slot}
 use Rattle.circuit_model.specs.FrameInput.{octet_in}
-use Rattle.frame_buffer.specs.Speech.{octet_of}
+use Rattle.frame_buffer.specs.Speech.{octet_in_half}
 use Rattle.frame_engine.proofs.intake.take_in.Given as goal
 
 abbrev pub invariant-loop-line : goal.invariant-loop-line
 invariant-loop-line l = record {
   lines : l.speech.lines ≡ l.fn.speech.lines;
-  taken : (at : Slot) → at.line < l.line → at.place < 30 → octet_of l.speech.filled at ≡ octet_in l.input at;
-  others : (at : Slot) → l.external ≤ at.line → at.place < 30 → octet_of l.speech.filled at ≡ octet_of l.fn.speech.filled at;
+  taken : (at : Slot) → at.line < l.line → at.place < 30 → octet_in_half l.speech.filled at ≡ octet_in l.input at;
+  others : (at : Slot) → l.external ≤ at.line → at.place < 30 → octet_in_half l.speech.filled at ≡ octet_in_half l.fn.speech.filled at;
   readable : l.speech.readable ≡ l.fn.speech.readable;
 }

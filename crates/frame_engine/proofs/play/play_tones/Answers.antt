@@ -3,8 +3,8 @@ use Rattle.std.proofs.lemmas.List.{get_or_default}
 use Rattle.control_memory.specs.declared.heard.Heard.TheVariants.{Silent}
 use Rattle.frame_engine.proofs.play.play_tones.Goals as goal
 
-pub octet_of-requires : goal.octet_of-requires
-octet_of-requires c =
+pub tone_octet-requires : goal.tone_octet-requires
+tone_octet-requires c =
     let word = c.index-heard-place in
     c.requires.tones c.loop-place.place c.in-Tone.kind c.in-Tone.since (search rules)
     (get_or_default c.args.heard.now c.loop-place.place Silent word.result (search rules) ∙ sym word.is ∙ sym c.heard.ensures ∙ c.in-Tone.is)

@@ -2,7 +2,7 @@ use Rattle.std.proofs.Common.{◌≡◌, ◌*◌, length, ap, ◌∙◌, sym, ar
 use Rattle.std.proofs.Math.ListN.{get_or-append}
 use Rattle.std.proofs.lemmas.List.{length-take-le}
 use Rattle.conference_mix.specs.Rooms.{given_at}
-use Rattle.frame_buffer.specs.Speech.{octet_of}
+use Rattle.frame_buffer.specs.Speech.{octet_in_half}
 use Rattle.frame_engine.proofs.PortRows.{members-length}
 use Rattle.frame_engine.proofs.ports.mix_all.Goals as goal
 
@@ -14,13 +14,13 @@ mix-requires c = record {
       let told : length c.args.octets.now ≡ 60 = search rules in
       length-take-le c.from-ports.result c.args.octets.now (omega (arith, is, told, few))
       ∙ is
-      ∙ sym (ap length c.seat_members.ensures ∙ members-length c.args.image.now (octet_of c.args.read.now.readable));
+      ∙ sym (ap length c.seat_members.ensures ∙ members-length c.args.image.now (octet_in_half c.args.read.now.readable));
 }
 
 pub returns : goal.returns
 returns c k low =
     let m = c.args.image.now in
-    let octet = octet_of c.args.read.now.readable in
+    let octet = octet_in_half c.args.read.now.readable in
     let few = c.requires.few in
     let is : c.from-ports.result ≡ 30 * m.bridges = let b = c.bridges.ensures in let f = c.from-ports.ensures in omega (arith, b, f, few) in
     let seated = c.seat_members.ensures in

@@ -1,4 +1,4 @@
-use Rattle.number_plan.proofs.Ordered.{order_apart, order_with}
+use Rattle.number_plan.proofs.OrderFacts.{order_apart, order_with}
 use Rattle.number_plan.proofs.Meanings.{held_with}
 use Rattle.number_plan.proofs.laws.law_of_order.Goals as goal
 

@@ -1,7 +1,7 @@
 use Rattle.std.proofs.Common.{refl, sym, subst, ◌∙◌}
 use Rattle.q931_codec.specs.Grammar.{IsMessage}
-use Rattle.q931_codec.specs.Outgoing.{outgoing_of, received}
-use Rattle.q931_codec.proofs.Written.{written_is, encoding_read}
+use Rattle.q931_codec.specs.Outgoing.{outgoing_of, message_at_receiver}
+use Rattle.q931_codec.proofs.EncodingFacts.{written_is, encoding_read}
 use Rattle.q931_codec.proofs.encoding.write.Goals as goal
 
 pub returns-clause-encoded : goal.returns-clause-encoded
@@ -47,4 +47,4 @@ returns-clause-encoded c =
 
 pub returns-clause-read_back : goal.returns-clause-read_back
 returns-clause-read_back c =
-    subst (λ octets. IsMessage octets (received (outgoing_of c.args.message.now))) (sym (returns-clause-encoded c)) (encoding_read (outgoing_of c.args.message.now) c.requires)
+    subst (λ octets. IsMessage octets (message_at_receiver (outgoing_of c.args.message.now))) (sym (returns-clause-encoded c)) (encoding_read (outgoing_of c.args.message.now) c.requires)

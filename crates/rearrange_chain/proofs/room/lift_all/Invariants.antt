@@ -1,6 +1,6 @@
 use Rattle.std.proofs.Common.{◌≡◌, drop}
 use Rattle.rearrange_chain.specs.Chain.{lifted}
-use Rattle.rearrange_chain.specs.Steps.{CanLift}
+use Rattle.rearrange_chain.specs.InTurn.{CanLift}
 use Rattle.rearrange_chain.proofs.room.lift_all.Given as goal
 
 abbrev pub invariant-loop-moved : goal.invariant-loop-moved

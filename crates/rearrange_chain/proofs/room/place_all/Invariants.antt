@@ -1,6 +1,6 @@
 use Rattle.std.proofs.Common.{◌≡◌, drop}
 use Rattle.rearrange_chain.specs.Chain.{placed}
-use Rattle.rearrange_chain.specs.Steps.{CanPlace}
+use Rattle.rearrange_chain.specs.InTurn.{CanPlace}
 use Rattle.rearrange_chain.proofs.room.place_all.Given as goal
 
 abbrev pub invariant-loop-moved : goal.invariant-loop-moved

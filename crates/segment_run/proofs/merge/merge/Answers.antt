@@ -1,5 +1,5 @@
 use Rattle.std.proofs.Common.{rules, ◌≡◌, ◌∙◌, length, arith}
-use Rattle.segment_run.proofs.Filling.{filled_alone, many_alone}
+use Rattle.segment_run.proofs.PlaceLemmas.{filled_alone, many_alone}
 use Rattle.segment_run.proofs.merge.merge.Goals as goal
 
 pub take_all-requires-clause-room : goal.take_all-requires-clause-room

@@ -1,9 +1,9 @@
 use Rattle.std.proofs.Common.{rules, sym, subst, ap, ◌∙◌, List, length, ◌≡◌, ℕ}
 use Rattle.std.specs.List.{All}
 use Rattle.call_processor.specs.declared.worked.Placed.{Placed}
-use Rattle.segment_run.specs.Team.{IsWithin, all_of, filled}
-use Rattle.segment_run.proofs.Filling.{all_of_last, all_of_none, filled_append, filled_none, length_filled}
-use Rattle.segment_run.proofs.Lists.{all_either, no_length}
+use Rattle.segment_run.specs.Team.{IsWithin, all_of, put_from}
+use Rattle.segment_run.proofs.PlaceLemmas.{all_of_last, all_of_none, filled_append, filled_none, length_filled}
+use Rattle.segment_run.proofs.ListLemmas.{all_either, no_length}
 use Rattle.segment_run.proofs.merge.merge_several.Goals as goal
 
 pub put_all-requires : goal.put_all-requires
@@ -24,9 +24,9 @@ loop-one-preserved c =
     record {
       size = ap length put ∙ (length_filled c.args.lo one.answers.items c.loop-one.answers.items ∙ c.loop-one.invariant.size);
       within = (all_either (IsWithin c.args.lo c.args.count) (all_of used) one.answers.items all).0;
-      filled = ap (filled c.args.lo (all_of used)) put
+      filled = ap (put_from c.args.lo (all_of used)) put
           ∙ (sym (filled_append c.args.lo (all_of used) one.answers.items c.loop-one.answers.items)
-          ∙ (ap (λ (l : List Placed). filled c.args.lo l c.loop-one.answers.items) (sym flat) ∙ c.loop-one.invariant.filled));
+          ∙ (ap (λ (l : List Placed). put_from c.args.lo l c.loop-one.answers.items) (sym flat) ∙ c.loop-one.invariant.filled));
       room = search rules;
       back = search rules;
       kept = search rules;
@@ -36,4 +36,4 @@ pub returns-clause-answers : goal.returns-clause-answers
 returns-clause-answers c =
     let zero_long : length c.loop-one.used.items ≡ 0 = search rules in
     let none = ap all_of (no_length c.loop-one.used.items zero_long) ∙ all_of_none in
-    sym (filled_none c.args.lo c.loop-one.answers.items) ∙ (ap (λ (l : List Placed). filled c.args.lo l c.loop-one.answers.items) (sym none) ∙ c.loop-one.invariant.filled)
+    sym (filled_none c.args.lo c.loop-one.answers.items) ∙ (ap (λ (l : List Placed). put_from c.args.lo l c.loop-one.answers.items) (sym none) ∙ c.loop-one.invariant.filled)

@@ -2,9 +2,9 @@ use Rattle.std.proofs.Common.{rules, ◌≡◌, sym, subst, ap, ◌∙◌, List,
 use Rattle.std.specs.List.{All}
 use Rattle.std.proofs.lemmas.List.{length-set}
 use Rattle.call_processor.specs.declared.worked.Placed.{Placed}
-use Rattle.segment_run.specs.Team.{IsWithin, filled}
-use Rattle.segment_run.proofs.Filling.{filled_last, filled_none}
-use Rattle.segment_run.proofs.Lists.{all_front, no_length}
+use Rattle.segment_run.specs.Team.{IsWithin, put_from}
+use Rattle.segment_run.proofs.PlaceLemmas.{filled_last, filled_none}
+use Rattle.segment_run.proofs.ListLemmas.{all_front, no_length}
 use Rattle.segment_run.proofs.merge.put_all.Goals as goal
 
 pub loop-one-preserved : goal.loop-one-preserved
@@ -16,7 +16,7 @@ loop-one-preserved c =
     record {
       size = length-set xs _ _ ∙ c.loop-one.invariant.size;
       within = all_front (IsWithin c.args.lo (length c.args.answers.now.items)) ps p (subst (All (IsWithin c.args.lo (length c.args.answers.now.items))) items c.loop-one.invariant.within);
-      filled = sym (filled_last c.args.lo ps p xs) ∙ (ap (λ (l : List Placed). filled c.args.lo l xs) (sym items) ∙ c.loop-one.invariant.filled);
+      filled = sym (filled_last c.args.lo ps p xs) ∙ (ap (λ (l : List Placed). put_from c.args.lo l xs) (sym items) ∙ c.loop-one.invariant.filled);
     }
 
 pub returns : goal.returns
@@ -24,5 +24,5 @@ returns c =
     let zero_long : length c.loop-one.placed.items ≡ 0 = search rules in
     let none = no_length c.loop-one.placed.items zero_long in
     record {
-      answers = sym (filled_none c.args.lo c.loop-one.answers.items) ∙ (ap (λ (l : List Placed). filled c.args.lo l c.loop-one.answers.items) (sym none) ∙ c.loop-one.invariant.filled);
+      answers = sym (filled_none c.args.lo c.loop-one.answers.items) ∙ (ap (λ (l : List Placed). put_from c.args.lo l c.loop-one.answers.items) (sym none) ∙ c.loop-one.invariant.filled);
     }

@@ -1,7 +1,7 @@
 use Rattle.std.proofs.Common.{rules, ◌-◌, IsTrue, sym, subst, arith}
 use Rattle.exchange_events.specs.Sound.{IsSound}
 use Rattle.segment_run.specs.Gathered.{IsSpan}
-use Rattle.segment_run.proofs.Loads.{ends_are}
+use Rattle.segment_run.proofs.LoadLemmas.{ends_are}
 use Rattle.segment_run.proofs.run.run_segment_in.Goals as goal
 
 pub overflow_sub-count : goal.overflow_sub-count

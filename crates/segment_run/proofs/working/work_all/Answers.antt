@@ -1,7 +1,7 @@
 use Rattle.std.proofs.Common.{◌+◌, ℕ, sym, subst, ap, ◌∙◌, IsTrue, List, length}
 use Rattle.std.specs.Prelude.{replicate}
 use Rattle.std.specs.List.{All}
-use Rattle.exchange_core.specs.Seats.{Known}
+use Rattle.seat_history.specs.declared.known.Known.{Known}
 use Rattle.exchange_events.specs.Sound.{IsSound}
 use Rattle.exchange_core.specs.Working.{Entry}
 use Rattle.tone_rules.specs.Tables.{table_of}
@@ -9,8 +9,8 @@ use Rattle.call_processor.specs.declared.worked.Finished.{Finished}
 use Rattle.call_processor.specs.Frames.{IsReady, engine_dimensions}
 use Rattle.segment_run.specs.declared.dealing.Job.{Job}
 use Rattle.segment_run.specs.Nothing.{nothing}
-use Rattle.segment_run.specs.Team.{IsRising, IsWithin, all_of, filled}
-use Rattle.segment_run.proofs.Whole.{Run, each_at, enough_turns, run_answered, run_chief, run_long, run_many, run_ran, run_ready, run_rising, run_whole, run_within}
+use Rattle.segment_run.specs.Team.{IsRising, IsWithin, all_of, put_from}
+use Rattle.segment_run.proofs.WholeRunLemmas.{Run, each_at, enough_turns, run_answered, run_chief, run_long, run_many, run_ran, run_ready, run_rising, run_whole, run_within}
 use Rattle.segment_run.proofs.working.work_all.Goals as goal
 
 pub deal-jobs-requires-clause-turns : goal.deal-jobs-requires-clause-turns
@@ -156,5 +156,5 @@ returns-clause-done g c =
       within = λ lo count span. subst (λ (l : List _). All (IsWithin lo count) (all_of l)) lie (run_within board c.args.trace.now c.args.segment number known joined workplace whole g.C.Carrier.plays (table_of c.args.trace.now.tones) g.C.Carrier.carries g.C.Carrier.next sizes v dealt k jobs workers c.args.engine c.side_by_side-crew.result.engine c.args.tool c.side_by_side-crew.result.tool r all_done lo count span.0 span.1);
       many = λ lo count span. ap length (ap all_of (sym lie)) ∙ run_many board c.args.trace.now c.args.segment number known joined workplace whole g.C.Carrier.plays (table_of c.args.trace.now.tones) g.C.Carrier.carries g.C.Carrier.next sizes v dealt k jobs workers c.args.engine c.side_by_side-crew.result.engine c.args.tool c.side_by_side-crew.result.tool r all_done count span.1;
       rising = subst (All IsRising) lie (run_rising board c.args.trace.now c.args.segment number known joined workplace whole g.C.Carrier.plays (table_of c.args.trace.now.tones) g.C.Carrier.carries g.C.Carrier.next sizes v dealt k jobs workers c.args.engine c.side_by_side-crew.result.engine c.args.tool c.side_by_side-crew.result.tool r all_done);
-      answered = λ lo count span m is. run_answered board c.args.trace.now c.args.segment number known joined workplace whole g.C.Carrier.plays (table_of c.args.trace.now.tones) g.C.Carrier.carries g.C.Carrier.next sizes v dealt k jobs workers c.args.engine c.side_by_side-crew.result.engine c.args.tool c.side_by_side-crew.result.tool r all_done lo count span.0 span.1 m (is ∙ ap (λ (l : List _). filled lo (all_of l) (replicate count nothing)) (sym lie));
+      answered = λ lo count span m is. run_answered board c.args.trace.now c.args.segment number known joined workplace whole g.C.Carrier.plays (table_of c.args.trace.now.tones) g.C.Carrier.carries g.C.Carrier.next sizes v dealt k jobs workers c.args.engine c.side_by_side-crew.result.engine c.args.tool c.side_by_side-crew.result.tool r all_done lo count span.0 span.1 m (is ∙ ap (λ (l : List _). put_from lo (all_of l) (replicate count nothing)) (sym lie));
     }

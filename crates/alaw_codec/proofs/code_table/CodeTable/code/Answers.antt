@@ -3,7 +3,7 @@ use Rattle.std.specs.Int.{w32}
 use Rattle.std.proofs.lemmas.Int.{ints}
 use Rattle.std.proofs.lemmas.List.{get_or_read_under}
 use Rattle.circuit_model.specs.ALaw.{compress}
-use Rattle.alaw_codec.proofs.Clamped.{clamped, code_of_clamped}
+use Rattle.alaw_codec.proofs.TableEnds.{clamped, code_of_clamped}
 use Rattle.alaw_codec.proofs.code_table.CodeTable.code.Goals as goal
 
 -- a value as a call passes it

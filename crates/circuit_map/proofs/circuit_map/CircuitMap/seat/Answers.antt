@@ -2,7 +2,7 @@ use Rattle.std.proofs.Common.{◌≡◌, ◌+◌, ◌*◌, ◌<◌, ◌⊎◌, a
 use Rattle.std.specs.Prelude.{◌↔◌, position, is_none, IfSome}
 use Rattle.circuit_model.specs.declared.circuit.Circuit.TheVariants.{Member}
 use Rattle.circuit_model.specs.Holding.{Holding, Seat, after}
-use Rattle.circuit_model.specs.Ports.{Ports, port_of, port_numbered, given}
+use Rattle.circuit_model.specs.Ports.{Ports, port_of, port_numbered, ports_with}
 use Rattle.control_memory.specs.Layout.{IsSlot, Joins}
 use Rattle.control_memory.specs.Connecting.{connect, moved}
 use Rattle.circuit_map.specs.Connections.{Connections, lines_of, joined_one, joined_both, hears_in, hears_at, hears_after, Represents, AreRoomed}
@@ -153,7 +153,7 @@ returns-clause-layout g c =
     let long = subst (λ (m : Connections). length m.ports ≡ 30 * m.bridges) is c.self.invariant.sockets in
     let f = free_port c.self.inside.ports.external c.self.inside.ports.owners p m (c.self.invariant.first ∙ ap (λ (m : Connections). m.external) is) (ap (λ (m : Connections). m.ports) is) long (sym c.take.ensures.lowest ∙ c.in-Some.is) in
     let held = subst (λ (m : Connections). (h : Holding) × Represents m h m.ports) is c.self.invariant.held in
-    let at_p = ap (λ q. port_of m.external q x) (c.take.ensures.members ∙ ap (given x) (ap (λ (m : Connections). m.ports) is)) ∙ seated_port m held.0 m.ports x p f.number held.1 c.requires.idle f.lowest f.is in
+    let at_p = ap (λ q. port_of m.external q x) (c.take.ensures.members ∙ ap (ports_with x) (ap (λ (m : Connections). m.ports) is)) ∙ seated_port m held.0 m.ports x p f.number held.1 c.requires.idle f.lowest f.is in
     let t = c.connect-there.ensures in
     let b = c.connect-back.ensures in
     let width = c.self.invariant.width in
@@ -178,7 +178,7 @@ returns-clause-moves g c =
     let long = subst (λ (m : Connections). length m.ports ≡ 30 * m.bridges) is c.self.invariant.sockets in
     let f = free_port c.self.inside.ports.external c.self.inside.ports.owners p m (c.self.invariant.first ∙ ap (λ (m : Connections). m.external) is) (ap (λ (m : Connections). m.ports) is) long (sym c.take.ensures.lowest ∙ c.in-Some.is) in
     let held = subst (λ (m : Connections). (h : Holding) × Represents m h m.ports) is c.self.invariant.held in
-    let at_p = ap (λ q. port_of m.external q x) (c.take.ensures.members ∙ ap (given x) (ap (λ (m : Connections). m.ports) is)) ∙ seated_port m held.0 m.ports x p f.number held.1 c.requires.idle f.lowest f.is in
+    let at_p = ap (λ q. port_of m.external q x) (c.take.ensures.members ∙ ap (ports_with x) (ap (λ (m : Connections). m.ports) is)) ∙ seated_port m held.0 m.ports x p f.number held.1 c.requires.idle f.lowest f.is in
     let t = c.connect-there.ensures in
     let b = c.connect-back.ensures in
     let width = c.self.invariant.width in
@@ -220,7 +220,7 @@ returns-clause-holds g c =
       hears = returns-clause-hears g c;
       lowest = f.lowest;
       port = f.is;
-      members = c.take.ensures.members ∙ ap (given x) (ap (λ (m : Connections). m.ports) is);
+      members = c.take.ensures.members ∙ ap (ports_with x) (ap (λ (m : Connections). m.ports) is);
       joins = λ a b inside.
           let was : IsSlot (g.P.PathMap.width c.self.inside.paths) a = subst (λ w. IsSlot w a) (sym lines) inside in
           subst (λ l. Joins (g.P.PathMap.layout c.connect-back.new.self) a b ↔ ((Joins l a b ⊎ ((a ≡ x) × (b ≡ p))) ⊎ ((a ≡ p) × (b ≡ x)))) (ap (λ (m : Connections). m.layout) is)
@@ -228,7 +228,7 @@ returns-clause-holds g c =
     })
 
 pub returns-clause-ports : goal.returns-clause-ports
-returns-clause-ports g c = c.take.ensures.members ∙ ap (λ (m : Connections). given c.args.x m.ports) c.self.view_is
+returns-clause-ports g c = c.take.ensures.members ∙ ap (λ (m : Connections). ports_with c.args.x m.ports) c.self.view_is
 
 -- the port's line is a bridge line
 pub port_index-sits_at-requires : goal.port_index-sits_at-requires

@@ -1,7 +1,7 @@
 use Rattle.std.proofs.Common.{◌≡◌, ◌*◌, ◌<◌, length, set, None, Some, sym, ◌∙◌, ap, subst, length-set}
 use Rattle.circuit_model.specs.Circuits.{heard_by}
 use Rattle.circuit_model.specs.Holding.{Holding, Clear, after}
-use Rattle.circuit_model.specs.Ports.{port_of, returned}
+use Rattle.circuit_model.specs.Ports.{port_of, ports_without}
 use Rattle.control_memory.specs.Layout.{Joins}
 use Rattle.control_memory.specs.Connecting.{without_path}
 use Rattle.circuit_map.specs.Connections.{Connections, Represents, AreRoomed, lines_of, hears_in, hears_at, without_both, partner, parted}
@@ -82,7 +82,7 @@ returns-clause-idle g c =
     returns-clause-hears g c c.args.x ∙ row_of_self m.external (hears_at m) c.args.x (hearing_at m held.0 m.ports held.1)
 
 pub returns-clause-ports : goal.returns-clause-ports
-returns-clause-ports g c = c.give.ensures.members ∙ ap (λ (m : Connections). returned c.args.x m.ports) c.self.view_is
+returns-clause-ports g c = c.give.ensures.members ∙ ap (λ (m : Connections). ports_without c.args.x m.ports) c.self.view_is
 
 -- the port's line is a bridge line
 pub port_index-sits_at-requires : goal.port_index-sits_at-requires

@@ -1,5 +1,5 @@
 use Rattle.std.proofs.Common.{replicate, pos}
-use Rattle.conference_mix.proofs.Kept.{one_value, kept-free, seats-free}
+use Rattle.conference_mix.proofs.SeatFacts.{one_value, kept-free, seats-free}
 use Rattle.conference_mix.proofs.mixer.Mixer.new.Goals as goal
 
 pub invariant_of-result : goal.invariant_of-result

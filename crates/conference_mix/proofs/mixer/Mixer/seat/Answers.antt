@@ -4,7 +4,7 @@ use mir.Val.{SFits}
 use Rattle.std.proofs.lemmas.Int.{ints}
 use Rattle.conference_mix.specs.declared.mixer.Seated.{Seated}
 use Rattle.conference_mix.specs.Seats.{seats_kept}
-use Rattle.conference_mix.proofs.Kept.{port_near, seats-taken, kept-taken, total-small}
+use Rattle.conference_mix.proofs.SeatFacts.{port_near, seats-taken, kept-taken, total-small}
 use Rattle.conference_mix.proofs.mixer.Mixer.seat.Goals as goal
 
 -- what the code adds up is exact

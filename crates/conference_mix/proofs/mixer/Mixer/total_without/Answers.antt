@@ -8,7 +8,7 @@ use Rattle.circuit_model.specs.ALaw.{compress}
 use Rattle.conference_mix.specs.declared.mixer.Seated.{Seated}
 use Rattle.conference_mix.specs.Rooms.{given_at}
 use Rattle.conference_mix.specs.Seats.{seats_kept}
-use Rattle.conference_mix.proofs.Kept.{port_near, total-small, given-kept}
+use Rattle.conference_mix.proofs.SeatFacts.{port_near, total-small, given-kept}
 use Rattle.conference_mix.proofs.mixer.Mixer.total_without.Goals as goal
 
 pub offset_bounds-self-inside-port : goal.offset_bounds-self-inside-port

@@ -1,9 +1,9 @@
 use Rattle.std.proofs.Common.{◌≡◌, ◌∙◌, sym, ap, arith, None, Some, ◌<◌, rules}
 use Rattle.std.specs.Prelude.{position, is_none}
 use Rattle.std.proofs.lemmas.List.Quantifiers.{position-Some}
-use Rattle.circuit_model.specs.Ports.{has, given}
+use Rattle.circuit_model.specs.Ports.{has, ports_with}
 use Rattle.conference_ports.specs.declared.owner.Owner.{Owner}
-use Rattle.conference_ports.specs.Owners.{Bridges, members, owned}
+use Rattle.conference_ports.specs.Owners.{Bridges, members, owners_with}
 use Rattle.conference_ports.proofs.Positions.{owned_at, owned_none, members_owned}
 use Rattle.conference_ports.proofs.Indexes.{indexed_taken, no_place}
 use Rattle.conference_ports.proofs.ports.Ports.take.Goals as goal
@@ -43,10 +43,10 @@ pub returns-clause-owners : goal.returns-clause-owners
 returns-clause-owners c =
     let at : position is_none c.self.inside.owners.items ≡ Some c.in-Some.port = search rules in
     let new : Owner = record { room = c.args.room; member = c.args.member } in
-    sym (owned_at new c.self.inside.owners.items c.in-Some.port at) ∙ ap (λ (b : Bridges). owned new b.owners) c.self.view_is
+    sym (owned_at new c.self.inside.owners.items c.in-Some.port at) ∙ ap (λ (b : Bridges). owners_with new b.owners) c.self.view_is
 
 pub returns-clause-members : goal.returns-clause-members
 returns-clause-members c =
     let at : position is_none c.self.inside.owners.items ≡ Some c.in-Some.port = search rules in
     let new : Owner = record { room = c.args.room; member = c.args.member } in
-    ap members (sym (owned_at new c.self.inside.owners.items c.in-Some.port at)) ∙ members_owned new c.self.inside.owners.items ∙ ap (λ (b : Bridges). given c.args.member (members b.owners)) c.self.view_is
+    ap members (sym (owned_at new c.self.inside.owners.items c.in-Some.port at)) ∙ members_owned new c.self.inside.owners.items ∙ ap (λ (b : Bridges). ports_with c.args.member (members b.owners)) c.self.view_is

@@ -1,4 +1,4 @@
-use Rattle.std.proofs.Common.{◌≡◌, ℕ, ◌*◌, replicate, ◌∙◌, ap, length, rules}
+use Rattle.std.proofs.Common.{◌*◌, ◌∙◌, ap, length, rules}
 use Rattle.std.proofs.lemmas.List.{length-replicate}
 use Rattle.control_memory.specs.declared.heard.Heard.TheVariants.{Silent}
 use Rattle.control_memory.specs.HeardRows.{heard_on}

@@ -10,22 +10,22 @@ use Rattle.fabric_map.proofs.Connected.{can_of, has_row_room, has_column_room, c
 use Rattle.fabric_map.proofs.fabric.FabricMap.connect_by_moves.Goals as goal
 
 pub make_room-freed-requires-clause-row_room : goal.make_room-freed-requires-clause-row_room
-make_room-freed-requires-clause-row_room c =
+make_room-freed-requires-clause-row_room g c =
     has_row_room c.self.inside.matrix c.self.inside.paths c.args.from c.args.to c.self.invariant (can_of c.self.inside.paths c.args.self.now c.self.view_is c.args.from c.args.to c.requires.from c.requires.to c.requires.inlet c.requires.outlet)
 
 pub make_room-freed-requires-clause-column_room : goal.make_room-freed-requires-clause-column_room
-make_room-freed-requires-clause-column_room c =
+make_room-freed-requires-clause-column_room g c =
     has_column_room c.self.inside.matrix c.self.inside.paths c.args.from c.args.to c.self.invariant (can_of c.self.inside.paths c.args.self.now c.self.view_is c.args.from c.args.to c.requires.from c.requires.to c.requires.inlet c.requires.outlet)
 
 pub lift_all-requires-clause-taken : goal.lift_all-requires-clause-taken
-lift_all-requires-clause-taken c =
+lift_all-requires-clause-taken g c =
     let can = can_of c.self.inside.paths c.args.self.now c.self.view_is c.args.from c.args.to c.requires.from c.requires.to c.requires.inlet c.requires.outlet in
     let made = connects c.self.inside.matrix c.self.inside.paths c.args.from c.args.to c.self.invariant can in
     let moves = c.deref.ensures.0 ∙ c.make_room-freed.ensures.moves in
     subst (λ v. AreTaken c.self.inside.paths.layout v (taken_by c.self.inside.paths.layout v)) (sym moves) made.taken
 
 pub lay_all-requires-clause-same : goal.lay_all-requires-clause-same
-lay_all-requires-clause-same c =
+lay_all-requires-clause-same g c =
     let can = can_of c.self.inside.paths c.args.self.now c.self.view_is c.args.from c.args.to c.requires.from c.requires.to c.requires.inlet c.requires.outlet in
     let made = connects c.self.inside.matrix c.self.inside.paths c.args.from c.args.to c.self.invariant can in
     let first = c.deref.ensures.0 ∙ c.make_room-freed.ensures.moves in
@@ -33,7 +33,7 @@ lay_all-requires-clause-same c =
     ap length (c.deref-3.ensures.0 ∙ c.lift_all.ensures.lifted ∙ ap (taken_by c.self.inside.paths.layout) first) ∙ made.same ∙ sym (ap length second)
 
 pub lay_all-requires-clause-room : goal.lay_all-requires-clause-room
-lay_all-requires-clause-room c =
+lay_all-requires-clause-room g c =
     let can = can_of c.self.inside.paths c.args.self.now c.self.view_is c.args.from c.args.to c.requires.from c.requires.to c.requires.inlet c.requires.outlet in
     let made = connects c.self.inside.matrix c.self.inside.paths c.args.from c.args.to c.self.invariant can in
     let first = c.deref.ensures.0 ∙ c.make_room-freed.ensures.moves in
@@ -42,7 +42,7 @@ lay_all-requires-clause-room c =
     c.lift_all.ensures.lines c.lift_all.ensures.slots first second (c.deref-3.ensures.0 ∙ c.lift_all.ensures.lifted) c.lift_all.ensures.layout made.room
 
 pub add-requires-clause-free : goal.add-requires-clause-free
-add-requires-clause-free c =
+add-requires-clause-free g c =
     let f = c.self.inside.paths in
     let m = c.self.inside.matrix in
     let from = c.args.from in
@@ -63,7 +63,7 @@ add-requires-clause-free c =
     subst (λ n. IsFree n c.lay_all.new.paths.layout from to c.make_room-freed.result) (sym lines) (subst (λ l. IsFree f.lines l from to c.make_room-freed.result) (sym laid_is) free)
 
 pub invariant_of-self : goal.invariant_of-self
-invariant_of-self c =
+invariant_of-self g c =
     let f = c.self.inside.paths in
     let m = c.self.inside.matrix in
     let from = c.args.from in
@@ -85,7 +85,7 @@ invariant_of-self c =
     (c.add.ensures.layout ∙ ap (λ l. with_path l from to c.make_room-freed.result) laid_is) (c.add.ensures.lines ∙ lines) (c.add.ensures.slots ∙ slots)
 
 pub returns-clause-layout : goal.returns-clause-layout
-returns-clause-layout c =
+returns-clause-layout g c =
     let f = c.self.inside.paths in
     let m = c.self.inside.matrix in
     let from = c.args.from in
@@ -107,7 +107,7 @@ returns-clause-layout c =
     ∙ ap (λ (x : Fabric). connect x.lines x.slots x.layout from to) c.self.view_is
 
 pub returns-clause-pairs : goal.returns-clause-pairs
-returns-clause-pairs c =
+returns-clause-pairs g c =
     let f = c.self.inside.paths in
     let m = c.self.inside.matrix in
     let from = c.args.from in
@@ -132,7 +132,7 @@ returns-clause-pairs c =
     subst (λ (now : Fabric). (x y : Slot) → IsSlot now.lines x → (Joins c.add.new.self.layout x y → Joins now.layout x y ⊎ ((x ≡ from) × (y ≡ to))) × (Joins now.layout x y ⊎ ((x ≡ from) × (y ≡ to)) → Joins c.add.new.self.layout x y)) c.self.view_is all
 
 pub returns-clause-moves : goal.returns-clause-moves
-returns-clause-moves c =
+returns-clause-moves g c =
     let f = c.self.inside.paths in
     let m = c.self.inside.matrix in
     let from = c.args.from in

@@ -1,6 +1,6 @@
 use Rattle.std.proofs.Common.{◌≡◌, ◌+◌, ◌*◌, ◌≤◌, drop, length, refl, ap, ◌∙◌, arith, rules}
 use Rattle.std.specs.Vec.{with_items_from}
-use Rattle.frame_buffer.specs.Highways.{Highways, refilled}
+use Rattle.frame_buffer.specs.Highways.{Highways, highways_with}
 use Rattle.frame_buffer.proofs.Rows.{drop_refilled, slice_range_rest}
 use Rattle.frame_buffer.proofs.highway.Highway.parts.Goals as goal
 
@@ -15,7 +15,7 @@ returns c =
         refl,
         λ w.
             let written = ap (λ s. drop h.slots (with_items_from h.octets s w).items) at ∙ drop_refilled xs w h.slots h.octets.len h.octets.ok.0 room in
-            (λ i. record { lines = h.lines; slots = h.slots; octets = written i }) ∙ ap (λ v. refilled v w) c.self.view_is,
+            (λ i. record { lines = h.lines; slots = h.slots; octets = written i }) ∙ ap (λ v. highways_with v w) c.self.view_is,
       ),
       record {
         writes_back = tt;

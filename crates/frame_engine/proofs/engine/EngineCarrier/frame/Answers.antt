@@ -1,13 +1,13 @@
 use Rattle.std.proofs.Common.{◌≡◌, ◌+◌, ◌<◌, ℕ, List, sym, ◌∙◌, ap, subst, arith}
 use Rattle.circuit_model.specs.Hears.{hears}
 use Rattle.circuit_model.specs.Ports.{port_numbered}
-use Rattle.frame_buffer.specs.Speech.{Speech, octet_of}
+use Rattle.frame_buffer.specs.Speech.{Speech, octet_in_half}
 use Rattle.control_memory.specs.Image.{Control, sent}
 use Rattle.control_memory.specs.Carrying.{fetched}
 use Rattle.control_memory.specs.Shown.{Shows}
 use Rattle.tone_rules.specs.Tables.{table_of}
 use Rattle.frame_engine.specs.Frames.{Boundary, Come, IsNext, held_with, inputs_with, ports_with}
-use Rattle.frame_engine.specs.Carries.{Stages, CarriesFrames}
+use Rattle.frame_engine.specs.Carries.{Stages, EngineCarries}
 use Rattle.frame_engine.proofs.Frame.{IsAt, Did, plays, carries_on}
 use Rattle.frame_engine.proofs.engine.EngineCarrier.frame.Goals as goal
 
@@ -34,7 +34,7 @@ sizes c =
       slots = c.requires.slots ∙ sym (ap (λ (s : Stages). s.slots) view);
       frame = c.requires.frame ∙ sym (ap (λ (s : Stages). s.next) view);
       read_out = λ at inside near.
-          ap (λ (b : Speech). octet_of b.readable at) c.swap.ensures
+          ap (λ (b : Speech). octet_in_half b.readable at) c.swap.ensures
           ∙ c.outgoing.ensures.octets at (let made = c.outgoing.ensures.lines in let had = c.self.invariant.read_lines in omega (arith, inside, made, had)) near;
     }
 
@@ -48,32 +48,32 @@ did c =
           c.incoming.ensures.octets line slot
           (let size = c.incoming.ensures.size.lines in let had = c.self.invariant.highway_lines in omega (arith, here, size, had))
           (let size = c.incoming.ensures.size.slots in let had = c.self.invariant.highway_slots in omega (arith, near, size, had))
-          ∙ ap (λ (r : List ℕ). fetched (sent (image c) line slot) (λ place. octet_of r (record { line = line; place = place }))) c.mix_ports.ensures.readable;
+          ∙ ap (λ (r : List ℕ). fetched (sent (image c) line slot) (λ place. octet_in_half r (record { line = line; place = place }))) c.mix_ports.ensures.readable;
       crosses = λ line slot here near.
           c.cross.ensures.octets line slot
           (let size = c.cross.ensures.size.lines in let had = c.self.invariant.crossed_lines in omega (arith, here, size, had))
           (let size = c.cross.ensures.size.slots in let had = c.self.invariant.crossed_slots in omega (arith, near, size, had));
       lines = let size = c.cross.ensures.size.lines in let had = c.self.invariant.crossed_lines in omega (arith, size, had);
       slots = let size = c.cross.ensures.size.slots in let had = c.self.invariant.crossed_slots in omega (arith, size, had);
-      takes = λ at here near. ap (λ (r : List ℕ). octet_of r at) swapped ∙ c.take_in.ensures.taken at here near;
+      takes = λ at here near. ap (λ (r : List ℕ). octet_in_half r at) swapped ∙ c.take_in.ensures.taken at here near;
       mixes = λ k near.
           let port = port_numbered (image c).external k in
-          ap (λ (r : List ℕ). octet_of r port) swapped
+          ap (λ (r : List ℕ). octet_in_half r port) swapped
           ∙ c.take_in.ensures.others port (omega (arith, external)) (omega arith)
           ∙ c.mix_ports.ensures.ports k (omega (arith, near, bridges));
     }
 
 -- the engine is at the boundary of a frame
 record AtBoundary (e : Stages) (m : Control) (b : Boundary) : Type 0 where
-  carries : CarriesFrames e b.inputs b.held b.ports
+  carries : EngineCarries e b.inputs b.held b.ports
   shows : Shows m b.circuits b.seats e.next
   come : Come e.external e.bridges (held_with b) (ports_with b)
 
-at_boundary : (c : goal.After-self-1) (b : Boundary) → IsNext (λ inputs held ports. CarriesFrames c.args.self.now inputs held ports) (image c) b → AtBoundary (stages c) (image c) b
+at_boundary : (c : goal.After-self-1) (b : Boundary) → IsNext (λ inputs held ports. EngineCarries c.args.self.now inputs held ports) (image c) b → AtBoundary (stages c) (image c) b
 at_boundary c b next =
     let is = sizes c in
     record {
-      carries = subst (λ (s : Stages). CarriesFrames s b.inputs b.held b.ports) (sym c.self.view_is) next.carries;
+      carries = subst (λ (s : Stages). EngineCarries s b.inputs b.held b.ports) (sym c.self.view_is) next.carries;
       shows = subst (λ f. Shows (image c) b.circuits b.seats f) is.frame next.shows;
       come = subst (λ l. Come l (stages c).bridges (held_with b) (ports_with b)) is.external (subst (λ l. Come (image c).external l (held_with b) (ports_with b)) is.bridges next.came);
     }
@@ -90,4 +90,4 @@ pub returns-clause-carries : goal.returns-clause-carries
 returns-clause-carries c b next =
     let is = at_boundary c b next in
     let on = carries_on (stages c) (image c) (octets_read c) (sizes c) b.inputs b.held b.ports c.args.input.now b.circuits b.seats is.carries is.shows.0 is.shows.1 is.come c.incoming.new.highway c.cross.new.crossed c.swap-2.new.self.readable (did c) in
-    subst (λ (m : Control). CarriesFrames (record (stages c) { next = c.self.inside.next + 1; kept = m; taken = c.swap-2.new.self.readable; crossed = c.cross.new.crossed }) (inputs_with b c.args.input.now) (held_with b) (ports_with b)) (sym c.swap-3.ensures.x_after) on
+    subst (λ (m : Control). EngineCarries (record (stages c) { next = c.self.inside.next + 1; kept = m; taken = c.swap-2.new.self.readable; crossed = c.cross.new.crossed }) (inputs_with b c.args.input.now) (held_with b) (ports_with b)) (sym c.swap-3.ensures.x_after) on

@@ -1,7 +1,7 @@
 use Rattle.std.proofs.Common.{◌≡◌, true, length, arith, ap, ◌∙◌}
 use Rattle.number_plan.specs.Plan.{in_order, with_number}
 use Rattle.number_plan.specs.Search.{IsPlaceFor}
-use Rattle.number_plan.proofs.Ordered.{in_place, order_with, order_apart, length-with_number}
+use Rattle.number_plan.proofs.OrderFacts.{in_place, order_with, order_apart, length-with_number}
 use Rattle.number_plan.proofs.Looks.{free_at_place}
 use Rattle.number_plan.proofs.plan.Plan.insert.Goals as goal
 

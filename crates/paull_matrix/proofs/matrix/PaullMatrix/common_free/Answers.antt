@@ -5,7 +5,7 @@ use Rattle.paull_matrix.proofs.Marks.{words_lowest}
 use Rattle.paull_matrix.proofs.matrix.PaullMatrix.common_free.Goals as goal
 
 pub returns-clause-lowest : goal.returns-clause-lowest
-returns-clause-lowest c =
+returns-clause-lowest g c =
     let back = sym c.self.view_is in
     let kept = c.self.invariant in
     c.lowest_missing.ensures.lowest

@@ -4,12 +4,12 @@ use Rattle.paull_matrix.proofs.Tables.{column_word_lowest}
 use Rattle.paull_matrix.proofs.matrix.PaullMatrix.free_in_column.Goals as goal
 
 pub unreachable-requires : goal.unreachable-requires
-unreachable-requires c =
+unreachable-requires g c =
     column_lacks_one c.args.self.now c.args.j c.args.self.now.slots refl c.requires.room
     (column_word_lowest c.self.inside.lines c.self.inside.slots c.self.inside.columns.items c.self.inside.rows.items c.self.inside.row_words.items c.self.inside.column_words.items _ c.args.j c.from.result c.index.result.now c.self.invariant c.self.view_is c.requires.column c.from.ensures c.index.ensures
     ∙ sym c.lowest_missing.ensures.lowest ∙ c.in-None.is)
 
 pub returns-clause-lowest : goal.returns-clause-lowest
-returns-clause-lowest c =
+returns-clause-lowest g c =
     column_word_lowest c.self.inside.lines c.self.inside.slots c.self.inside.columns.items c.self.inside.rows.items c.self.inside.row_words.items c.self.inside.column_words.items _ c.args.j c.from.result c.index.result.now c.self.invariant c.self.view_is c.requires.column c.from.ensures c.index.ensures
     ∙ sym c.lowest_missing.ensures.lowest ∙ c.in-Some.is

@@ -5,7 +5,7 @@ use Rattle.paull_matrix.proofs.Tables.{row_slot_tabled, place_within}
 use Rattle.paull_matrix.proofs.matrix.PaullMatrix.row_slot.Goals as goal
 
 pub returns-clause-column : goal.returns-clause-column
-returns-clause-column c =
+returns-clause-column g c =
     let back = sym c.self.view_is in
     let row = subst (λ m. c.args.i < m.lines) back c.requires.row in
     let slot = subst (λ m. c.args.s < m.slots) back c.requires.slot in

@@ -1,0 +1,12 @@
+//! The tests of the plain programs: worked exchanges and calls, whose octets were found by hand, and
+//! that each course of a call is drawn.
+//!
+//! They stand here and not beside what they test, so that each of those crates is proved once. The
+//! crate promises nothing.
+//!
+//! It stands on `circuit_model`, `plain_model`, `plain_calls` and `call_traffic`, and on the kit's
+//! `hex`.
+#![tactic(auto)]
+
+#[cfg(test)]
+mod tests;

@@ -1,0 +1,4 @@
+//! What no clause says: reports that were found by hand.
+mod calls;
+mod circuits;
+mod traffic;

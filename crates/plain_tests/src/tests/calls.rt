@@ -1,0 +1,319 @@
+//! Worked calls: messages on two lines, and the last lines of the report.
+use circuit_model::{IDLE, Slot};
+use plain_calls::{
+    CallRecord, Number, Party, PlainEvent, PlainExchange, PlainRun, PlainTones, Target,
+};
+use std::alloc::{AllocError, Global};
+use std::process::Abort;
+use std::test::Fail;
+
+/// One step of a worked example.
+#[derive(Clone, Copy)]
+enum Step {
+    /// A message on a line, in hexadecimal digits.
+    Message(u8, &'static str),
+    /// The first bearer channels of two lines are nailed.
+    Nail(u8, u8),
+    /// All bearer channels of a line are nailed, each with its neighbour.
+    Fill(u8),
+    /// A frame in which lines 0, 1, .. send these octets on their first bearer channels.
+    Frame(&'static [u8]),
+}
+
+use Step::{Fill, Frame, Message, Nail};
+
+// Calls to 101 go to line 1, and those to 30 to room 0.
+fn numbers(alloc: Global) -> Result<Vec<Number>, AllocError> {
+    let mut numbers = Vec::new(alloc);
+    for (digits, target) in [
+        (b"101".as_slice(), Target::Line(1)),
+        (b"30".as_slice(), Target::Room(0)),
+    ] {
+        numbers.push(Number {
+            digits: Vec::from_slice(alloc, digits)?,
+            target,
+        })?;
+    }
+    Ok(numbers)
+}
+
+fn first(line: u8) -> Slot {
+    Slot { line, place: 0 }
+}
+
+fn frame_of(alloc: Global, octets: &[u8]) -> Result<PlainEvent, AllocError> {
+    let mut input = Vec::new(alloc);
+    for octet in octets {
+        let mut line = [IDLE; 30];
+        line[0] = *octet;
+        input.push(Some(line))?;
+    }
+    Ok(PlainEvent::Frame(input))
+}
+
+fn fill(alloc: Global, run: &mut PlainRun, line: u8) -> Result<(), AllocError> {
+    for pair in 0..15 {
+        let x = Slot {
+            line,
+            place: 2 * pair,
+        };
+        let y = Slot {
+            line,
+            place: 2 * pair + 1,
+        };
+        run.step(alloc, &PlainEvent::Nail(x, y))?;
+    }
+    Ok(())
+}
+
+fn take(alloc: Global, run: &mut PlainRun, step: Step) -> Result<(), Fail> {
+    let event = match step {
+        Message(line, digits) => PlainEvent::Message(line, hex::decode(alloc, digits)?),
+        Nail(x, y) => PlainEvent::Nail(first(x), first(y)),
+        Frame(octets) => frame_of(alloc, octets)?,
+        Fill(line) => return Ok(fill(alloc, run, line)?),
+    };
+    run.step(alloc, &event)?;
+    Ok(())
+}
+
+// Ringing tone of three octets and busy tone of one, or none.
+fn tones(alloc: Global, given: bool) -> Result<PlainTones, AllocError> {
+    if !given {
+        return Ok(PlainTones::none(alloc));
+    }
+    Ok(PlainTones {
+        ringback: Vec::from_slice(alloc, &[0x11, 0x22, 0x33])?,
+        busy: Vec::from_slice(alloc, &[0x44])?,
+    })
+}
+
+// Takes the steps, and compares the report's last lines with these.
+fn check(
+    rt: &impl Abort,
+    alloc: Global,
+    bridges: u8,
+    steps: &[Step],
+    wanted: &str,
+) -> Result<PlainRun, Fail> {
+    check_with(rt, alloc, bridges, false, steps, wanted)
+}
+
+// The same, with tones or without.
+fn check_with(
+    rt: &impl Abort,
+    alloc: Global,
+    bridges: u8,
+    given: bool,
+    steps: &[Step],
+    wanted: &str,
+) -> Result<PlainRun, Fail> {
+    let exchange = PlainExchange::new(alloc, 2, bridges, numbers(alloc)?, tones(alloc, given)?);
+    let mut run = PlainRun::new(alloc, exchange);
+    for step in steps {
+        take(alloc, &mut run, *step)?;
+    }
+    let report = run.report();
+    assert!(rt; report.ends_with(wanted), "{report}");
+    Ok(run)
+}
+
+const SETUP: Step = Message(0, "080200010504038090A31803A98381700480313031");
+
+#[test]
+fn a_whole_call(rt: HostRuntime) -> Result<(), Fail> {
+    let steps = [
+        SETUP,
+        Message(1, "0802800101"),
+        Message(1, "0802800107"),
+        Message(0, "080200010F"),
+        Frame(&[0x21, 0xA1]),
+        Frame(&[0x22, 0xA2]),
+        Frame(&[0x23, 0xA3]),
+        Message(0, "080200014508028090"),
+        Message(1, "080280014D"),
+        Message(0, "080200015A"),
+    ];
+    let wanted = "1 message 0:08028001021803A98381 1:0802000105A104038090A31803A98381700480313031\n\
+        2 message 0:0802800101\n\
+        3 message moved 0 0 1:080200010F 0:0802800107\n\
+        4 message\n\
+        5 frame 0\n\
+        6 frame 1\n\
+        7 frame 2 0:A1D5D5D5D5D5D5D5D5D5D5D5D5D5D5D5D5D5D5D5D5D5D5D5D5D5D5D5D5D5 \
+        1:21D5D5D5D5D5D5D5D5D5D5D5D5D5D5D5D5D5D5D5D5D5D5D5D5D5D5D5D5D5\n\
+        8 message 0:080280014D 1:080200014508028290\n\
+        9 message 1:080200015A\n\
+        10 message\n";
+    let run = check(&rt, rt.alloc(), 0, &steps, wanted)?;
+    let told = CallRecord {
+        caller: first(0),
+        called: Party::Line(first(1)),
+        answered: true,
+        from: 0,
+        to: 3,
+        cause: 16,
+    };
+    assert_eq!(rt; run.records(), [told].as_slice());
+    assert!(rt; run.exchange().legs().is_empty());
+    Ok(())
+}
+
+#[test]
+fn refused_or_moved_to_another_channel(rt: HostRuntime) -> Result<(), Fail> {
+    let steps = [
+        Nail(0, 1),
+        SETUP,
+        Message(0, "080200020504038090A31803A18381700480313031"),
+        Message(0, "080200030504038090A3700480393939"),
+    ];
+    let wanted = "1 granted 0 0\n\
+        2 message 0:080280015A080282AC\n\
+        3 message 0:08028002021803A98382 1:0802000105A104038090A31803A98382700480313031\n\
+        4 message 0:080280035A08028281\n";
+    let run = check(&rt, rt.alloc(), 0, &steps, wanted)?;
+    assert!(rt; run.records().is_empty());
+    check(
+        &rt,
+        rt.alloc(),
+        0,
+        &[Fill(1), SETUP],
+        "15 granted 0 0\n16 message 0:080280015A080282A2\n",
+    )?;
+    Ok(())
+}
+
+#[test]
+fn clear_collision(rt: HostRuntime) -> Result<(), Fail> {
+    let steps = [
+        SETUP,
+        Message(1, "0802800101"),
+        Message(1, "0802800107"),
+        Message(0, "080200014508028090"),
+        Message(1, "080280014508028090"),
+        Message(1, "080280014D"),
+        Message(0, "080200014D"),
+        Message(0, "0802000175"),
+        Message(1, "080280014D"),
+        Message(1, "080280015A"),
+    ];
+    let wanted = "4 message 0:080280014D 1:080200014508028290\n\
+        5 message 1:080200014D\n\
+        6 message\n\
+        7 message\n\
+        8 message 0:080280017D0802829E140100\n\
+        9 message 1:080200015A080282D1\n\
+        10 message\n";
+    check(&rt, rt.alloc(), 0, &steps, wanted)?;
+    Ok(())
+}
+
+#[test]
+fn lenient_reading(rt: HostRuntime) -> Result<(), Fail> {
+    let steps = [
+        Message(0, "080200010570048031303104038090A3"),
+        Message(0, "080200020504038090A39E700180700480313031"),
+        Message(0, "080200030504038090A32803414243700480313031"),
+        Message(0, "0802000405A104038090A37004803130"),
+        Message(0, "0802000505A104038090A396700480313031"),
+        Message(0, "08010105"),
+        Message(0, ""),
+    ];
+    let wanted = "1 message 0:08028001021803A98381 1:0802000105A104038090A31803A98381700480313031\n\
+        2 message 0:08028002021803A98382 1:0802000205A104038090A31803A98382700480313031\n\
+        3 message 0:08028003021803A98383 1:0802000305A104038090A31803A98383700480313031\n\
+        4 message 0:080280045A0802829C\n\
+        5 message 0:080280055A0802829C\n\
+        6 message\n\
+        7 message\n";
+    check(&rt, rt.alloc(), 0, &steps, wanted)?;
+    Ok(())
+}
+
+#[test]
+fn a_call_to_a_room(rt: HostRuntime) -> Result<(), Fail> {
+    let setup = Message(0, "080200010504038090A37003803330");
+    check(
+        &rt,
+        rt.alloc(),
+        1,
+        &[setup],
+        "1 message moved 0 0 0:08028001021803A98381 0:0802800107\n",
+    )?;
+    check(
+        &rt,
+        rt.alloc(),
+        0,
+        &[setup],
+        "1 message 0:080280015A080282AA\n",
+    )?;
+    Ok(())
+}
+
+#[test]
+fn unexpected_messages(rt: HostRuntime) -> Result<(), Fail> {
+    let steps = [
+        SETUP,
+        Message(0, "0802000101"),
+        Message(0, "080200013F"),
+        Message(0, "0802000105"),
+    ];
+    let wanted = "2 message 0:080280017D080282E5140103\n\
+        3 message 0:080280017D080282E1140103\n\
+        4 message\n";
+    check(&rt, rt.alloc(), 0, &steps, wanted)?;
+    Ok(())
+}
+
+#[test]
+fn restarts(rt: HostRuntime) -> Result<(), Fail> {
+    let steps = [
+        SETUP,
+        Message(1, "0802000046790186"),
+        Message(1, "08020000461803A98382790180"),
+        Message(0, "080280004E790186"),
+    ];
+    let wanted = "2 message 0:0802800145080282A9 1:080280004E790186\n\
+        3 message 1:080280004E1803A98382790180\n\
+        4 message\n";
+    let run = check(&rt, rt.alloc(), 0, &steps, wanted)?;
+    let told = CallRecord {
+        caller: first(0),
+        called: Party::Line(first(1)),
+        answered: false,
+        from: 0,
+        to: 0,
+        cause: 41,
+    };
+    assert_eq!(rt; run.records(), [told].as_slice());
+    Ok(())
+}
+
+// What the first line hears: this octet on its first bearer channel, and nothing on the others.
+#[test]
+fn tones_are_heard(rt: HostRuntime) -> Result<(), Fail> {
+    let alloc = rt.alloc();
+    let steps = [
+        SETUP,
+        Message(1, "0802800101"),
+        Frame(&[]),
+        Frame(&[]),
+        Message(1, "080280015A08028091"),
+        Frame(&[]),
+        Message(0, "0802000046790186"),
+        Frame(&[]),
+    ];
+    let idle = "D5".repeat(alloc, 29)?;
+    let wanted = format!(in alloc;
+        "2 message 0:08028001011E028288\n\
+        3 frame 0 0:11{idle}\n\
+        4 frame 1 0:22{idle}\n\
+        5 message 0:0802800145080282911E028288\n\
+        6 frame 2 0:44{idle}\n\
+        7 message 0:080280004E790186\n\
+        8 frame 3\n"
+    )?;
+    let run = check_with(&rt, alloc, 0, true, &steps, wanted.as_str())?;
+    assert_eq!(rt; run.exchange().tones_given(), (1, 1));
+    Ok(())
+}

@@ -1,0 +1,224 @@
+//! Worked exchanges of nails, rooms and tones.
+use circuit_model::{IDLE, Kind, Slot};
+use plain_model::{Exchange, compress_by_search, expand_by_search};
+use std::alloc::{AllocError, Global};
+use std::process::Abort;
+use std::test::Fail;
+
+/// One step of a worked example, on the first bearer channels of lines.
+#[derive(Clone, Copy)]
+enum Step<'a> {
+    Connect(u8, u8),
+    /// The line takes a seat in the room.
+    Seat(u8, u8),
+    Tone(u8, Kind),
+    Clear(u8),
+    /// A frame in which lines 0, 1, .. send these octets.
+    Frame(&'a [u8]),
+}
+
+use Step::{Clear, Connect, Frame, Seat, Tone};
+
+fn first(line: u8) -> Slot {
+    Slot { line, place: 0 }
+}
+
+fn take(
+    rt: &impl Abort,
+    alloc: Global,
+    exchange: &mut Exchange,
+    step: Step,
+) -> Result<(), AllocError> {
+    match step {
+        Connect(x, y) => exchange.connect(first(x), first(y)),
+        Seat(x, room) => exchange.seat(first(x), room),
+        Tone(x, kind) => exchange.give_tone(first(x), kind),
+        Clear(x) => {
+            exchange.clear(first(x));
+            Ok(())
+        }
+        Frame(octets) => {
+            assert!(rt; exchange.next_frame() < 1000);
+            let mut input = Vec::new(alloc);
+            for octet in octets {
+                let mut line = [IDLE; 30];
+                line[0] = *octet;
+                input.push(Some(line))?;
+            }
+            exchange.frame(alloc, input.as_slice())
+        }
+    }
+}
+
+/// Takes the steps, and compares what lines hear with a table of frames, lines and octets.
+fn check(
+    rt: &impl Abort,
+    alloc: Global,
+    steps: &[Step],
+    table: &[(u32, u8, u8)],
+) -> Result<(), AllocError> {
+    let mut exchange = Exchange::new(alloc);
+    for step in steps {
+        take(rt, alloc, &mut exchange, *step)?;
+    }
+    for (frame, line, octet) in table {
+        let heard = exchange.octet_heard(&[0x11, 0x22, 0x33], &[0x44], *frame, first(*line));
+        assert_eq!(rt; heard, *octet, "line {line} in frame {frame}");
+    }
+    Ok(())
+}
+
+#[test]
+fn octets_pass_after_two_frames(rt: HostRuntime) -> Result<(), Fail> {
+    let steps = [
+        Connect(0, 1),
+        Frame(&[0x01, 0x81]),
+        Frame(&[0x02, 0x82]),
+        Frame(&[0x03, 0x83]),
+        Frame(&[0x04, 0x84]),
+    ];
+    let table = [
+        (0, 0, IDLE),
+        (1, 0, IDLE),
+        (2, 0, 0x81),
+        (3, 0, 0x82),
+        (0, 1, IDLE),
+        (1, 1, IDLE),
+        (2, 1, 0x01),
+        (3, 1, 0x02),
+    ];
+    check(&rt, rt.alloc(), &steps, &table)?;
+    Ok(())
+}
+
+#[test]
+fn a_slot_used_again_starts_anew(rt: HostRuntime) -> Result<(), Fail> {
+    let steps = [
+        Connect(0, 1),
+        Frame(&[0x01, 0x81, 0xC1]),
+        Frame(&[0x02, 0x82, 0xC2]),
+        Clear(0),
+        Connect(0, 2),
+        Frame(&[0x03, 0x83, 0xC3]),
+        Frame(&[0x04, 0x84, 0xC4]),
+        Frame(&[0x05, 0x85, 0xC5]),
+    ];
+    let table = [
+        (2, 0, IDLE),
+        (3, 0, IDLE),
+        (4, 0, 0xC3),
+        (2, 1, IDLE),
+        (3, 1, IDLE),
+        (4, 1, IDLE),
+        (2, 2, IDLE),
+        (3, 2, IDLE),
+        (4, 2, 0x03),
+    ];
+    check(&rt, rt.alloc(), &steps, &table)?;
+    Ok(())
+}
+
+#[test]
+fn a_room_saturates_once(rt: HostRuntime) -> Result<(), Fail> {
+    let later = Frame(&[0xAA, 0xAA, 0x2A]);
+    let steps = [
+        Seat(0, 0),
+        Seat(1, 0),
+        Seat(2, 0),
+        Frame(&[0xAA, 0xAA, 0xAA]),
+        later,
+        later,
+        later,
+        later,
+        later,
+    ];
+    let table = [
+        (0, 0, IDLE),
+        (3, 0, IDLE),
+        (4, 0, 0xAA),
+        (4, 1, 0xAA),
+        (4, 2, 0xAA),
+        (5, 0, IDLE),
+        (5, 1, IDLE),
+        (5, 2, 0xAA),
+    ];
+    check(&rt, rt.alloc(), &steps, &table)?;
+    Ok(())
+}
+
+#[test]
+fn small_rooms(rt: HostRuntime) -> Result<(), Fail> {
+    let rest = Frame(&[0x12, 0x92]);
+    let alone = [Seat(0, 5), Frame(&[0x11]), rest, rest, rest, rest, rest];
+    check(
+        &rt,
+        rt.alloc(),
+        &alone,
+        &[(3, 0, IDLE), (4, 0, IDLE), (5, 0, IDLE)],
+    )?;
+    let paired = [
+        Seat(0, 5),
+        Seat(1, 5),
+        Frame(&[0x11, 0x91]),
+        rest,
+        rest,
+        rest,
+        rest,
+        rest,
+    ];
+    let table = [
+        (3, 0, IDLE),
+        (3, 1, IDLE),
+        (4, 0, 0x91),
+        (4, 1, 0x11),
+        (5, 0, 0x92),
+        (5, 1, 0x12),
+    ];
+    check(&rt, rt.alloc(), &paired, &table)?;
+    Ok(())
+}
+
+#[test]
+fn a_tone_sounds_at_once(rt: HostRuntime) -> Result<(), Fail> {
+    let idle = Frame(&[]);
+    let steps = [
+        idle,
+        Tone(0, Kind::Ringback),
+        Tone(1, Kind::Busy),
+        idle,
+        idle,
+        idle,
+        idle,
+        Clear(0),
+        idle,
+    ];
+    let table = [
+        (0, 0, IDLE),
+        (1, 0, 0x11),
+        (2, 0, 0x22),
+        (3, 0, 0x33),
+        (4, 0, 0x11),
+        (5, 0, IDLE),
+        (1, 1, 0x44),
+        (5, 1, 0x44),
+    ];
+    check(&rt, rt.alloc(), &steps, &table)?;
+    Ok(())
+}
+
+#[test]
+fn a_law_values(rt: HostRuntime) {
+    for (octet, value) in [(0xD5, 1), (0x55, -1), (0xAA, 4032), (0x2A, -4032)] {
+        assert_eq!(rt; expand_by_search(octet), value, "the value of {octet:x}");
+    }
+    for (value, octet) in [
+        (0, 0xD5),
+        (63, 0xCA),
+        (64, 0xF5),
+        (-64, 0x75),
+        (9000, 0xAA),
+        (-9000, 0x2A),
+    ] {
+        assert_eq!(rt; compress_by_search(value), octet, "the octet of {value}");
+    }
+}

@@ -1,0 +1,25 @@
+//! That pseudo-random traces of calls come to each course of a message.
+use call_traffic::{Counts, Random, draw_traffic};
+use std::alloc::{AllocError, Global};
+use std::test::Fail;
+
+// Draws so many traces, and tells what became of their messages and how many paths were moved.
+fn draw(alloc: Global, traces: u32, events: u32) -> Result<(Counts, u32), AllocError> {
+    let mut random = Random::new(1976);
+    let mut counts = Counts::new();
+    let mut moved = 0u32;
+    for _ in 0..traces {
+        let drawn = draw_traffic(alloc, &mut random, events)?;
+        counts.add(&drawn.counts);
+        moved = moved.saturating_add(drawn.moved);
+    }
+    Ok((counts, moved))
+}
+
+#[test]
+fn each_course_is_drawn(rt: HostRuntime) -> Result<(), Fail> {
+    let (counts, moved) = draw(rt.alloc(), 40, 250)?;
+    assert!(rt; counts.is_whole(), "{counts}");
+    assert!(rt; moved > 0);
+    Ok(())
+}

@@ -1,0 +1,187 @@
+//! The call table, row by row, and the STATUS that answers what is not expected.
+use call_states::{Act, Leg, Peer, Side, on_message, status, unexpected};
+use circuit_model::Slot;
+use q931_codec::{MessageKind, read};
+use std::test::*;
+
+const EVERY: &[u8] = &[3, 4, 6, 7, 9, 10, 12, 19];
+
+const UNRELEASED: &[u8] = &[3, 4, 6, 7, 9, 10, 12];
+
+// A message, and its acts by the leg's state. In every other state it isn't expected.
+struct Row {
+    octets: &'static [u8],
+    acts: &'static [(&'static [u8], Act)],
+}
+
+// The call table: a message of each type, with its cause where it has one.
+const TABLE: [Row; 23] = [
+    Row {
+        octets: b"\x08\x02\x80\x01\x02",
+        acts: &[(&[6], Act::Proceeding)],
+    },
+    Row {
+        octets: b"\x08\x02\x80\x01\x01",
+        acts: &[(&[6, 9], Act::Alerting)],
+    },
+    Row {
+        octets: b"\x08\x02\x80\x01\x07",
+        acts: &[(&[6, 7, 9], Act::Answer)],
+    },
+    Row {
+        octets: b"\x08\x02\x00\x01\x0F",
+        acts: &[(&[10], Act::Nothing)],
+    },
+    Row {
+        octets: b"\x08\x02\x00\x01\x03",
+        acts: &[(EVERY, Act::Nothing)],
+    },
+    Row {
+        octets: b"\x08\x02\x00\x01\x6E",
+        acts: &[(EVERY, Act::Nothing)],
+    },
+    Row {
+        octets: b"\x08\x02\x00\x01\x62",
+        acts: &[(EVERY, Act::Nothing)],
+    },
+    Row {
+        octets: b"\x08\x02\x00\x01\x20",
+        acts: &[(EVERY, Act::Nothing)],
+    },
+    Row {
+        octets: b"\x08\x02\x00\x01\x05",
+        acts: &[(EVERY, Act::Nothing)],
+    },
+    Row {
+        octets: b"\x08\x02\x00\x01\x45\x08\x02\x80\x91",
+        acts: &[(UNRELEASED, Act::Disconnect(17))],
+    },
+    // No cause, and one cut short.
+    Row {
+        octets: b"\x08\x02\x00\x01\x45",
+        acts: &[(UNRELEASED, Act::Disconnect(16))],
+    },
+    Row {
+        octets: b"\x08\x02\x00\x01\x4D\x08\x01\x80",
+        acts: &[(UNRELEASED, Act::Released(16)), (&[19], Act::Gone(16))],
+    },
+    Row {
+        octets: b"\x08\x02\x00\x01\x4D\x08\x02\x80\xA9",
+        acts: &[(UNRELEASED, Act::Released(41)), (&[19], Act::Gone(41))],
+    },
+    Row {
+        octets: b"\x08\x02\x00\x01\x5A\x08\x02\x80\xAC",
+        acts: &[(EVERY, Act::Gone(44))],
+    },
+    // STATUS that tells the null state, another state, and none.
+    Row {
+        octets: b"\x08\x02\x00\x01\x7D\x08\x02\x80\x9E\x14\x01\x00",
+        acts: &[(EVERY, Act::Gone(41))],
+    },
+    Row {
+        octets: b"\x08\x02\x00\x01\x7D\x08\x02\x80\x9E\x14\x01\x0A",
+        acts: &[(EVERY, Act::Nothing)],
+    },
+    Row {
+        octets: b"\x08\x02\x00\x01\x7D",
+        acts: &[(EVERY, Act::Nothing)],
+    },
+    Row {
+        octets: b"\x08\x02\x00\x01\x75",
+        acts: &[(EVERY, Act::Enquiry)],
+    },
+    Row {
+        octets: b"\x08\x02\x00\x01\x0D",
+        acts: &[],
+    },
+    Row {
+        octets: b"\x08\x02\x00\x01\x46",
+        acts: &[],
+    },
+    Row {
+        octets: b"\x08\x02\x00\x01\x4E",
+        acts: &[],
+    },
+    Row {
+        octets: b"\x08\x02\x00\x01\x7B",
+        acts: &[],
+    },
+    Row {
+        octets: b"\x08\x02\x00\x01\x3F",
+        acts: &[],
+    },
+];
+
+fn leg(state: u8, side: Side) -> Leg {
+    Leg {
+        state,
+        reference: 1,
+        side,
+        peer: Peer::Leg(Slot { line: 1, place: 0 }),
+        cause: 0,
+    }
+}
+
+fn wanted(row: &Row, state: u8) -> Act {
+    for (states, act) in row.acts {
+        if states.contains(&state) {
+            return *act;
+        }
+    }
+    Act::Unexpected
+}
+
+// Whether the message has the row's act in this state.
+fn fits(row: &Row, state: u8) -> bool {
+    match read(row.octets) {
+        Ok(message) => on_message(&leg(state, Side::Caller), &message) == wanted(row, state),
+        Err(_) => false,
+    }
+}
+
+#[test]
+fn gives_the_acts_of_the_table(rt: HostRuntime) {
+    for row in &TABLE {
+        for state in 0..64u8 {
+            assert!(rt; fits(row, state), "{:?} in state {state}", row.octets);
+        }
+    }
+}
+
+// The flag, the cause and the state of the STATUS for a message that isn't expected.
+fn told(octets: &[u8], leg: &Leg) -> Option<(bool, u16, Option<u8>, Option<u8>)> {
+    let answer = unexpected(leg, &read(octets).ok()?);
+    if answer.kind != MessageKind::Status {
+        return None;
+    }
+    Some((answer.flag, answer.reference, answer.cause, answer.state))
+}
+
+#[test]
+fn tells_what_is_not_expected(rt: HostRuntime) {
+    let alerting = b"\x08\x02\x00\x01\x01";
+    let unknown = b"\x08\x02\x00\x01\x3F";
+    let caller = leg(3, Side::Caller);
+    let called = leg(19, Side::Called);
+    assert_eq!(rt;
+        told(alerting, &caller),
+        Some((true, 1, Some(101), Some(3)))
+    );
+    assert_eq!(rt; told(unknown, &caller), Some((true, 1, Some(97), Some(3))));
+    assert_eq!(rt;
+        told(alerting, &called),
+        Some((false, 1, Some(101), Some(19)))
+    );
+    assert_eq!(rt;
+        told(unknown, &called),
+        Some((false, 1, Some(97), Some(19)))
+    );
+}
+
+#[test]
+fn tells_the_state(rt: HostRuntime) {
+    let answer = status(&leg(10, Side::Caller), 30);
+    assert!(rt; answer.flag);
+    assert_eq!(rt; answer.kind, MessageKind::Status);
+    assert_eq!(rt; (answer.cause, answer.state), (Some(30), Some(10)));
+}

@@ -1,0 +1,8 @@
+//! What no clause says: octets from other programs, and that each call comes to an end.
+mod alaw;
+mod buffers;
+mod channels;
+mod engine;
+mod ports;
+mod rooms;
+mod stages;

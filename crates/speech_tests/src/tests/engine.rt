@@ -1,0 +1,132 @@
+//! An engine over two lines: a path that moves from frame to frame, and a tone.
+ghost use Rattle.std.specs.Prelude.{◌≡◌, ℕ, ◌+◌, ◌<◌};
+ghost use Rattle.circuit_model.specs.declared.circuit.Kind.{Kind};
+ghost use Rattle.tone_rules.specs.Tables.{IsGiven};
+
+use circuit_model::{IDLE, Kind, Slot};
+use control_memory::{Heard, Image};
+use frame_engine::{Carrier, Engine};
+use std::test::Fail;
+use tone_rules::{ToneOctets, Tones};
+
+const NEAR: Slot = Slot { line: 0, place: 0 };
+
+const FAR: Slot = Slot { line: 1, place: 29 };
+
+const RINGING: Slot = Slot { line: 1, place: 1 };
+
+/// A frame over two external lines, and what is heard in it. A path leads from NEAR to FAR since
+/// frame 0, and RINGING has a tone since frame 1.
+#[derive(Clone, Copy, Debug)]
+struct Turn {
+    /// The internal slot of the path.
+    slot: u8,
+    /// What the first line sends in each place.
+    sent: u8,
+    /// What FAR hears, and what RINGING does.
+    heard: (u8, u8),
+}
+
+// Writes the control memory of a frame.
+fn show(image: &mut Image, frame: u32, slot: u8)
+    requires sizes { (image.old.external ≡ 2) × (image.old.bridges ≡ 0) × (image.old.slots ≡ 2) }
+    requires slot { slot < 2 }
+    ensures sizes { (image.new.external ≡ 2) × (image.new.bridges ≡ 0) × (image.new.slots ≡ 2) }
+    ensures frame { image.new.frame ≡ frame }
+{
+    image.clear_all(frame);
+    image.set_path(NEAR, FAR, slot);
+    image.set_heard(FAR, Heard::Path { since: 0 });
+    if frame > 0 {
+        let kind = Kind::Ringback;
+        image.set_heard(RINGING, Heard::Tone { kind, since: 1 });
+    }
+}
+
+// Carries a frame, and tells what FAR and RINGING hear in it.
+fn carry(
+    engine: &mut Engine,
+    image: &mut Image,
+    tones: &Tones,
+    frame: u32,
+    slot: u8,
+    sent: u8,
+) -> (u8, u8)
+    requires external { (engine.old.external ≡ 2) × (image.old.external ≡ 2) }
+    requires bridges { (engine.old.bridges ≡ 0) × (image.old.bridges ≡ 0) }
+    requires slots { (engine.old.slots ≡ 2) × (image.old.slots ≡ 2) }
+    requires slot { slot < 2 }
+    requires frame { (engine.old.next ≡ frame) × (frame < 100) }
+    requires tones { (kind : Kind) → IsGiven tones.now kind }
+    ensures external { (engine.new.external ≡ 2) × (image.new.external ≡ 2) }
+    ensures bridges { (engine.new.bridges ≡ 0) × (image.new.bridges ≡ 0) }
+    ensures slots { (engine.new.slots ≡ 2) × (image.new.slots ≡ 2) }
+    ensures next { engine.new.next ≡ frame + 1 }
+{
+    show(image, frame, slot);
+    let mut out = [[0; 30]; 2];
+    engine.frame(image, tones, &[Some([sent; 30]), None], &mut out);
+    (out[1][29], out[1][1])
+}
+
+// That there is memory is beside every contract.
+#[test]
+fn a_full_engine_is_made(rt: HostRuntime) -> Result<(), Fail> {
+    let full = Engine::new(rt.alloc(), 32, 2, 59)?;
+    drop(full);
+    let small = Engine::new(rt.alloc(), 1, 0, 1)?;
+    drop(small);
+    Ok(())
+}
+
+#[test]
+fn a_path_that_moves_is_heard_two_frames_late_and_loses_no_octet(
+    rt: HostRuntime,
+) -> Result<(), Fail> {
+    let turns = [
+        Turn {
+            slot: 0,
+            sent: 10,
+            heard: (IDLE, IDLE),
+        },
+        Turn {
+            slot: 0,
+            sent: 11,
+            heard: (IDLE, 20),
+        },
+        Turn {
+            slot: 1,
+            sent: 12,
+            heard: (10, 21),
+        },
+        Turn {
+            slot: 1,
+            sent: 13,
+            heard: (11, 22),
+        },
+        Turn {
+            slot: 0,
+            sent: 14,
+            heard: (12, 20),
+        },
+        Turn {
+            slot: 1,
+            sent: 15,
+            heard: (13, 21),
+        },
+    ];
+    let alloc = rt.alloc();
+    let tones = Tones {
+        ringback: ToneOctets::of(vec![in alloc; 20, 21, 22]?),
+        busy: ToneOctets::of(vec![in alloc; 30]?),
+    };
+    let mut engine = Engine::new(alloc, 2, 0, 2)?;
+    let mut image = Image::new(alloc, 2, 0, 2)?;
+    for frame in 0..6 {
+        let turn = turns[frame as usize];
+        assert!(rt; turn.slot < 2);
+        let heard = carry(&mut engine, &mut image, &tones, frame, turn.slot, turn.sent);
+        assert_eq!(rt; heard, turn.heard, "{turn:?}");
+    }
+    Ok(())
+}

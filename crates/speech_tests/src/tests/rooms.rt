@@ -1,0 +1,96 @@
+//! Conference rooms, beside what another program adds up.
+use alaw_codec::CodeTable;
+use conference_mix::{MAX_MEMBERS, Mixer, Seated, mix};
+use std::alloc::AllocError;
+
+/// Five members, and what each of them hears: the other octets decoded, added and encoded again by
+/// Python's `audioop` (`alaw2lin`, `add`, `lin2alaw`, at sixteen bits), which saturates as this bridge.
+static MIXED: [([Option<u8>; 5], [u8; 5]); 6] = [
+    (
+        [None, Some(0xCA), Some(0x18), Some(0x25), Some(0x30)],
+        [0x2B, 0x2B, 0x2F, 0x3E, 0x26],
+    ),
+    (
+        [None, Some(0x13), Some(0x2C), Some(0xDE), Some(0xD6)],
+        [0x29, 0x2C, 0x11, 0x29, 0x29],
+    ),
+    (
+        [Some(0xD9), Some(0x1E), Some(0x3F), Some(0x72), Some(0x1F)],
+        [0x21, 0x24, 0x08, 0x26, 0x24],
+    ),
+    (
+        [Some(0x19), Some(0x71), Some(0x17), Some(0x44), None],
+        [0x1C, 0x0D, 0x04, 0x0F, 0x0E],
+    ),
+    (
+        [None, Some(0x5C), Some(0x34), Some(0x60), Some(0xBE)],
+        [0x99, 0x98, 0xBD, 0x86, 0x31],
+    ),
+    (
+        [Some(0x1E), Some(0x69), Some(0xFE), None, Some(0xA0)],
+        [0xA1, 0xA7, 0xA5, 0xA4, 0x04],
+    ),
+];
+
+/// Rooms of other sizes. The loudest positive octet three times: each sum of two, 8064, saturates. With
+/// one of them as loud below zero, the sum of the other two is 0, which is the idle octet, and the third
+/// still saturates: a total that saturated before the own value is taken out would give other octets.
+/// Alone in a room a member hears the idle octet, and two hear each other unchanged.
+const ROOMS: [(&[Option<u8>], &[u8]); 9] = [
+    (&[Some(0xAA), Some(0xAA), Some(0xAA)], &[0xAA, 0xAA, 0xAA]),
+    (&[Some(0xAA), Some(0xAA), Some(0x2A)], &[0xD5, 0xD5, 0xAA]),
+    (&[Some(0x11)], &[0xD5]),
+    (&[Some(0x11), Some(0x91)], &[0x91, 0x11]),
+    (&[Some(0x12), Some(0x92)], &[0x92, 0x12]),
+    (&[Some(0x11), None], &[0xD5, 0x11]),
+    (&[], &[]),
+    (&[Some(0x2A); MAX_MEMBERS], &[0x2A; MAX_MEMBERS]),
+    (&[None; MAX_MEMBERS], &[0xD5; MAX_MEMBERS]),
+];
+
+// Whether the members of a room hear these octets.
+fn sounds(members: &[Option<u8>], heard: &[u8]) -> bool {
+    if members.len() > MAX_MEMBERS {
+        return false;
+    }
+    let mut out = [0; MAX_MEMBERS];
+    mix(members, &mut out[..members.len()]);
+    &out[..members.len()] == heard
+}
+
+#[test]
+fn rooms_sound_as_elsewhere(rt: HostRuntime) {
+    for (members, heard) in MIXED {
+        assert!(rt; sounds(&members, &heard), "{members:?}");
+    }
+    for (members, heard) in ROOMS {
+        assert!(rt; sounds(members, heard), "{members:?}");
+    }
+}
+
+// What is heard where these five members sit in one room, five loud ones in another, port by port in
+// turn, and nobody in a last port.
+fn heard_beside(codes: &CodeTable, members: &[Option<u8>; 5]) -> [u8; 11] {
+    let mut mixer = Mixer::new(11);
+    for k in 0..5 {
+        let octet = members[k];
+        mixer.seat(2 * k, Seated { room: 0, octet });
+        let octet = Some(0xAA);
+        mixer.seat(2 * k + 1, Seated { room: 255, octet });
+    }
+    let mut out = [0; 11];
+    mixer.mix(codes, &mut out);
+    out
+}
+
+/// Members of two rooms in turn, and a place where nobody sits: each room sounds as it does alone.
+#[test]
+fn rooms_do_not_hear_each_other(rt: HostRuntime) -> Result<(), AllocError> {
+    let codes = CodeTable::new(rt.alloc())?;
+    for (members, heard) in MIXED {
+        let [a, v, b, w, c, x, d, y, e, z, free] = heard_beside(&codes, &members);
+        assert_eq!(rt; [a, b, c, d, e], heard);
+        assert_eq!(rt; [v, w, x, y, z, free], [0xAA, 0xAA, 0xAA, 0xAA, 0xAA, 0xD5]);
+    }
+    Ok(())
+}
