@@ -23,3 +23,10 @@ EachAtWork plan tones map legs Says = (s : Setting) (w : World) → s.plan ≡ p
 -- what is said of some such setting and world
 abbrev pub SomeAtWork : List Number → Tones → Connections → Legs → (Setting → World → Type 0) → Type 0
 SomeAtWork plan tones map legs Says = (s : Setting) × (w : World) × (s.plan ≡ plan) × (s.tones ≡ tones) × IsAtWork s map legs w × Says s w
+
+-- what is said of each setting with these tones, or with this plan of numbers, whatever else it has
+abbrev pub EachWithTones : Tones → Connections → Legs → (Setting → World → Type 0) → Type 0
+EachWithTones tones map legs Says = (s : Setting) (w : World) → s.tones ≡ tones → IsAtWork s map legs w → Says s w
+
+abbrev pub EachWithPlan : List Number → Connections → Legs → (Setting → World → Type 0) → Type 0
+EachWithPlan plan map legs Says = (s : Setting) (w : World) → s.plan ≡ plan → IsAtWork s map legs w → Says s w

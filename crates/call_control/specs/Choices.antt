@@ -32,5 +32,5 @@ called_checks d w caller target =
     ∷ []
 
 -- what a SETUP does that passes each check
-abbrev pub accepted : Setting → World → ℕ → Message → List Operation
-accepted s w line m = accept s w m (caller_slot w line (channel_in m.elements))
+abbrev pub accept_setup : Setting → World → ℕ → Message → List Operation
+accept_setup s w line m = accept s w m (caller_slot w line (channel_in m.elements))

@@ -1,21 +1,19 @@
 //! What each act does with the leg that a message is for, and with its peer.
-ghost use Rattle.std.specs.Prelude.{◌≡◌, ◌≢◌, ◌<◌, ◌≤◌, ◌+◌, ◌*◌, ◌++◌, [], ◌∷◌, None, Some, IfSome, length};
+ghost use Rattle.std.specs.Prelude.{◌≡◌, ◌≢◌, ◌<◌, ◌≤◌, ◌+◌, ◌*◌, [], ◌∷◌, None, Some, IfSome, length};
 ghost use Rattle.circuit_model.specs.Extent.{IsExternal};
 ghost use Rattle.circuit_map.specs.Connections.{SameSizes, hears_at};
-ghost use Rattle.q931_codec.specs.MessageType.{IsNamed};
-ghost use Rattle.q931_codec.specs.Outgoing.{encoding, outgoing_of};
-ghost use Rattle.call_states.specs.Acts.{act_on, cause_of_act};
-ghost use Rattle.call_states.specs.Status.{IsTold};
+ghost use Rattle.q931_codec.specs.Outgoing.{outgoing_of};
+ghost use Rattle.call_states.specs.Acts.{cause_of_act};
 ghost use Rattle.call_states.specs.declared.act.Act.TheVariants as asked;
-ghost use Rattle.call_profile.specs.Acts.{announced, course_of, peer_of, with_peer, message_to, disconnect, disconnected, in_state, tone_of, alerting, answer, disconnecting, releasing, removing, clear_with};
-ghost use Rattle.call_control.specs.AtWork.{IsAtWork};
-ghost use Rattle.call_profile.specs.Calls.{made_by, done_by};
+ghost use Rattle.call_profile.specs.Acts.{with_progress, course_of, peer_of, with_peer, disconnect, in_disconnect_indication, in_state, tone_of, on_alerting, on_connect, on_disconnect, on_release, remove_leg, clear_with};
+ghost use Rattle.call_control.specs.AtWork.{IsAtWork, EachWithTones};
+ghost use Rattle.call_profile.specs.Calls.{making_by, outcome_by, course_on};
 ghost use Rattle.call_profile.specs.Legs.{leg_at};
 ghost use Rattle.exchange_events.specs.Limits.{most_sends};
-ghost use Rattle.call_profile.specs.Operations.{Clear, Pair, Making, performed_all};
+ghost use Rattle.call_profile.specs.Operations.{Clear, Pair, Making, making_after_all};
 ghost use Rattle.call_profile.specs.Peers.{IsThere, PeerIsThere, IsSilent};
 ghost use Rattle.exchange_events.specs.Sizes.{Setting, Dimensions};
-ghost use Rattle.call_control.specs.Standing.{Holds, Makes};
+ghost use Rattle.call_control.specs.Standing.{Holds, Makes, HasMade, Performs, PerformsQuietly};
 ghost use Rattle.call_profile.specs.World.{World};
 
 use crate::operations::CallControl;
@@ -33,25 +31,24 @@ use q931_codec::{Message, MessageKind, Outgoing};
 use tone_rules::{Tones, tone_given};
 
 impl<P: PathMap> CallControl<P> {
-    /// Does with a leg what a message to it asks for, and tells the records of the calls that this
-    /// begins to clear.
+    /// Does with a leg what a message to it asks for, and records the call that this begins to clear.
     pub(crate) fn act(&mut self, out: &mut Outbox, tones: &Tones, held: Held, message: &Message)
         requires work { (s : Setting) × (w : World) × IsAtWork s self.old.map self.old.legs w }
         requires external { IsExternal self.old.map.external held.slot }
         requires held { leg_at self.old.legs held.slot ≡ Some held.leg }
         requires fresh { (out.old.sends ≡ []) × (out.old.moved ≡ None) }
-        ensures makes { (s : Setting) (w : World) → s.tones ≡ tones.now → IsAtWork s self.old.map self.old.legs w
-            → Makes s.dimensions self.new.map self.new.legs out.new.sends out.new.moved (made_by s w (course_of s.tones w.legs held message.now.kind (act_on held.leg.state message.now))) }
+        ensures makes { EachWithTones tones.now self.old.map self.old.legs (λ s w.
+            HasMade s self.new.map self.new.legs out.new (making_by s w (course_on s w held message.now))) }
         ensures records { (s : Setting) (w : World) → IsAtWork s self.old.map self.old.legs w
-            → out.new.records ≡ (done_by s w (course_of s.tones w.legs held message.now.kind (act_on held.leg.state message.now))).told }
+            → out.new.records ≡ (outcome_by s w (course_on s w held message.now)).recorded }
         ensures few { IfSome out.new.moved (λ moves. (moves.0 ≤ self.old.map.bound) × (moves.1 ≤ self.old.map.bound)) }
         ensures sizes { SameSizes self.old.map self.new.map }
     {
         let act = on_message(&held.leg, message);
         let peer = self.peer_of(held.leg.peer);
-        let told = self.record_of_act(held, peer, act);
+        let call = self.record_of_act(held, peer, act);
         self.perform(out, tones, held, peer, act, message);
-        record_only(&mut out.records, told);
+        record_only(&mut out.records, call);
     }
 
     /// The other leg of a call.
@@ -86,9 +83,8 @@ impl<P: PathMap> CallControl<P> {
         requires silent { act ≡ asked.Answer → hears_at self.old.map held.slot ≡ None }
         requires waiting { act ≡ asked.Alerting → IsSilent self.old.map peer }
         requires fresh { (out.old.sends ≡ []) × (out.old.moved ≡ None) }
-        ensures makes { (d : Dimensions) (m : Making) → Makes d self.old.map self.old.legs out.old.sends out.old.moved m
-            → Makes d self.new.map self.new.legs out.new.sends out.new.moved
-            (performed_all d m (course_of tones.now self.old.legs held message.now.kind act).operations) }
+        ensures makes { Performs (course_of tones.now self.old.legs held message.now.kind act).operations
+            self.old.map self.old.legs out.old self.new.map self.new.legs out.new }
         ensures few { IfSome out.new.moved (λ moves. (moves.0 ≤ self.old.map.bound) × (moves.1 ≤ self.old.map.bound)) }
         ensures sizes { SameSizes self.old.map self.new.map }
     {
@@ -103,33 +99,32 @@ impl<P: PathMap> CallControl<P> {
                 )
             }
             Act::Proceeding => self.put(held.slot, in_state(INCOMING_CALL_PROCEEDING, held.leg)),
-            Act::Alerting => self.alert(out, tones, held, peer),
-            Act::Answer => self.answer(out, held, peer),
+            Act::Alerting => self.on_alerting(out, tones, held, peer),
+            Act::Answer => self.on_connect(out, held, peer),
             Act::Disconnect(cause) => {
-                self.disconnect(out, held);
+                self.on_disconnect(out, held);
                 self.clear_peer(out, tones, peer, cause);
             }
             Act::Released(cause) => {
-                self.release(out, held);
+                self.on_release(out, held);
                 self.clear_peer(out, tones, peer, cause);
             }
             Act::Gone(cause) => {
-                self.forget(held);
+                self.remove_leg(held);
                 self.clear_peer(out, tones, peer, cause);
             }
         }
     }
 
-    // The called user is being alerted; the caller is told so, and hears it where the trace gives that
-    // tone.
-    fn alert(&mut self, out: &mut Outbox, tones: &Tones, held: Held, peer: Option<Held>)
+    // ALERTING: the called user is being alerted; the caller is sent the same, and hears it where the
+    // trace gives that tone.
+    fn on_alerting(&mut self, out: &mut Outbox, tones: &Tones, held: Held, peer: Option<Held>)
         requires there { IsThere self.old.map.external held }
         requires count { length self.old.legs ≡ 30 * self.old.map.external }
         requires peer_there { PeerIsThere self.old.map.external held peer }
         requires waiting { IsSilent self.old.map peer }
         requires room { length out.old.sends < most_sends }
-        ensures makes { (d : Dimensions) (m : Making) → Makes d self.old.map self.old.legs out.old.sends out.old.moved m
-            → Makes d self.new.map self.new.legs out.new.sends out.new.moved (performed_all d m (with_peer peer (alerting tones.now held))) }
+        ensures makes { Performs (with_peer peer (on_alerting tones.now held)) self.old.map self.old.legs out.old self.new.map self.new.legs out.new }
         ensures moved { out.new.moved ≡ out.old.moved }
         ensures sizes { SameSizes self.old.map self.new.map }
     {
@@ -142,11 +137,11 @@ impl<P: PathMap> CallControl<P> {
         self.put(caller.slot, waits);
         self.sound(caller.slot, tone);
         let alerting = message_to(&caller.leg, MessageKind::Alerting);
-        send(out, caller.slot.line, &announced(tone, alerting));
+        send(out, caller.slot.line, &with_progress(tone, alerting));
     }
 
-    // The called user has answered: the two slots are connected.
-    fn answer(&mut self, out: &mut Outbox, held: Held, peer: Option<Held>)
+    // CONNECT: the called user has answered; the two slots are connected.
+    fn on_connect(&mut self, out: &mut Outbox, held: Held, peer: Option<Held>)
         requires work { (d : Dimensions) × (w : World) × Holds d self.old.map self.old.legs w }
         requires there { IsThere self.old.map.external held }
         requires count { length self.old.legs ≡ 30 * self.old.map.external }
@@ -154,8 +149,7 @@ impl<P: PathMap> CallControl<P> {
         requires silent { hears_at self.old.map held.slot ≡ None }
         requires room { length out.old.sends + 1 < most_sends }
         requires fresh { out.old.moved ≡ None }
-        ensures makes { (d : Dimensions) (m : Making) → Makes d self.old.map self.old.legs out.old.sends out.old.moved m
-            → Makes d self.new.map self.new.legs out.new.sends out.new.moved (performed_all d m (with_peer peer (answer held))) }
+        ensures makes { Performs (with_peer peer (on_connect held)) self.old.map self.old.legs out.old self.new.map self.new.legs out.new }
         ensures few { IfSome out.new.moved (λ moves. (moves.0 ≤ self.old.map.bound) × (moves.1 ≤ self.old.map.bound)) }
         ensures sizes { SameSizes self.old.map self.new.map }
     {
@@ -178,7 +172,7 @@ impl<P: PathMap> CallControl<P> {
         requires distinct { caller ≢ called }
         requires silent { hears_at self.old.map called ≡ None }
         ensures makes { (d : Dimensions) (m : Making) → Makes d self.old.map self.old.legs m.sends m.moves m
-            → Makes d self.new.map self.new.legs m.sends (Some result) (performed_all d m (Clear caller ∷ Pair caller called ∷ [])) }
+            → Makes d self.new.map self.new.legs m.sends (Some result) (making_after_all d m (Clear caller ∷ Pair caller called ∷ [])) }
         ensures few { (result.0 ≤ self.old.map.bound) × (result.1 ≤ self.old.map.bound) }
         ensures legs { self.new.legs ≡ self.old.legs }
         ensures sizes { SameSizes self.old.map self.new.map }
@@ -187,13 +181,12 @@ impl<P: PathMap> CallControl<P> {
         self.pair(caller, called)
     }
 
-    // The user of the leg has asked for the call to be cleared.
-    fn disconnect(&mut self, out: &mut Outbox, held: Held)
+    // DISCONNECT: the user of the leg has asked for the call to be cleared.
+    fn on_disconnect(&mut self, out: &mut Outbox, held: Held)
         requires there { IsThere self.old.map.external held }
         requires count { length self.old.legs ≡ 30 * self.old.map.external }
         requires room { length out.old.sends < most_sends }
-        ensures makes { (d : Dimensions) (m : Making) → Makes d self.old.map self.old.legs out.old.sends out.old.moved m
-            → Makes d self.new.map self.new.legs out.new.sends out.new.moved (performed_all d m (disconnecting held)) }
+        ensures makes { Performs (on_disconnect held) self.old.map self.old.legs out.old self.new.map self.new.legs out.new }
         ensures count { length self.new.legs ≡ length self.old.legs }
         ensures sends { length out.new.sends ≡ length out.old.sends + 1 }
         ensures moved { out.new.moved ≡ out.old.moved }
@@ -211,28 +204,26 @@ impl<P: PathMap> CallControl<P> {
         send_bare(out, held, MessageKind::Release);
     }
 
-    // The user of the leg has released its channel, or its call reference too.
-    fn release(&mut self, out: &mut Outbox, held: Held)
+    // RELEASE: the user of the leg has released its channel, and its call reference is released.
+    fn on_release(&mut self, out: &mut Outbox, held: Held)
         requires there { IsThere self.old.map.external held }
         requires count { length self.old.legs ≡ 30 * self.old.map.external }
         requires room { length out.old.sends < most_sends }
-        ensures makes { (d : Dimensions) (m : Making) → Makes d self.old.map self.old.legs out.old.sends out.old.moved m
-            → Makes d self.new.map self.new.legs out.new.sends out.new.moved (performed_all d m (releasing held)) }
+        ensures makes { Performs (on_release held) self.old.map self.old.legs out.old self.new.map self.new.legs out.new }
         ensures count { length self.new.legs ≡ length self.old.legs }
         ensures sends { length out.new.sends ≡ length out.old.sends + 1 }
         ensures moved { out.new.moved ≡ out.old.moved }
         ensures sizes { SameSizes self.old.map self.new.map }
     {
-        self.forget(held);
+        self.remove_leg(held);
         send_bare(out, held, MessageKind::ReleaseComplete);
     }
 
-    /// The leg is gone, and every circuit that names its slot.
-    pub(crate) fn forget(&mut self, held: Held)
+    /// RELEASE COMPLETE, or a restart: the leg is gone, and every circuit that names its slot.
+    pub(crate) fn remove_leg(&mut self, held: Held)
         requires external { IsExternal self.old.map.external held.slot }
         requires count { length self.old.legs ≡ 30 * self.old.map.external }
-        ensures makes { (d : Dimensions) (m : Making) → Makes d self.old.map self.old.legs m.sends m.moves m
-            → Makes d self.new.map self.new.legs m.sends m.moves (performed_all d m (removing held)) }
+        ensures makes { PerformsQuietly (remove_leg held) self.old.map self.old.legs self.new.map self.new.legs }
         ensures count { length self.new.legs ≡ length self.old.legs }
         ensures sizes { SameSizes self.old.map self.new.map }
     {
@@ -253,8 +244,7 @@ impl<P: PathMap> CallControl<P> {
         requires count { length self.old.legs ≡ 30 * self.old.map.external }
         requires room { length out.old.sends < most_sends }
         requires cause { cause < 128 }
-        ensures makes { (d : Dimensions) (m : Making) → Makes d self.old.map self.old.legs out.old.sends out.old.moved m
-            → Makes d self.new.map self.new.legs out.new.sends out.new.moved (performed_all d m (with_peer peer (clear_with tones.now cause))) }
+        ensures makes { Performs (with_peer peer (clear_with tones.now cause)) self.old.map self.old.legs out.old self.new.map self.new.legs out.new }
         ensures few { length out.new.sends ≤ length out.old.sends + 1 }
         ensures moved { out.new.moved ≡ out.old.moved }
         ensures sizes { SameSizes self.old.map self.new.map }
@@ -262,13 +252,13 @@ impl<P: PathMap> CallControl<P> {
         let Some(other) = peer else {
             return;
         };
-        let alone = disconnected(cause, other.leg);
+        let alone = in_disconnect_indication(cause, other.leg);
         let tone = tone_of(tones, alone);
         self.clear(other.slot);
         self.put(other.slot, alone);
         self.sound(other.slot, tone);
         let disconnect = disconnect_message(&other.leg, cause);
-        send(out, other.slot.line, &announced(tone, disconnect));
+        send(out, other.slot.line, &with_progress(tone, disconnect));
     }
 }
 
@@ -280,8 +270,8 @@ fn in_state(state: u8, leg: Leg) -> Leg
 }
 
 // The leg alone, cleared with a cause.
-fn disconnected(cause: u8, leg: Leg) -> Leg
-    ensures { result ≡ disconnected cause leg }
+fn in_disconnect_indication(cause: u8, leg: Leg) -> Leg
+    ensures { result ≡ in_disconnect_indication cause leg }
 {
     Leg {
         state: DISCONNECT_INDICATION,
@@ -299,8 +289,8 @@ fn tone_of(tones: &Tones, leg: Leg) -> Option<Kind>
 }
 
 // A message with a progress indicator exactly where its user's slot gets a tone.
-fn announced(tone: Option<Kind>, message: Outgoing<'static>) -> Outgoing<'static>
-    ensures { outgoing_of result ≡ announced tone (outgoing_of message.entry) }
+fn with_progress(tone: Option<Kind>, message: Outgoing<'static>) -> Outgoing<'static>
+    ensures { outgoing_of result ≡ with_progress tone (outgoing_of message.entry) }
 {
     Outgoing {
         progress: tone.is_some(),

@@ -4,7 +4,7 @@ ghost use Rattle.circuit_model.specs.Circuits.{since_of};
 ghost use Rattle.circuit_model.specs.Extent.{IsExternal};
 ghost use Rattle.call_states.specs.Acts.{cause_of_act};
 ghost use Rattle.call_profile.specs.Acts.{peer_of};
-ghost use Rattle.call_profile.specs.CallRecords.{is_calling, party_of, began};
+ghost use Rattle.call_profile.specs.CallRecords.{is_calling, party_of, conversation_begin};
 ghost use Rattle.call_profile.specs.EndedCalls.{record_calling, record_ended, record_of_act};
 ghost use Rattle.call_control.specs.Standing.{Holds};
 ghost use Rattle.exchange_events.specs.Sizes.{Dimensions};
@@ -64,16 +64,16 @@ impl<P: PathMap> CallControl<P> {
             caller: caller.slot,
             called,
             answered: caller.leg.state == ACTIVE,
-            from: self.began(caller),
+            from: self.conversation_begin(caller),
             to: self.map.next_frame(),
             cause,
         })
     }
 
     // The first frame of the conversation; the next frame where there was none.
-    fn began(&self, caller: Held) -> u32
+    fn conversation_begin(&self, caller: Held) -> u32
         requires external { IsExternal self.now.map.external caller.slot }
-        ensures { (d : Dimensions) (w : World) → Holds d self.now.map self.now.legs w → result ≡ began w caller }
+        ensures { (d : Dimensions) (w : World) → Holds d self.now.map self.now.legs w → result ≡ conversation_begin w caller }
     {
         if caller.leg.state != ACTIVE {
             return self.map.next_frame();

@@ -1,5 +1,5 @@
 //! The legs of all calls, by the slots that they hold.
-ghost use Rattle.std.specs.Prelude.{◌≡◌, ◌*◌, ◌<◌, ◌≤◌, length, IfOk, IfSome};
+ghost use Rattle.std.specs.Prelude.{◌≡◌, ◌<◌, ◌≤◌, length, IfOk, IfSome};
 ghost use Rattle.control_memory.specs.Layout.{number_of};
 ghost use Rattle.call_states.specs.Status.{IsTold};
 ghost use Rattle.call_profile.specs.Legs.{no_legs, leg_at, with_leg, without_leg, leg_named, new_reference};

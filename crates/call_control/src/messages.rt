@@ -1,16 +1,13 @@
 //! The way of a message from the octets that the user of a line has sent to what is done for it.
-ghost use Rattle.std.specs.Prelude.{◌≡◌, ◌<◌, ◌≤◌, ◌^◌, ℕ, [], None, Ok, IfSome};
+ghost use Rattle.std.specs.Prelude.{◌≡◌, ◌<◌, ◌≤◌, ◌^◌, [], None, Ok, IfSome};
 ghost use Rattle.circuit_map.specs.Connections.{SameSizes};
-ghost use Rattle.exchange_events.specs.declared.trace.Event.TheVariants as event;
 ghost use Rattle.clearing_rules.specs.Restarting.{restart_asked};
-ghost use Rattle.call_control.specs.AtWork.{IsAtWork, EachAtWork};
-ghost use Rattle.call_profile.specs.Calls.{asks_for_call, with_leg_named, received_from, done, done_for, on_global_reference, answer_to};
+ghost use Rattle.call_control.specs.AtWork.{IsAtWork, EachAtWork, EachWithTones};
+ghost use Rattle.call_profile.specs.Calls.{asks_for_call, with_leg_named, request_read, outcome_of_octets, outcome_for, on_global_reference};
 ghost use Rattle.call_profile.specs.Legs.{leg_named};
-ghost use Rattle.exchange_events.specs.Responses.{reply_of};
 ghost use Rattle.exchange_events.specs.Sizes.{Setting};
-ghost use Rattle.call_control.specs.Standing.{Holds, Makes};
-ghost use Rattle.call_profile.specs.Step.{reply, next, MovesAtMost};
 ghost use Rattle.call_profile.specs.World.{World};
+ghost use Rattle.call_control.specs.Standing.{HasMade};
 
 use crate::operations::CallControl;
 use crate::sending::answer_on_no_call;
@@ -22,38 +19,15 @@ use q931_codec::{Message, MessageKind, read};
 use tone_rules::Tones;
 
 impl<P: PathMap> CallControl<P> {
-    /// Does what the octets that the user of a line has sent ask for. Octets that are no message have no
-    /// effect.
-    pub fn message(
-        &mut self,
-        plan: &Plan,
-        tones: &Tones,
-        line: u8,
-        octets: &[u8],
-        out: &mut Outbox,
-    ) -> Response
-        requires work { (s : Setting) × (w : World) × (s.plan ≡ plan.now) × (s.tones ≡ tones.now) × IsAtWork s self.old.map self.old.legs w }
-        requires line { line < self.old.map.external }
-        requires fresh { (out.old.sends ≡ []) × (out.old.moved ≡ None) }
-        ensures reply { EachAtWork plan.now tones.now self.old.map self.old.legs (λ s w.
-            reply_of result out.new ≡ reply s w (event.Message line octets.now)) }
-        ensures world { EachAtWork plan.now tones.now self.old.map self.old.legs (λ s w.
-            Holds s.dimensions self.new.map self.new.legs (next s w (event.Message line octets.now))) }
-        ensures few { MovesAtMost self.old.map.bound (reply_of result out.new) }
-        ensures sizes { SameSizes self.old.map self.new.map }
-    {
-        self.take(out, plan, tones, line, octets);
-        Response::Sent
-    }
-
-    // Does what octets ask for, and tells the records of the calls that they begin to clear.
-    fn take(&mut self, out: &mut Outbox, plan: &Plan, tones: &Tones, line: u8, octets: &[u8])
+    /// Does what the octets that the user of a line has sent ask for, and records the calls that they begin
+    /// to clear. Octets that are no message have no effect.
+    pub fn message(&mut self, out: &mut Outbox, plan: &Plan, tones: &Tones, line: u8, octets: &[u8])
         requires work { (s : Setting) × (w : World) × (s.plan ≡ plan.now) × (s.tones ≡ tones.now) × IsAtWork s self.old.map self.old.legs w }
         requires line { line < self.old.map.external }
         requires fresh { (out.old.sends ≡ []) × (out.old.moved ≡ None) }
         ensures makes { EachAtWork plan.now tones.now self.old.map self.old.legs (λ s w.
-            Makes s.dimensions self.new.map self.new.legs out.new.sends out.new.moved (done s w line octets.now).making) }
-        ensures records { EachAtWork plan.now tones.now self.old.map self.old.legs (λ s w. out.new.records ≡ (answer_to s w line octets.now).records) }
+            HasMade s self.new.map self.new.legs out.new (outcome_of_octets s w line octets.now).making) }
+        ensures records { EachAtWork plan.now tones.now self.old.map self.old.legs (λ s w. out.new.records ≡ (outcome_of_octets s w line octets.now).recorded) }
         ensures few { IfSome out.new.moved (λ moves. (moves.0 ≤ self.old.map.bound) × (moves.1 ≤ self.old.map.bound)) }
         ensures sizes { SameSizes self.old.map self.new.map }
     {
@@ -63,7 +37,7 @@ impl<P: PathMap> CallControl<P> {
         }
     }
 
-    // Does what a message asks for, and tells the records of the calls that it begins to clear: one to a
+    // Does what a message asks for, and records the calls that it begins to clear: one to a
     // leg what the leg's state says, a SETUP from the side that chose the call reference a new call.
     fn receive(&mut self, out: &mut Outbox, plan: &Plan, tones: &Tones, line: u8, message: &Message)
         requires work { (s : Setting) × (w : World) × (s.plan ≡ plan.now) × (s.tones ≡ tones.now) × IsAtWork s self.old.map self.old.legs w }
@@ -71,31 +45,38 @@ impl<P: PathMap> CallControl<P> {
         requires reference { message.now.reference < 2 ^ 15 }
         requires fresh { (out.old.sends ≡ []) × (out.old.moved ≡ None) }
         ensures makes { EachAtWork plan.now tones.now self.old.map self.old.legs (λ s w.
-            Makes s.dimensions self.new.map self.new.legs out.new.sends out.new.moved (done_for s w line (received_from self.old.legs line (Ok message.now))).making) }
+            HasMade s self.new.map self.new.legs out.new (outcome_for s w line (request_read self.old.legs line (Ok message.now))).making) }
         ensures records { EachAtWork plan.now tones.now self.old.map self.old.legs (λ s w.
-            out.new.records ≡ (done_for s w line (received_from self.old.legs line (Ok message.now))).told) }
+            out.new.records ≡ (outcome_for s w line (request_read self.old.legs line (Ok message.now))).recorded) }
         ensures few { IfSome out.new.moved (λ moves. (moves.0 ≤ self.old.map.bound) × (moves.1 ≤ self.old.map.bound)) }
         ensures sizes { SameSizes self.old.map self.new.map }
     {
         match self.legs.named(line, message.flag, message.reference) {
             Some(held) => self.act(out, tones, held, message),
-            None => self.begin(out, plan, tones, line, message),
+            None => self.answer_without_leg(out, plan, tones, line, message),
         }
     }
 
-    // Does what a message that names no leg asks for, and tells the records of the calls that it ends:
+    // Does what a message that names no leg asks for, and records the calls that it ends:
     // a RESTART on the global call reference, a SETUP from the side that chose the call reference, or one
     // that is answered there.
-    fn begin(&mut self, out: &mut Outbox, plan: &Plan, tones: &Tones, line: u8, message: &Message)
+    fn answer_without_leg(
+        &mut self,
+        out: &mut Outbox,
+        plan: &Plan,
+        tones: &Tones,
+        line: u8,
+        message: &Message,
+    )
         requires work { (s : Setting) × (w : World) × (s.plan ≡ plan.now) × (s.tones ≡ tones.now) × IsAtWork s self.old.map self.old.legs w }
         requires line { line < self.old.map.external }
         requires reference { message.now.reference < 2 ^ 15 }
         requires nameless { leg_named self.old.legs line message.now.flag message.now.reference ≡ None }
         requires fresh { (out.old.sends ≡ []) × (out.old.moved ≡ None) }
         ensures makes { EachAtWork plan.now tones.now self.old.map self.old.legs (λ s w.
-            Makes s.dimensions self.new.map self.new.legs out.new.sends out.new.moved (done_for s w line (with_leg_named message.now None)).making) }
+            HasMade s self.new.map self.new.legs out.new (outcome_for s w line (with_leg_named message.now None)).making) }
         ensures records { EachAtWork plan.now tones.now self.old.map self.old.legs (λ s w.
-            out.new.records ≡ (done_for s w line (with_leg_named message.now None)).told) }
+            out.new.records ≡ (outcome_for s w line (with_leg_named message.now None)).recorded) }
         ensures few { IfSome out.new.moved (λ moves. (moves.0 ≤ self.old.map.bound) × (moves.1 ≤ self.old.map.bound)) }
         ensures sizes { SameSizes self.old.map self.new.map }
     {
@@ -116,10 +97,10 @@ impl<P: PathMap> CallControl<P> {
         requires work { (s : Setting) × (w : World) × (s.tones ≡ tones.now) × IsAtWork s self.old.map self.old.legs w }
         requires line { line < self.old.map.external }
         requires fresh { (out.old.sends ≡ []) × (out.old.moved ≡ None) }
-        ensures makes { (s : Setting) (w : World) → s.tones ≡ tones.now → IsAtWork s self.old.map self.old.legs w
-            → Makes s.dimensions self.new.map self.new.legs out.new.sends out.new.moved (done_for s w line (on_global_reference (restart_asked message.now))).making }
-        ensures records { (s : Setting) (w : World) → s.tones ≡ tones.now → IsAtWork s self.old.map self.old.legs w
-            → out.new.records ≡ (done_for s w line (on_global_reference (restart_asked message.now))).told }
+        ensures makes { EachWithTones tones.now self.old.map self.old.legs (λ s w.
+            HasMade s self.new.map self.new.legs out.new (outcome_for s w line (on_global_reference (restart_asked message.now))).making) }
+        ensures records { EachWithTones tones.now self.old.map self.old.legs (λ s w.
+            out.new.records ≡ (outcome_for s w line (on_global_reference (restart_asked message.now))).recorded) }
         ensures moved { out.new.moved ≡ None }
         ensures sizes { SameSizes self.old.map self.new.map }
     {

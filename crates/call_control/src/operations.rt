@@ -7,7 +7,7 @@ ghost use Rattle.circuit_map.specs.Connections.{SameSizes, hears_at, hears_after
 ghost use Rattle.call_states.specs.Status.{IsTold};
 ghost use Rattle.call_profile.specs.IdleSlots.{idle};
 ghost use Rattle.call_profile.specs.Legs.{leg_at, with_leg, without_leg};
-ghost use Rattle.call_profile.specs.Operations.{moves_for, moves_of_seat, sounding};
+ghost use Rattle.call_profile.specs.Operations.{moves_for, moves_of_seat, with_tone};
 ghost use Rattle.call_profile.specs.Permitted.{CanSeat};
 ghost use Rattle.call_control.specs.Standing.{Holds};
 ghost use Rattle.exchange_events.specs.Sizes.{Dimensions};
@@ -90,7 +90,7 @@ impl<P: PathMap> CallControl<P> {
         requires external { IsExternal self.old.map.external x }
         requires silent { hears_at self.old.map x ≡ None }
         ensures holds { (d : Dimensions) (w : World) → Holds d self.old.map self.old.legs w
-            → Holds d self.new.map self.new.legs (record w { holding = sounding w.holding x tone }) }
+            → Holds d self.new.map self.new.legs (record w { holding = with_tone w.holding x tone }) }
         ensures legs { self.new.legs ≡ self.old.legs }
         ensures sizes { SameSizes self.old.map self.new.map }
     {

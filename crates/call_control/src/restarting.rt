@@ -4,15 +4,14 @@ ghost use Rattle.circuit_model.specs.Extent.{IsExternal};
 ghost use Rattle.circuit_map.specs.Connections.{SameSizes};
 ghost use Rattle.clearing_rules.specs.Restarting.{IsOnLine};
 ghost use Rattle.call_profile.specs.Acts.{with_peer};
-ghost use Rattle.call_control.specs.AtWork.{IsAtWork};
+ghost use Rattle.call_control.specs.AtWork.{IsAtWork, EachWithTones};
 ghost use Rattle.call_profile.specs.EndedCalls.{slot_records};
 ghost use Rattle.call_profile.specs.LegStanding.{LegsStand};
 ghost use Rattle.exchange_events.specs.Limits.{most_records, most_sends};
-ghost use Rattle.call_profile.specs.Operations.{Making, performed_all};
 ghost use Rattle.call_profile.specs.Peers.{IsThere};
-ghost use Rattle.call_profile.specs.Restarts.{restart_peer, restart_slot, restarts_slot, restarted};
+ghost use Rattle.call_profile.specs.Restarts.{restart_peer, restart_slot, restarts_slot, outcome_of_restart};
 ghost use Rattle.exchange_events.specs.Sizes.{Setting, Dimensions};
-ghost use Rattle.call_control.specs.Standing.{Holds, Makes};
+ghost use Rattle.call_control.specs.Standing.{Holds, HasMade, Performs, PerformsBy};
 ghost use Rattle.call_profile.specs.World.{World};
 
 use crate::operations::CallControl;
@@ -39,9 +38,9 @@ impl<P: PathMap> CallControl<P> {
         requires line { line < self.old.map.external }
         requires on_line { IsOnLine asked }
         requires fresh { (out.old.sends ≡ []) × (out.old.moved ≡ None) }
-        ensures makes { (s : Setting) (w : World) → s.tones ≡ tones.now → IsAtWork s self.old.map self.old.legs w
-            → Makes s.dimensions self.new.map self.new.legs out.new.sends out.new.moved (restarted s.dimensions s.tones asked line w).making }
-        ensures records { (s : Setting) (w : World) → s.tones ≡ tones.now → IsAtWork s self.old.map self.old.legs w → result ≡ (restarted s.dimensions s.tones asked line w).told }
+        ensures makes { EachWithTones tones.now self.old.map self.old.legs (λ s w.
+            HasMade s self.new.map self.new.legs out.new (outcome_of_restart s.dimensions s.tones asked line w).making) }
+        ensures records { EachWithTones tones.now self.old.map self.old.legs (λ s w. result ≡ (outcome_of_restart s.dimensions s.tones asked line w).recorded) }
         ensures moved { out.new.moved ≡ None }
         ensures sizes { SameSizes self.old.map self.new.map }
     {
@@ -65,8 +64,7 @@ impl<P: PathMap> CallControl<P> {
         requires work { (d : Dimensions) × (w : World) × Holds d self.old.map self.old.legs w × LegsStand d.external tones.now w }
         requires external { IsExternal self.old.map.external x }
         requires room { (length out.old.sends < most_sends) × (length records.old < most_records) }
-        ensures makes { (d : Dimensions) (m : Making) → Makes d self.old.map self.old.legs out.old.sends out.old.moved m
-            → Makes d self.new.map self.new.legs out.new.sends out.new.moved (performed_all d m (restart_slot tones.now asked m.world.legs x)) }
+        ensures makes { PerformsBy (λ legs. restart_slot tones.now asked legs x) self.old.map self.old.legs out.old self.new.map self.new.legs out.new }
         ensures records { (d : Dimensions) (w : World) → Holds d self.old.map self.old.legs w → records.new ≡ records.old ++ slot_records asked w x }
         ensures few { (length out.new.sends ≤ length out.old.sends + 1) × (length records.new ≤ length records.old + 1) }
         ensures moved { out.new.moved ≡ out.old.moved }
@@ -80,9 +78,9 @@ impl<P: PathMap> CallControl<P> {
         };
         let held = Held { slot: x, leg };
         let peer = self.peer_of(leg.peer);
-        let told = self.record_ended(held, peer, TEMPORARY_FAILURE);
-        record_also(records, told);
-        self.forget(held);
+        let call = self.record_ended(held, peer, TEMPORARY_FAILURE);
+        record_also(records, call);
+        self.remove_leg(held);
         self.restart_peer(out, tones, asked, x.line, peer);
     }
 
@@ -98,8 +96,7 @@ impl<P: PathMap> CallControl<P> {
         requires there { IfSome peer (λ other. IsThere self.old.map.external other) }
         requires count { length self.old.legs ≡ 30 * self.old.map.external }
         requires room { length out.old.sends < most_sends }
-        ensures makes { (d : Dimensions) (m : Making) → Makes d self.old.map self.old.legs out.old.sends out.old.moved m
-            → Makes d self.new.map self.new.legs out.new.sends out.new.moved (performed_all d m (with_peer peer (restart_peer tones.now asked line))) }
+        ensures makes { Performs (with_peer peer (restart_peer tones.now asked line)) self.old.map self.old.legs out.old self.new.map self.new.legs out.new }
         ensures few { length out.new.sends ≤ length out.old.sends + 1 }
         ensures moved { out.new.moved ≡ out.old.moved }
         ensures sizes { SameSizes self.old.map self.new.map }
@@ -108,7 +105,7 @@ impl<P: PathMap> CallControl<P> {
             return;
         };
         if restarts_slot(asked, line, other.slot) {
-            self.forget(other);
+            self.remove_leg(other);
         } else {
             self.clear_peer(out, tones, peer, TEMPORARY_FAILURE);
         }

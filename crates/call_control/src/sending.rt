@@ -11,10 +11,8 @@ ghost use Rattle.call_profile.specs.Acts.{message_to};
 ghost use Rattle.call_profile.specs.Calls.{answer_back};
 ghost use Rattle.call_profile.specs.Legs.{Legs};
 ghost use Rattle.exchange_events.specs.Limits.{most_sends, most_records};
-ghost use Rattle.call_profile.specs.Operations.{Making, performed_all};
 ghost use Rattle.call_profile.specs.Setup.{refuse};
-ghost use Rattle.call_control.specs.Standing.{Makes};
-ghost use Rattle.exchange_events.specs.Sizes.{Dimensions};
+ghost use Rattle.call_control.specs.Standing.{Performs};
 
 use call_states::{Held, Leg};
 use clearing_rules::unknown_reference;
@@ -51,8 +49,7 @@ pub(crate) fn refuse(out: &mut Outbox, line: u8, reference: u16, cause: u8)
     requires room { length out.old.sends ≤ 60 }
     requires reference { reference < 2 ^ 15 }
     requires cause { cause < 128 }
-    ensures makes { (d : Dimensions) (map : Connections) (legs : Legs) (m : Making) → Makes d map legs out.old.sends out.old.moved m
-        → Makes d map legs out.new.sends out.new.moved (performed_all d m (refuse line reference cause)) }
+    ensures makes { (map : Connections) (legs : Legs) → Performs (refuse line reference cause) map legs out.old map legs out.new }
     ensures moved { out.new.moved ≡ out.old.moved }
 {
     send(out, line, &release_complete(reference, cause));
@@ -62,8 +59,7 @@ pub(crate) fn refuse(out: &mut Outbox, line: u8, reference: u16, cause: u8)
 pub(crate) fn answer_on_no_call(out: &mut Outbox, line: u8, message: &Message)
     requires room { length out.old.sends < most_sends }
     requires reference { message.now.reference < 2 ^ 15 }
-    ensures makes { (d : Dimensions) (map : Connections) (legs : Legs) (m : Making) → Makes d map legs out.old.sends out.old.moved m
-        → Makes d map legs out.new.sends out.new.moved (performed_all d m (answer_back line (answer_without_call message.now))) }
+    ensures makes { (map : Connections) (legs : Legs) → Performs (answer_back line (answer_without_call message.now)) map legs out.old map legs out.new }
     ensures moved { out.new.moved ≡ out.old.moved }
 {
     if let Some(answer) = unknown_reference(message) {

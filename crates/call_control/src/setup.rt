@@ -1,14 +1,14 @@
-//! SETUP: it is refused, or makes the legs of a new call, and their users are told.
-ghost use Rattle.std.specs.Prelude.{◌≡◌, ◌<◌, ◌≤◌, ◌^◌, [], None, Some, IfSome, false, ◌*◌, length};
+//! SETUP: it is refused, or makes the legs of a new call, and their users are sent what comes of it.
+ghost use Rattle.std.specs.Prelude.{◌≡◌, ◌<◌, ◌≤◌, ◌^◌, [], None, IfSome, false, ◌*◌, length};
 ghost use Rattle.circuit_map.specs.Connections.{SameSizes};
-ghost use Rattle.call_control.specs.AtWork.{IsAtWork};
-ghost use Rattle.call_profile.specs.Calls.{made_by};
-ghost use Rattle.call_control.specs.Choices.{accepted};
+ghost use Rattle.call_control.specs.AtWork.{IsAtWork, EachWithPlan};
+ghost use Rattle.call_profile.specs.Calls.{making_by};
+ghost use Rattle.call_control.specs.Choices.{accept_setup};
 ghost use Rattle.call_profile.specs.Legs.{leg_named};
-ghost use Rattle.call_profile.specs.Operations.{begun, performed_all, Making};
+ghost use Rattle.call_profile.specs.Operations.{making_at, making_after_all};
 ghost use Rattle.exchange_events.specs.Sizes.{Setting, Dimensions};
-ghost use Rattle.call_profile.specs.Setup.{course_of_setup, refusal, caller_leg, called_leg, proceeding, offer, call_line, call_room};
-ghost use Rattle.call_control.specs.Standing.{Makes, Holds};
+ghost use Rattle.call_profile.specs.Setup.{course_of_setup, refusal, caller_leg, called_leg, call_proceeding, offer, call_line, call_room};
+ghost use Rattle.call_control.specs.Standing.{Holds, HasMade, Performs};
 ghost use Rattle.call_profile.specs.World.{World};
 ghost use Rattle.circuit_model.specs.Extent.{IsExternal};
 ghost use Rattle.call_profile.specs.Permitted.{CanSeat};
@@ -35,8 +35,8 @@ impl<P: PathMap> CallControl<P> {
         requires reference { (1 ≤ message.now.reference) × (message.now.reference < 2 ^ 15) }
         requires unused { leg_named self.old.legs line false message.now.reference ≡ None }
         requires fresh { (out.old.sends ≡ []) × (out.old.moved ≡ None) }
-        ensures makes { (s : Setting) (w : World) → s.plan ≡ plan.now → IsAtWork s self.old.map self.old.legs w
-            → Makes s.dimensions self.new.map self.new.legs out.new.sends out.new.moved (made_by s w (course_of_setup s w line message.now)) }
+        ensures makes { EachWithPlan plan.now self.old.map self.old.legs (λ s w.
+            HasMade s self.new.map self.new.legs out.new (making_by s w (course_of_setup s w line message.now))) }
         ensures few { IfSome out.new.moved (λ moves. (moves.0 ≤ self.old.map.bound) × (moves.1 ≤ self.old.map.bound)) }
         ensures sizes { SameSizes self.old.map self.new.map }
     {
@@ -52,8 +52,8 @@ impl<P: PathMap> CallControl<P> {
         requires line { line < self.old.map.external }
         requires reference { (1 ≤ message.now.reference) × (message.now.reference < 2 ^ 15) }
         requires fresh { (out.old.sends ≡ []) × (out.old.moved ≡ None) }
-        ensures makes { (s : Setting) (w : World) → s.plan ≡ plan.now → IsAtWork s self.old.map self.old.legs w
-            → Makes s.dimensions self.new.map self.new.legs out.new.sends out.new.moved (performed_all s.dimensions (begun w) (accepted s w line message.now)) }
+        ensures makes { EachWithPlan plan.now self.old.map self.old.legs (λ s w.
+            HasMade s self.new.map self.new.legs out.new (making_after_all s.dimensions (making_at w) (accept_setup s w line message.now))) }
         ensures few { IfSome out.new.moved (λ moves. (moves.0 ≤ self.old.map.bound) × (moves.1 ≤ self.old.map.bound)) }
         ensures sizes { SameSizes self.old.map self.new.map }
     {
@@ -76,14 +76,7 @@ impl<P: PathMap> CallControl<P> {
 
     // Makes a call to a line: the caller waits, and the called user is offered the call with this
     // reference.
-    fn call_line(
-        &mut self,
-        out: &mut Outbox,
-        message: &Message,
-        x: Slot,
-        y: Slot,
-        reference: u16,
-    )
+    fn call_line(&mut self, out: &mut Outbox, message: &Message, x: Slot, y: Slot, reference: u16)
         requires external_x { IsExternal self.old.map.external x }
         requires external_y { IsExternal self.old.map.external y }
         requires count { length self.old.legs ≡ 30 * self.old.map.external }
@@ -91,8 +84,7 @@ impl<P: PathMap> CallControl<P> {
         requires own { message.now.reference < 2 ^ 15 }
         requires reference { reference < 2 ^ 15 }
         requires bearer { IfSome (bearer_in message.now.elements) (λ contents. length contents ≤ 10) }
-        ensures makes { (d : Dimensions) (m : Making) → Makes d self.old.map self.old.legs out.old.sends out.old.moved m
-            → Makes d self.new.map self.new.legs out.new.sends out.new.moved (performed_all d m (call_line message.now x y reference)) }
+        ensures makes { Performs (call_line message.now x y reference) self.old.map self.old.legs out.old self.new.map self.new.legs out.new }
         ensures moved { out.new.moved ≡ out.old.moved }
         ensures map { self.new.map ≡ self.old.map }
     {
@@ -100,7 +92,7 @@ impl<P: PathMap> CallControl<P> {
         let called = called_leg(reference, x);
         self.put(x, caller);
         self.put(y, called);
-        send(out, x.line, &proceeding(x, &caller));
+        send(out, x.line, &call_proceeding(x, &caller));
         send(out, y.line, &offer(message, y, &called));
     }
 
@@ -111,15 +103,14 @@ impl<P: PathMap> CallControl<P> {
         requires count { length self.old.legs ≡ 30 * self.old.map.external }
         requires room { length out.old.sends ≤ 60 }
         requires own { message.now.reference < 2 ^ 15 }
-        ensures makes { (d : Dimensions) (m : Making) → Makes d self.old.map self.old.legs out.old.sends out.old.moved m
-            → Makes d self.new.map self.new.legs out.new.sends out.new.moved (performed_all d m (call_room message.now x room)) }
+        ensures makes { Performs (call_room message.now x room) self.old.map self.old.legs out.old self.new.map self.new.legs out.new }
         ensures few { IfSome out.new.moved (λ moves. (moves.0 ≤ self.old.map.bound) × (moves.1 ≤ self.old.map.bound)) }
         ensures sizes { SameSizes self.old.map self.new.map }
     {
         let caller = caller_leg(ACTIVE, message.reference, Peer::Room(room));
         self.put(x, caller);
         out.moved = Some(self.seat(x, room));
-        send(out, x.line, &proceeding(x, &caller));
+        send(out, x.line, &call_proceeding(x, &caller));
         send(out, x.line, &message_to(&caller, MessageKind::Connect));
     }
 }
@@ -151,9 +142,9 @@ fn called_leg(reference: u16, caller: Slot) -> Leg
 }
 
 // The CALL PROCEEDING that tells the caller its channel.
-fn proceeding(x: Slot, leg: &Leg) -> Outgoing<'static>
+fn call_proceeding(x: Slot, leg: &Leg) -> Outgoing<'static>
     requires place { x.place < 30 }
-    ensures { outgoing_of result ≡ proceeding x leg.now }
+    ensures { outgoing_of result ≡ call_proceeding x leg.now }
 {
     Outgoing {
         channel: Some(channel_of(x.place)),

@@ -2,7 +2,6 @@
 ghost use Rattle.std.specs.Prelude.{◌≡◌, ◌<◌, [], unwrap_or, option_map, IfSome, IsTrue};
 ghost use Rattle.number_plan.specs.Plan.{found_for, all_targets};
 ghost use Rattle.call_profile.specs.Setup.{digits_in, slot_of, slot_asked, element_checks, number_checks, first_cause, caller_slot, is_taken, slot_checks, refusal};
-ghost use Rattle.circuit_model.specs.declared.channel.Slot.{Slot};
 ghost use Rattle.circuit_model.specs.Extent.{IsExternal};
 ghost use Rattle.call_control.specs.Choices.{IsReached, idle_beside, called_checks};
 ghost use Rattle.call_profile.specs.IdleSlots.{lowest_idle, lowest_idle_beside};
@@ -110,12 +109,12 @@ impl<P: PathMap> CallControl<P> {
         let Some(caller) = self.caller_slot(line, channel) else {
             return Some(NO_CHANNEL_AVAILABLE);
         };
-        self.room_cause(caller, target)
+        self.called_side_cause(caller, target)
     }
 
     // The cause where the called line has no idle slot beside the caller's, or where every conference
     // port is taken.
-    fn room_cause(&self, caller: Slot, target: Found) -> Option<u8>
+    fn called_side_cause(&self, caller: Slot, target: Found) -> Option<u8>
         requires reached { IsReached self.now.map.external target }
         ensures { (d : Dimensions) (w : World) → Holds d self.now.map self.now.legs w → result ≡ first_cause (called_checks d w caller target) }
     {

@@ -7,7 +7,7 @@ use Rattle.std.proofs.lemmas.List.Elements.{All-nil, All-push, All-weaker}
 use Rattle.std.proofs.lemmas.Option.{slice_get_within}
 use lib.Seq.{take-append-le}
 use Rattle.exchange_events.specs.declared.reply.Reply.{Reply}
-use Rattle.exchange_events.specs.Kept.{kept}
+use Rattle.exchange_events.specs.Kept.{kept_of}
 use Rattle.seat_history.specs.declared.known.Known.{Known}
 use Rattle.seat_history.specs.Histories.{StartsWith, before, entries_of}
 use Rattle.seat_history.specs.Seats.{after_step}
@@ -94,7 +94,7 @@ answer_stays board w x p s number a =
 
 -- the answer of the call
 pub answer_next : (board : Board) (history : List Entry) (w x : Known) (p : Placed) (r : Reply) → Next history p.answer.event p.place w x
-    → AnswersAt board history p.answer.event r → MovesAtMost board.bound r → p.answer.reply ≡ kept r → IsAnswer board x p
+    → AnswersAt board history p.answer.event r → MovesAtMost board.bound r → p.answer.reply ≡ kept_of r → IsAnswer board x p
 answer_next board history w x p r e given few keeps =
     let n = p.answer.event in
     let seen = seen_next history n p.place w x e in
@@ -151,7 +151,7 @@ long_start history seen s = let long = ap length s.1 ∙ length-append seen s.0 
 
 pub going_more : (board : Board) (history : List Entry) (done : List ℕ) (v w x : Known) (answers : List Placed) (p : Placed) (r : Reply)
     → Going board done v answers w → Next history p.answer.event p.place w x
-    → AnswersAt board history p.answer.event r → MovesAtMost board.bound r → p.answer.reply ≡ kept r
+    → AnswersAt board history p.answer.event r → MovesAtMost board.bound r → p.answer.reply ≡ kept_of r
     → Going board (done ++ p.answer.event ∷ []) v (answers ++ p ∷ []) x
 going_more board history done v w x answers p r g e given few keeps =
     let begins = begins_next history p.answer.event p.place w x e in
@@ -173,7 +173,7 @@ going_more board history done v w x answers p r g e given few keeps =
 -- the same, where the answer's event is known by another name
 pub going_with : (board : Board) (history : List Entry) (done : List ℕ) (v w x : Known) (answers : List Placed) (p : Placed) (r : Reply) (n place : ℕ)
     → p.answer.event ≡ n → p.place ≡ place → Going board done v answers w → Next history n place w x
-    → AnswersAt board history n r → MovesAtMost board.bound r → p.answer.reply ≡ kept r
+    → AnswersAt board history n r → MovesAtMost board.bound r → p.answer.reply ≡ kept_of r
     → Going board (done ++ n ∷ []) v (answers ++ p ∷ []) x
 going_with board history done v w x answers p r n place is at g e given few keeps =
     subst (λ (m : ℕ). Going board (done ++ m ∷ []) v (answers ++ p ∷ []) x) is

@@ -23,12 +23,12 @@ use Rattle.exchange_core.specs.Boards.{Board, IsFrame, NoFrames, IsToolAt, Shows
 use Rattle.exchange_events.specs.Sizes.{Setting}
 use Rattle.exchange_events.specs.Sound.{Fits, IsSound}
 use Rattle.call_profile.specs.IsMade.{IsMade}
-use Rattle.call_profile.specs.Step.{next, world, events_of}
+use Rattle.call_profile.specs.Step.{next, world_after_all, events_of}
 use Rattle.exchange_core.specs.Working.{Entry, IsNumbered, IsOfSize, IsToolFor, ShowsWorld, order_of}
 use Rattle.call_profile.specs.World.{World, start, pass}
-use Rattle.call_profile.proofs.Histories.{made, made_pass}
-use Rattle.call_profile.proofs.Quiet.{SameFrames, same_self, then_same as same_then, quiet}
-use Rattle.exchange_core.proofs.Stepping.{world_more}
+use Rattle.call_profile.proofs.HistoryLemmas.{made, made_pass}
+use Rattle.call_profile.proofs.QuietEventLemmas.{SameFrames, same_self, then_same as same_then, quiet}
+use Rattle.exchange_core.proofs.StepLemmas.{world_more}
 use Rattle.call_processor.specs.Frames.{Plays, Carrying, CarriesFrames, IsReady, IsPlayed}
 
 -- ---- the event with a number
@@ -50,18 +50,18 @@ input_whole trace n input sound number =
 -- ---- an event that is no frame leaves the frames as they are
 
 quiet_one : (s : Setting) (trace : Trace) (w : World) (n : ℕ) (o : Option Event) (es : List Event) → slice_get trace.events (n - 1) ≡ o → (IsFrame trace n → ⊥)
-    → ((v : World) → SameFrames v (world s v es)) → SameFrames w (world s w (cons_option o es))
+    → ((v : World) → SameFrames v (world_after_all s v es)) → SameFrames w (world_after_all s w (cons_option o es))
 quiet_one s trace w n None es is none rest = rest w
 quiet_one s trace w n (Some e) es is none rest =
-    same_then w (next s w e) (world s (next s w e) es) (quiet s w e (λ input frame. none (input, is ∙ ap Some frame))) (rest (next s w e))
+    same_then w (next s w e) (world_after_all s (next s w e) es) (quiet s w e (λ input frame. none (input, is ∙ ap Some frame))) (rest (next s w e))
 
-quiet_all : (s : Setting) (trace : Trace) (history : List Entry) → NoFrames trace history → (w : World) → SameFrames w (world s w (events_of trace.events (order_of history)))
+quiet_all : (s : Setting) (trace : Trace) (history : List Entry) → NoFrames trace history → (w : World) → SameFrames w (world_after_all s w (events_of trace.events (order_of history)))
 quiet_all s trace [] none w = same_self w
 quiet_all s trace (e ∷ history) none w =
     quiet_one s trace w e.1 (slice_get trace.events (e.1 - 1)) (events_of trace.events (order_of history)) refl (All-head (λ (x : Entry). IsFrame trace x.1 → ⊥) e history none)
     (quiet_all s trace history (All-tail (λ (x : Entry). IsFrame trace x.1 → ⊥) e history none))
 
-world_append : (s : Setting) (w : World) (es fs : List Event) → world s w (es ++ fs) ≡ world s (world s w es) fs
+world_append : (s : Setting) (w : World) (es fs : List Event) → world_after_all s w (es ++ fs) ≡ world_after_all s (world_after_all s w es) fs
 world_append s w [] fs = refl
 world_append s w (e ∷ es) fs = world_append s (next s w e) es fs
 
@@ -72,10 +72,10 @@ same_frames board seen history begins none =
     let rest = begins.0 in
     let events = board.trace.events in
     let still : NoFrames board.trace rest = subst (NoFrames board.trace) (ap (drop (length seen)) begins.1 ∙ unseen_front seen rest) none in
-    let longer : world_at board history ≡ world s (world_at board seen) (events_of events (order_of rest)) =
+    let longer : world_at board history ≡ world_after_all s (world_at board seen) (events_of events (order_of rest)) =
     ap (world_at board) begins.1
-    ∙ (ap (λ (order : List ℕ). world s (start s.dimensions) (events_of events order)) (map-append (λ (e : Entry). e.1) seen rest)
-    ∙ (ap (world s (start s.dimensions)) (filter_map-append (λ (n : ℕ). slice_get events (n - 1)) (order_of seen) (order_of rest))
+    ∙ (ap (λ (order : List ℕ). world_after_all s (start s.dimensions) (events_of events order)) (map-append (λ (e : Entry). e.1) seen rest)
+    ∙ (ap (world_after_all s (start s.dimensions)) (filter_map-append (λ (n : ℕ). slice_get events (n - 1)) (order_of seen) (order_of rest))
     ∙ world_append s (start s.dimensions) (events_of events (order_of seen)) (events_of events (order_of rest)))) in
     subst (SameFrames (world_at board seen)) (sym longer) (quiet_all s board.trace rest still (world_at board seen))
 
@@ -88,7 +88,7 @@ next_grows s w (Free x) = let same = (quiet s w (Free x) (λ input e. cc)).next 
 next_grows s w (Message line octets) = let same = (quiet s w (Message line octets) (λ input e. cc)).next in omega (arith, same)
 next_grows s w (Frame input) = omega arith
 
-world_grows : (s : Setting) (w : World) (es : List Event) → (world s w es).holding.next ≤ w.holding.next + length es
+world_grows : (s : Setting) (w : World) (es : List Event) → (world_after_all s w es).holding.next ≤ w.holding.next + length es
 world_grows s w [] = omega arith
 world_grows s w (e ∷ es) =
     let one = next_grows s w e in

@@ -2,7 +2,7 @@
 use Rattle.std.specs.Prelude.{◌≡◌, ℕ, ◌+◌, ◌<◌, ◌≤◌, Bool, IsTrue, List, ◌++◌, length, map, slice_get, Some, All, AllPairs}
 use Rattle.exchange_events.specs.declared.reply.Reply.{Reply}
 use Rattle.exchange_events.specs.declared.trace.Trace.{Trace}
-use Rattle.exchange_events.specs.Kept.{kept}
+use Rattle.exchange_events.specs.Kept.{kept_of}
 use Rattle.exchange_events.specs.Orders.{Worker}
 use Rattle.seat_history.specs.declared.known.Known.{Known}
 use Rattle.seat_history.specs.Histories.{StartsWith, before, entries_of}
@@ -50,7 +50,7 @@ pub record IsAnswer (board : Board) (seat : Known) (p : Placed) : Type 0 where
   pub entry : slice_get seat.seen p.place ≡ Some (seat.number, p.answer.event)
   pub given : AnswersAt board (before p.place seat.seen) p.answer.event reply
   pub few : MovesAtMost board.bound reply
-  pub keeps : p.answer.reply ≡ kept reply
+  pub keeps : p.answer.reply ≡ kept_of reply
 
 -- the numbers of the events that were answered
 abbrev pub answered_events : List Placed → List ℕ

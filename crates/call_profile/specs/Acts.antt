@@ -29,12 +29,12 @@ message_to leg kind = bare (flag_to leg.side) leg.reference kind
 abbrev pub disconnect : Leg → ℕ → OutgoingMessage
 disconnect leg cause = record (message_to leg kind.Disconnect) { cause = Some cause }
 
-abbrev pub send : Held → OutgoingMessage → Operation
-send h message = Send h.slot.line message
+abbrev pub send_to : Held → OutgoingMessage → Operation
+send_to h message = Send h.slot.line message
 
 -- the same message, with a progress indicator exactly where the slot of its user gets a tone: there is something to be heard
-abbrev pub announced : Option Kind → OutgoingMessage → OutgoingMessage
-announced tone message = record message { progress = is_some tone }
+abbrev pub with_progress : Option Kind → OutgoingMessage → OutgoingMessage
+with_progress tone message = record message { progress = is_some tone }
 
 -- ---- legs in another state
 
@@ -42,11 +42,11 @@ abbrev pub in_state : ℕ → Leg → Leg
 in_state state leg = record leg { state = state }
 
 -- a leg that is being cleared stands alone
-abbrev pub released : Leg → Leg
-released leg = record leg { state = release_request; peer = peer.Alone }
+abbrev pub in_release_request : Leg → Leg
+in_release_request leg = record leg { state = release_request; peer = peer.Alone }
 
-abbrev pub disconnected : ℕ → Leg → Leg
-disconnected cause leg = record leg { state = disconnect_indication; peer = peer.Alone; cause = cause }
+abbrev pub in_disconnect_indication : ℕ → Leg → Leg
+in_disconnect_indication cause leg = record leg { state = disconnect_indication; peer = peer.Alone; cause = cause }
 
 -- the tone that the slot of a leg gets, by its state and the cause that it was cleared with, where the trace gives it
 abbrev pub tone_of : Tones → Leg → Option Kind
@@ -67,66 +67,71 @@ with_peer (Some h) does = does h
 -- the other leg of the call is cleared with a cause, and its user may hear why
 abbrev pub clear_with : Tones → ℕ → Held → List Operation
 clear_with tones cause h =
-    let tone = tone_of tones (disconnected cause h.leg) in
+    let tone = tone_of tones (in_disconnect_indication cause h.leg) in
     Clear h.slot
-    ∷ Put h.slot (disconnected cause h.leg)
+    ∷ Put h.slot (in_disconnect_indication cause h.leg)
     ∷ Sound h.slot tone
-    ∷ send h (announced tone (disconnect h.leg cause))
+    ∷ send_to h (with_progress tone (disconnect h.leg cause))
     ∷ []
 
 -- ---- the acts
 
--- the called user is being alerted; the caller is told so, and may hear it
-abbrev pub alerting : Tones → Held → Held → List Operation
-alerting tones h caller =
+-- the called user is being alerted; the caller is sent the same, and may hear it
+abbrev pub on_alerting : Tones → Held → Held → List Operation
+on_alerting tones h caller =
     let tone = tone_of tones (in_state call_delivered caller.leg) in
     Put h.slot (in_state call_received h.leg)
     ∷ Put caller.slot (in_state call_delivered caller.leg)
     ∷ Sound caller.slot tone
-    ∷ send caller (announced tone (message_to caller.leg kind.Alerting))
+    ∷ send_to caller (with_progress tone (message_to caller.leg kind.Alerting))
     ∷ []
 
 -- the called user has answered: the two slots are connected, and whatever the caller heard until now stops
-abbrev pub answer : Held → Held → List Operation
-answer h caller =
+abbrev pub on_connect : Held → Held → List Operation
+on_connect h caller =
     Clear caller.slot
     ∷ Pair caller.slot h.slot
     ∷ Put h.slot (in_state active h.leg)
     ∷ Put caller.slot (in_state active caller.leg)
-    ∷ send h (message_to h.leg kind.ConnectAcknowledge)
-    ∷ send caller (message_to caller.leg kind.Connect)
+    ∷ send_to h (message_to h.leg kind.ConnectAcknowledge)
+    ∷ send_to caller (message_to caller.leg kind.Connect)
     ∷ []
 
--- the user of the leg has asked for the call to be cleared
-abbrev pub disconnecting : Held → List Operation
-disconnecting h =
+-- the user of the leg has asked for the call to be cleared, by DISCONNECT
+abbrev pub on_disconnect : Held → List Operation
+on_disconnect h =
     Clear h.slot
-    ∷ Put h.slot (released h.leg)
-    ∷ send h (message_to h.leg kind.Release)
+    ∷ Put h.slot (in_release_request h.leg)
+    ∷ send_to h (message_to h.leg kind.Release)
     ∷ []
 
--- the user of the leg has released its channel, or its call reference too
-abbrev pub releasing : Held → List Operation
-releasing h =
-    Clear h.slot
-    ∷ Remove h.slot
-    ∷ send h (message_to h.leg kind.ReleaseComplete)
-    ∷ []
-
-abbrev pub removing : Held → List Operation
-removing h =
+-- the user of the leg has released its channel, and its call reference is released
+abbrev pub on_release : Held → List Operation
+on_release h =
     Clear h.slot
     ∷ Remove h.slot
+    ∷ send_to h (message_to h.leg kind.ReleaseComplete)
     ∷ []
+
+-- the leg is gone, and every circuit that names its slot
+abbrev pub remove_leg : Held → List Operation
+remove_leg h =
+    Clear h.slot
+    ∷ Remove h.slot
+    ∷ []
+
+-- the user of the leg has released its call reference
+abbrev pub on_release_complete : Held → List Operation
+on_release_complete h = remove_leg h
 
 -- what an act does for a message of this type
 abbrev pub course_of : Tones → Legs → Held → MessageKind → Act → Course
 course_of tones legs h type act.Nothing = nothing
-course_of tones legs h type act.Unexpected = only (send h (status h.leg (unexpected_cause type)) ∷ [])
-course_of tones legs h type act.Enquiry = only (send h (status h.leg response_to_status_enquiry) ∷ [])
+course_of tones legs h type act.Unexpected = only (send_to h (status h.leg (unexpected_cause type)) ∷ [])
+course_of tones legs h type act.Enquiry = only (send_to h (status h.leg response_to_status_enquiry) ∷ [])
 course_of tones legs h type act.Proceeding = only (Put h.slot (in_state incoming_call_proceeding h.leg) ∷ [])
-course_of tones legs h type act.Alerting = only (with_peer (peer_of legs h.leg.peer) (alerting tones h))
-course_of tones legs h type act.Answer = only (with_peer (peer_of legs h.leg.peer) (answer h))
-course_of tones legs h type (act.Disconnect cause) = record { operations = disconnecting h ++ with_peer (peer_of legs h.leg.peer) (clear_with tones cause); cause = cause }
-course_of tones legs h type (act.Released cause) = record { operations = releasing h ++ with_peer (peer_of legs h.leg.peer) (clear_with tones cause); cause = cause }
-course_of tones legs h type (act.Gone cause) = record { operations = removing h ++ with_peer (peer_of legs h.leg.peer) (clear_with tones cause); cause = cause }
+course_of tones legs h type act.Alerting = only (with_peer (peer_of legs h.leg.peer) (on_alerting tones h))
+course_of tones legs h type act.Answer = only (with_peer (peer_of legs h.leg.peer) (on_connect h))
+course_of tones legs h type (act.Disconnect cause) = record { operations = on_disconnect h ++ with_peer (peer_of legs h.leg.peer) (clear_with tones cause); cause = cause }
+course_of tones legs h type (act.Released cause) = record { operations = on_release h ++ with_peer (peer_of legs h.leg.peer) (clear_with tones cause); cause = cause }
+course_of tones legs h type (act.Gone cause) = record { operations = on_release_complete h ++ with_peer (peer_of legs h.leg.peer) (clear_with tones cause); cause = cause }

@@ -9,7 +9,7 @@ use Rattle.call_states.specs.Acts.{act_on}
 use Rattle.call_states.specs.declared.act.Act.TheVariants as act
 use Rattle.call_states.specs.declared.leg.Peer.TheVariants as peer
 use Rattle.call_states.specs.declared.leg.Held.{Held}
-use Rattle.call_profile.specs.Calls.{For_leg, received, after_message}
+use Rattle.call_profile.specs.Calls.{For_leg, request_of, after_message}
 use Rattle.call_profile.specs.LegStanding.{LegsStand}
 use Rattle.exchange_events.specs.Sizes.{Setting}
 use Rattle.call_profile.specs.World.{World}
@@ -26,7 +26,7 @@ pub record IsAnswered (s : Setting) (w : World) (line : ℕ) (octets : List ℕ)
   pub legs_stand : LegsStand s.dimensions.external s.tones w
   pub line_exists : line < s.dimensions.external
   pub message : Message
-  pub for_leg : received w.legs line octets ≡ For_leg h message
+  pub for_leg : request_of w.legs line octets ≡ For_leg h message
   pub answers : act_on h.leg.state message ≡ act.Answer
 
 -- the leg's peer is another leg, and the two slots are connected once the message was answered
@@ -35,5 +35,5 @@ GetsBothPaths s w line octets h =
     (y : Slot) × (h.leg.peer ≡ peer.Leg y) × AreConnected s.dimensions.bridges w (after_message s w line octets) y h.slot
 
 -- the same world with its paths laid in another way
-abbrev pub relaid : World → Layout → World
-relaid w layout = record w { layout = layout }
+abbrev pub with_layout : World → Layout → World
+with_layout w layout = record w { layout = layout }

@@ -1,4 +1,4 @@
--- What is told of calls once their clearing has begun. Source: this exchange's own.
+-- What is recorded of calls once their clearing has begun. Source: this exchange's own.
 use Rattle.std.specs.Prelude.{ℕ, ◌==◌, ◌&&◌, not, Bool, false, List, [], ◌∷◌, length, filter_map, Option, Some, None, option_map, option_and_then, if◌then◌else◌}
 use Rattle.std.specs.List.{range_with_len}
 use Rattle.circuit_model.specs.declared.channel.Slot.{Slot}
@@ -19,13 +19,13 @@ use Rattle.call_profile.specs.Legs.{leg_at, held_at, same_side}
 use Rattle.call_profile.specs.World.{World}
 
 -- the states of a caller's leg until clearing begins
-abbrev pub called_up : List ℕ
-called_up = outgoing_call_proceeding ∷ call_delivered ∷ active ∷ []
+abbrev pub before_clearing : List ℕ
+before_clearing = outgoing_call_proceeding ∷ call_delivered ∷ active ∷ []
 
 -- the caller's leg of a call whose clearing hasn't begun
 abbrev pub is_calling : Option Leg → Bool
 is_calling None = false
-is_calling (Some leg) = same_side Caller leg.side && is_among called_up leg.state
+is_calling (Some leg) = same_side Caller leg.side && is_among before_clearing leg.state
 
 abbrev pub party_of : Peer → Option Party
 party_of peer.Alone = None
@@ -38,15 +38,15 @@ since_heard next None = next
 since_heard next (Some c) = since_of c
 
 -- the first frame of the conversation, where there was one
-abbrev pub began : World → Held → ℕ
-began w h = if h.leg.state == active then since_heard w.holding.next (heard_by w.holding.circuits h.slot) else w.holding.next
+abbrev pub conversation_begin : World → Held → ℕ
+conversation_begin w h = if h.leg.state == active then since_heard w.holding.next (heard_by w.holding.circuits h.slot) else w.holding.next
 
 abbrev pub record_of : World → ℕ → Held → Option CallRecord
 record_of w cause h = option_map (λ called. record {
   caller = h.slot;
   called = called;
   answered = h.leg.state == active;
-  from = began w h;
+  from = conversation_begin w h;
   to = w.holding.next;
   cause = cause;
 }) (party_of h.leg.peer)

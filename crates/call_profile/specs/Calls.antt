@@ -1,4 +1,4 @@
--- What a message makes of the world, from its octets to the octets that are sent and the records that are told. Source: this exchange's own.
+-- What a message makes of the world, from its octets to the octets that are sent and the calls that are recorded. Source: this exchange's own.
 use Rattle.std.specs.Prelude.{ℕ, ◌==◌, ◌&&◌, not, Bool, true, false, List, [], ◌∷◌, Option, Some, None, Ok, Err, Result, if◌then◌else◌}
 use Rattle.q931_codec.specs.declared.kind.MessageKind.{MessageKind}
 use Rattle.q931_codec.specs.declared.kind.MessageKind.TheVariants as kind
@@ -17,8 +17,8 @@ use Rattle.call_profile.specs.Acts.{course_of}
 use Rattle.call_profile.specs.CallRecords.{records}
 use Rattle.call_profile.specs.Course.{Course, only, nothing}
 use Rattle.call_profile.specs.Legs.{Legs, leg_named}
-use Rattle.call_profile.specs.Operations.{Operation, Send, Making, begun, performed_all}
-use Rattle.call_profile.specs.Restarts.{Done, restarted}
+use Rattle.call_profile.specs.Operations.{Operation, Send, Making, making_at, making_after_all}
+use Rattle.call_profile.specs.Restarts.{MessageOutcome, outcome_of_restart}
 use Rattle.exchange_events.specs.Sizes.{Setting}
 use Rattle.call_profile.specs.Setup.{refusal, course_of_setup}
 use Rattle.call_profile.specs.World.{World}
@@ -27,12 +27,12 @@ use Rattle.call_profile.specs.World.{World}
 
 -- what the user of a line has sent: a message for a leg, a SETUP that asks for a call, a message on the call reference of no call, a RESTART
 -- that is taken, or something that is not answered
-pub data Received : Type 0 where
-  For_leg : (held : Held) (message : Message) → Received
-  New_call : (setup : Message) → Received
-  On_no_call : (message : Message) → Received
-  Restarts : (restart : Restart) → Received
-  Unanswered : Received
+pub data Request : Type 0 where
+  For_leg : (held : Held) (message : Message) → Request
+  New_call : (setup : Message) → Request
+  On_no_call : (message : Message) → Request
+  Restarts : (restart : Restart) → Request
+  Unanswered : Request
 
 -- a SETUP from the side that chose the call reference asks for a call
 abbrev pub is_setup : MessageKind → Bool
@@ -43,31 +43,31 @@ abbrev pub asks_for_call : Message → Bool
 asks_for_call m = is_setup m.kind && not m.flag
 
 -- on the global call reference, which is no call's, a RESTART alone is taken
-abbrev pub on_global_reference : Option Restart → Received
+abbrev pub on_global_reference : Option Restart → Request
 on_global_reference None = Unanswered
 on_global_reference (Some r) = Restarts r
 
 -- a message that names no leg
-abbrev pub without_leg : Message → Received
-without_leg m =
+abbrev pub request_without_leg : Message → Request
+request_without_leg m =
     if m.reference == global_call_reference then on_global_reference (restart_asked m)
     else if asks_for_call m then New_call m
     else On_no_call m
 
-abbrev pub with_leg_named : Message → Option Held → Received
-with_leg_named m None = without_leg m
+abbrev pub with_leg_named : Message → Option Held → Request
+with_leg_named m None = request_without_leg m
 with_leg_named m (Some h) = For_leg h m
 
 -- octets that are no message have no effect
-abbrev pub received_from : Legs → ℕ → Result Message Discard → Received
-received_from legs line (Ok m) = with_leg_named m (leg_named legs line m.flag m.reference)
-received_from legs line (Err why) = Unanswered
+abbrev pub request_read : Legs → ℕ → Result Message Discard → Request
+request_read legs line (Ok m) = with_leg_named m (leg_named legs line m.flag m.reference)
+request_read legs line (Err why) = Unanswered
 
-abbrev pub received : Legs → ℕ → List ℕ → Received
-received legs line octets = received_from legs line (reading octets)
+abbrev pub request_of : Legs → ℕ → List ℕ → Request
+request_of legs line octets = request_read legs line (reading octets)
 
 -- the cause with which a call that is asked for is refused, if it is
-abbrev pub refusal_for : Setting → World → ℕ → Received → Option ℕ
+abbrev pub refusal_for : Setting → World → ℕ → Request → Option ℕ
 refusal_for s w line (For_leg h m) = None
 refusal_for s w line (New_call m) = refusal s w line m
 refusal_for s w line (On_no_call m) = None
@@ -75,42 +75,46 @@ refusal_for s w line (Restarts r) = None
 refusal_for s w line Unanswered = None
 
 abbrev pub refused_with : Setting → World → ℕ → List ℕ → Option ℕ
-refused_with s w line octets = refusal_for s w line (received w.legs line octets)
+refused_with s w line octets = refusal_for s w line (request_of w.legs line octets)
 
 -- ---- what is done for it
 
-abbrev pub made_by : Setting → World → Course → Making
-made_by s w c = performed_all s.dimensions (begun w) c.operations
+abbrev pub making_by : Setting → World → Course → Making
+making_by s w c = making_after_all s.dimensions (making_at w) c.operations
 
-abbrev pub done_by : Setting → World → Course → Done
-done_by s w c = let m = made_by s w c in record { making = m; told = records w m.world c.cause }
+abbrev pub outcome_by : Setting → World → Course → MessageOutcome
+outcome_by s w c = let m = making_by s w c in record { making = m; recorded = records w m.world c.cause }
 
 -- the answer to a message, where there is one
 abbrev pub answer_back : ℕ → Option OutgoingMessage → List Operation
 answer_back line None = []
 answer_back line (Some message) = Send line message ∷ []
 
-abbrev pub done_for : Setting → World → ℕ → Received → Done
-done_for s w line (For_leg h m) = done_by s w (course_of s.tones w.legs h m.kind (act_on h.leg.state m))
-done_for s w line (New_call m) = done_by s w (course_of_setup s w line m)
-done_for s w line (On_no_call m) = done_by s w (only (answer_back line (answer_without_call m)))
-done_for s w line (Restarts r) = restarted s.dimensions s.tones r line w
-done_for s w line Unanswered = done_by s w nothing
+-- what a message to a leg asks for in the leg's state
+abbrev pub course_on : Setting → World → Held → Message → Course
+course_on s w h m = course_of s.tones w.legs h m.kind (act_on h.leg.state m)
 
-abbrev pub done : Setting → World → ℕ → List ℕ → Done
-done s w line octets = done_for s w line (received w.legs line octets)
+abbrev pub outcome_for : Setting → World → ℕ → Request → MessageOutcome
+outcome_for s w line (For_leg h m) = outcome_by s w (course_on s w h m)
+outcome_for s w line (New_call m) = outcome_by s w (course_of_setup s w line m)
+outcome_for s w line (On_no_call m) = outcome_by s w (only (answer_back line (answer_without_call m)))
+outcome_for s w line (Restarts r) = outcome_of_restart s.dimensions s.tones r line w
+outcome_for s w line Unanswered = outcome_by s w nothing
+
+abbrev pub outcome_of_octets : Setting → World → ℕ → List ℕ → MessageOutcome
+outcome_of_octets s w line octets = outcome_for s w line (request_of w.legs line octets)
 
 -- ---- the answer
 
 -- what is answered to a message: what is sent, in order; how many live paths were moved, where a connection or a seat was made; and the records
-pub record Sent : Type 0 where
+pub record MessageAnswer : Type 0 where
   pub sends : List Signal
   pub moved : Option (ℕ × ℕ)
   pub records : List CallRecord
 
 -- what a message makes of the world, and what it is answered
 abbrev pub after_message : Setting → World → ℕ → List ℕ → World
-after_message s w line octets = (done s w line octets).making.world
+after_message s w line octets = (outcome_of_octets s w line octets).making.world
 
-abbrev pub answer_to : Setting → World → ℕ → List ℕ → Sent
-answer_to s w line octets = let a = done s w line octets in record { sends = a.making.sends; moved = a.making.moves; records = a.told }
+abbrev pub answer_to : Setting → World → ℕ → List ℕ → MessageAnswer
+answer_to s w line octets = let a = outcome_of_octets s w line octets in record { sends = a.making.sends; moved = a.making.moves; records = a.recorded }

@@ -33,10 +33,6 @@ record_ended w h cause = option_and_then (record_calling w cause) (caller_in h.l
 abbrev pub record_of_act : World → Held → Act → Option CallRecord
 record_of_act w h a = option_and_then (record_ended w h) (cause_of_act a)
 
--- as a list
-abbrev pub records_of_act : World → Held → Act → List CallRecord
-records_of_act w h a = cons_option (record_of_act w h a) []
-
 -- the records of what the restart of a slot ends
 abbrev pub slot_records : Restart → World → Slot → List CallRecord
 slot_records r w x = if is_restarted r x.place then cons_option (option_and_then (λ h. record_ended w h temporary_failure) (held_at w.legs x)) [] else []

@@ -10,8 +10,8 @@ abbrev pub idle : World → Slot → Bool
 idle w x = is_idle w.holding.circuits x && is_none (leg_at w.legs x)
 
 -- a circuit names the slot, and no leg holds it
-abbrev pub nailed : World → Slot → Bool
-nailed w x = not (is_idle w.holding.circuits x) && is_none (leg_at w.legs x)
+abbrev pub is_nailed : World → Slot → Bool
+is_nailed w x = not (is_idle w.holding.circuits x) && is_none (leg_at w.legs x)
 
 -- the lowest idle slot of a line, and the lowest one beside another slot
 abbrev pub lowest_idle : World → ℕ → Option Slot

@@ -35,8 +35,8 @@ pub record Making : Type 0 where
   pub sends : List Signal
   pub moves : Option (ℕ × ℕ)
 
-abbrev pub begun : World → Making
-begun w = record { world = w; sends = []; moves = None }
+abbrev pub making_at : World → Making
+making_at w = record { world = w; sends = []; moves = None }
 
 -- how many live paths are moved for a path there, and for the one back
 abbrev pub moves_for : Dimensions → Layout → Slot → Slot → ℕ × ℕ
@@ -46,19 +46,19 @@ abbrev pub moves_of_seat : Dimensions → World → Slot → Option (ℕ × ℕ)
 moves_of_seat d w x = option_map (moves_for d w.layout x) (port_of d.external (ports_with x w.ports) x)
 
 -- the circuits once a slot got a tone, if there is one: it sounds from the next frame on
-abbrev pub sounding : Holding → Slot → Option Kind → Holding
-sounding h x None = h
-sounding h x (Some kind) = after h (Give_tone x kind)
+abbrev pub with_tone : Holding → Slot → Option Kind → Holding
+with_tone h x None = h
+with_tone h x (Some kind) = after h (Give_tone x kind)
 
-abbrev pub performed : Dimensions → Making → Operation → Making
-performed d m (Clear x) = record m { world = obey d m.world (Clear_slot x) }
-performed d m (Pair x y) = record m { world = obey d m.world (Connect x y); moves = Some (moves_for d m.world.layout x y) }
-performed d m (Seat x room) = record m { world = obey d m.world (Take_seat x room); moves = moves_of_seat d m.world x }
-performed d m (Sound x kind) = record m { world = record m.world { holding = sounding m.world.holding x kind } }
-performed d m (Put x leg) = record m { world = record m.world { legs = with_leg m.world.legs x leg } }
-performed d m (Remove x) = record m { world = record m.world { legs = without_leg m.world.legs x } }
-performed d m (Send line message) = record m { sends = m.sends ++ record { line = line; octets = encoding message } ∷ [] }
+abbrev pub making_after : Dimensions → Making → Operation → Making
+making_after d m (Clear x) = record m { world = obey d m.world (Clear_slot x) }
+making_after d m (Pair x y) = record m { world = obey d m.world (Connect x y); moves = Some (moves_for d m.world.layout x y) }
+making_after d m (Seat x room) = record m { world = obey d m.world (Take_seat x room); moves = moves_of_seat d m.world x }
+making_after d m (Sound x kind) = record m { world = record m.world { holding = with_tone m.world.holding x kind } }
+making_after d m (Put x leg) = record m { world = record m.world { legs = with_leg m.world.legs x leg } }
+making_after d m (Remove x) = record m { world = record m.world { legs = without_leg m.world.legs x } }
+making_after d m (Send line message) = record m { sends = m.sends ++ record { line = line; octets = encoding message } ∷ [] }
 
-abbrev pub performed_all : Dimensions → Making → List Operation → Making
-performed_all d m [] = m
-performed_all d m (o ∷ os) = performed_all d (performed d m o) os
+abbrev pub making_after_all : Dimensions → Making → List Operation → Making
+making_after_all d m [] = m
+making_after_all d m (o ∷ os) = making_after_all d (making_after d m o) os

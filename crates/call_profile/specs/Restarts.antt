@@ -7,10 +7,10 @@ use Rattle.clearing_rules.specs.Restarting.{is_restarted, acknowledgement}
 use Rattle.tone_rules.specs.declared.tones.Tones.{Tones}
 use Rattle.call_states.specs.declared.leg.Held.{Held}
 use Rattle.exchange_events.specs.declared.record.CallRecord.{CallRecord}
-use Rattle.call_profile.specs.Acts.{peer_of, with_peer, clear_with, removing}
+use Rattle.call_profile.specs.Acts.{peer_of, with_peer, clear_with, remove_leg}
 use Rattle.call_profile.specs.CallRecords.{records}
 use Rattle.call_profile.specs.Legs.{Legs, held_at}
-use Rattle.call_profile.specs.Operations.{Operation, Making, begun, performed, performed_all, Send}
+use Rattle.call_profile.specs.Operations.{Operation, Making, making_at, making_after, making_after_all, Send}
 use Rattle.exchange_events.specs.Sizes.{Dimensions}
 use Rattle.call_profile.specs.World.{World}
 
@@ -22,39 +22,39 @@ restarts_slot r line x = (x.line == line) && is_restarted r x.place
 
 -- the other leg of a call is gone too where its slot is restarted as well, and its user is sent nothing; else it is cleared
 abbrev pub restart_peer : Tones → Restart → ℕ → Held → List Operation
-restart_peer tones r line other = if restarts_slot r line other.slot then removing other else clear_with tones temporary_failure other
+restart_peer tones r line other = if restarts_slot r line other.slot then remove_leg other else clear_with tones temporary_failure other
 
 -- the leg that holds a restarted slot is gone
 abbrev pub restart_leg : Tones → Restart → Legs → Option Held → List Operation
 restart_leg tones r legs None = []
-restart_leg tones r legs (Some h) = removing h ++ with_peer (peer_of legs h.leg.peer) (restart_peer tones r h.slot.line)
+restart_leg tones r legs (Some h) = remove_leg h ++ with_peer (peer_of legs h.leg.peer) (restart_peer tones r h.slot.line)
 
 abbrev pub restart_slot : Tones → Restart → Legs → Slot → List Operation
 restart_slot tones r legs x = if is_restarted r x.place then restart_leg tones r legs (held_at legs x) else []
 
 -- ---- the slots of the line, one after another
 
--- what was done so far: the world in the making, and the records that are told
-pub record Done : Type 0 where
+-- what a message has done so far: the world in the making, and the calls that were recorded
+pub record MessageOutcome : Type 0 where
   pub making : Making
-  pub told : List CallRecord
+  pub recorded : List CallRecord
 
 -- operations that end calls with this cause
-abbrev pub then_done : Dimensions → ℕ → Done → List Operation → Done
-then_done d cause a operations =
-    let m = performed_all d a.making operations in
-    record { making = m; told = a.told ++ records a.making.world m.world cause }
+abbrev pub outcome_then : Dimensions → ℕ → MessageOutcome → List Operation → MessageOutcome
+outcome_then d cause a operations =
+    let m = making_after_all d a.making operations in
+    record { making = m; recorded = a.recorded ++ records a.making.world m.world cause }
 
-abbrev pub slot_done : Dimensions → Tones → Restart → Slot → Done → Done
-slot_done d tones r x a = then_done d temporary_failure a (restart_slot tones r a.making.world.legs x)
+abbrev pub outcome_at_slot : Dimensions → Tones → Restart → Slot → MessageOutcome → MessageOutcome
+outcome_at_slot d tones r x a = outcome_then d temporary_failure a (restart_slot tones r a.making.world.legs x)
 
 -- the places of the line below n, lowest first, each in the world that those before it left
-unfoldable pub restarted_below : Dimensions → Tones → Restart → ℕ → World → ℕ → Done
-restarted_below d tones r line w zero = record { making = begun w; told = [] }
-restarted_below d tones r line w (suc place) = slot_done d tones r (record { line = line; place = place }) (restarted_below d tones r line w place)
+unfoldable pub outcome_below : Dimensions → Tones → Restart → ℕ → World → ℕ → MessageOutcome
+outcome_below d tones r line w zero = record { making = making_at w; recorded = [] }
+outcome_below d tones r line w (suc place) = outcome_at_slot d tones r (record { line = line; place = place }) (outcome_below d tones r line w place)
 
 -- all of them, and last the acknowledgement
-abbrev pub restarted : Dimensions → Tones → Restart → ℕ → World → Done
-restarted d tones r line w =
-    let a = restarted_below d tones r line w 30 in
-    record a { making = performed d a.making (Send line (acknowledgement r)) }
+abbrev pub outcome_of_restart : Dimensions → Tones → Restart → ℕ → World → MessageOutcome
+outcome_of_restart d tones r line w =
+    let a = outcome_below d tones r line w 30 in
+    record a { making = making_after d a.making (Send line (acknowledgement r)) }

@@ -159,8 +159,8 @@ called_leg reference caller = record { state = call_present; reference = referen
 abbrev pub refuse : ℕ → ℕ → ℕ → List Operation
 refuse line reference cause = Send line (record (bare true reference kind.ReleaseComplete) { cause = Some cause }) ∷ []
 
-abbrev pub proceeding : Slot → Leg → OutgoingMessage
-proceeding x leg = record (message_to leg kind.CallProceeding) { channel = Some (channel_at x.place) }
+abbrev pub call_proceeding : Slot → Leg → OutgoingMessage
+call_proceeding x leg = record (message_to leg kind.CallProceeding) { channel = Some (channel_at x.place) }
 
 -- the SETUP to the called user
 abbrev pub offer : Message → Slot → Leg → OutgoingMessage
@@ -181,7 +181,7 @@ call_line m x y reference =
     let called = called_leg reference x in
     Put x caller
     ∷ Put y called
-    ∷ Send x.line (proceeding x caller)
+    ∷ Send x.line (call_proceeding x caller)
     ∷ Send y.line (offer m y called)
     ∷ []
 
@@ -191,7 +191,7 @@ call_room m x room =
     let caller = caller_leg active m.reference (peer.Room room) in
     Put x caller
     ∷ Seat x room
-    ∷ Send x.line (proceeding x caller)
+    ∷ Send x.line (call_proceeding x caller)
     ∷ Send x.line (message_to caller kind.Connect)
     ∷ []
 

@@ -7,10 +7,10 @@ use Rattle.exchange_events.specs.declared.trace.Event.{Event}
 use Rattle.exchange_events.specs.declared.trace.Event.TheVariants.{Nail, Seat, Free, Message, Frame}
 use Rattle.exchange_events.specs.declared.reply.Reply.{Reply}
 use Rattle.exchange_events.specs.declared.reply.Reply.TheVariants.{Granted, Busy, Seated, NoPort, Freed, NotNailed, Sent as Sent_reply, Frame as Frame_reply}
-use Rattle.call_profile.specs.Calls.{Sent, after_message, answer_to, refused_with}
-use Rattle.call_profile.specs.IdleSlots.{idle, nailed}
+use Rattle.call_profile.specs.Calls.{MessageAnswer, after_message, answer_to, refused_with}
+use Rattle.call_profile.specs.IdleSlots.{idle, is_nailed}
 use Rattle.exchange_events.specs.Sizes.{Setting, Dimensions}
-use Rattle.call_profile.specs.World.{World, obey, pass, is_full, granted, seated}
+use Rattle.call_profile.specs.World.{World, obey, pass, is_full, nail_reply, seat_reply}
 
 -- two slots can be nailed together where both are idle; one can be seated where it is idle and a port is free
 abbrev pub may_nail : World → Slot → Slot → Bool
@@ -20,25 +20,25 @@ abbrev pub may_seat : Dimensions → World → Slot → Bool
 may_seat d w x = idle w x && not (is_full d w)
 
 -- the answer to a message
-abbrev pub sent : Sent → Reply
-sent a = Sent_reply a.sends a.moved a.records
+abbrev pub message_reply : MessageAnswer → Reply
+message_reply a = Sent_reply a.sends a.moved a.records
 
 -- what an event is answered
 abbrev pub reply : Setting → World → Event → Reply
-reply s w (Nail x y) = if may_nail w x y then granted s.dimensions w.layout x y else Busy
+reply s w (Nail x y) = if may_nail w x y then nail_reply s.dimensions w.layout x y else Busy
 reply s w (Seat x room) =
     if not (idle w x) then Busy
     else if is_full s.dimensions w then NoPort
-    else seated s.dimensions w.layout x (port_of s.dimensions.external (ports_with x w.ports) x)
-reply s w (Free x) = if nailed w x then Freed else NotNailed
-reply s w (Message line octets) = sent (answer_to s w line octets)
+    else seat_reply s.dimensions w.layout x (port_of s.dimensions.external (ports_with x w.ports) x)
+reply s w (Free x) = if is_nailed w x then Freed else NotNailed
+reply s w (Message line octets) = message_reply (answer_to s w line octets)
 reply s w (Frame input) = Frame_reply w.holding.next [] []
 
 -- what an event makes of the world; where it is refused, nothing
 abbrev pub next : Setting → World → Event → World
 next s w (Nail x y) = if may_nail w x y then obey s.dimensions w (Connect x y) else w
 next s w (Seat x room) = if may_seat s.dimensions w x then obey s.dimensions w (Take_seat x room) else w
-next s w (Free x) = if nailed w x then obey s.dimensions w (Clear x) else w
+next s w (Free x) = if is_nailed w x then obey s.dimensions w (Clear x) else w
 next s w (Message line octets) = after_message s w line octets
 next s w (Frame input) = pass w input
 
@@ -46,7 +46,7 @@ next s w (Frame input) = pass w input
 abbrev pub is_refused : Setting → World → Event → Bool
 is_refused s w (Nail x y) = not (may_nail w x y)
 is_refused s w (Seat x room) = not (may_seat s.dimensions w x)
-is_refused s w (Free x) = not (nailed w x)
+is_refused s w (Free x) = not (is_nailed w x)
 is_refused s w (Message line octets) = is_some (refused_with s w line octets)
 is_refused s w (Frame input) = false
 
@@ -62,9 +62,9 @@ MovesAtMost n (Sent_reply sends moved records) = IfSome moved (λ moves. (moves.
 MovesAtMost n (Frame_reply k sends records) = Unit {0}
 
 -- the world after a list of events
-abbrev pub world : Setting → World → List Event → World
-world s w [] = w
-world s w (e ∷ es) = world s (next s w e) es
+abbrev pub world_after_all : Setting → World → List Event → World
+world_after_all s w [] = w
+world_after_all s w (e ∷ es) = world_after_all s (next s w e) es
 
 -- the replies of a run, in order: each is that of the world that the events before it made
 abbrev pub run : Setting → World → List Event → List Reply

@@ -54,15 +54,15 @@ with_port d layout x (Some port) = both_ways d layout x port
 
 -- what a command makes of the layout: a connection needs a path each way, a seat one to its member's port and one back; what is cleared
 -- takes its paths along
-abbrev pub laid : Dimensions → World → Command → Layout
-laid d w (Connect x y) = both_ways d w.layout x y
-laid d w (Take_seat x room) = with_port d w.layout x (port_of d.external (ports_with x w.ports) x)
-laid d w (Give_tone x kind) = w.layout
-laid d w (Clear x) = without_both w.layout x (partner d.external w.ports (heard_by w.holding.circuits x))
-laid d w Boundary = w.layout
+abbrev pub layout_after : Dimensions → World → Command → Layout
+layout_after d w (Connect x y) = both_ways d w.layout x y
+layout_after d w (Take_seat x room) = with_port d w.layout x (port_of d.external (ports_with x w.ports) x)
+layout_after d w (Give_tone x kind) = w.layout
+layout_after d w (Clear x) = without_both w.layout x (partner d.external w.ports (heard_by w.holding.circuits x))
+layout_after d w Boundary = w.layout
 
 abbrev pub obey : Dimensions → World → Command → World
-obey d w command = record w { holding = after w.holding command; ports = ports_after w.ports command; layout = laid d w command }
+obey d w command = record w { holding = after w.holding command; ports = ports_after w.ports command; layout = layout_after d w command }
 
 -- a frame is recorded as it was at its boundary
 abbrev pub pass : World → Input → World
@@ -78,9 +78,9 @@ abbrev pub is_full : Dimensions → World → Bool
 is_full d w = count_by is_member w.holding.circuits == 30 * d.bridges
 
 -- the answer to a connection of x with y, or to a seat at a port: how many live paths were moved for the path there, and for the one back
-abbrev pub granted : Dimensions → Layout → Slot → Slot → Reply
-granted d layout x y = Granted (moved layout (one_way d layout x y)) (moved (one_way d layout x y) (both_ways d layout x y))
+abbrev pub nail_reply : Dimensions → Layout → Slot → Slot → Reply
+nail_reply d layout x y = Granted (moved layout (one_way d layout x y)) (moved (one_way d layout x y) (both_ways d layout x y))
 
-abbrev pub seated : Dimensions → Layout → Slot → Option Slot → Reply
-seated d layout x None = NoPort
-seated d layout x (Some port) = Seated (moved layout (one_way d layout x port)) (moved (one_way d layout x port) (both_ways d layout x port))
+abbrev pub seat_reply : Dimensions → Layout → Slot → Option Slot → Reply
+seat_reply d layout x None = NoPort
+seat_reply d layout x (Some port) = Seated (moved layout (one_way d layout x port)) (moved (one_way d layout x port) (both_ways d layout x port))

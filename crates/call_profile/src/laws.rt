@@ -9,13 +9,14 @@ ghost use Rattle.exchange_events.specs.declared.trace.Event.{Event};
 ghost use Rattle.exchange_events.specs.Sizes.{Setting};
 ghost use Rattle.exchange_events.specs.Sound.{Fits, IsPlanned};
 ghost use Rattle.call_profile.specs.IsMade.{IsMade};
-ghost use Rattle.call_profile.specs.Step.{world};
+ghost use Rattle.call_profile.specs.Step.{world_after_all};
 ghost use Rattle.call_profile.specs.World.{start};
 
 /// Whatever events happen, the circuits and ports of each frame come of one list of commands, each
 /// of which was allowed when its turn came.
 pub fn worlds_are_made()
-    ensures { (s : Setting) (events : List Event) → IsPlanned s → All (Fits s.dimensions.external) events → IsMade s.dimensions s.tones (world s (start s.dimensions) events) }
+    ensures { (s : Setting) (events : List Event) → IsPlanned s → All (Fits s.dimensions.external) events
+        → IsMade s.dimensions s.tones (world_after_all s (start s.dimensions) events) }
 {}
 
 /// What a slot hears in a frame stays as it is, whatever frames come later.

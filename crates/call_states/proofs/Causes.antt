@@ -9,7 +9,7 @@ use Rattle.call_states.specs.declared.act.Act.TheVariants as act
 use Rattle.q931_codec.specs.Contents.{cause_value, cause_of, cause_after_recommendation}
 use Rattle.q931_codec.specs.Identifiers as identifier
 use Rattle.q931_elements.specs.InformationElement.{first_of}
-use Rattle.call_states.specs.Acts.{act_of, cause_of_act, clearing_cause, expected_in, is_among, unreleased, every_state}
+use Rattle.call_states.specs.Acts.{act_of, cause_of_act, clearing_cause, expected_in, is_among, before_release_request, every_state}
 use Rattle.q931_codec.specs.CallStates.{call_present, call_received, incoming_call_proceeding, active, release_request}
 use Rattle.q931_codec.specs.Causes.{temporary_failure}
 
@@ -33,8 +33,8 @@ act_fits state kind.Notify cause tells_null small = row every_state state act.No
 act_fits state kind.Facility cause tells_null small = row every_state state act.Nothing tt
 act_fits state kind.UserInformation cause tells_null small = row every_state state act.Nothing tt
 act_fits state kind.Setup cause tells_null small = row every_state state act.Nothing tt
-act_fits state kind.Disconnect cause tells_null small = row unreleased state (act.Disconnect cause) small
-act_fits state kind.Release cause tells_null small = either (state == release_request) (act.Gone cause) (expected_in unreleased state (act.Released cause)) small (row unreleased state (act.Released cause) small)
+act_fits state kind.Disconnect cause tells_null small = row before_release_request state (act.Disconnect cause) small
+act_fits state kind.Release cause tells_null small = either (state == release_request) (act.Gone cause) (expected_in before_release_request state (act.Released cause)) small (row before_release_request state (act.Released cause) small)
 act_fits state kind.ReleaseComplete cause tells_null small = row every_state state (act.Gone cause) small
 act_fits state kind.Status cause tells_null small = row every_state state (if tells_null then act.Gone temporary_failure else act.Nothing) (either tells_null (act.Gone temporary_failure) act.Nothing (omega arith) tt)
 act_fits state kind.StatusEnquiry cause tells_null small = row every_state state act.Enquiry tt

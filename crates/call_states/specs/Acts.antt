@@ -1,6 +1,6 @@
 -- The call table: which act a message asks of a leg of a call. Which message answers which is this exchange's own profile
 -- of basic call control (ITU-T Q.931 (05/98), 5.1 to 5.3, 5.8.4, 5.8.10 and 5.8.11).
-use Rattle.std.specs.Prelude.{ℕ, Bool, true, false, ◌==◌, ◌||◌, List, [], ◌∷◌, Option, Some, None, unwrap_or, if◌then◌else◌}
+use Rattle.std.specs.Prelude.{ℕ, Bool, false, ◌==◌, ◌||◌, List, [], ◌∷◌, Option, Some, None, unwrap_or, if◌then◌else◌}
 use Rattle.q931_elements.specs.InformationElement.{InformationElement}
 use Rattle.q931_codec.specs.declared.kind.MessageKind.{MessageKind}
 use Rattle.q931_codec.specs.declared.kind.MessageKind.TheVariants as kind
@@ -18,12 +18,12 @@ is_among [] state = false
 is_among (one ∷ others) state = state == one || is_among others state
 
 -- the states of a leg that was not asked to release its channel
-abbrev pub unreleased : List ℕ
-unreleased = outgoing_call_proceeding ∷ call_delivered ∷ call_present ∷ call_received ∷ incoming_call_proceeding ∷ active ∷ disconnect_indication ∷ []
+abbrev pub before_release_request : List ℕ
+before_release_request = outgoing_call_proceeding ∷ call_delivered ∷ call_present ∷ call_received ∷ incoming_call_proceeding ∷ active ∷ disconnect_indication ∷ []
 
 -- the states of a leg
 abbrev pub every_state : List ℕ
-every_state = release_request ∷ unreleased
+every_state = release_request ∷ before_release_request
 
 -- ---- the table
 
@@ -42,8 +42,8 @@ act_of state kind.Notify cause tells_null = expected_in every_state state act.No
 act_of state kind.Facility cause tells_null = expected_in every_state state act.Nothing
 act_of state kind.UserInformation cause tells_null = expected_in every_state state act.Nothing
 act_of state kind.Setup cause tells_null = expected_in every_state state act.Nothing
-act_of state kind.Disconnect cause tells_null = expected_in unreleased state (act.Disconnect cause)
-act_of state kind.Release cause tells_null = if state == release_request then act.Gone cause else expected_in unreleased state (act.Released cause)
+act_of state kind.Disconnect cause tells_null = expected_in before_release_request state (act.Disconnect cause)
+act_of state kind.Release cause tells_null = if state == release_request then act.Gone cause else expected_in before_release_request state (act.Released cause)
 act_of state kind.ReleaseComplete cause tells_null = expected_in every_state state (act.Gone cause)
 act_of state kind.Status cause tells_null = expected_in every_state state (if tells_null then act.Gone temporary_failure else act.Nothing)
 act_of state kind.StatusEnquiry cause tells_null = expected_in every_state state act.Enquiry

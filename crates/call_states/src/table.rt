@@ -1,7 +1,7 @@
 //! The call table: what each message asks of a leg in its state.
 
 ghost use Rattle.std.specs.Prelude.{◌≡◌};
-ghost use Rattle.call_states.specs.Acts.{act_of, act_on, is_among, unreleased};
+ghost use Rattle.call_states.specs.Acts.{act_of, act_on, is_among, before_release_request};
 
 use crate::act::Act;
 use crate::leg::Leg;
@@ -26,7 +26,7 @@ pub fn on_message(leg: &Leg, message: &Message) -> Act
 fn act_of(state: u8, kind: MessageKind, cause: u8, tells_null: bool) -> Act
     ensures { result ≡ act_of state kind cause tells_null }
 {
-    let unreleased = is_unreleased(state);
+    let before_release_request = is_before_release_request(state);
     let releasing = state == RELEASE_REQUEST;
     match kind {
         MessageKind::CallProceeding if state == CALL_PRESENT => Act::Proceeding,
@@ -39,28 +39,28 @@ fn act_of(state: u8, kind: MessageKind, cause: u8, tells_null: bool) -> Act
                 CALL_PRESENT | CALL_RECEIVED | INCOMING_CALL_PROCEEDING
             ) => { Act::Answer }
         MessageKind::ConnectAcknowledge if state == ACTIVE => Act::Nothing,
-        MessageKind::Disconnect if unreleased => Act::Disconnect(cause),
-        MessageKind::Release if unreleased => Act::Released(cause),
+        MessageKind::Disconnect if before_release_request => Act::Disconnect(cause),
+        MessageKind::Release if before_release_request => Act::Released(cause),
         MessageKind::Release if releasing => Act::Gone(cause),
-        MessageKind::ReleaseComplete if unreleased || releasing => Act::Gone(cause),
-        MessageKind::Status if (unreleased || releasing) && tells_null => {
+        MessageKind::ReleaseComplete if before_release_request || releasing => Act::Gone(cause),
+        MessageKind::Status if (before_release_request || releasing) && tells_null => {
             Act::Gone(TEMPORARY_FAILURE)
         }
-        MessageKind::Status if unreleased || releasing => Act::Nothing,
-        MessageKind::StatusEnquiry if unreleased || releasing => Act::Enquiry,
+        MessageKind::Status if before_release_request || releasing => Act::Nothing,
+        MessageKind::StatusEnquiry if before_release_request || releasing => Act::Enquiry,
         MessageKind::Progress
         | MessageKind::Notify
         | MessageKind::Facility
         | MessageKind::UserInformation
         | MessageKind::Setup
-            if unreleased || releasing => { Act::Nothing }
+            if before_release_request || releasing => { Act::Nothing }
         _ => Act::Unexpected,
     }
 }
 
 // Whether a leg in this state was not asked to release its channel.
-fn is_unreleased(state: u8) -> bool
-    ensures { result ≡ is_among unreleased state }
+fn is_before_release_request(state: u8) -> bool
+    ensures { result ≡ is_among before_release_request state }
 {
     matches!(
         state,

@@ -13,7 +13,7 @@ use Rattle.exchange_events.specs.Orders.{IsEvent}
 use Rattle.exchange_events.specs.Sizes.{Setting, Dimensions}
 use Rattle.exchange_events.specs.Sound.{IsSound, setting_of}
 use Rattle.call_control.specs.Standing.{Holds}
-use Rattle.call_profile.specs.Step.{events_of, world}
+use Rattle.call_profile.specs.Step.{events_of, world_after_all}
 use Rattle.call_profile.specs.World.{World, start}
 
 -- who did an event, and the event's number
@@ -36,7 +36,7 @@ setting x = setting_of x.slots x.trace
 
 -- the world after the events with these numbers, from the first on
 abbrev pub world_after : ℕ → Trace → List ℕ → World
-world_after slots trace order = let s = setting_of slots trace in world s (start s.dimensions) (events_of trace.events order)
+world_after slots trace order = let s = setting_of slots trace in world_after_all s (start s.dimensions) (events_of trace.events order)
 
 -- the world of the journal
 abbrev pub world_of : Working → World

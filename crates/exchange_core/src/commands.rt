@@ -1,15 +1,14 @@
 //! The commands of a trace: nail, seat and free, and the boundary of a frame.
 ghost use Rattle.std.specs.Prelude.{◌≡◌, ◌<◌, ℕ, None, List, Option, IsTrue};
-ghost use Rattle.circuit_model.specs.declared.channel.Slot.{Slot};
 ghost use Rattle.control_memory.specs.Image.{SameSizes as SameImageSizes};
 ghost use Rattle.control_memory.specs.Shown.{Shows};
 ghost use Rattle.circuit_map.specs.Connections.{SameSizes, hears_at};
 ghost use Rattle.exchange_events.specs.declared.trace.Event.TheVariants as event;
 ghost use Rattle.exchange_events.specs.Responses.{reply_of};
-ghost use Rattle.exchange_events.specs.Sizes.{Setting, Dimensions};
+ghost use Rattle.exchange_events.specs.Sizes.{Dimensions};
 ghost use Rattle.exchange_events.specs.declared.outbox.Outbox.{Outbox};
 ghost use Rattle.exchange_events.specs.Sound.{Fits};
-ghost use Rattle.call_control.specs.Standing.{Holds};
+ghost use Rattle.call_control.specs.Standing.{Holds, EachHeld};
 ghost use Rattle.call_profile.specs.Step.{reply, next, may_nail, MovesAtMost};
 ghost use Rattle.call_profile.specs.World.{World, pass};
 
@@ -21,8 +20,8 @@ use exchange_events::Response;
 /// Connects two slots, where both are idle.
 pub(crate) fn nail<P: PathMap>(control: &mut CallControl<P>, x: Slot, y: Slot) -> Response
     requires fits { Fits control.old.map.external (event.Nail x y) }
-    ensures reply { (s : Setting) (w : World) (o : Outbox) → Holds s.dimensions control.old.map control.old.legs w → reply_of result o ≡ reply s w (event.Nail x y) }
-    ensures world { (s : Setting) (w : World) → Holds s.dimensions control.old.map control.old.legs w → Holds s.dimensions control.new.map control.new.legs (next s w (event.Nail x y)) }
+    ensures reply { (o : Outbox) → EachHeld control.old.map control.old.legs (λ s w. reply_of result o ≡ reply s w (event.Nail x y)) }
+    ensures world { EachHeld control.old.map control.old.legs (λ s w. Holds s.dimensions control.new.map control.new.legs (next s w (event.Nail x y))) }
     ensures few { (o : Outbox) → MovesAtMost control.old.map.bound (reply_of result o) }
     ensures sizes { SameSizes control.old.map control.new.map }
 {
@@ -43,10 +42,10 @@ fn may_nail<P: PathMap>(control: &CallControl<P>, x: Slot, y: Slot) -> bool
 }
 
 /// Seats a slot in a room, where it is idle and a conference port is free.
-pub(crate) fn take_seat<P: PathMap>(control: &mut CallControl<P>, x: Slot, room: u8) -> Response
+pub(crate) fn seat<P: PathMap>(control: &mut CallControl<P>, x: Slot, room: u8) -> Response
     requires fits { Fits control.old.map.external (event.Seat x room) }
-    ensures reply { (s : Setting) (w : World) (o : Outbox) → Holds s.dimensions control.old.map control.old.legs w → reply_of result o ≡ reply s w (event.Seat x room) }
-    ensures world { (s : Setting) (w : World) → Holds s.dimensions control.old.map control.old.legs w → Holds s.dimensions control.new.map control.new.legs (next s w (event.Seat x room)) }
+    ensures reply { (o : Outbox) → EachHeld control.old.map control.old.legs (λ s w. reply_of result o ≡ reply s w (event.Seat x room)) }
+    ensures world { EachHeld control.old.map control.old.legs (λ s w. Holds s.dimensions control.new.map control.new.legs (next s w (event.Seat x room))) }
     ensures few { (o : Outbox) → MovesAtMost control.old.map.bound (reply_of result o) }
     ensures sizes { SameSizes control.old.map control.new.map }
 {
@@ -62,8 +61,8 @@ pub(crate) fn take_seat<P: PathMap>(control: &mut CallControl<P>, x: Slot, room:
 /// Takes away the nail or the seat of a slot, where it has one and no leg holds it.
 pub(crate) fn free<P: PathMap>(control: &mut CallControl<P>, x: Slot) -> Response
     requires fits { Fits control.old.map.external (event.Free x) }
-    ensures reply { (s : Setting) (w : World) (o : Outbox) → Holds s.dimensions control.old.map control.old.legs w → reply_of result o ≡ reply s w (event.Free x) }
-    ensures world { (s : Setting) (w : World) → Holds s.dimensions control.old.map control.old.legs w → Holds s.dimensions control.new.map control.new.legs (next s w (event.Free x)) }
+    ensures reply { (o : Outbox) → EachHeld control.old.map control.old.legs (λ s w. reply_of result o ≡ reply s w (event.Free x)) }
+    ensures world { EachHeld control.old.map control.old.legs (λ s w. Holds s.dimensions control.new.map control.new.legs (next s w (event.Free x))) }
     ensures few { (o : Outbox) → MovesAtMost control.old.map.bound (reply_of result o) }
     ensures sizes { SameSizes control.old.map control.new.map }
 {
@@ -81,7 +80,8 @@ pub(crate) fn boundary<P: PathMap>(control: &mut CallControl<P>, image: &mut Ima
     requires bridges { image.old.bridges ≡ control.old.map.bridges }
     requires slots { image.old.slots ≡ control.old.map.slots }
     ensures number { (d : Dimensions) (w : World) → Holds d control.old.map control.old.legs w → result ≡ w.holding.next }
-    ensures world { (d : Dimensions) (w : World) (input : List (Option (List ℕ))) → Holds d control.old.map control.old.legs w → Holds d control.new.map control.new.legs (pass w input) }
+    ensures world { (d : Dimensions) (w : World) (input : List (Option (List ℕ))) → Holds d control.old.map control.old.legs w
+        → Holds d control.new.map control.new.legs (pass w input) }
     ensures shows { (d : Dimensions) (w : World) → Holds d control.old.map control.old.legs w → Shows image.new w.holding.circuits w.ports w.holding.next }
     ensures image { SameImageSizes image.old image.new }
     ensures sizes { SameSizes control.old.map control.new.map }

@@ -3,13 +3,13 @@ ghost use Rattle.std.specs.Prelude.{◌≡◌, [], None};
 use crate::tool::Tool;
 use exchange_events::Outbox;
 
-/// What a step is lent: the control memory of a frame, and the outbox for what is sent and told. A
+/// What a step is lent: the control memory of a frame, and the outbox for what is sent and recorded. A
 /// worker keeps one for all its events.
 #[derive(Drop)]
 pub struct Desk {
     /// The control memory, where the event is a frame.
     pub tool: Tool,
-    /// What the step sent and told.
+    /// What the step sent and recorded.
     pub out: Outbox,
 }
 

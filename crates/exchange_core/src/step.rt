@@ -9,12 +9,12 @@ ghost use Rattle.exchange_core.specs.Working.{IsNumbered, IsToolFor, ShowsWorld,
 ghost use Rattle.call_profile.specs.World.{start, World, pass};
 ghost use Rattle.circuit_model.specs.FrameInput.{Input};
 ghost use Rattle.circuit_map.specs.Connections.{SameSizes};
-ghost use Rattle.call_control.specs.AtWork.{IsAtWork, EachAtWork, SomeAtWork};
-ghost use Rattle.exchange_events.specs.Sizes.{Setting, Dimensions};
+ghost use Rattle.call_control.specs.AtWork.{EachAtWork, SomeAtWork};
+ghost use Rattle.exchange_events.specs.Sizes.{Dimensions};
 ghost use Rattle.call_control.specs.Standing.{Holds};
 ghost use Rattle.exchange_events.specs.declared.trace.Event.TheVariants as event;
 
-use crate::commands::{boundary, free, nail, take_seat};
+use crate::commands::{boundary, free, nail, seat};
 use crate::tool::Tool;
 use call_control::{CallControl, LegTable};
 use circuit_map::CircuitMap;
@@ -106,7 +106,7 @@ impl<'t, P: PathMap> Core<'t, P> {
         response.with(out)
     }
 
-    /// The same as [`step`](Core::step), with what is sent and told put into an outbox that is lent, in
+    /// The same as [`step`](Core::step), with what is sent and recorded put into an outbox that is lent, in
     /// place of what it held.
     pub fn work(&mut self, by: u32, event: u32, tool: &mut Tool, out: &mut Outbox) -> Response
         requires known { IsEvent self.old.trace event }
@@ -164,7 +164,8 @@ fn happen<P: PathMap>(
     requires room { control.old.map.next < 65535 }
     requires fresh { (out.old.sends ≡ []) × (out.old.moved ≡ None) × (out.old.records ≡ []) }
     ensures reply { EachAtWork plan.now tones.now control.old.map control.old.legs (λ s w. reply_of result out.new ≡ reply s w event.now) }
-    ensures world { EachAtWork plan.now tones.now control.old.map control.old.legs (λ s w. Holds s.dimensions control.new.map control.new.legs (next s w event.now)) }
+    ensures world { EachAtWork plan.now tones.now control.old.map control.old.legs (λ s w.
+        Holds s.dimensions control.new.map control.new.legs (next s w event.now)) }
     ensures few { MovesAtMost control.old.map.bound (reply_of result out.new) }
     ensures shows { (d : Dimensions) (w : World) → Holds d control.old.map control.old.legs w → ShowsWorld w event.now tool.new }
     ensures tool { (d : Dimensions) → IsToolFor d event.now tool.old → IsToolFor d event.now tool.new }
@@ -172,10 +173,11 @@ fn happen<P: PathMap>(
 {
     match event {
         Event::Nail(x, y) => nail(control, *x, *y),
-        Event::Seat(x, room) => take_seat(control, *x, *room),
+        Event::Seat(x, room) => seat(control, *x, *room),
         Event::Free(x) => free(control, *x),
         Event::Message(line, octets) => {
-            control.message(plan, tones, *line, octets.as_slice(), out)
+            control.message(out, plan, tones, *line, octets.as_slice());
+            Response::Sent
         }
         Event::Frame(_) => Response::Frame(frame(control, tool)),
     }
@@ -186,7 +188,8 @@ fn frame<P: PathMap>(control: &mut CallControl<P>, tool: &mut Tool) -> u32
     requires tool { (d : Dimensions) × (w : World) × Holds d control.old.map control.old.legs w × IsToolFor d (event.Frame []) tool.old }
     requires room { control.old.map.next < 65535 }
     ensures number { (d : Dimensions) (w : World) → Holds d control.old.map control.old.legs w → result ≡ w.holding.next }
-    ensures world { (d : Dimensions) (w : World) (input : Input) → Holds d control.old.map control.old.legs w → Holds d control.new.map control.new.legs (pass w input) }
+    ensures world { (d : Dimensions) (w : World) (input : Input) → Holds d control.old.map control.old.legs w
+        → Holds d control.new.map control.new.legs (pass w input) }
     ensures shows { (d : Dimensions) (w : World) → Holds d control.old.map control.old.legs w → ShowsWorld w (event.Frame []) tool.new }
     ensures tool { (d : Dimensions) → IsToolFor d (event.Frame []) tool.old → IsToolFor d (event.Frame []) tool.new }
     ensures sizes { SameSizes control.old.map control.new.map }

@@ -5,12 +5,12 @@ use Rattle.exchange_events.specs.declared.reply.Reply.{Reply}
 use Rattle.exchange_events.specs.declared.reply.Reply.TheVariants as r
 
 -- all of it
-abbrev pub kept : Reply → Kept
-kept (r.Granted a b) = k.Granted a b
-kept r.Busy = k.Busy
-kept (r.Seated a b) = k.Seated a b
-kept r.NoPort = k.NoPort
-kept r.Freed = k.Freed
-kept r.NotNailed = k.NotNailed
-kept (r.Sent sends moved records) = k.Sent sends moved records
-kept (r.Frame number sends records) = k.Frame number sends records
+abbrev pub kept_of : Reply → Kept
+kept_of (r.Granted a b) = k.Granted a b
+kept_of r.Busy = k.Busy
+kept_of (r.Seated a b) = k.Seated a b
+kept_of r.NoPort = k.NoPort
+kept_of r.Freed = k.Freed
+kept_of r.NotNailed = k.NotNailed
+kept_of (r.Sent sends moved records) = k.Sent sends moved records
+kept_of (r.Frame number sends records) = k.Frame number sends records

@@ -1,5 +1,5 @@
 ghost use Rattle.std.specs.Prelude.{◌≡◌, IfOk};
-ghost use Rattle.exchange_events.specs.Kept.{kept};
+ghost use Rattle.exchange_events.specs.Kept.{kept_of};
 ghost use Rattle.exchange_events.specs.Responses.{reply_of};
 
 use crate::outbox::{Outbox, Response};
@@ -102,21 +102,15 @@ impl Rows {
 }
 
 /// A [`Reply`] with its lists on the heap, each no longer than it need be, so that replies can be kept.
+/// Each variant is the reply of that name.
 #[derive(Drop)]
 pub enum Kept {
-    /// As [`Reply::Granted`].
     Granted(u32, u32),
-    /// As [`Reply::Busy`].
     Busy,
-    /// As [`Reply::Seated`].
     Seated(u32, u32),
-    /// As [`Reply::NoPort`].
     NoPort,
-    /// As [`Reply::Freed`].
     Freed,
-    /// As [`Reply::NotNailed`].
     NotNailed,
-    /// As [`Reply::Sent`].
     Sent {
         /// The messages that were sent, in order.
         sends: SignalList,
@@ -126,7 +120,6 @@ pub enum Kept {
         /// The records of the calls that the message began to clear, in order.
         records: RecordList,
     },
-    /// As [`Reply::Frame`].
     Frame {
         /// The number of the frame.
         number: u32,
@@ -163,7 +156,7 @@ impl Answer {
         octets: &[[u8; 30]],
     ) -> Result<Answer, AllocError>
         ensures event { IfOk result (λ a. a.event ≡ event) }
-        ensures reply { IfOk result (λ a. a.reply ≡ kept reply.now) }
+        ensures reply { IfOk result (λ a. a.reply ≡ kept_of reply.now) }
         ensures octets { IfOk result (λ a. a.octets ≡ octets.now) }
     {
         answer_of(alloc, event, keep_reply(alloc, reply)?, octets)
@@ -184,7 +177,7 @@ impl Answer {
         octets: &[[u8; 30]],
     ) -> Result<Answer, AllocError>
         ensures event { IfOk result (λ a. a.event ≡ event) }
-        ensures reply { IfOk result (λ a. a.reply ≡ kept (reply_of response out.now)) }
+        ensures reply { IfOk result (λ a. a.reply ≡ kept_of (reply_of response out.now)) }
         ensures octets { IfOk result (λ a. a.octets ≡ octets.now) }
     {
         answer_of(alloc, event, keep_with(alloc, response, out)?, octets)
@@ -210,7 +203,7 @@ fn answer_of(
 }
 
 fn keep_with(alloc: Global, response: Response, out: &Outbox) -> Result<Kept, AllocError>
-    ensures { IfOk result (λ k. k ≡ kept (reply_of response out.now)) }
+    ensures { IfOk result (λ k. k ≡ kept_of (reply_of response out.now)) }
 {
     Ok(match response {
         Response::Granted(a, b) => Kept::Granted(a, b),
@@ -233,7 +226,7 @@ fn keep_with(alloc: Global, response: Response, out: &Outbox) -> Result<Kept, Al
 }
 
 fn keep_reply(alloc: Global, reply: &Reply) -> Result<Kept, AllocError>
-    ensures { IfOk result (λ k. k ≡ kept reply.now) }
+    ensures { IfOk result (λ k. k ≡ kept_of reply.now) }
 {
     Ok(match reply {
         Reply::Granted(a, b) => Kept::Granted(*a, *b),

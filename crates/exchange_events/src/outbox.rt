@@ -5,7 +5,7 @@ use crate::record::Records;
 use crate::reply::Reply;
 use crate::signal::Signals;
 
-/// What a step sends, moves and tells. It is lent to each step anew, so that no step pays for its room.
+/// What a step sends, moves and records. It is lent to each step anew, so that no step pays for its room.
 #[derive(Drop)]
 pub struct Outbox {
     /// The messages that were sent, in order.
@@ -42,24 +42,18 @@ impl Outbox {
     }
 }
 
-/// A [`Reply`] without its lists, which are in the outbox that the step was lent.
+/// A [`Reply`] without its lists, which are in the outbox that the step was lent. Each variant is the reply
+/// of that name.
 #[derive(Clone, Copy, Debug, PartialEq, Eq)]
 pub enum Response {
-    /// As [`Reply::Granted`].
     Granted(u32, u32),
-    /// As [`Reply::Busy`].
     Busy,
-    /// As [`Reply::Seated`].
     Seated(u32, u32),
-    /// As [`Reply::NoPort`].
     NoPort,
-    /// As [`Reply::Freed`].
     Freed,
-    /// As [`Reply::NotNailed`].
     NotNailed,
-    /// As [`Reply::Sent`].
     Sent,
-    /// As [`Reply::Frame`], with the number of the frame.
+    /// The number of the frame.
     Frame(u32),
 }
 

@@ -17,7 +17,7 @@ pub enum Party {
     Room(u8),
 }
 
-/// What is told of a call once its clearing has begun.
+/// What is recorded of a call once its clearing has begun.
 #[derive(Clone, Copy, Debug, PartialEq, Eq)]
 pub struct CallRecord {
     /// The slot of the caller.
@@ -94,10 +94,10 @@ impl Records {
     }
 
     /// One record more.
-    pub fn push(&mut self, told: CallRecord)
+    pub fn push(&mut self, call: CallRecord)
         requires { length self.old < most_records }
-        ensures { self.new ≡ self.old ++ told ∷ [] }
+        ensures { self.new ≡ self.old ++ call ∷ [] }
     {
-        self.items.push(told);
+        self.items.push(call);
     }
 }

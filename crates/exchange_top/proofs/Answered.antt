@@ -15,18 +15,18 @@ use Rattle.exchange_events.specs.declared.reply.Reply.{Reply}
 use Rattle.exchange_events.specs.declared.trace.Event.{Event}
 use Rattle.exchange_events.specs.declared.trace.Event.TheVariants.{Nail, Seat, Free, Message, Frame}
 use Rattle.exchange_events.specs.declared.trace.Trace.{Trace}
-use Rattle.call_profile.specs.IdleSlots.{idle, nailed}
-use Rattle.exchange_events.specs.Kept.{kept}
+use Rattle.call_profile.specs.IdleSlots.{idle, is_nailed}
+use Rattle.exchange_events.specs.Kept.{kept_of}
 use Rattle.exchange_events.specs.Orders.{IsEvent}
 use Rattle.seat_history.specs.declared.known.Known.{Known}
 use Rattle.seat_history.specs.Histories.{StartsWith, before, unseen}
 use Rattle.exchange_core.specs.Boards.{Board, AnswersAt, setting_at, world_at}
 use Rattle.exchange_events.specs.Sizes.{Setting}
 use Rattle.exchange_events.specs.Sound.{setting_of}
-use Rattle.call_profile.specs.Step.{MovesAtMost, events_of, may_nail, next, reply, run, world}
+use Rattle.call_profile.specs.Step.{MovesAtMost, events_of, may_nail, next, reply, run, world_after_all}
 use Rattle.exchange_core.specs.Working.{Entry, IsNumbered, order_of, world_after}
-use Rattle.call_profile.specs.World.{World, is_full, pass, seated, start}
-use Rattle.exchange_core.proofs.Stepping.{world_more}
+use Rattle.call_profile.specs.World.{World, is_full, pass, seat_reply, start}
+use Rattle.exchange_core.proofs.StepLemmas.{world_more}
 use Rattle.tone_rules.specs.Tables.{table_of}
 use Rattle.call_processor.specs.Frames.{IsPlayed, Plays}
 use Rattle.segment_run.specs.Segment.{AreAnswered, IsAnswered, new_events}
@@ -67,15 +67,15 @@ events_long trace (n ∷ order) known =
     ap suc (events_long trace order (All-tail (IsEvent trace) n order known)) ∙ sym (ap (λ (o : Option Event). length (cons_option o (events_of trace.events order))) e.1)
 
 event_lines-append : (played : Played) (s : Setting) (w : World) (order more : List ℕ) (es fs : List Event) → length order ≡ length es
-    → event_lines played s w (order ++ more) (es ++ fs) ≡ event_lines played s w order es ++ event_lines played s (world s w es) more fs
+    → event_lines played s w (order ++ more) (es ++ fs) ≡ event_lines played s w order es ++ event_lines played s (world_after_all s w es) more fs
 event_lines-append played s w [] more [] fs same = refl
 event_lines-append played s w [] more (e ∷ es) fs same = absurd (omega (arith, same))
 event_lines-append played s w (n ∷ order) more [] fs same = absurd (omega (arith, same))
 event_lines-append played s w (n ∷ order) more (e ∷ es) fs same =
     ap (λ (l : List ℕ). event_line played s w n e ++ l) (event_lines-append played s (next s w e) order more es fs (omega (arith, same)))
-    ∙ sym (append_assoc (event_line played s w n e) (event_lines played s (next s w e) order es) (event_lines played s (world s (next s w e) es) more fs))
+    ∙ sym (append_assoc (event_line played s w n e) (event_lines played s (next s w e) order es) (event_lines played s (world_after_all s (next s w e) es) more fs))
 
-run-append : (s : Setting) (w : World) (es fs : List Event) → run s w (es ++ fs) ≡ run s w es ++ run s (world s w es) fs
+run-append : (s : Setting) (w : World) (es fs : List Event) → run s w (es ++ fs) ≡ run s w es ++ run s (world_after_all s w es) fs
 run-append s w [] fs = refl
 run-append s w (e ∷ es) fs = ap (λ (l : List Reply). reply s w e ∷ l) (run-append s (next s w e) es fs)
 
@@ -95,13 +95,13 @@ report_append played slots trace order more known =
 -- what lines send matters to a frame's line alone
 module _ (rows others : List (List ℕ)) (n : ℕ) where
   abbrev IsSame : Reply → Type 0
-  IsSame r = report_line rows n (kept r) ≡ report_line others n (kept r)
+  IsSame r = report_line rows n (kept_of r) ≡ report_line others n (kept_of r)
 
   same_either : (b : Bool) (r q : Reply) → IsSame r → IsSame q → IsSame (if b then r else q)
   same_either true r q one other = one
   same_either false r q one other = other
 
-  same_seated : (d : Dimensions) (layout : Layout) (x : Slot) (port : Option Slot) → IsSame (seated d layout x port)
+  same_seated : (d : Dimensions) (layout : Layout) (x : Slot) (port : Option Slot) → IsSame (seat_reply d layout x port)
   same_seated d layout x None = refl
   same_seated d layout x (Some p) = refl
 
@@ -110,7 +110,7 @@ module _ (rows others : List (List ℕ)) (n : ℕ) where
   command_line s w (Seat x room) other =
       same_either (not (idle w x)) _ _ refl
       (same_either (is_full s.dimensions w) _ _ refl (same_seated s.dimensions w.layout x (port_of s.dimensions.external (ports_with x w.ports) x)))
-  command_line s w (Free x) other = same_either (nailed w x) _ _ refl refl
+  command_line s w (Free x) other = same_either (is_nailed w x) _ _ refl refl
   command_line s w (Message line octets) other = refl
   command_line s w (Frame input) other = absurd (other input refl)
 
@@ -126,7 +126,7 @@ module _ (plays : Plays) (tones : Kind → List ℕ) (board : Board) (front : Li
   sent e = sent_at (plays tones) (setting_at board) here e
 
   -- an answer has the octets of its frame, and no other event's line has any
-  rows_of : (e : Event) → IsNumbered board.trace n e → report_line kept_rows n (kept (reply (setting_at board) here e)) ≡ report_line (sent e) n (kept (reply (setting_at board) here e))
+  rows_of : (e : Event) → IsNumbered board.trace n e → report_line kept_rows n (kept_of (reply (setting_at board) here e)) ≡ report_line (sent e) n (kept_of (reply (setting_at board) here e))
   rows_of (Nail x y) is = command_line kept_rows (sent (Nail x y)) n (setting_at board) here (Nail x y) (λ input e. cc)
   rows_of (Seat x room) is = command_line kept_rows (sent (Seat x room)) n (setting_at board) here (Seat x room) (λ input e. cc)
   rows_of (Free x) is = command_line kept_rows (sent (Free x)) n (setting_at board) here (Free x) (λ input e. cc)
@@ -138,9 +138,9 @@ module _ (plays : Plays) (tones : Kind → List ℕ) (board : Board) (front : Li
       (lines ∙ sent_played board.trace.external (plays tones (pass here input).inputs (pass here input).held here.holding.next) a.octets p.played)
 
   -- the line of an answer is that of its event, after this history
-  answer_is : (e : Event) (r : Reply) → a.event ≡ n → IsNumbered board.trace n e → AnswersAt board front n r → a.reply ≡ kept r
+  answer_is : (e : Event) (r : Reply) → a.event ≡ n → IsNumbered board.trace n e → AnswersAt board front n r → a.reply ≡ kept_of r
       → answer_line a ≡ event_line (plays tones) (setting_at board) here n e
-  answer_is e r same number given keeps = (λ i. report_line kept_rows (same i) ((keeps ∙ ap kept (given e number)) i)) ∙ rows_of e number
+  answer_is e r same number given keeps = (λ i. report_line kept_rows (same i) ((keeps ∙ ap kept_of (given e number)) i)) ∙ rows_of e number
 
 -- ---- the answers of what came behind a history
 
@@ -177,8 +177,8 @@ module _ (plays : Plays) (tones : Kind → List ℕ) (board : Board) (history : 
         few = subst (λ (es : List Event). All (MovesAtMost board.bound) (run s w es)) (sym split)
             (All-cons (MovesAtMost board.bound) (reply s w e.0) (run s (next s w e.0) more) (subst (MovesAtMost board.bound) (given e.0 e.1) here.few)
             (subst (λ (v : World). All (MovesAtMost board.bound) (run s v more)) after rest.few));
-        calls = (λ i. calls_kept ((here.keeps ∙ ap kept (given e.0 e.1)) i) ++ rest.calls i)
-            ∙ (ap (λ (v : World). calls_kept (kept (reply s w e.0)) ++ calls_ended (run s v more)) after
+        calls = (λ i. calls_kept ((here.keeps ∙ ap kept_of (given e.0 e.1)) i) ++ rest.calls i)
+            ∙ (ap (λ (v : World). calls_kept (kept_of (reply s w e.0)) ++ calls_ended (run s v more)) after
             ∙ ap (λ (es : List Event). calls_ended (run s w es)) (sym split));
       }
 
@@ -253,7 +253,7 @@ few_grown board v w begins few more =
 
 calls_append : (xs ys : List Reply) → calls_ended (xs ++ ys) ≡ calls_ended xs ++ calls_ended ys
 calls_append [] ys = refl
-calls_append (r ∷ xs) ys = ap (λ l. calls_kept (kept r) ++ l) (calls_append xs ys) ∙ sym (append_assoc (calls_kept (kept r)) (calls_ended xs) (calls_ended ys))
+calls_append (r ∷ xs) ys = ap (λ l. calls_kept (kept_of r) ++ l) (calls_append xs ys) ∙ sym (append_assoc (calls_kept (kept_of r)) (calls_ended xs) (calls_ended ys))
 
 -- the calls told grow by those that ended in these events
 pub calls_grown : (board : Board) (v w : Known) → StartsWith w.seen v.seen

@@ -12,7 +12,7 @@ use Rattle.exchange_events.specs.declared.trace.Trace.{Trace}
 use Rattle.exchange_events.specs.Orders.{file_order}
 use Rattle.exchange_events.specs.Sizes.{Setting}
 use Rattle.exchange_events.specs.Sound.{setting_of}
-use Rattle.call_profile.specs.Step.{next, reply, world, run, events_of}
+use Rattle.call_profile.specs.Step.{next, reply, world_after_all, run, events_of}
 use Rattle.exchange_core.specs.Working.{world_after}
 use Rattle.call_profile.specs.World.{World, start}
 use Rattle.report_text.specs.Report.{lines_sent, octet_of}

@@ -9,7 +9,7 @@ use Rattle.tone_rules.specs.Tables.{table_of}
 use Rattle.exchange_events.specs.declared.answer.Answer.{Answer}
 use Rattle.exchange_events.specs.declared.trace.Event.{Event}
 use Rattle.exchange_events.specs.declared.trace.Trace.{Trace}
-use Rattle.exchange_events.specs.Kept.{kept}
+use Rattle.exchange_events.specs.Kept.{kept_of}
 use Rattle.exchange_events.specs.Sizes.{Setting, Dimensions}
 use Rattle.exchange_events.specs.Sound.{setting_of}
 use Rattle.call_profile.specs.Step.{next, reply, events_of}
@@ -31,7 +31,7 @@ sent_at played s w e = lines_sent (engine_octet played (next s w e) w.holding.ne
 
 -- the line of an event, and the lines of events that happen one after another
 abbrev pub event_line : Played → Setting → World → ℕ → Event → List ℕ
-event_line played s w n e = report_line (sent_at played s w e) n (kept (reply s w e))
+event_line played s w n e = report_line (sent_at played s w e) n (kept_of (reply s w e))
 
 abbrev pub event_lines : Played → Setting → World → List ℕ → List Event → List ℕ
 event_lines played s w [] events = []

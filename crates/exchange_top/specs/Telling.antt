@@ -7,7 +7,7 @@ use Rattle.exchange_events.specs.declared.answer.Kept.TheVariants as k
 use Rattle.exchange_events.specs.declared.record.CallRecord.{CallRecord}
 use Rattle.exchange_events.specs.declared.reply.Reply.{Reply}
 use Rattle.exchange_events.specs.declared.trace.Trace.{Trace}
-use Rattle.exchange_events.specs.Kept.{kept}
+use Rattle.exchange_events.specs.Kept.{kept_of}
 use Rattle.exchange_events.specs.Sound.{setting_of}
 use Rattle.call_profile.specs.Step.{run, events_of}
 use Rattle.call_profile.specs.World.{start}
@@ -31,7 +31,7 @@ calls_answered (a ∷ answers) = calls_kept a.reply ++ calls_answered answers
 
 abbrev pub calls_ended : List Reply → List CallRecord
 calls_ended [] = []
-calls_ended (r ∷ replies) = calls_kept (kept r) ++ calls_ended replies
+calls_ended (r ∷ replies) = calls_kept (kept_of r) ++ calls_ended replies
 
 -- the records of the calls that end in a run of a trace whose events happen in this order
 abbrev pub calls_told : ℕ → Trace → List ℕ → List CallRecord

@@ -6,7 +6,7 @@ use Rattle.exchange_events.specs.declared.answer.Answer.{Answer}
 use Rattle.exchange_events.specs.declared.reply.Reply.{Reply}
 use Rattle.exchange_events.specs.declared.trace.Event.TheVariants.{Frame}
 use Rattle.exchange_events.specs.declared.trace.Trace.{Trace}
-use Rattle.exchange_events.specs.Kept.{kept}
+use Rattle.exchange_events.specs.Kept.{kept_of}
 use Rattle.exchange_events.specs.Orders.{Worker, IsEvent, segment_of}
 use Rattle.seat_history.specs.declared.known.Known.{Known}
 use Rattle.seat_history.specs.Histories.{StartsWith, before, unseen}
@@ -58,7 +58,7 @@ pub record IsAnswered (plays : Plays) (tones : Kind → List ℕ) (board : Board
   pub reply : Reply
   pub given : AnswersAt board (before place history) a.event reply
   pub few : MovesAtMost board.bound reply
-  pub keeps : a.reply ≡ kept reply
+  pub keeps : a.reply ≡ kept_of reply
   pub played : (input : Input) → IsNumbered board.trace a.event (Frame input)
       → IsPlayed plays tones board.trace.external (world_at board (before place history)) input a.octets
 

@@ -2,7 +2,7 @@ use Rattle.std.proofs.Common.{◌≡◌, Option, Some, sym, ◌∙◌, ap, subst
 use Rattle.std.specs.Prelude.{IfSome, option_map}
 use Rattle.q931_codec.specs.Outgoing.{OutgoingMessage, IsWritable, outgoing_of}
 use Rattle.clearing_rules.specs.UnknownReference.{answer_without_call}
-use Rattle.call_profile.proofs.OnNoCall.{answer_writable}
+use Rattle.call_profile.proofs.NoCallAnswerLemmas.{answer_writable}
 use Rattle.call_control.proofs.sending.answer_on_no_call.Goals as goal
 
 pub send-requires-clause-writable : goal.send-requires-clause-writable

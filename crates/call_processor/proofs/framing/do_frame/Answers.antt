@@ -10,7 +10,7 @@ use Rattle.frame_engine.specs.Frames.{PlaysOut}
 use Rattle.tone_rules.specs.Tables.{table_of}
 use Rattle.call_processor.proofs.EventLemmas.{Next, answer_next}
 use Rattle.call_processor.proofs.FrameLemmas.{frame_asks, boundary, frames_few, input_whole, made_at, next_frame, one_input, played_here, ready_after, same_frames, still_carried, written_whole}
-use Rattle.call_profile.proofs.Given.{sounds_given}
+use Rattle.call_profile.proofs.GivenToneLemmas.{sounds_given}
 use Rattle.call_processor.specs.Frames.{engine_dimensions}
 use Rattle.call_processor.specs.declared.worked.Placed.{Placed}
 use Rattle.call_processor.proofs.framing.do_frame.Goals as goal

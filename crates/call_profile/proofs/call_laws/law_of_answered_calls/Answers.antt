@@ -1,4 +1,4 @@
-use Rattle.call_profile.proofs.Answering.{answered}
+use Rattle.call_profile.proofs.AnsweringLemmas.{answered}
 use Rattle.call_profile.proofs.call_laws.law_of_answered_calls.Goals as goal
 
 pub returns : goal.returns

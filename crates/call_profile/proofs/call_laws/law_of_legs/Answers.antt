@@ -1,4 +1,4 @@
-use Rattle.call_profile.proofs.Happened.{start_stands, happened_kept, run_stands}
+use Rattle.call_profile.proofs.StandingLegLemmas.{start_stands, happened_kept, run_stands}
 use Rattle.call_profile.proofs.call_laws.law_of_legs.Goals as goal
 
 pub returns-clause-begins : goal.returns-clause-begins

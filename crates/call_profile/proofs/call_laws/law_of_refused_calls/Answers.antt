@@ -1,4 +1,4 @@
-use Rattle.call_profile.proofs.Refusals.{refused_world, refused_moves, refused_records}
+use Rattle.call_profile.proofs.RefusalLemmas.{refused_world, refused_moves, refused_records}
 use Rattle.call_profile.proofs.call_laws.law_of_refused_calls.Goals as goal
 
 pub returns-clause-world : goal.returns-clause-world

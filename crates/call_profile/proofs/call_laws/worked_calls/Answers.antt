@@ -1,7 +1,7 @@
 use Rattle.std.proofs.Common.{refl}
 use Rattle.q931_elements.specs.Reading.{elements_of, elements_within}
 use Rattle.call_profile.specs.Legs.{slots_of}
-use Rattle.call_profile.specs.Restarts.{restarted_below}
+use Rattle.call_profile.specs.Restarts.{outcome_below}
 use Rattle.call_profile.proofs.call_laws.worked_calls.Goals as goal
 
 pub returns-clause-whole : goal.returns-clause-whole
@@ -41,15 +41,15 @@ unfolding elements_of elements_within slots_of
 returns-clause-full c = refl
 
 pub returns-clause-restart_called : goal.returns-clause-restart_called
-unfolding elements_of elements_within slots_of restarted_below
+unfolding elements_of elements_within slots_of outcome_below
 returns-clause-restart_called c = refl
 
 pub returns-clause-restart_both : goal.returns-clause-restart_both
-unfolding elements_of elements_within slots_of restarted_below
+unfolding elements_of elements_within slots_of outcome_below
 returns-clause-restart_both c = refl
 
 pub returns-clause-restart_one : goal.returns-clause-restart_one
-unfolding elements_of elements_within slots_of restarted_below
+unfolding elements_of elements_within slots_of outcome_below
 returns-clause-restart_one c = refl
 
 pub returns-clause-ringback : goal.returns-clause-ringback

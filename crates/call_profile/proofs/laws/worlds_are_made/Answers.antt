@@ -1,4 +1,4 @@
-use Rattle.call_profile.proofs.Histories.{made}
+use Rattle.call_profile.proofs.HistoryLemmas.{made}
 use Rattle.call_profile.proofs.laws.worlds_are_made.Goals as goal
 
 pub returns : goal.returns

@@ -1,6 +1,6 @@
-use Rattle.std.proofs.Common.{◌≡◌, ℕ, ◌≤◌, Bool, false, refl, sym, ap, ◌∙◌, arith, inl, inr}
-use Rattle.std.specs.Prelude.{is_some, nat_lt, nat_le, ◌&&◌, not, ◌==◌}
-use Rattle.std.proofs.lemmas.Bool.{cases_lt, agree_below_at, lt-leb, le-ltb, and_left, and_right, cond-false}
+use Rattle.std.proofs.Common.{◌≡◌, ℕ, ◌≤◌, refl, arith, inl, inr}
+use Rattle.std.specs.Prelude.{is_some}
+use Rattle.std.proofs.lemmas.Bool.{cases_lt, agree_below_at, lt-leb, le-ltb}
 use Rattle.circuit_model.specs.Channels.{place_of}
 use Rattle.q931_codec.specs.Contents.{is_bearer_channel}
 use Rattle.call_states.proofs.laws.law_of_channels.Goals as goal

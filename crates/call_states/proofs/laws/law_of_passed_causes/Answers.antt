@@ -1,4 +1,3 @@
-use Rattle.std.proofs.Common.{◌<◌}
 use Rattle.q931_codec.specs.Contents.{call_state_in}
 use Rattle.call_states.specs.Acts.{clearing_cause, is_null}
 use Rattle.call_states.proofs.Causes.{act_fits, cause_fits}

@@ -14,13 +14,13 @@ frame_tool d input other (tool.Image image) is = is
 frame_tool d input other tool.Nothing is = absurd is
 
 pub returns-in-Nail-clause-reply : goal.returns-in-Nail-clause-reply
-returns-in-Nail-clause-reply g c s w plan tones work = rw c.in-Nail.is (c.nail.ensures.reply s w c.args.out.now work.holds)
+returns-in-Nail-clause-reply g c s w plan tones work = rw c.in-Nail.is (c.nail.ensures.reply c.args.out.now s w work.holds)
 
 pub returns-in-Nail-clause-world : goal.returns-in-Nail-clause-world
 returns-in-Nail-clause-world g c s w plan tones work = rw c.in-Nail.is (c.nail.ensures.world s w work.holds)
 
 pub returns-in-Free-clause-reply : goal.returns-in-Free-clause-reply
-returns-in-Free-clause-reply g c s w plan tones work = rw c.in-Free.is (c.free.ensures.reply s w c.args.out.now work.holds)
+returns-in-Free-clause-reply g c s w plan tones work = rw c.in-Free.is (c.free.ensures.reply c.args.out.now s w work.holds)
 
 pub returns-in-Frame-clause-world : goal.returns-in-Frame-clause-world
 returns-in-Frame-clause-world g c s w plan tones work = rw c.in-Frame.is (c.frame.ensures.world s.dimensions w c.in-Frame.field-0 work.holds)

@@ -1,5 +1,5 @@
 use Rattle.std.proofs.Common.{◌≡◌, ◌<◌, sym, ◌∙◌, arith}
-use Rattle.call_profile.proofs.Looking.{found_all, found_end, found_none, found_other, found_here}
+use Rattle.call_profile.proofs.LineLemmas.{found_all, found_end, found_none, found_other, found_here}
 use Rattle.call_control.proofs.leg_table.LegTable.named.Goals as goal
 
 pub loop-place-init : goal.loop-place-init

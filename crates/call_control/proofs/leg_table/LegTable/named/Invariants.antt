@@ -1,6 +1,6 @@
 use Rattle.std.proofs.Common.{◌≡◌}
 use Rattle.call_profile.specs.Legs.{leg_named}
-use Rattle.call_profile.proofs.Looking.{found_from}
+use Rattle.call_profile.proofs.LineLemmas.{found_from}
 use Rattle.call_control.proofs.leg_table.LegTable.named.Given as goal
 
 abbrev pub invariant-loop-place : goal.invariant-loop-place

@@ -1,7 +1,7 @@
 use Rattle.std.proofs.Common.{◌≡◌, ◌<◌, true, false, not, sym, ◌∙◌, ap, arith}
 use Rattle.std.specs.Prelude.{is_none}
 use Rattle.call_profile.specs.Legs.{is_unused}
-use Rattle.call_profile.proofs.Looking.{unused_all, unused_here, unused_other}
+use Rattle.call_profile.proofs.LineLemmas.{unused_all, unused_here, unused_other}
 use Rattle.call_control.proofs.leg_table.LegTable.new_reference.Goals as goal
 
 pub loop-reference-init : goal.loop-reference-init

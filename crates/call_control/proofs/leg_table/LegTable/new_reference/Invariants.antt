@@ -1,6 +1,6 @@
 use Rattle.std.proofs.Common.{◌≡◌, ◌+◌}
 use Rattle.call_profile.specs.Legs.{new_reference}
-use Rattle.call_profile.proofs.Looking.{unused_from}
+use Rattle.call_profile.proofs.LineLemmas.{unused_from}
 use Rattle.call_control.proofs.leg_table.LegTable.new_reference.Given as goal
 
 abbrev pub invariant-loop-reference : goal.invariant-loop-reference

@@ -5,13 +5,13 @@ use Rattle.call_states.specs.Acts.{cause_of_act, clearing_cause, is_null}
 use Rattle.call_states.specs.declared.act.Act.{Act}
 use Rattle.call_states.proofs.Causes.{act_fits, cause_fits}
 use Rattle.q931_codec.specs.Contents.{call_state_in}
-use Rattle.call_profile.specs.EndedCalls.{records_of_act}
-use Rattle.call_control.proofs.AtWorkActs.{peer_external, known_there, known_peer, known_silent, known_waiting, known_records}
+use Rattle.call_profile.proofs.RecordOfActLemmas.{records_of_act}
+use Rattle.call_control.proofs.AtWorkLemmas.{peer_external, known_there, known_peer, known_silent, known_waiting, known_records}
 use Rattle.call_control.proofs.operations.CallControl.act.Goals as goal
 
-pub record_of_act-told-requires-clause-peer_external :
-    goal.record_of_act-told-requires-clause-peer_external
-record_of_act-told-requires-clause-peer_external g c =
+pub record_of_act-call-requires-clause-peer_external :
+    goal.record_of_act-call-requires-clause-peer_external
+record_of_act-call-requires-clause-peer_external g c =
     let work = c.requires.work in
     let now = c.args.self.now in
     peer_external now.map.external c.args.held c.peer_of-peer.result
@@ -52,6 +52,6 @@ pub returns-clause-records : goal.returns-clause-records
 returns-clause-records g c s w work =
     let now = c.args.self.now in
     c.record_only.ensures
-    ∙ ap (λ told. cons_option told []) (c.record_of_act-told.ensures s.dimensions w work.holds)
+    ∙ ap (λ told. cons_option told []) (c.record_of_act-call.ensures s.dimensions w work.holds)
     ∙ ap (records_of_act w c.args.held) c.on_message-act.ensures
     ∙ known_records s now.map now.legs w work c.args.held c.requires.external c.requires.held c.args.message.now

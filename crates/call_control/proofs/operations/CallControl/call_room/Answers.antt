@@ -3,11 +3,11 @@ use Rattle.q931_codec.specs.declared.kind.MessageKind.TheVariants as kind
 use Rattle.q931_codec.specs.Outgoing.{outgoing_of}
 use Rattle.call_states.specs.declared.leg.Leg.{Leg}
 use Rattle.call_profile.specs.Acts.{message_to}
-use Rattle.call_profile.specs.Operations.{Seat, Put, Send, performed, performed_all}
-use Rattle.call_profile.specs.Setup.{proceeding}
+use Rattle.call_profile.specs.Operations.{Seat, Put, Send, making_after, making_after_all}
+use Rattle.call_profile.specs.Setup.{call_proceeding}
 use Rattle.call_control.specs.Standing.{Makes}
-use Rattle.call_control.proofs.Makings.{holds_with, makes_put, makes_seat, makes_send}
-use Rattle.call_profile.proofs.Accepted.{can_still}
+use Rattle.call_control.proofs.MakingLemmas.{holds_with, makes_put, makes_seat, makes_send}
+use Rattle.call_profile.proofs.AcceptedSetupLemmas.{can_still}
 use Rattle.call_control.proofs.operations.CallControl.call_room.Goals as goal
 
 pub seat-requires : goal.seat-requires
@@ -27,12 +27,12 @@ returns-clause-makes g c d m makes =
     let x = c.args.x in
     let out = c.args.out.now in
     let held = makes_put d c.args.self.now.map c.put.new.self.map c.args.self.now.legs c.put.new.self.legs out.sends out.sends out.moved out.moved m makes x leg c.put.ensures.map c.put.ensures.legs in
-    let m1 = performed d m (Put x leg) in
+    let m1 = making_after d m (Put x leg) in
     let seated = makes_seat d c.put.new.self.map c.seat.new.self.map c.put.new.self.legs c.seat.new.self.legs out.sends out.sends out.moved (Some c.seat.result) m1 held x c.args.room (c.seat.ensures.holds d) (c.seat.ensures.moves d) in
-    let m2 = performed d m1 (Seat x c.args.room) in
+    let m2 = making_after d m1 (Seat x c.args.room) in
     let map = c.seat.new.self.map in
     let legs = c.seat.new.self.legs in
-    let first = makes_send d map map legs legs out.sends c.send.new.out.sends (Some c.seat.result) c.send.new.out.moved m2 seated x.line (outgoing_of c.proceeding.result) (proceeding x leg) c.proceeding.ensures c.send.ensures.sends c.send.ensures.moved in
-    let m3 = performed d m2 (Send x.line (proceeding x leg)) in
+    let first = makes_send d map map legs legs out.sends c.send.new.out.sends (Some c.seat.result) c.send.new.out.moved m2 seated x.line (outgoing_of c.call_proceeding.result) (call_proceeding x leg) c.call_proceeding.ensures c.send.ensures.sends c.send.ensures.moved in
+    let m3 = making_after d m2 (Send x.line (call_proceeding x leg)) in
     let second = makes_send d map map legs legs c.send.new.out.sends c.send-2.new.out.sends c.send.new.out.moved c.send-2.new.out.moved m3 first x.line (outgoing_of c.message_to.result) (message_to leg kind.Connect) c.message_to.ensures c.send-2.ensures.sends c.send-2.ensures.moved in
-    subst (λ (l : Leg). Makes d map legs c.send-2.new.out.sends c.send-2.new.out.moved (performed_all d m (Put x l ∷ Seat x c.args.room ∷ Send x.line (proceeding x l) ∷ Send x.line (message_to l kind.Connect) ∷ []))) c.caller_leg-caller.ensures second
+    subst (λ (l : Leg). Makes d map legs c.send-2.new.out.sends c.send-2.new.out.moved (making_after_all d m (Put x l ∷ Seat x c.args.room ∷ Send x.line (call_proceeding x l) ∷ Send x.line (message_to l kind.Connect) ∷ []))) c.caller_leg-caller.ensures second

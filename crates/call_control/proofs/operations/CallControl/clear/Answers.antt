@@ -1,4 +1,4 @@
-use Rattle.call_control.proofs.Obeying.{clear_holds}
+use Rattle.call_control.proofs.ObeyLemmas.{clear_holds}
 use Rattle.call_control.proofs.operations.CallControl.clear.Goals as goal
 
 pub returns-clause-holds : goal.returns-clause-holds

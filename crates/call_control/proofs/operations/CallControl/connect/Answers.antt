@@ -1,6 +1,6 @@
 use Rattle.std.proofs.Common.{◌∙◌}
-use Rattle.call_control.proofs.AtWorkActs.{cleared_silent}
-use Rattle.call_control.proofs.Makes.{connected_makes}
+use Rattle.call_control.proofs.AtWorkLemmas.{cleared_silent}
+use Rattle.call_control.proofs.ActMakingLemmas.{connected_makes}
 use Rattle.call_control.proofs.operations.CallControl.connect.Goals as goal
 
 pub pair-requires-clause-silent_x : goal.pair-requires-clause-silent_x

@@ -1,6 +1,6 @@
 use Rattle.std.proofs.Common.{◌≡◌, ◌<◌, sym, ◌∙◌, arith}
 use Rattle.call_control.specs.Choices.{idle_beside}
-use Rattle.call_control.proofs.Choosing.{first_all, first_end, first_here, first_other}
+use Rattle.call_control.proofs.ChosenSlotLemmas.{first_all, first_end, first_here, first_other}
 use Rattle.call_control.proofs.operations.CallControl.lowest_idle_beside.Goals as goal
 
 pub loop-place-init : goal.loop-place-init

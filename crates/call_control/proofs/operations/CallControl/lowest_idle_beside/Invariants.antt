@@ -4,7 +4,7 @@ use Rattle.call_profile.specs.IdleSlots.{lowest_idle_beside}
 use Rattle.call_control.specs.Standing.{Holds}
 use Rattle.exchange_events.specs.Sizes.{Dimensions}
 use Rattle.call_profile.specs.World.{World}
-use Rattle.call_control.proofs.Choosing.{first_from}
+use Rattle.call_control.proofs.ChosenSlotLemmas.{first_from}
 use Rattle.call_control.proofs.operations.CallControl.lowest_idle_beside.Given as goal
 
 abbrev pub invariant-loop-place : goal.invariant-loop-place

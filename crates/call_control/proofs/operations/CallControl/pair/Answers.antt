@@ -1,4 +1,4 @@
-use Rattle.call_control.proofs.Obeying.{pair_holds, pair_moves}
+use Rattle.call_control.proofs.ObeyLemmas.{pair_holds, pair_moves}
 use Rattle.call_control.proofs.operations.CallControl.pair.Goals as goal
 
 pub returns-clause-holds : goal.returns-clause-holds

@@ -1,5 +1,5 @@
 use Rattle.std.proofs.Common.{◌<◌, sym, subst, ◌∙◌}
-use Rattle.call_profile.proofs.Named.{leg_named_stands}
+use Rattle.call_profile.proofs.NamedLegLemmas.{leg_named_stands}
 use Rattle.call_control.proofs.operations.CallControl.receive.Goals as goal
 
 pub act-requires-clause-external : goal.act-requires-clause-external

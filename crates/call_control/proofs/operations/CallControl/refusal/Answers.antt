@@ -1,7 +1,7 @@
 use Rattle.std.proofs.Common.{[], sym, ◌∙◌, ap}
 use Rattle.std.specs.Prelude.{unwrap_or}
 use Rattle.call_profile.specs.Setup.{digits_in, first_cause, slot_checks}
-use Rattle.call_control.proofs.Refusing.{reaches, number_refused, slot_refused}
+use Rattle.call_control.proofs.RefusalCauseLemmas.{reaches, number_refused, slot_refused}
 use Rattle.call_control.proofs.operations.CallControl.refusal.Goals as goal
 
 pub slot_cause-requires-clause-reached : goal.slot_cause-requires-clause-reached

@@ -1,4 +1,4 @@
-use Rattle.call_control.proofs.Obeying.{idle_silent, seat_holds, seat_moves}
+use Rattle.call_control.proofs.ObeyLemmas.{idle_silent, seat_holds, seat_moves}
 use Rattle.call_control.proofs.operations.CallControl.seat.Goals as goal
 
 pub seat-requires-clause-idle : goal.seat-requires-clause-idle

@@ -1,4 +1,4 @@
-use Rattle.call_control.proofs.Obeying.{tone_holds}
+use Rattle.call_control.proofs.ObeyLemmas.{tone_holds}
 use Rattle.call_control.proofs.operations.CallControl.sound.Goals as goal
 
 pub returns-in-Some-clause-holds : goal.returns-in-Some-clause-holds

@@ -1,6 +1,6 @@
 use Rattle.std.proofs.Common.{length, ap, ◌∙◌, arith}
 use Rattle.std.specs.Prelude.{vec_capacity}
-use Rattle.exchange_core.proofs.Stepping.{begins}
+use Rattle.exchange_core.proofs.StepLemmas.{begins}
 use Rattle.exchange_core.proofs.step.Core.new.Goals as goal
 
 pub invariant_of-result : goal.invariant_of-result

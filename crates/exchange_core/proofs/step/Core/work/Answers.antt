@@ -4,7 +4,7 @@ use Rattle.exchange_events.specs.Responses.{reply_of}
 use Rattle.call_profile.specs.Step.{reply, next}
 use Rattle.exchange_core.specs.Working.{Entry, Working, IsWorking, IsNumbered, IsToolFor, ShowsWorld, order_of, setting, world_of, world_after}
 use Rattle.call_profile.specs.World.{World}
-use Rattle.exchange_core.proofs.Stepping.{next_few, stepped, facts, of_each, world_more}
+use Rattle.exchange_core.proofs.StepLemmas.{next_few, stepped, facts, of_each, world_more}
 use Rattle.exchange_core.proofs.step.Core.work.Goals as goal
 
 pub happen-response-requires-clause-work : goal.happen-response-requires-clause-work

@@ -1,0 +1,73 @@
+-- What is known of an exchange at work when a message to a leg comes.
+use Rattle.std.proofs.Common.{◌≡◌, ℕ, Option, Some, None, sym, ◌∙◌, ap, subst}
+use Rattle.std.specs.Prelude.{IfSome}
+use Rattle.circuit_model.specs.declared.channel.Slot.{Slot}
+use Rattle.circuit_model.specs.Circuits.{heard_by, unless_naming}
+use Rattle.circuit_model.specs.Extent.{IsExternal}
+use Rattle.circuit_map.specs.Connections.{Connections, hears_at}
+use Rattle.q931_codec.specs.declared.message.Message.{Message}
+use Rattle.call_states.specs.Acts.{act_on, clearing_cause, is_null}
+use Rattle.call_states.proofs.Causes.{cause_fits}
+use Rattle.q931_codec.specs.Contents.{call_state_in}
+use Rattle.call_states.specs.declared.act.Act.TheVariants as act
+use Rattle.call_states.specs.declared.leg.Held.{Held}
+use Rattle.call_profile.specs.Acts.{course_of, peer_of}
+use Rattle.call_control.specs.AtWork.{IsAtWork}
+use Rattle.call_profile.specs.Calls.{outcome_by}
+use Rattle.call_profile.proofs.RecordOfActLemmas.{records_of_act}
+use Rattle.call_profile.specs.Legs.{Legs, leg_at}
+use Rattle.call_profile.specs.Peers.{IsThere, PeerIsThere, IsSilent}
+use Rattle.exchange_events.specs.Sizes.{Setting, Dimensions}
+use Rattle.call_control.specs.Standing.{Holds}
+use Rattle.call_profile.specs.World.{World}
+use Rattle.call_profile.proofs.PermittedActLemmas.{is_there, peer_there_too, rings_silent, caller_silent}
+use Rattle.call_profile.proofs.AnsweringLemmas.{answers_among, cleared_by}
+use Rattle.call_profile.proofs.RecordOfActLemmas.{leg_records}
+use Rattle.call_profile.proofs.MessageToLegLemmas.{Asked, asked}
+
+-- a slot hears nothing more once it is cleared
+pub cleared_silent : (d : Dimensions) (map : Connections) (legs : Legs) (w : World) (x : Slot) → Holds d map legs w → unless_naming x (hears_at map x) ≡ None
+cleared_silent d map legs w x holds = cleared_by w.holding.circuits x (hears_at map x) (sym (holds.circuits.holds.heard x))
+
+pub peer_external : (external : ℕ) (h : Held) (o : Option Held) → PeerIsThere external h o → IfSome o (λ other. IsExternal external other.slot)
+peer_external external h None is = tt
+peer_external external h (Some other) is = is.0.within
+
+silent_on_map : (map : Connections) (w : World) → ((x : Slot) → hears_at map x ≡ heard_by w.holding.circuits x) → (o : Option Held)
+    → IfSome o (λ c. heard_by w.holding.circuits c.slot ≡ None) → IsSilent map o
+silent_on_map map w same None deaf = tt
+silent_on_map map w same (Some c) deaf = same c.slot ∙ deaf
+
+module _ (s : Setting) (map : Connections) (legs : Legs) (w : World) (work : IsAtWork s map legs w) (h : Held) (within : IsExternal map.external h.slot) (at : leg_at legs h.slot ≡ Some h.leg) where
+  external_is : map.external ≡ s.dimensions.external
+  external_is = ap (λ (d : Dimensions). d.external) work.holds.sizes
+
+  in_world : IsExternal s.dimensions.external h.slot
+  in_world = subst (λ n. IsExternal n h.slot) external_is within
+
+  at_world : leg_at w.legs h.slot ≡ Some h.leg
+  at_world = ap (λ ls. leg_at ls h.slot) (sym work.holds.legs_are) ∙ at
+
+  pub known_there : IsThere map.external h
+  known_there = subst (λ n. IsThere n h) (sym external_is) (is_there s.dimensions.external s.tones w h work.stands.legs in_world at_world)
+
+  pub known_peer : (o : Option Held) → o ≡ peer_of legs h.leg.peer → PeerIsThere map.external h o
+  known_peer o is =
+      let there = subst (λ n. PeerIsThere n h (peer_of w.legs h.leg.peer)) (sym external_is) (peer_there_too s.dimensions.external s.tones w h work.stands.legs in_world at_world) in
+      subst (PeerIsThere map.external h) (sym (is ∙ ap (λ ls. peer_of ls h.leg.peer) work.holds.legs_are)) there
+
+  pub known_silent : (m : Message) → act_on h.leg.state m ≡ act.Answer → hears_at map h.slot ≡ None
+  known_silent m answers =
+      work.holds.circuits.holds.heard h.slot
+      ∙ rings_silent s.dimensions.external s.tones w h work.stands.legs in_world at_world (answers_among h.leg.state m.kind _ _ answers)
+
+  -- the caller of a leg that is asked to be alerted hears nothing
+  pub known_waiting : (m : Message) → act_on h.leg.state m ≡ act.Alerting → (o : Option Held) → o ≡ peer_of legs h.leg.peer → IsSilent map o
+  known_waiting m alerts o is =
+      let asks = subst (Asked h.leg.state) alerts (asked h.leg.state m.kind (clearing_cause m.elements) (is_null (call_state_in m.elements)) (cause_fits m.elements)) in
+      let deaf = caller_silent s.dimensions.external s.tones w h work.stands.legs in_world at_world asks in
+      let same : peer_of w.legs h.leg.peer ≡ o = sym (is ∙ ap (λ ls. peer_of ls h.leg.peer) work.holds.legs_are) in
+      silent_on_map map w work.holds.circuits.holds.heard o (subst (λ (p : Option Held). IfSome p (λ c. heard_by w.holding.circuits c.slot ≡ None)) same deaf)
+
+  pub known_records : (m : Message) → records_of_act w h (act_on h.leg.state m) ≡ (outcome_by s w (course_of s.tones w.legs h m.kind (act_on h.leg.state m))).recorded
+  known_records m = sym (leg_records s w h m.kind work.stands.legs in_world at_world m)

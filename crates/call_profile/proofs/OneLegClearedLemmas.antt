@@ -1,0 +1,112 @@
+-- The legs stand after one of a call is released and the other is told so.
+use Rattle.std.proofs.Common.{◌≡◌, ℕ, ◌<◌, ◌⊎◌, inl, inr, length, set, Option, Some, None, refl, sym, ◌∙◌, ap, subst, length-set}
+use Rattle.circuit_model.specs.declared.channel.Slot.{Slot}
+use Rattle.circuit_model.specs.Circuits.{heard_by, unless_naming}
+use Rattle.circuit_model.specs.Extent.{IsExternal}
+use Rattle.circuit_model.specs.Holding.{Holding, Clear, after, Valid}
+use Rattle.circuit_model.proofs.Validity.{heard_by-clear}
+use Rattle.control_memory.specs.Layout.{number_of}
+use Rattle.call_states.specs.declared.leg.Leg.{Leg}
+use Rattle.call_states.specs.declared.leg.Peer.TheVariants as peer
+use Rattle.tone_rules.specs.declared.tones.Tones.{Tones}
+use Rattle.call_profile.specs.Acts.{in_release_request, in_disconnect_indication}
+use Rattle.call_profile.specs.LegStanding.{LegStands, LegsStand, MayHear}
+use Rattle.call_profile.specs.Legs.{leg_at}
+use Rattle.call_profile.specs.World.{World}
+use Rattle.call_profile.proofs.AnsweringLemmas.{cleared_by}
+use Rattle.call_profile.proofs.BesideLemmas.{entry_here, entry_else, same_or_apart, named_back, Beside, each_stands, SameReferences, still_one}
+use Rattle.call_profile.proofs.HearingLemmas.{IsStrange, clear_keeps}
+
+-- ---- what stands alone
+
+-- a slot that was cleared hears nothing, whatever is cleared then
+pub deaf_once : (bridges : ℕ) (h : Holding) (x : Slot) → Valid bridges h → heard_by (after h (Clear x)).circuits x ≡ None
+deaf_once bridges h x valid = heard_by-clear h.circuits x x (valid.standing x) ∙ cleared_by h.circuits x (heard_by h.circuits x) refl
+
+pub deaf_still : (bridges : ℕ) (h : Holding) (x y : Slot) → Valid bridges h → heard_by h.circuits x ≡ None → heard_by (after h (Clear y)).circuits x ≡ None
+deaf_still bridges h x y valid deaf = heard_by-clear h.circuits y x (valid.standing x) ∙ ap (unless_naming y) deaf
+
+-- a leg that was released stands alone in silence, and one that was disconnected with a cause where it hears what it may
+pub released_stands : (external : ℕ) (tones : Tones) (w v : World) (x : Slot) (leg : Leg) → LegStands external tones w x leg → heard_by v.holding.circuits x ≡ None → LegStands external tones v x (in_release_request leg)
+released_stands external tones w v x leg stands deaf = record {
+  state = refl;
+  reference = stands.reference;
+  cause = stands.cause;
+  peer = refl;
+  hears = subst (MayHear tones (in_release_request leg)) (sym deaf) (λ e. absurd cc, refl);
+}
+
+pub disconnected_stands : (external : ℕ) (tones : Tones) (w v : World) (x : Slot) (leg : Leg) (cause : ℕ) → cause < 128 → LegStands external tones w x leg → MayHear tones (in_disconnect_indication cause leg) (heard_by v.holding.circuits x)
+    → LegStands external tones v x (in_disconnect_indication cause leg)
+disconnected_stands external tones w v x leg cause small stands may = record {
+  state = refl;
+  reference = stands.reference;
+  cause = small;
+  peer = refl;
+  hears = may;
+}
+
+-- ---- one leg without another
+
+-- what becomes of a leg that is released: it is gone, or waits for its release
+abbrev pub IsLeft : Leg → Option Leg → Type 0
+IsLeft leg o = (o ≡ None) ⊎ (o ≡ Some (in_release_request leg))
+
+pub left_stands : (external : ℕ) (tones : Tones) (w v : World) (x : Slot) (leg : Leg) (o : Option Leg) → IsLeft leg o → LegStands external tones w x leg → heard_by v.holding.circuits x ≡ None → (l : Leg) → o ≡ Some l → LegStands external tones v x l
+left_stands external tones w v x leg o (inl gone) stands deaf l is = let e : None ≡ Some l = sym gone ∙ is in absurd cc
+left_stands external tones w v x leg o (inr waits) stands deaf l is =
+    let e : Some (in_release_request leg) ≡ Some l = sym waits ∙ is in
+    let same : in_release_request leg ≡ l = cc in
+    subst (LegStands external tones v x) same (released_stands external tones w v x leg stands deaf)
+
+pub left_reference : (leg : Leg) (o : Option Leg) → IsLeft leg o → (b : Leg) → o ≡ Some b → (leg.side ≡ b.side) × (leg.reference ≡ b.reference)
+left_reference leg o (inl gone) b is = let e : None ≡ Some b = sym gone ∙ is in absurd cc
+left_reference leg o (inr waits) b is =
+    let e : Some (in_release_request leg) ≡ Some b = sym waits ∙ is in
+    let same : in_release_request leg ≡ b = cc in
+    (ap (λ (l : Leg). l.side) same, ap (λ (l : Leg). l.reference) same)
+
+module _ (external : ℕ) (tones : Tones) (bridges : ℕ) (w v : World) (x : Slot) (leg : Leg) (o : Option Leg) (valid : Valid bridges w.holding) (stand : LegsStand external tones w)
+    (within : IsExternal external x) (at : leg_at w.legs x ≡ Some leg) (left : IsLeft leg o)
+    (legs : v.legs ≡ set w.legs (number_of x) o) (holding : v.holding ≡ after w.holding (Clear x)) (no_peer : (p : Slot) → leg.peer ≡ peer.Leg p → ⊥) where
+  legs_alone : (z : Slot) → IsExternal external z → (z ≡ x → ⊥) → leg_at v.legs z ≡ leg_at w.legs z
+  legs_alone z in_z apart = ap (λ ls. leg_at ls z) legs ∙ entry_else external w.legs x z o within in_z apart
+
+  here_alone : leg_at v.legs x ≡ o
+  here_alone = ap (λ ls. leg_at ls x) legs ∙ entry_here external w.legs x o stand.count within
+
+  -- nobody else names the slot
+  strange_alone : (z : Slot) (l : Leg) → IsExternal external z → leg_at w.legs z ≡ Some l → IsStrange l x
+  strange_alone z l in_z at_z p is same =
+      let has = (stand.each z l in_z at_z).peer in
+      no_peer z (named_back external w.legs z p l leg is has (ap (leg_at w.legs) same ∙ at))
+
+  heard_alone : (z : Slot) (l : Leg) → IsExternal external z → leg_at w.legs z ≡ Some l → (z ≡ x → ⊥) → heard_by v.holding.circuits z ≡ heard_by w.holding.circuits z
+  heard_alone z l in_z at_z apart =
+      ap (λ (h : Holding). heard_by h.circuits z) holding
+      ∙ clear_keeps bridges tones w.holding l z x valid (stand.each z l in_z at_z).hears apart (strange_alone z l in_z at_z)
+
+  beside_alone : Beside external w v x x
+  beside_alone = record {
+    legs = λ z in_z not_x same. legs_alone z in_z not_x;
+    heard = λ z l in_z at_z not_x same. heard_alone z l in_z at_z not_x;
+    strange = λ z l p in_z at_z not_x same is. (strange_alone z l in_z at_z p is, strange_alone z l in_z at_z p is);
+  }
+
+  new_alone : (l : Leg) → leg_at v.legs x ≡ Some l → LegStands external tones v x l
+  new_alone l is = left_stands external tones w v x leg o left (stand.each x leg within at) (ap (λ (h : Holding). heard_by h.circuits x) holding ∙ deaf_once bridges w.holding x valid) l (sym here_alone ∙ is)
+
+  references_alone : SameReferences external w v
+  references_alone z b in_z at_z = elim (same_or_apart z x) [
+    | inl is_x ↦
+        let kept = left_reference leg o left b (sym here_alone ∙ sym (ap (leg_at v.legs) is_x) ∙ at_z) in
+        (leg, ap (leg_at w.legs) is_x ∙ at, kept.0, kept.1)
+    | inr not_x ↦ (b, sym (legs_alone z in_z not_x) ∙ at_z, refl, refl)
+  ]
+
+  pub alone_left : LegsStand external tones v
+  alone_left = record {
+    count = ap length legs ∙ length-set w.legs (number_of x) o ∙ stand.count;
+    each = each_stands external tones w v x x beside_alone stand new_alone new_alone;
+    one = still_one external tones w v references_alone stand;
+  }

@@ -1,0 +1,42 @@
+-- What an operation asks of the world in the making.
+use Rattle.std.specs.Prelude.{◌≡◌, ◌≢◌, ◌<◌, true, List, [], ◌∷◌, Option, IfSome}
+use Rattle.circuit_model.specs.declared.channel.Slot.{Slot}
+use Rattle.circuit_model.specs.declared.circuit.Kind.{Kind}
+use Rattle.circuit_model.specs.Circuits.{is_idle}
+use Rattle.circuit_model.specs.Extent.{IsExternal}
+use Rattle.q931_codec.specs.Outgoing.{IsWritable}
+use Rattle.call_states.specs.Status.{IsTold}
+use Rattle.tone_rules.specs.declared.tones.Tones.{Tones}
+use Rattle.tone_rules.specs.Tables.{IsGiven}
+use Rattle.call_profile.specs.Operations.{Operation, Clear, Pair, Seat, Sound, Put, Remove, Send, Making, making_after}
+use Rattle.exchange_events.specs.Sizes.{Dimensions}
+use Rattle.call_profile.specs.World.{World}
+use Rattle.call_profile.specs.Permitted.{CanSeat}
+
+-- two different slots that no circuit names
+pub record CanPair (d : Dimensions) (w : World) (x y : Slot) : Type 0 where
+  pub first : IsExternal d.external x
+  pub second : IsExternal d.external y
+  pub apart : x ≢ y
+  pub idle_first : is_idle w.holding.circuits x ≡ true
+  pub idle_second : is_idle w.holding.circuits y ≡ true
+
+-- a slot that no circuit names, and a tone that has octets, where it is to get one
+pub record CanSound (d : Dimensions) (tones : Tones) (w : World) (x : Slot) (kind : Option Kind) : Type 0 where
+  pub within : IsExternal d.external x
+  pub idle : is_idle w.holding.circuits x ≡ true
+  pub octets : IfSome kind (IsGiven tones)
+
+abbrev pub IsPermitted : Dimensions → Tones → Making → Operation → Type 0
+IsPermitted d tones m (Clear x) = IsExternal d.external x
+IsPermitted d tones m (Pair x y) = CanPair d m.world x y
+IsPermitted d tones m (Seat x room) = CanSeat d m.world x
+IsPermitted d tones m (Sound x kind) = CanSound d tones m.world x kind
+IsPermitted d tones m (Put x leg) = IsExternal d.external x × IsTold leg
+IsPermitted d tones m (Remove x) = IsExternal d.external x
+IsPermitted d tones m (Send line message) = (line < d.external) × IsWritable message
+
+-- each operation, when its turn comes
+abbrev pub ArePermitted : Dimensions → Tones → Making → List Operation → Type 0
+ArePermitted d tones m [] = Unit {0}
+ArePermitted d tones m (o ∷ os) = IsPermitted d tones m o × ArePermitted d tones (making_after d m o) os

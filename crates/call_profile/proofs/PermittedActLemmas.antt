@@ -1,0 +1,238 @@
+-- What an act does for a message to a leg is permitted.
+use Rattle.std.proofs.Common.{◌≡◌, ℕ, ◌<◌, true, [], ◌∷◌, Option, Some, None, refl, sym, subst, arith}
+use Rattle.std.specs.Prelude.{IfSome}
+use Rattle.std.proofs.lemmas.Grind.{common_steps}
+use Rattle.circuit_model.specs.declared.channel.Slot.{Slot}
+use Rattle.circuit_model.specs.declared.circuit.Kind.{Kind}
+use Rattle.circuit_model.specs.Circuits.{heard_by, is_idle}
+use Rattle.circuit_model.proofs.Validity.{deaf_is_idle}
+use Rattle.tone_rules.specs.declared.tones.Tones.{Tones}
+use Rattle.circuit_model.specs.Extent.{IsExternal}
+use Rattle.circuit_model.specs.Holding.{Clear as Clear_slot}
+use Rattle.q931_codec.specs.declared.kind.MessageKind.{MessageKind}
+use Rattle.q931_codec.specs.declared.kind.MessageKind.TheVariants as kind
+use Rattle.q931_codec.specs.declared.message.Message.{Message}
+use Rattle.q931_codec.specs.Causes.{response_to_status_enquiry}
+use Rattle.q931_codec.specs.CallStates.{active, call_delivered, call_present, call_received, incoming_call_proceeding}
+use Rattle.q931_codec.specs.Contents.{call_state_in}
+use Rattle.q931_codec.specs.MessageType.{IsNamed}
+use Rattle.q931_codec.specs.Outgoing.{OutgoingMessage, IsWritable}
+use Rattle.call_states.specs.Acts.{act_on, clearing_cause, is_null, is_among, every_state}
+use Rattle.call_states.specs.Status.{IsTold, status, unexpected_cause}
+use Rattle.call_states.specs.declared.act.Act.{Act}
+use Rattle.call_states.specs.declared.act.Act.TheVariants as act
+use Rattle.call_states.specs.declared.leg.Leg.{Leg}
+use Rattle.call_states.specs.declared.leg.Peer.{Peer}
+use Rattle.call_states.specs.declared.leg.Peer.TheVariants as peer
+use Rattle.call_states.proofs.Causes.{cause_fits}
+use Rattle.call_states.specs.declared.leg.Held.{Held}
+use Rattle.call_profile.specs.Acts.{with_progress, course_of, peer_of, tone_of, with_peer, clear_with, in_state, in_release_request, in_disconnect_indication, message_to, disconnect, on_alerting, on_connect}
+use Rattle.call_profile.specs.LegStanding.{CallsStand, LegStands, LegsStand, HasPeer}
+use Rattle.call_profile.specs.Legs.{Legs, leg_at}
+use Rattle.call_profile.specs.Operations.{Making, making_at}
+use Rattle.call_profile.specs.Peers.{IsThere, PeerIsThere}
+use Rattle.call_profile.proofs.Permitted.{CanPair, CanSound, ArePermitted}
+use Rattle.exchange_events.specs.Sizes.{Setting, Dimensions}
+use Rattle.call_profile.specs.World.{World, obey}
+use Rattle.call_profile.proofs.AnsweringLemmas.{ringing, caller_of, silent_by, cleared_idle, silent_idle}
+use Rattle.call_profile.proofs.AlertingLemmas.{waiting, silent_waiting}
+use Rattle.call_profile.proofs.ClearingLemmas.{held_there, peers_apart}
+use Rattle.call_profile.proofs.MessageToLegLemmas.{Asked, asked, two_ring}
+use Rattle.call_profile.proofs.ToneLemmas.{cleared_is_idle, tone_octets}
+
+-- ---- what a leg can be told
+
+told_state : (state : ℕ) → is_among every_state state ≡ true → state < 64
+told_state state among = grind (arith, common_steps, among)
+
+pub stands_told : (external : ℕ) (tones : Tones) (w : World) (x : Slot) (leg : Leg) → LegStands external tones w x leg → IsTold leg
+stands_told external tones w x leg stands = record { state = told_state leg.state stands.state; reference = stands.reference.1 }
+
+pub message_writable : (leg : Leg) (k : MessageKind) → IsTold leg → IsNamed k → IsWritable (message_to leg k)
+message_writable leg k told named = record {
+  reference = told.reference;
+  kind = named;
+  bearer = omega arith;
+  cause = tt;
+  state = tt;
+  channel = tt;
+  calling = omega arith;
+  called = omega arith;
+  low = omega arith;
+  high = omega arith;
+}
+
+pub disconnect_writable : (leg : Leg) (cause : ℕ) → IsTold leg → cause < 128 → IsWritable (disconnect leg cause)
+disconnect_writable leg cause told small = record {
+  reference = told.reference;
+  kind = tt;
+  bearer = omega arith;
+  cause = small;
+  state = tt;
+  channel = tt;
+  calling = omega arith;
+  called = omega arith;
+  low = omega arith;
+  high = omega arith;
+}
+
+pub announced_writable : (tone : Option Kind) (m : OutgoingMessage) → IsWritable m → IsWritable (with_progress tone m)
+announced_writable tone m can = record {
+  reference = can.reference;
+  kind = can.kind;
+  bearer = can.bearer;
+  cause = can.cause;
+  state = can.state;
+  channel = can.channel;
+  calling = can.calling;
+  called = can.called;
+  low = can.low;
+  high = can.high;
+}
+
+pub status_writable : (leg : Leg) (cause : ℕ) → IsTold leg → cause < 128 → IsWritable (status leg cause)
+status_writable leg cause told small = record {
+  reference = told.reference;
+  kind = tt;
+  bearer = omega arith;
+  cause = small;
+  state = told.state;
+  channel = tt;
+  calling = omega arith;
+  called = omega arith;
+  low = omega arith;
+  high = omega arith;
+}
+
+pub unexpected_fits : (k : MessageKind) → unexpected_cause k < 128
+unexpected_fits (kind.Unknown octet) = omega arith
+unexpected_fits _ = omega arith
+
+-- ---- what is known of the leg that a message is for, and of its peer
+
+peer_held : (legs : Legs) (p : Peer) (y : Slot) (other : Leg) → p ≡ peer.Leg y → leg_at legs y ≡ Some other → peer_of legs p ≡ Some (record { slot = y; leg = other })
+peer_held legs p y other is at = rw (is, held_there legs y other at) refl
+
+module _ (external : ℕ) (tones : Tones) (w : World) (h : Held) (stand : LegsStand external tones w) (within : IsExternal external h.slot) (at : leg_at w.legs h.slot ≡ Some h.leg) where
+  pub is_there : IsThere external h
+  is_there = record { within = within; told = stands_told external tones w h.slot h.leg (stand.each h.slot h.leg within at) }
+
+  peer_is : (p : Peer) → HasPeer external w.legs h.slot h.leg p → PeerIsThere external h (peer_of w.legs p)
+  peer_is peer.Alone has = tt
+  peer_is (peer.Leg y) has = rw (held_there w.legs y has.1.0 has.1.1) (
+    record { within = has.0; told = stands_told external tones w y has.1.0 (stand.each y has.1.0 has.0 has.1.1) },
+    peers_apart w.legs h.slot y h.leg has.1.0 at has.1.1 has.1.2,
+  )
+  peer_is (peer.Room room) has = tt
+
+  pub peer_there_too : PeerIsThere external h (peer_of w.legs h.leg.peer)
+  peer_there_too = peer_is h.leg.peer (stand.each h.slot h.leg within at).peer
+
+  pub rings_silent : is_among ringing h.leg.state ≡ true → heard_by w.holding.circuits h.slot ≡ None
+  rings_silent rings = silent_by external tones w h.slot h.leg rings (heard_by w.holding.circuits h.slot) (stand.each h.slot h.leg within at).hears
+
+  -- the caller of a leg that may be alerted hears nothing
+  pub caller_silent : is_among (call_present ∷ incoming_call_proceeding ∷ []) h.leg.state ≡ true → IfSome (peer_of w.legs h.leg.peer) (λ c. heard_by w.holding.circuits c.slot ≡ None)
+  caller_silent among =
+      let c = caller_of external tones w h.slot h.leg (two_ring h.leg.state among) h.leg.peer (stand.each h.slot h.leg within at).peer in
+      let y = c.0 in
+      let other = c.3.0 in
+      let deaf = silent_waiting tones other (heard_by w.holding.circuits y) (waiting other.state h.leg.state among c.3.2.matched) (stand.each y other c.2 c.3.1).hears in
+      let is : peer_of w.legs h.leg.peer ≡ Some (record { slot = y; leg = other }) = peer_held w.legs h.leg.peer y other c.1 c.3.1 in
+      subst (λ (o : Option Held). IfSome o (λ k. heard_by w.holding.circuits k.slot ≡ None)) (sym is) deaf
+
+-- ---- the acts
+
+-- a message to a held leg's user, and another leg at its slot
+abbrev Sends : Dimensions → Held → OutgoingMessage → Type 0
+Sends d h message = (h.slot.line < d.external) × IsWritable message
+
+abbrev Puts : Dimensions → Held → Leg → Type 0
+Puts d h leg = IsExternal d.external h.slot × IsTold leg
+
+in_state_told : (leg : Leg) (state : ℕ) → IsTold leg → state < 64 → IsTold (in_state state leg)
+in_state_told leg state told small = record { state = small; reference = told.reference }
+
+pub clear_permitted : (d : Dimensions) (tones : Tones) (m : Making) (cause : ℕ) (c : Held) → IsThere d.external c → cause < 128
+    → ArePermitted d tones m (clear_with tones cause c)
+clear_permitted d tones m cause c there small =
+    let tone = tone_of tones (in_disconnect_indication cause c.leg) in
+    let sends : Sends d c (with_progress tone (disconnect c.leg cause)) =
+    (there.within.0, announced_writable tone (disconnect c.leg cause) (disconnect_writable c.leg cause there.told small)) in
+    let goes : Puts d c (in_disconnect_indication cause c.leg) = (there.within, record { state = omega arith; reference = there.told.reference }) in
+    let sound : CanSound d tones (obey d m.world (Clear_slot c.slot)) c.slot tone = record {
+      within = there.within;
+      idle = cleared_is_idle m.world.holding c.slot;
+      octets = tone_octets tones (in_disconnect_indication cause c.leg);
+    } in
+    (there.within, (goes, (record { within = sound.within; idle = sound.idle; octets = sound.octets }, (sends, tt))))
+
+peer_permitted : (d : Dimensions) (tones : Tones) (m : Making) (h : Held) (cause : ℕ) (o : Option Held) → PeerIsThere d.external h o → cause < 128
+    → ArePermitted d tones m (with_peer o (clear_with tones cause))
+peer_permitted d tones m h cause None there small = tt
+peer_permitted d tones m h cause (Some c) there small = clear_permitted d tones m cause c there.0 small
+
+alerting_permitted : (d : Dimensions) (tones : Tones) (m : Making) (h : Held) → IsThere d.external h → (o : Option Held) → PeerIsThere d.external h o
+    → IfSome o (λ c. is_idle m.world.holding.circuits c.slot ≡ true) → ArePermitted d tones m (with_peer o (on_alerting tones h))
+alerting_permitted d tones m h there None is idle = tt
+alerting_permitted d tones m h there (Some c) is idle =
+    let tone = tone_of tones (in_state call_delivered c.leg) in
+    let sends : Sends d c (with_progress tone (message_to c.leg kind.Alerting)) =
+    (is.0.within.0, announced_writable tone (message_to c.leg kind.Alerting) (message_writable c.leg kind.Alerting is.0.told tt)) in
+    let caller_goes : Puts d c (in_state call_delivered c.leg) = (is.0.within, in_state_told c.leg call_delivered is.0.told (omega arith)) in
+    let called_goes : Puts d h (in_state call_received h.leg) = (there.within, in_state_told h.leg call_received there.told (omega arith)) in
+    (called_goes, (caller_goes, (record { within = is.0.within; idle = idle; octets = tone_octets tones (in_state call_delivered c.leg) }, (sends, tt))))
+
+module _ (s : Setting) (w : World) (h : Held) (stand : CallsStand s w) (within : IsExternal s.dimensions.external h.slot) (at : leg_at w.legs h.slot ≡ Some h.leg) where
+  abbrev d : Dimensions
+  d = s.dimensions
+
+  abbrev tones : Tones
+  tones = s.tones
+
+  there : IsThere d.external h
+  there = is_there d.external tones w h stand.legs within at
+
+  peer_too : PeerIsThere d.external h (peer_of w.legs h.leg.peer)
+  peer_too = peer_there_too d.external tones w h stand.legs within at
+
+  answer_permitted : heard_by w.holding.circuits h.slot ≡ None → (o : Option Held) → PeerIsThere d.external h o → ArePermitted d tones (making_at w) (with_peer o (on_connect h))
+  answer_permitted silent None is = tt
+  answer_permitted silent (Some c) is =
+      let can : CanPair d (obey d w (Clear_slot c.slot)) c.slot h.slot = record {
+        first = is.0.within;
+        second = within;
+        apart = is.1;
+        idle_first = cleared_idle d.bridges w.holding c.slot stand.circuits;
+        idle_second = silent_idle d.bridges w.holding h.slot c.slot stand.circuits silent;
+      } in
+      let connected : Sends d c (message_to c.leg kind.Connect) = (is.0.within.0, message_writable c.leg kind.Connect is.0.told tt) in
+      let acknowledged : Sends d h (message_to h.leg kind.ConnectAcknowledge) = (within.0, message_writable h.leg kind.ConnectAcknowledge there.told tt) in
+      let caller_goes : Puts d c (in_state active c.leg) = (is.0.within, in_state_told c.leg active is.0.told (omega arith)) in
+      let called_goes : Puts d h (in_state active h.leg) = (within, in_state_told h.leg active there.told (omega arith)) in
+      (is.0.within, (can, (called_goes, (caller_goes, (acknowledged, (connected, tt))))))
+
+  each_idle : (o : Option Held) → IfSome o (λ c. heard_by w.holding.circuits c.slot ≡ None) → IfSome o (λ c. is_idle w.holding.circuits c.slot ≡ true)
+  each_idle None deaf = tt
+  each_idle (Some c) deaf = deaf_is_idle w.holding.circuits c.slot (stand.circuits.standing c.slot) deaf
+
+  asked_permitted : (k : MessageKind) (a : Act) → Asked h.leg.state a → ArePermitted d tones (making_at w) (course_of s.tones w.legs h k a).operations
+  asked_permitted k act.Nothing asks = tt
+  asked_permitted k act.Unexpected asks = ((within.0, status_writable h.leg (unexpected_cause k) there.told (unexpected_fits k)), tt)
+  asked_permitted k act.Enquiry asks = ((within.0, status_writable h.leg response_to_status_enquiry there.told (omega arith)), tt)
+  asked_permitted k act.Proceeding asks = ((within, in_state_told h.leg incoming_call_proceeding there.told (omega arith)), tt)
+  asked_permitted k act.Alerting asks =
+      alerting_permitted d tones (making_at w) h there (peer_of w.legs h.leg.peer) peer_too
+      (each_idle (peer_of w.legs h.leg.peer) (caller_silent d.external tones w h stand.legs within at asks))
+  asked_permitted k act.Answer asks = answer_permitted (rings_silent d.external tones w h stand.legs within at asks) (peer_of w.legs h.leg.peer) peer_too
+  asked_permitted k (act.Disconnect cause) asks =
+      let sends : Sends d h (message_to h.leg kind.Release) = (within.0, message_writable h.leg kind.Release there.told tt) in
+      let goes : Puts d h (in_release_request h.leg) = (within, record { state = omega arith; reference = there.told.reference }) in
+      (within, (goes, (sends, peer_permitted d tones _ h cause (peer_of w.legs h.leg.peer) peer_too asks)))
+  asked_permitted k (act.Released cause) asks =
+      let sends : Sends d h (message_to h.leg kind.ReleaseComplete) = (within.0, message_writable h.leg kind.ReleaseComplete there.told tt) in
+      (within, (within, (sends, peer_permitted d tones _ h cause (peer_of w.legs h.leg.peer) peer_too asks)))
+  asked_permitted k (act.Gone cause) asks = (within, (within, peer_permitted d tones _ h cause (peer_of w.legs h.leg.peer) peer_too asks))
+
+  pub act_permitted : (m : Message) → ArePermitted s.dimensions s.tones (making_at w) (course_of s.tones w.legs h m.kind (act_on h.leg.state m)).operations
+  act_permitted m = asked_permitted m.kind (act_on h.leg.state m) (asked h.leg.state m.kind (clearing_cause m.elements) (is_null (call_state_in m.elements)) (cause_fits m.elements))

@@ -1,0 +1,155 @@
+-- What a SETUP does is permitted.
+use Rattle.std.proofs.Common.{◌≡◌, ℕ, ◌<◌, ◌≤◌, ◌^◌, ◌||◌, inl, inr, true, false, List, [], length, Option, Some, None, refl, sym, subst, arith}
+use Rattle.std.specs.Prelude.{nat_lt, nat_le, ◌&&◌, unwrap_or, option_map, option_and_then}
+use Rattle.std.proofs.lemmas.Grind.{common_steps}
+use Rattle.std.proofs.lemmas.Bool.Decides.{nat_tests}
+use Rattle.circuit_model.specs.declared.channel.Slot.{Slot}
+use Rattle.circuit_model.specs.Channels.{channel_at}
+use Rattle.circuit_model.specs.Extent.{IsExternal}
+use Rattle.circuit_model.proofs.Slots.{true_or_false}
+use Rattle.q931_codec.specs.Contents.{is_bearer_channel, bearer_in, bearer_of, called_of, channel_in, contents_in, contents_passed_on}
+use Rattle.q931_codec.specs.Identifiers as identifier
+use Rattle.q931_codec.specs.Outgoing.{IsWritable, bare}
+use Rattle.q931_codec.specs.declared.kind.MessageKind.TheVariants as kind
+use Rattle.q931_codec.specs.declared.message.Message.{Message}
+use Rattle.q931_elements.specs.InformationElement.{first_of}
+use Rattle.call_states.specs.declared.leg.Leg.{Leg}
+use Rattle.call_states.specs.Status.{IsTold}
+use Rattle.number_plan.specs.declared.target.Found.{Found}
+use Rattle.number_plan.specs.declared.target.Found.TheVariants.{Line, Room, More, Nothing}
+use Rattle.call_profile.specs.LegStanding.{CallsStand}
+use Rattle.call_profile.specs.Legs.{leg_named, new_reference}
+use Rattle.call_profile.specs.Operations.{making_at}
+use Rattle.call_profile.specs.Permitted.{CanSeat}
+use Rattle.call_profile.proofs.Permitted.{ArePermitted}
+use Rattle.exchange_events.specs.Sizes.{Setting}
+use Rattle.call_profile.specs.Setup.{checks, refusal, setup, accept, call, call_line, call_room, call_proceeding, offer, caller_slot, called_slot, target_of, is_unreadable, course_of_setup}
+use Rattle.exchange_events.specs.Sound.{IsPlanned}
+use Rattle.call_profile.specs.World.{World}
+use Rattle.call_profile.proofs.AcceptedSetupLemmas.{can_seat, refusal_small, can_still}
+use Rattle.call_profile.proofs.PermittedActLemmas.{message_writable}
+use Rattle.call_profile.proofs.SetupLemmas.{all_pass, caller_is, offered, reached}
+
+-- ---- what is passed on is not too long
+
+bearer_short : (o : Option (List ℕ)) → is_unreadable (option_map bearer_of o) ≡ false → length (unwrap_or o []) ≤ 10
+bearer_short None e = omega arith
+bearer_short (Some contents) e = elim (true_or_false (nat_lt (length contents) 2 || nat_lt 10 (length contents))) [
+  | inl long ↦ let f : true ≡ false = rw long at e in absurd cc
+  | inr short ↦ grind (arith, nat_tests, short)
+]
+
+called_short : (o : Option (List ℕ)) → length (unwrap_or (option_and_then called_of o) []) ≤ 21
+called_short None = omega arith
+called_short (Some contents) = elim (true_or_false (nat_le 1 (length contents) && nat_le (length contents) 21)) [
+  | inl short ↦ rw short (grind (arith, nat_tests, short))
+  | inr long ↦ rw long (omega arith)
+]
+
+passed_short : (most : ℕ) (contents : List ℕ) → length (contents_passed_on most contents) ≤ most
+passed_short most contents = elim (true_or_false (nat_le (length contents) most)) [
+  | inl short ↦ rw short (grind (arith, nat_tests, short))
+  | inr long ↦ rw long (omega arith)
+]
+
+-- ---- what is sent can be written
+
+pub bears : (place : ℕ) → place < 30 → is_bearer_channel (channel_at place) ≡ true
+bears place within = grind (arith, common_steps, within)
+
+refusal_writable : (reference cause : ℕ) → reference < 2 ^ 15 → cause < 128 → IsWritable (record (bare true reference kind.ReleaseComplete) { cause = Some cause })
+refusal_writable reference cause small few = record {
+  reference = small;
+  kind = tt;
+  bearer = omega arith;
+  cause = few;
+  state = tt;
+  channel = tt;
+  calling = omega arith;
+  called = omega arith;
+  low = omega arith;
+  high = omega arith;
+}
+
+proceeding_writable : (x : Slot) (leg : Leg) → x.place < 30 → IsTold leg → IsWritable (call_proceeding x leg)
+proceeding_writable x leg within told = record {
+  reference = told.reference;
+  kind = tt;
+  bearer = omega arith;
+  cause = tt;
+  state = tt;
+  channel = bears x.place within;
+  calling = omega arith;
+  called = omega arith;
+  low = omega arith;
+  high = omega arith;
+}
+
+offer_writable : (m : Message) (y : Slot) (leg : Leg) → y.place < 30 → IsTold leg → is_unreadable (option_map bearer_of (bearer_in m.elements)) ≡ false → IsWritable (offer m y leg)
+offer_writable m y leg within told readable = record {
+  reference = told.reference;
+  kind = tt;
+  bearer = bearer_short (bearer_in m.elements) readable;
+  cause = tt;
+  state = tt;
+  channel = bears y.place within;
+  calling = passed_short 22 (contents_in identifier.calling_party_number m.elements);
+  called = called_short (first_of identifier.called_party_number m.elements);
+  low = passed_short 16 (contents_in identifier.low_layer_compatibility m.elements);
+  high = passed_short 3 (contents_in identifier.high_layer_compatibility m.elements);
+}
+
+-- ---- what is done
+
+module _ (s : Setting) (w : World) (line : ℕ) (m : Message) (planned : IsPlanned s) (stands : CallsStand s w) (below : line < s.dimensions.external) (own : (1 ≤ m.reference) × (m.reference < 2 ^ 15)) where
+  line_permitted : (x y : Slot) (reference : ℕ) → IsExternal s.dimensions.external x → IsExternal s.dimensions.external y → reference < 2 ^ 15 → is_unreadable (option_map bearer_of (bearer_in m.elements)) ≡ false
+      → ArePermitted s.dimensions s.tones (making_at w) (call_line m x y reference)
+  line_permitted x y reference in_x in_y small readable =
+      let caller : IsTold _ = record { state = omega arith; reference = own.1 } in
+      let called : IsTold _ = record { state = omega arith; reference = small } in (
+        (in_x, caller),
+        (
+          (in_y, called),
+          (
+            (in_x.0, proceeding_writable x _ in_x.1 caller),
+            ((in_y.0, offer_writable m y _ in_y.1 called readable), tt),
+          ),
+        ),
+      )
+
+  room_permitted : (x : Slot) (room : ℕ) → IsExternal s.dimensions.external x → CanSeat s.dimensions w x → ArePermitted s.dimensions s.tones (making_at w) (call_room m x room)
+  room_permitted x room in_x can =
+      let told : IsTold _ = record { state = omega arith; reference = own.1 } in (
+        (in_x, told),
+        (
+          can_still s.dimensions w x _ can,
+          (
+            (in_x.0, proceeding_writable x _ in_x.1 told),
+            ((in_x.0, message_writable _ kind.Connect told tt), tt),
+          ),
+        ),
+      )
+
+  call_permitted : (x : Slot) → refusal s w line m ≡ None → caller_slot w line (channel_in m.elements) ≡ Some x → IsExternal s.dimensions.external x → (t : Found) (o : Option Slot) → target_of s m ≡ t → called_slot w x t ≡ o
+      → ArePermitted s.dimensions s.tones (making_at w) (call w m x t o)
+  call_permitted x accepted at in_x (Line l) (Some y) is chosen =
+      let may = offered s w x l y (reached s m l planned is) chosen in
+      line_permitted x y (new_reference w.legs l) in_x may.in_y may.small.1 (all_pass (checks s w line m) accepted).1.0
+  call_permitted x accepted at in_x (Line l) None is chosen = tt
+  call_permitted x accepted at in_x (Room room) o is chosen = room_permitted x room in_x (can_seat s w line m x room stands in_x accepted at is)
+  call_permitted x accepted at in_x More o is chosen = tt
+  call_permitted x accepted at in_x Nothing o is chosen = tt
+
+  accept_permitted : (o : Option Slot) → refusal s w line m ≡ None → caller_slot w line (channel_in m.elements) ≡ o → ArePermitted s.dimensions s.tones (making_at w) (accept s w m o)
+  accept_permitted None accepted at = tt
+  accept_permitted (Some x) accepted at =
+      let on = caller_is w line (channel_in m.elements) x at in
+      call_permitted x accepted at (subst (λ n. n < s.dimensions.external) (sym on.1.0) below, on.1.1) (target_of s m) (called_slot w x (target_of s m)) refl refl
+
+  setup_by : (o : Option ℕ) → refusal s w line m ≡ o → ArePermitted s.dimensions s.tones (making_at w) (setup s w line m o)
+  setup_by (Some cause) is = ((below, refusal_writable m.reference cause own.1 (refusal_small s w line m cause is)), tt)
+  setup_by None is = accept_permitted (caller_slot w line (channel_in m.elements)) is refl
+
+pub setup_permitted : (s : Setting) (w : World) (line : ℕ) (m : Message) → IsPlanned s → CallsStand s w → line < s.dimensions.external → (1 ≤ m.reference) × (m.reference < 2 ^ 15) → leg_named w.legs line false m.reference ≡ None
+    → ArePermitted s.dimensions s.tones (making_at w) (course_of_setup s w line m).operations
+setup_permitted s w line m planned stands below own unused = setup_by s w line m planned stands below own (refusal s w line m) refl

@@ -1,0 +1,235 @@
+-- The records of what an act ends: of an act that clears a call the one of its caller, of any other none.
+use Rattle.std.proofs.Common.{◌≡◌, ℕ, ◌*◌, Bool, true, false, ◌&&◌, inl, inr, List, [], length, set, Option, Some, None, refl, sym, ◌∙◌, ap, subst}
+use Rattle.std.specs.Prelude.{option_and_then}
+use Rattle.std.specs.List.{cons_option}
+use Rattle.circuit_model.specs.declared.channel.Slot.{Slot}
+use Rattle.circuit_model.specs.Extent.{IsExternal}
+use Rattle.control_memory.specs.Layout.{number_of}
+use Rattle.q931_codec.specs.declared.kind.MessageKind.{MessageKind}
+use Rattle.q931_codec.specs.declared.message.Message.{Message}
+use Rattle.q931_codec.specs.CallStates.{call_delivered, call_received, incoming_call_proceeding, active}
+use Rattle.q931_codec.specs.Contents.{call_state_in}
+use Rattle.call_states.specs.Acts.{act_on, clearing_cause, is_null, is_among}
+use Rattle.call_states.specs.declared.act.Act.{Act}
+use Rattle.call_states.specs.declared.act.Act.TheVariants as act
+use Rattle.call_states.specs.declared.leg.Leg.{Leg}
+use Rattle.call_states.specs.declared.leg.Peer.{Peer}
+use Rattle.call_states.specs.declared.leg.Peer.TheVariants as peer
+use Rattle.call_states.specs.declared.leg.Side.{Side}
+use Rattle.call_states.specs.declared.leg.Side.TheVariants.{Caller, Called}
+use Rattle.call_states.proofs.Causes.{cause_fits}
+use Rattle.tone_rules.specs.declared.tones.Tones.{Tones}
+use Rattle.call_states.specs.declared.leg.Held.{Held}
+use Rattle.exchange_events.specs.declared.record.CallRecord.{CallRecord}
+use Rattle.call_profile.specs.Acts.{course_of, in_release_request, in_disconnect_indication, in_state, peer_of, with_peer, clear_with, on_disconnect, on_release, remove_leg, on_alerting, on_connect}
+use Rattle.call_profile.specs.CallRecords.{is_calling, records}
+use Rattle.call_profile.specs.Calls.{making_by}
+use Rattle.call_profile.specs.EndedCalls.{caller_in, record_calling, record_ended, record_of_act}
+use Rattle.call_profile.specs.LegStanding.{LegsStand, HasPeer, IsInCall, AreOneCall}
+use Rattle.call_profile.specs.Legs.{Legs, leg_at}
+use Rattle.call_profile.specs.Operations.{Operation, Making, making_at, making_after_all}
+use Rattle.exchange_events.specs.Sizes.{Setting, Dimensions}
+use Rattle.call_profile.specs.World.{World}
+use Rattle.call_profile.proofs.AnsweringLemmas.{ringing, caller_of}
+use Rattle.call_profile.proofs.BesideLemmas.{entry_here, entry_else, same_or_apart}
+use Rattle.call_profile.proofs.OneLegClearedLemmas.{IsLeft}
+use Rattle.call_profile.proofs.ClearingLemmas.{held_there, peers_apart}
+use Rattle.call_profile.proofs.EndedCallLemmas.{GoesOn, no_record_where_calling, one_record}
+use Rattle.call_profile.proofs.MessageToLegLemmas.{Asked, asked, two_ring, one_rings, with_caller}
+use Rattle.call_profile.proofs.RefusalLemmas.{no_records}
+use Rattle.call_profile.proofs.LegTableLemmas.{both_else, both_first, both_second}
+
+-- the record of what an act ends, as a list
+abbrev pub records_of_act : World → Held → Act → List CallRecord
+records_of_act w h a = cons_option (record_of_act w h a) []
+
+-- ---- legs that don't call
+
+-- a called leg doesn't
+not_called : (leg : Leg) → leg.side ≡ Called → is_calling (Some leg) ≡ false
+not_called leg is = rw is refl
+
+called_silent : (legs after : Legs) (x : Slot) (leg : Leg) → leg_at legs x ≡ Some leg → leg.side ≡ Called → GoesOn legs after x
+called_silent legs after x leg at is calls =
+    let e : is_calling (Some leg) ≡ true = sym (ap is_calling at) ∙ calls in
+    let f = not_called leg is in
+    absurd cc
+
+-- nor does one that stands alone
+and_false : (b : Bool) → (b && false) ≡ false
+and_false true = refl
+and_false false = refl
+
+left_silent : (leg : Leg) (o : Option Leg) → IsLeft leg o → is_calling o ≡ false
+left_silent leg o (inl gone) = rw gone refl
+left_silent leg o (inr waits) = rw waits (and_false _)
+
+pub disconnected_silent : (cause : ℕ) (leg : Leg) → is_calling (Some (in_disconnect_indication cause leg)) ≡ false
+disconnected_silent cause leg = and_false _
+
+same_goes_on : (before after : Legs) (x : Slot) → leg_at after x ≡ leg_at before x → GoesOn before after x
+same_goes_on before after x same calls = ap is_calling same ∙ calls
+
+-- ---- once the leg's slot is cleared, and the leg waits for its release or is gone
+
+module _ (d : Dimensions) (tones : Tones) (w : World) (x : Slot) (leg : Leg) (o : Option Leg) (cause : ℕ) (stand : LegsStand d.external tones w)
+    (within : IsExternal d.external x) (at : leg_at w.legs x ≡ Some leg) (left : IsLeft leg o)
+    (m : Making) (legs : m.world.legs ≡ set w.legs (number_of x) o) where
+  abbrev one : Leg → Slot → List CallRecord
+  one l z = cons_option (record_calling w cause (record { slot = z; leg = l })) []
+
+  -- without a peer
+  alone_else : (z : Slot) → IsExternal d.external z → (z ≡ x → ⊥) → GoesOn w.legs m.world.legs z
+  alone_else z in_z apart = same_goes_on w.legs m.world.legs z (ap (λ ls. leg_at ls z) legs ∙ entry_else d.external w.legs x z o within in_z apart)
+
+  alone_over : is_calling (leg_at m.world.legs x) ≡ false
+  alone_over = ap (λ ls. is_calling (leg_at ls x)) legs ∙ ap is_calling (entry_here d.external w.legs x o stand.count within) ∙ left_silent leg o left
+
+  alone_caller : records w m.world cause ≡ one leg x
+  alone_caller = one_record d.external w m.world cause x leg stand.count within at alone_over alone_else
+
+  alone_called : leg.side ≡ Called → records w m.world cause ≡ []
+  alone_called is = no_record_where_calling d.external w m.world cause stand.count (λ z in_z. elim (same_or_apart z x) [
+    | inl same ↦ subst (GoesOn w.legs m.world.legs) (sym same) (called_silent w.legs m.world.legs x leg at is)
+    | inr apart ↦ alone_else z in_z apart
+  ])
+
+  pub alone_records : (side : Side) → leg.side ≡ side → records w m.world cause ≡ cons_option (option_and_then (record_calling w cause) (caller_in side (record { slot = x; leg = leg }) None)) []
+  alone_records Caller is = alone_caller
+  alone_records Called is = alone_called is
+
+  -- with the other leg of its call, which calls no more either
+  module _ (v : World) (y : Slot) (other : Leg) (p : Option Leg) (in_y : IsExternal d.external y) (at_y : leg_at w.legs y ≡ Some other) (apart : y ≡ x → ⊥)
+      (over : is_calling p ≡ false) (both : v.legs ≡ set m.world.legs (number_of y) p) where
+    both_legs : v.legs ≡ set (set w.legs (number_of x) o) (number_of y) p
+    both_legs = both ∙ ap (λ (ls : Legs). set ls (number_of y) p) legs
+
+    both_others : (z : Slot) → IsExternal d.external z → (z ≡ x → ⊥) → (z ≡ y → ⊥) → GoesOn w.legs v.legs z
+    both_others z in_z not_x not_y =
+        same_goes_on w.legs v.legs z
+        (ap (λ ls. leg_at ls z) both_legs ∙ both_else d.external w.legs x y o p stand.count within in_y apart z in_z not_x not_y)
+
+    both_over_x : is_calling (leg_at v.legs x) ≡ false
+    both_over_x =
+        ap (λ ls. is_calling (leg_at ls x)) both_legs
+        ∙ ap is_calling (both_first d.external w.legs x y o p stand.count within in_y apart)
+        ∙ left_silent leg o left
+
+    both_over_y : is_calling (leg_at v.legs y) ≡ false
+    both_over_y =
+        ap (λ ls. is_calling (leg_at ls y)) both_legs
+        ∙ ap is_calling (both_second d.external w.legs x y o p stand.count within in_y apart)
+        ∙ over
+
+    -- the leg is the caller's, or its peer is
+    both_caller : other.side ≡ Called → records w v cause ≡ one leg x
+    both_caller is = one_record d.external w v cause x leg stand.count within at both_over_x (λ z in_z not_x. elim (same_or_apart z y) [
+      | inl same ↦ subst (GoesOn w.legs v.legs) (sym same) (called_silent w.legs v.legs y other at_y is)
+      | inr not_y ↦ both_others z in_z not_x not_y
+    ])
+
+    both_called : leg.side ≡ Called → records w v cause ≡ one other y
+    both_called is = one_record d.external w v cause y other stand.count in_y at_y both_over_y (λ z in_z not_y. elim (same_or_apart z x) [
+      | inl same ↦ subst (GoesOn w.legs v.legs) (sym same) (called_silent w.legs v.legs x leg at is)
+      | inr not_x ↦ both_others z in_z not_x not_y
+    ])
+
+    pub both_records : (side : Side) → leg.side ≡ side → IsInCall side x leg y other
+        → records w v cause ≡ cons_option (option_and_then (record_calling w cause) (caller_in side (record { slot = x; leg = leg }) (Some (record { slot = y; leg = other })))) []
+    both_records Caller is call = both_caller call.is_called
+    both_records Called is call = both_called is
+
+  peer_records : (p : Peer) → leg.peer ≡ p → HasPeer d.external w.legs x leg p
+      → records w (making_after_all d m (with_peer (peer_of w.legs p) (clear_with tones cause))).world cause
+      ≡ cons_option (option_and_then (record_calling w cause) (caller_in leg.side (record { slot = x; leg = leg }) (peer_of w.legs p))) []
+  peer_records peer.Alone is has = alone_records leg.side refl
+  peer_records (peer.Leg y) is has =
+      rw (held_there w.legs y has.1.0 has.1.1)
+      (both_records (making_after_all d m (clear_with tones cause (record { slot = y; leg = has.1.0 }))).world y has.1.0 (Some (in_disconnect_indication cause has.1.0)) has.0 has.1.1
+      (peers_apart w.legs x y leg has.1.0 at has.1.1 has.1.2) (disconnected_silent cause has.1.0) refl leg.side refl has.1.2)
+  peer_records (peer.Room room) is has = alone_records leg.side refl
+
+  pub clearing_records : records w (making_after_all d m (with_peer (peer_of w.legs leg.peer) (clear_with tones cause))).world cause
+      ≡ cons_option (record_ended w (record { slot = x; leg = leg }) cause) []
+  clearing_records = peer_records leg.peer refl (stand.each x leg within at).peer
+
+-- ---- where a call goes on
+
+-- the called leg at x is in another state, and so is its caller's, which calls on
+module _ (external : ℕ) (w v : World) (x y : Slot) (leg other : Leg) (cause : ℕ) (size : length w.legs ≡ 30 * external)
+    (in_x : IsExternal external x) (at_x : leg_at w.legs x ≡ Some leg) (is_called : leg.side ≡ Called) where
+  called_alone : (o : Option Leg) → v.legs ≡ set w.legs (number_of x) o → records w v cause ≡ []
+  called_alone o legs = no_record_where_calling external w v cause size (λ z in_z. elim (same_or_apart z x) [
+    | inl same ↦ subst (GoesOn w.legs v.legs) (sym same) (called_silent w.legs v.legs x leg at_x is_called)
+    | inr not_x ↦ same_goes_on w.legs v.legs z (ap (λ ls. leg_at ls z) legs ∙ entry_else external w.legs x z o in_x in_z not_x)
+  ])
+
+  caller_too : (o : Option Leg) (new : Leg) → IsExternal external y → (y ≡ x → ⊥) → is_calling (Some new) ≡ true
+      → v.legs ≡ set (set w.legs (number_of x) o) (number_of y) (Some new) → records w v cause ≡ []
+  caller_too o new in_y apart calls legs = no_record_where_calling external w v cause size (λ z in_z. elim (same_or_apart z x) [
+    | inl same ↦ subst (GoesOn w.legs v.legs) (sym same) (called_silent w.legs v.legs x leg at_x is_called)
+    | inr not_x ↦ elim (same_or_apart z y) [
+      | inl same ↦ subst (GoesOn w.legs v.legs) (sym same) (λ before.
+          ap (λ ls. is_calling (leg_at ls y)) legs ∙ ap is_calling (both_second external w.legs x y o (Some new) size in_x in_y apart) ∙ calls)
+      | inr not_y ↦ same_goes_on w.legs v.legs z (ap (λ ls. leg_at ls z) legs ∙ both_else external w.legs x y o (Some new) size in_x in_y apart z in_z not_x not_y)
+    ]
+  ])
+
+delivered_calls : (leg : Leg) → leg.side ≡ Caller → is_calling (Some (in_state call_delivered leg)) ≡ true
+delivered_calls leg is = rw is refl
+
+active_calls : (leg : Leg) → leg.side ≡ Caller → is_calling (Some (in_state active leg)) ≡ true
+active_calls leg is = rw is refl
+
+-- ---- the acts
+
+module _ (s : Setting) (w : World) (h : Held) (k : MessageKind) (stand : LegsStand s.dimensions.external s.tones w)
+    (within : IsExternal s.dimensions.external h.slot) (at : leg_at w.legs h.slot ≡ Some h.leg) where
+  abbrev caller_there : Type 0
+  caller_there = (y : Slot) × (h.leg.peer ≡ peer.Leg y) × IsExternal s.dimensions.external y × ((other : Leg) × (leg_at w.legs y ≡ Some other) × AreOneCall y other h.slot h.leg)
+
+  has_caller : is_among ringing h.leg.state ≡ true → caller_there
+  has_caller rings = caller_of s.dimensions.external s.tones w h.slot h.leg rings h.leg.peer (stand.each h.slot h.leg within at).peer
+
+  apart_from : (c : caller_there) → c.0 ≡ h.slot → ⊥
+  apart_from c = peers_apart w.legs h.slot c.0 h.leg c.3.0 at c.3.1 (subst (λ (side : Side). IsInCall side h.slot h.leg c.0 c.3.0) (sym c.3.2.is_called) c.3.2)
+
+  progress_records : (os : Held → List Operation) (c : caller_there)
+      → records w (making_after_all s.dimensions (making_at w) (os (record { slot = c.0; leg = c.3.0 }))).world 0 ≡ []
+      → records w (making_after_all s.dimensions (making_at w) (with_peer (peer_of w.legs h.leg.peer) os)).world 0 ≡ []
+  progress_records os c none =
+      ap (λ (list : List Operation). records w (making_after_all s.dimensions (making_at w) list).world 0) (with_caller w.legs h.leg.peer c.0 c.3.0 os c.1 c.3.1) ∙ none
+
+  act_records : (a : Act) → Asked h.leg.state a → records w (making_by s w (course_of s.tones w.legs h k a)).world (course_of s.tones w.legs h k a).cause ≡ records_of_act w h a
+  act_records act.Nothing asks = no_records w 0
+  act_records act.Unexpected asks = no_records w 0
+  act_records act.Enquiry asks = no_records w 0
+  act_records act.Proceeding asks =
+      let c = has_caller (one_rings h.leg.state asks) in
+      called_alone s.dimensions.external w (making_by s w (course_of s.tones w.legs h k act.Proceeding)).world h.slot c.0 h.leg c.3.0 0 stand.count within at c.3.2.is_called
+      (Some (in_state incoming_call_proceeding h.leg)) refl
+  act_records act.Alerting asks =
+      let c = has_caller (two_ring h.leg.state asks) in
+      let y = c.0 in
+      let other = c.3.0 in
+      progress_records (on_alerting s.tones h) c
+      (caller_too s.dimensions.external w (making_after_all s.dimensions (making_at w) (on_alerting s.tones h (record { slot = y; leg = other }))).world h.slot y h.leg other 0 stand.count within at c.3.2.is_called
+      (Some (in_state call_received h.leg)) (in_state call_delivered other) c.2 (apart_from c) (delivered_calls other c.3.2.calls) refl)
+  act_records act.Answer asks =
+      let c = has_caller asks in
+      let y = c.0 in
+      let other = c.3.0 in
+      progress_records (on_connect h) c
+      (caller_too s.dimensions.external w (making_after_all s.dimensions (making_at w) (on_connect h (record { slot = y; leg = other }))).world h.slot y h.leg other 0 stand.count within at c.3.2.is_called
+      (Some (in_state active h.leg)) (in_state active other) c.2 (apart_from c) (active_calls other c.3.2.calls) refl)
+  act_records (act.Disconnect cause) asks =
+      clearing_records s.dimensions s.tones w h.slot h.leg (Some (in_release_request h.leg)) cause stand within at (inr refl) (making_after_all s.dimensions (making_at w) (on_disconnect h)) refl
+  act_records (act.Released cause) asks =
+      clearing_records s.dimensions s.tones w h.slot h.leg None cause stand within at (inl refl) (making_after_all s.dimensions (making_at w) (on_release h)) refl
+  act_records (act.Gone cause) asks =
+      clearing_records s.dimensions s.tones w h.slot h.leg None cause stand within at (inl refl) (making_after_all s.dimensions (making_at w) (remove_leg h)) refl
+
+  -- what a message to a leg ends is what its act ends
+  pub leg_records : (m : Message)
+      → records w (making_by s w (course_of s.tones w.legs h k (act_on h.leg.state m))).world (course_of s.tones w.legs h k (act_on h.leg.state m)).cause ≡ records_of_act w h (act_on h.leg.state m)
+  leg_records m = act_records (act_on h.leg.state m) (asked h.leg.state m.kind (clearing_cause m.elements) (is_null (call_state_in m.elements)) (cause_fits m.elements))

@@ -1,0 +1,176 @@
+-- A call that is refused changes nothing, and the fabric decides nothing.
+use Rattle.std.proofs.Common.{◌≡◌, ℕ, zero, suc, Bool, true, false, not, ◌&&◌, List, [], ◌∷◌, ◌++◌, Option, Some, None, length, refl, sym, ap, subst}
+use Rattle.std.specs.Prelude.{filter_map, is_some}
+use Rattle.std.specs.List.{range_with_len}
+use Rattle.circuit_model.specs.declared.channel.Slot.{Slot}
+use Rattle.circuit_model.specs.Holding.{Holding}
+use Rattle.control_memory.specs.Layout.{Layout, slot_numbered}
+use Rattle.q931_codec.specs.Causes.{temporary_failure}
+use Rattle.call_states.specs.Acts.{act_on}
+use Rattle.clearing_rules.specs.declared.scope.Restart.{Restart}
+use Rattle.clearing_rules.specs.Restarting.{acknowledgement}
+use Rattle.clearing_rules.specs.UnknownReference.{answer_without_call}
+use Rattle.exchange_events.specs.declared.record.CallRecord.{CallRecord}
+use Rattle.call_profile.specs.Acts.{course_of}
+use Rattle.call_profile.specs.CallRecords.{record_at, records, is_ended, is_calling}
+use Rattle.call_profile.specs.Calls.{Request, For_leg, New_call, On_no_call, Restarts, Unanswered, request_of, answer_back, outcome_for, outcome_of_octets, refusal_for, after_message, answer_to, refused_with}
+use Rattle.call_profile.specs.Legs.{leg_at}
+use Rattle.call_profile.specs.Operations.{Operation, Clear, Pair, Seat, Sound, Put, Remove, Send, Making, making_at, making_after, making_after_all, with_tone}
+use Rattle.call_profile.specs.Restarts.{MessageOutcome, outcome_at_slot, restart_slot, outcome_below, outcome_of_restart}
+use Rattle.exchange_events.specs.declared.trace.Event.{Event}
+use Rattle.exchange_events.specs.declared.trace.Event.TheVariants.{Nail, Seat as Seat_event, Free, Message, Frame}
+use Rattle.call_profile.specs.IdleSlots.{is_nailed}
+use Rattle.exchange_events.specs.Sizes.{Setting, Dimensions}
+use Rattle.call_profile.specs.Setup.{course_of_setup}
+use Rattle.call_profile.specs.Step.{is_refused, next, may_nail, may_seat}
+use Rattle.call_profile.specs.World.{World}
+use Rattle.call_profile.proofs.RestartedSlotLemmas.{below_none, below_more}
+
+-- ---- what is told where nothing has changed
+
+none_left : (b : Bool) → (b && not b) ≡ false
+none_left true = refl
+none_left false = refl
+
+not_ended : (w : World) (n : ℕ) → is_ended w w (slot_numbered n) ≡ false
+not_ended w n = none_left (is_calling (leg_at w.legs (slot_numbered n)))
+
+no_record_at : (w : World) (cause n : ℕ) → record_at w w cause (slot_numbered n) ≡ None
+no_record_at w cause n = rw (not_ended w n) refl
+
+none_of : (f : ℕ → Option CallRecord) (ns : List ℕ) → ((n : ℕ) → f n ≡ None) → filter_map f ns ≡ []
+none_of f [] each = refl
+none_of f (n ∷ ns) each = rw (each n) (none_of f ns each)
+
+pub no_records : (w : World) (cause : ℕ) → records w w cause ≡ []
+no_records w cause = none_of (λ n. record_at w w cause (slot_numbered n)) (range_with_len 0 (length w.legs)) (no_record_at w cause)
+
+-- ---- a call that is refused
+
+-- nothing is made, moved or told
+pub record Nothing_done (w : World) (a : MessageOutcome) : Type 0 where
+  pub world : a.making.world ≡ w
+  pub moves : a.making.moves ≡ None
+  pub recorded : a.recorded ≡ []
+
+done_refused : (s : Setting) (w : World) (line : ℕ) (r : Request) (cause : ℕ) → refusal_for s w line r ≡ Some cause → Nothing_done w (outcome_for s w line r)
+done_refused s w line (For_leg h m) cause e = absurd cc
+done_refused s w line (New_call m) cause e = rw e (record { world = refl; moves = refl; recorded = no_records w 0 })
+done_refused s w line (On_no_call m) cause e = absurd cc
+done_refused s w line (Restarts r) cause e = absurd cc
+done_refused s w line Unanswered cause e = absurd cc
+
+pub refused_world : (s : Setting) (w : World) (line : ℕ) (octets : List ℕ) (cause : ℕ) → refused_with s w line octets ≡ Some cause → after_message s w line octets ≡ w
+refused_world s w line octets cause e = (done_refused s w line (request_of w.legs line octets) cause e).world
+
+pub refused_moves : (s : Setting) (w : World) (line : ℕ) (octets : List ℕ) (cause : ℕ) → refused_with s w line octets ≡ Some cause → (answer_to s w line octets).moved ≡ None
+refused_moves s w line octets cause e = (done_refused s w line (request_of w.legs line octets) cause e).moves
+
+pub refused_records : (s : Setting) (w : World) (line : ℕ) (octets : List ℕ) (cause : ℕ) → refused_with s w line octets ≡ Some cause → (answer_to s w line octets).records ≡ []
+refused_records s w line octets cause e = (done_refused s w line (request_of w.legs line octets) cause e).recorded
+
+-- ---- an event that is refused
+
+not_so : (b : Bool) → not b ≡ true → b ≡ false
+not_so true e = absurd cc
+not_so false e = refl
+
+some_cause : (o : Option ℕ) → is_some o ≡ true → (cause : ℕ) × (o ≡ Some cause)
+some_cause None e = absurd cc
+some_cause (Some cause) e = (cause, refl)
+
+pub refused_next : (s : Setting) (w : World) (e : Event) → is_refused s w e ≡ true → next s w e ≡ w
+refused_next s w (Nail x y) e = rw (not_so (may_nail w x y) e) refl
+refused_next s w (Seat_event x room) e = rw (not_so (may_seat s.dimensions w x) e) refl
+refused_next s w (Free x) e = rw (not_so (is_nailed w x) e) refl
+refused_next s w (Message line octets) e = let refused = some_cause (refused_with s w line octets) e in refused_world s w line octets refused.0 refused.1
+refused_next s w (Frame input) e = absurd cc
+
+-- ---- the fabric decides nothing
+
+-- two worlds in the making that differ in nothing but paths
+pub record SameButPaths (a b : Making) : Type 0 where
+  pub holding : a.world.holding ≡ b.world.holding
+  pub legs : a.world.legs ≡ b.world.legs
+  pub sends : a.sends ≡ b.sends
+
+same_performed : (d : Dimensions) (a b : Making) (o : Operation) → SameButPaths a b → SameButPaths (making_after d a o) (making_after d b o)
+same_performed d a b (Clear x) same = record { holding = rw same.holding refl; legs = same.legs; sends = same.sends }
+same_performed d a b (Pair x y) same = record { holding = rw same.holding refl; legs = same.legs; sends = same.sends }
+same_performed d a b (Seat x room) same = record { holding = rw same.holding refl; legs = same.legs; sends = same.sends }
+same_performed d a b (Sound x kind) same = record { holding = ap (λ (h : Holding). with_tone h x kind) same.holding; legs = same.legs; sends = same.sends }
+same_performed d a b (Put x leg) same = record { holding = same.holding; legs = rw same.legs refl; sends = same.sends }
+same_performed d a b (Remove x) same = record { holding = same.holding; legs = rw same.legs refl; sends = same.sends }
+same_performed d a b (Send line message) same = record { holding = same.holding; legs = same.legs; sends = rw same.sends refl }
+
+same_performed_all : (d : Dimensions) (a b : Making) (os : List Operation) → SameButPaths a b → SameButPaths (making_after_all d a os) (making_after_all d b os)
+same_performed_all d a b [] same = same
+same_performed_all d a b (o ∷ os) same = same_performed_all d (making_after d a o) (making_after d b o) os (same_performed d a b o same)
+
+append_both : (xs ys us vs : List CallRecord) → xs ≡ us → ys ≡ vs → xs ++ ys ≡ us ++ vs
+append_both xs ys us vs e f = λ i. e i ++ f i
+
+-- records look at the circuits and the legs alone
+same_records : (u v after_u after_v : World) (cause : ℕ) → u.holding ≡ v.holding → u.legs ≡ v.legs → after_u.legs ≡ after_v.legs → records u after_u cause ≡ records v after_v cause
+same_records u v after_u after_v cause holding legs after_legs =
+    λ i. filter_map (λ n. record_at (record u { holding = holding i; legs = legs i }) (record u { legs = after_legs i }) cause (slot_numbered n)) (range_with_len 0 (length (legs i)))
+
+-- what was done differs in nothing but paths
+pub record DoneAlike (a b : MessageOutcome) : Type 0 where
+  pub making : SameButPaths a.making b.making
+  pub recorded : a.recorded ≡ b.recorded
+
+alike_at : (a b c e : MessageOutcome) → a ≡ c → b ≡ e → DoneAlike c e → DoneAlike a b
+alike_at a b c e first second alike = subst (λ z. DoneAlike z b) (sym first) (subst (DoneAlike c) (sym second) alike)
+
+-- what is done does not look at the paths
+module _ (s : Setting) (w : World) (layout : Layout) where
+  abbrev other : World
+  other = record w { layout = layout }
+
+  begun_alike : SameButPaths (making_at other) (making_at w)
+  begun_alike = record { holding = refl; legs = refl; sends = refl }
+
+  operations_alike : (cause : ℕ) (os : List Operation)
+      → DoneAlike (record { making = making_after_all s.dimensions (making_at other) os; recorded = records other (making_after_all s.dimensions (making_at other) os).world cause })
+      (record { making = making_after_all s.dimensions (making_at w) os; recorded = records w (making_after_all s.dimensions (making_at w) os).world cause })
+  operations_alike cause os =
+      let same = same_performed_all s.dimensions (making_at other) (making_at w) os begun_alike in
+      record { making = same; recorded = same_records other w (making_after_all s.dimensions (making_at other) os).world (making_after_all s.dimensions (making_at w) os).world cause refl refl same.legs }
+
+  slot_alike : (r : Restart) (x : Slot) (a b : MessageOutcome) → DoneAlike a b → DoneAlike (outcome_at_slot s.dimensions s.tones r x a) (outcome_at_slot s.dimensions s.tones r x b)
+  slot_alike r x a b alike =
+      let operations : restart_slot s.tones r a.making.world.legs x ≡ restart_slot s.tones r b.making.world.legs x = ap (λ ls. restart_slot s.tones r ls x) alike.making.legs in
+      let step : List Operation → Making = making_after_all s.dimensions b.making in
+      let same : SameButPaths (making_after_all s.dimensions a.making (restart_slot s.tones r a.making.world.legs x)) (step (restart_slot s.tones r b.making.world.legs x)) =
+      subst (λ os. SameButPaths (making_after_all s.dimensions a.making (restart_slot s.tones r a.making.world.legs x)) (step os)) operations
+      (same_performed_all s.dimensions a.making b.making (restart_slot s.tones r a.making.world.legs x) alike.making) in
+      record {
+        making = same;
+        recorded = append_both _ _ _ _ alike.recorded (same_records a.making.world b.making.world (making_after_all s.dimensions a.making (restart_slot s.tones r a.making.world.legs x)).world
+            (step (restart_slot s.tones r b.making.world.legs x)).world temporary_failure alike.making.holding alike.making.legs same.legs);
+      }
+
+  below_alike : (r : Restart) (line place : ℕ) → DoneAlike (outcome_below s.dimensions s.tones r line other place) (outcome_below s.dimensions s.tones r line w place)
+  below_alike r line zero = alike_at _ _ _ _ (below_none s.dimensions s.tones r line other) (below_none s.dimensions s.tones r line w) (record { making = begun_alike; recorded = refl })
+  below_alike r line (suc place) =
+      alike_at _ _ _ _ (below_more s.dimensions s.tones r line other place) (below_more s.dimensions s.tones r line w place)
+      (slot_alike r (record { line = line; place = place }) (outcome_below s.dimensions s.tones r line other place) (outcome_below s.dimensions s.tones r line w place) (below_alike r line place))
+
+  restarted_alike : (r : Restart) (line : ℕ) → DoneAlike (outcome_of_restart s.dimensions s.tones r line other) (outcome_of_restart s.dimensions s.tones r line w)
+  restarted_alike r line =
+      let alike = below_alike r line 30 in
+      record {
+        making = same_performed s.dimensions (outcome_below s.dimensions s.tones r line other 30).making (outcome_below s.dimensions s.tones r line w 30).making (Send line (acknowledgement r)) alike.making;
+        recorded = alike.recorded;
+      }
+
+  received_alike : (line : ℕ) (r : Request) → DoneAlike (outcome_for s other line r) (outcome_for s w line r)
+  received_alike line (For_leg h m) = operations_alike (course_of s.tones w.legs h m.kind (act_on h.leg.state m)).cause (course_of s.tones w.legs h m.kind (act_on h.leg.state m)).operations
+  received_alike line (New_call m) = operations_alike 0 (course_of_setup s w line m).operations
+  received_alike line (On_no_call m) = operations_alike 0 (answer_back line (answer_without_call m))
+  received_alike line (Restarts r) = restarted_alike r line
+  received_alike line Unanswered = operations_alike 0 []
+
+  pub done_alike : (line : ℕ) (octets : List ℕ) → DoneAlike (outcome_of_octets s other line octets) (outcome_of_octets s w line octets)
+  done_alike line octets = received_alike line (request_of w.legs line octets)

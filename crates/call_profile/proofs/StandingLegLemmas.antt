@@ -1,0 +1,97 @@
+-- Every event keeps the legs standing.
+use Rattle.std.proofs.Common.{◌≡◌, ℕ, zero, suc, inl, inr, ◌*◌, ◌<◌, List, [], ◌∷◌, Option, Some, None, refl, sym, ◌∙◌, subst, arith, get_or}
+use Rattle.std.specs.Prelude.{All, length, replicate}
+use Rattle.std.proofs.lemmas.Bool.{cases_lt}
+use Rattle.std.proofs.lemmas.List.{length-replicate}
+use Rattle.std.proofs.Math.ListN.{get_or-eq_default}
+use Rattle.circuit_model.specs.declared.channel.Slot.{Slot}
+use Rattle.circuit_model.specs.Holding.{Valid}
+use Rattle.circuit_model.proofs.Validity.{valid-empty}
+use Rattle.q931_codec.specs.Outgoing.{OutgoingMessage}
+use Rattle.q931_codec.specs.Reading.{reading}
+use Rattle.q931_codec.proofs.Messages.{read_message}
+use Rattle.clearing_rules.specs.UnknownReference.{answer_without_call}
+use Rattle.call_profile.specs.Calls.{Request, For_leg, New_call, On_no_call, Restarts, Unanswered, request_of, answer_back, outcome_for, making_by}
+use Rattle.call_profile.specs.Course.{only}
+use Rattle.exchange_events.specs.declared.trace.Event.{Event}
+use Rattle.exchange_events.specs.declared.trace.Event.TheVariants.{Nail, Seat, Free, Message, Frame}
+use Rattle.exchange_events.specs.Sound.{Fits, IsPlanned}
+use Rattle.call_profile.specs.Step.{next, world_after_all}
+use Rattle.call_profile.specs.LegStanding.{LegsStand, CallsStand}
+use Rattle.control_memory.specs.Layout.{number_of}
+use Rattle.call_states.specs.declared.leg.Leg.{Leg}
+use Rattle.call_profile.specs.Legs.{Legs, leg_at, no_legs}
+use Rattle.exchange_events.specs.Sizes.{Setting}
+use Rattle.call_profile.specs.World.{World, start}
+use Rattle.call_profile.proofs.ClearingLemmas.{Kept}
+use Rattle.call_profile.proofs.CommandLemmas.{nail_kept, seat_kept, free_kept, frame_kept}
+use Rattle.call_profile.proofs.MessageToLegLemmas.{leg_kept}
+use Rattle.call_profile.proofs.NamedLegLemmas.{received_stands}
+use Rattle.call_profile.proofs.RestartLemmas.{below_kept}
+use Rattle.call_profile.proofs.SetupLemmas.{setup_kept, new_from}
+
+pub octets_small : (octets : List ℕ) → All (λ octet. octet < 256) octets → (i : ℕ) → get_or octets i 0 < 256
+octets_small octets all i = elim (cases_lt i (length octets)) [
+  | inl inside ↦ all i 0 inside
+  | inr beyond ↦ subst (λ n. n < 256) (sym (get_or-eq_default octets 0 beyond)) (omega arith)
+]
+
+-- a message that is sent changes nothing else
+kept_without : (s : Setting) (w : World) (line : ℕ) (o : Option OutgoingMessage) → Kept s.dimensions s.tones w → Kept s.dimensions s.tones (making_by s w (only (answer_back line o))).world
+kept_without s w line None kept = kept
+kept_without s w line (Some message) kept = kept
+
+kept_stands : (s : Setting) (v : World) → Kept s.dimensions s.tones v → CallsStand s v
+kept_stands s v kept = record { circuits = kept.0; legs = kept.1 }
+
+module _ (s : Setting) (w : World) (line : ℕ) (octets : List ℕ) (planned : IsPlanned s) (can : Fits s.dimensions.external (Message line octets)) (valid : Valid s.dimensions.bridges w.holding)
+    (stand : LegsStand s.dimensions.external s.tones w) where
+  received_kept : (r : Request) → request_of w.legs line octets ≡ r → Kept s.dimensions s.tones (outcome_for s w line r).making.world
+  received_kept (For_leg h m) is =
+      let named = received_stands w.legs line octets h m is in
+      let on = named.among in
+      leg_kept s w h valid stand (subst (λ n. n < s.dimensions.external) (sym on.0) can.0, on.1) named.at m
+  received_kept (New_call m) is =
+      let new = new_from w.legs line (reading octets) m is in
+      let message = read_message octets m (octets_small octets can.1) new.0 in
+      setup_kept s w line m (record { planned = planned; valid = valid; stand = stand; below = can.0; own = (new.1, message.value); unused = new.2 })
+  received_kept (On_no_call m) is = kept_without s w line (answer_without_call m) (valid, stand)
+  received_kept (Restarts r) is = below_kept s.dimensions s.tones r line w can.0 (valid, stand) 30 (omega arith)
+  received_kept Unanswered is = (valid, stand)
+
+pub happened_kept : (s : Setting) (w : World) (e : Event) → IsPlanned s → Fits s.dimensions.external e → CallsStand s w → CallsStand s (next s w e)
+happened_kept s w (Nail x y) planned fits stands = kept_stands s (next s w (Nail x y)) (nail_kept s w stands.circuits stands.legs x y fits)
+happened_kept s w (Seat x room) planned fits stands = kept_stands s (next s w (Seat x room)) (seat_kept s w stands.circuits stands.legs x room fits)
+happened_kept s w (Free x) planned fits stands = kept_stands s (next s w (Free x)) (free_kept s w stands.circuits stands.legs x fits)
+happened_kept s w (Message line octets) planned fits stands =
+    kept_stands s (next s w (Message line octets)) (received_kept s w line octets planned fits stands.circuits stands.legs (request_of w.legs line octets) refl)
+happened_kept s w (Frame input) planned fits stands = kept_stands s (next s w (Frame input)) (frame_kept s w stands.circuits stands.legs input)
+
+-- ---- whole runs
+
+-- a table without legs
+abbrev bare : ℕ → Legs
+bare n = replicate n None
+
+none_in : (n i : ℕ) → get_or (bare n) i None ≡ None
+none_in zero i = refl
+none_in (suc n) zero = refl
+none_in (suc n) (suc i) = none_in n i
+
+none_at : (external : ℕ) (x : Slot) (leg : Leg) → leg_at (no_legs external) x ≡ Some leg → ⊥
+none_at external x leg at = let e : None ≡ Some leg = sym (none_in (30 * external) (number_of x)) ∙ at in cc
+
+pub start_stands : (s : Setting) → CallsStand s (start s.dimensions)
+start_stands s = record {
+  circuits = valid-empty s.dimensions.bridges;
+  legs = record {
+    count = length-replicate (30 * s.dimensions.external) None;
+    each = λ x leg in_x at. absurd (none_at s.dimensions.external x leg at);
+    one = λ x y a b in_x in_y at_x at_y line side reference. absurd (none_at s.dimensions.external x a at_x);
+  };
+}
+
+pub run_stands : (s : Setting) (w : World) (es : List Event) → IsPlanned s → All (Fits s.dimensions.external) es → CallsStand s w → CallsStand s (world_after_all s w es)
+run_stands s w [] planned fits stands = stands
+run_stands s w (e ∷ es) planned fits stands =
+    run_stands s (next s w e) es planned (λ k d inside. fits (suc k) d (omega (arith, inside))) (happened_kept s w e planned (fits 0 e (omega arith)) stands)
