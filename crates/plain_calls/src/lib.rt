@@ -33,7 +33,7 @@ mod writing;
 pub use exchange::{PlainExchange, PlainTones};
 pub use legs::{Leg, Peer, Side, State};
 pub use numbers::{Number, Target};
-pub use report::{PlainEvent, PlainRun, append_octets, plain_report};
+pub use report::{PlainEvent, PlainRun, append_octets};
 pub use sent::{CallRecord, Course, Party, Sent, Signal};
 pub use setup::Refusal;
 pub use table::Act;
