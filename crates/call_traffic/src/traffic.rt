@@ -7,7 +7,9 @@ use crate::random::Random;
 use crate::script::Script;
 use crate::users::draw_message;
 use circuit_model::Slot;
-use plain_calls::{Number, PlainEvent, PlainExchange, PlainRun, PlainTones, Target, append_octets};
+use plain_calls::{
+    Chains, Number, PlainEvent, PlainExchange, PlainRun, PlainTones, Target, append_octets,
+};
 use std::alloc::{AllocError, Global};
 
 /// A trace of calls, and what the plain exchange makes of it in file order.
@@ -21,6 +23,8 @@ pub struct Drawn {
     pub counts: Counts,
     /// How many paths were moved.
     pub moved: u32,
+    /// By which chains they were.
+    pub chains: Chains,
     /// How many octets ringing tone and busy tone have; 0 where the tone isn't given.
     pub tones: (usize, usize),
     /// How often ringing tone and busy tone were put on a slot.
@@ -189,6 +193,7 @@ pub fn draw_traffic(alloc: Global, random: &mut Random, events: u32) -> Result<D
         fresh: setting.exchange(alloc)?,
         counts,
         moved: run.paths_moved(),
+        chains: run.exchange().chains(),
         tones: setting.lengths(),
         sounded: run.exchange().tones_given(),
     })

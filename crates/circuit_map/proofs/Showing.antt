@@ -6,7 +6,7 @@ use Rattle.circuit_model.specs.Ports.{Ports}
 use Rattle.control_memory.specs.Layout.{Legal, IsSlot, Joins}
 use Rattle.control_memory.specs.Image.{Control, HasLayout, lines_of as image_lines, EachSlot, heard_at, room_at}
 use Rattle.control_memory.specs.Shown.{ShowsBy, IsNeeded, heard_as, seated_as, served_by}
-use Rattle.circuit_map.specs.Connections.{Connections, lines_of, Represents, served_at, room_shown}
+use Rattle.circuit_map.specs.Connections.{Connections, lines_of, Represents, served_in, room_in}
 
 pub record Showing (m : Connections) (image : Control) : Type 0 where
   pub frame : image.frame ≡ m.next
@@ -15,8 +15,8 @@ pub record Showing (m : Connections) (image : Control) : Type 0 where
   pub slots : image.slots ≡ m.slots
   pub legal : Legal (lines_of m) m.slots m.layout
   pub tables : HasLayout image m.layout
-  pub heard : EachSlot (lines_of m) (λ at. heard_at image at ≡ heard_as (served_at m at))
-  pub rooms : EachSlot (lines_of m) (λ at. room_at image at ≡ room_shown m at)
+  pub heard : EachSlot (lines_of m) (λ at. heard_at image at ≡ heard_as (served_in m.external m.heard m.ports at))
+  pub rooms : EachSlot (lines_of m) (λ at. room_at image at ≡ room_in m.external m.heard m.ports at)
 
 pub shows : (m : Connections) (image : Control) (h : Holding) (ports : Ports) → Showing m image → Represents m h ports → ShowsBy m.layout image h.circuits ports h.next
 shows m image h ports s holds =

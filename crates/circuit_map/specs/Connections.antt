@@ -73,15 +73,9 @@ Obeys m n command = (h : Holding) (ports : Ports) → Represents m h ports → R
 abbrev pub served_in : ℕ → List (Option Circuit) → Ports → Slot → Option Circuit
 served_in external heard ports at = option_and_then (hears_in external heard) (served_by external ports at)
 
-abbrev pub served_at : Connections → Slot → Option Circuit
-served_at m at = served_in m.external m.heard m.ports at
-
 -- the room that a slot shows: that of a port's member
 abbrev pub room_in : ℕ → List (Option Circuit) → Ports → Slot → Option (ℕ × ℕ)
 room_in external heard ports at = if nat_lt at.line external then None else seated_as (served_in external heard ports at)
-
-abbrev pub room_shown : Connections → Slot → Option (ℕ × ℕ)
-room_shown m at = room_in m.external m.heard m.ports at
 
 -- a slot's entry in a table that has one for every place of every line, as a control memory has it
 abbrev pub entry_at : {X : Type 0} → X → List X → Slot → X

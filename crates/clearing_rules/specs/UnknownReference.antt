@@ -1,12 +1,13 @@
 -- What answers a message whose call reference names no call (ITU-T Q.931 (05/98), 5.8.3.2 and 5.8.10). Which message is answered by which is
 -- this exchange's own profile of these sections.
-use Rattle.std.specs.Prelude.{not, Option, Some, None}
+use Rattle.std.specs.Prelude.{not, ◌==◌, Option, Some, None, if◌then◌else◌}
 use Rattle.q931_codec.specs.declared.kind.MessageKind.{MessageKind}
 use Rattle.q931_codec.specs.declared.kind.MessageKind.TheVariants as kind
 use Rattle.q931_codec.specs.declared.message.Message.{Message}
 use Rattle.q931_codec.specs.CallStates.{null}
 use Rattle.q931_codec.specs.Causes.{response_to_status_enquiry, invalid_call_reference}
 use Rattle.q931_codec.specs.Outgoing.{OutgoingMessage, bare}
+use Rattle.clearing_rules.specs.Restarting.{global_call_reference}
 
 -- a message back to the sender: the same call reference value, and the other flag (4.3)
 abbrev pub message_back : Message → MessageKind → OutgoingMessage
@@ -29,5 +30,6 @@ answer_to_type m kind.Status = None
 answer_to_type m kind.StatusEnquiry = Some (null_status m)
 answer_to_type m _ = Some (no_such_reference m)
 
+-- on the global call reference nothing is answered by these rules: it names no call, and what a RESTART asks for there has rules of its own
 abbrev pub answer_without_call : Message → Option OutgoingMessage
-answer_without_call m = answer_to_type m m.kind
+answer_without_call m = if m.reference == global_call_reference then None else answer_to_type m m.kind

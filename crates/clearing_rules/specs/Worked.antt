@@ -33,6 +33,9 @@ acknowledgement_of_octets octets = option_map (λ r. encoding (acknowledgement r
 abbrev pub enquiry : List ℕ
 enquiry = 0x08 ∷ 0x02 ∷ 0x00 ∷ 0x01 ∷ 0x75 ∷ []
 
+abbrev pub enquiry_on_global : List ℕ
+enquiry_on_global = 0x08 ∷ 0x02 ∷ 0x00 ∷ 0x00 ∷ 0x75 ∷ []
+
 abbrev pub enquiry_from_called : List ℕ
 enquiry_from_called = 0x08 ∷ 0x02 ∷ 0x81 ∷ 0x07 ∷ 0x75 ∷ []
 

@@ -35,6 +35,8 @@ pub fn worked_answers()
     ensures release_complete { answer_to_octets worked.release_complete ≡ None }
     ensures status { answer_to_octets worked.status ≡ None }
     ensures setup { answer_to_octets worked.setup_from_called ≡ None }
+    ensures global { answer_to_octets worked.restart_interface ≡ None }
+    ensures global_enquiry { answer_to_octets worked.enquiry_on_global ≡ None }
 {}
 
 /// What octets ask to be restarted, and the octets that acknowledge it.

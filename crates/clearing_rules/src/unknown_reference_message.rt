@@ -1,15 +1,18 @@
 //! What answers a message on a call reference that names no call.
 
-ghost use Rattle.std.specs.Prelude.{◌≡◌, option_map};
+ghost use Rattle.std.specs.Prelude.{◌≡◌, None, option_map};
 ghost use Rattle.q931_codec.specs.Outgoing.{outgoing_of};
+ghost use Rattle.clearing_rules.specs.Restarting.{global_call_reference};
 ghost use Rattle.clearing_rules.specs.UnknownReference.{answer_without_call};
 
+use crate::restart_message::GLOBAL_CALL_REFERENCE;
 use q931_codec::causes::{INVALID_CALL_REFERENCE, RESPONSE_TO_STATUS_ENQUIRY};
 use q931_codec::states::NULL;
 use q931_codec::{Message, MessageKind, Outgoing};
 
-/// What answers a message on a call reference, other than the global one, that names no leg of its line
-/// (Q.931, 5.8.3.2):
+/// What answers a message on a call reference that names no leg of its line (Q.931, 5.8.3.2). On the global
+/// call reference that is nothing, whatever the message: what a RESTART asks for there
+/// [`restart`](crate::restart) tells. On every other one:
 ///
 /// - STATUS ENQUIRY: a STATUS with cause 30 and state 0, null;
 /// - SETUP, RELEASE COMPLETE, STATUS: nothing. A SETUP with flag 0 asks for a call instead, which is
@@ -19,8 +22,12 @@ use q931_codec::{Message, MessageKind, Outgoing};
 ///
 /// The answer has the message's call reference with the other flag.
 pub fn unknown_reference(message: &Message) -> Option<Outgoing<'static>>
-    ensures { option_map outgoing_of result ≡ answer_without_call message.now }
+    ensures answer { option_map outgoing_of result ≡ answer_without_call message.now }
+    ensures global { message.now.reference ≡ global_call_reference → result ≡ None }
 {
+    if message.reference == GLOBAL_CALL_REFERENCE {
+        return None;
+    }
     match message.kind {
         MessageKind::Setup | MessageKind::ReleaseComplete | MessageKind::Status => None,
         MessageKind::StatusEnquiry => Some(Outgoing {

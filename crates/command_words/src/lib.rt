@@ -5,7 +5,5 @@ mod command;
 pub mod laws;
 mod numerals;
 mod readings;
-#[cfg(test)]
-mod tests;
 
 pub use command::{Command, WordsFault, read_command};

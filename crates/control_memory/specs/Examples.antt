@@ -28,10 +28,20 @@ both_halves (suc p) = nailed 3 (both_halves p) (at 1 p) (at 2 (p + 15))
 abbrev pub row_shorter : Layout
 row_shorter = with_path (with_path (with_path (with_path (bare 3) (at 1 0) (at 0 0) 0) (at 1 1) (at 1 0) 1) (at 2 0) (at 1 1) 0) (at 0 0) (at 2 0) 1
 
+-- so the one path moves, and the new path gets the slot that it leaves
+abbrev pub row_moved : Layout
+row_moved = with_path (with_path row_shorter (at 0 0) (at 2 0) 0) (at 0 1) (at 0 1) 1
+
 -- to outgoing line 0 the incoming line's chain has three paths and the outgoing line's one
 abbrev pub column_shorter : Layout
 column_shorter = with_path (with_path (with_path (with_path (bare 3) (at 0 0) (at 1 0) 0) (at 1 0) (at 1 1) 1) (at 1 1) (at 2 0) 0) (at 2 0) (at 0 0) 1
 
--- to outgoing line 1 both have two
+abbrev pub column_moved : Layout
+column_moved = with_path (with_path column_shorter (at 2 0) (at 0 0) 0) (at 0 1) (at 0 1) 1
+
+-- to outgoing line 1 both have two, and the outgoing line's move
 abbrev pub same_length : Layout
 same_length = with_path (with_path (with_path (with_path (bare 3) (at 2 0) (at 1 0) 0) (at 2 1) (at 0 0) 1) (at 0 0) (at 2 0) 1) (at 1 0) (at 2 1) 0
+
+abbrev pub tie_moved : Layout
+tie_moved = with_path (with_path (with_path same_length (at 2 0) (at 1 0) 1) (at 2 1) (at 0 0) 0) (at 0 1) (at 1 1) 0

@@ -95,7 +95,7 @@ impl ControlTable {
     }
 
     /// Takes the number out of a column of a row.
-    pub fn unset(&mut self, row: u8, column: u8)
+    pub(crate) fn unset(&mut self, row: u8, column: u8)
         requires row { row < self.old.rows }
         requires column { column < self.old.columns }
         ensures size { SameSize self.old self.new }
@@ -115,7 +115,7 @@ impl ControlTable {
     }
 
     /// Takes over the entries of a table of the same size, in one copy.
-    pub fn copy_from(&mut self, other: &ControlTable)
+    pub(crate) fn copy_from(&mut self, other: &ControlTable)
         requires { SameSize self.old other.now }
         ensures { self.new ≡ other.now }
     {

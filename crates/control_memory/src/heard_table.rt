@@ -68,7 +68,7 @@ impl HeardTable {
 
     /// Whether a line is known to hear nothing. It is not known of a line that was silenced place by
     /// place.
-    pub fn is_silent(&self, line: u8) -> bool
+    pub(crate) fn is_silent(&self, line: u8) -> bool
         requires { 30 * line + 30 ≤ length self.now }
         ensures { result ≡ true → IsSilent self.now line }
     {
@@ -95,7 +95,7 @@ impl HeardTable {
     }
 
     /// Takes over what as many lines hear. Lines that hear nothing in both tables stay as they are.
-    pub fn copy_from(&mut self, other: &HeardTable)
+    pub(crate) fn copy_from(&mut self, other: &HeardTable)
         requires { length self.old ≡ length other.now }
         ensures { self.new ≡ other.now }
     {

@@ -305,7 +305,7 @@ impl Image {
     }
 
     /// Takes over the three tables of a layout whole, one copy for each.
-    pub fn set_tables(
+    pub(crate) fn set_tables(
         &mut self,
         incoming: &ControlTable,
         space: &ControlTable,

@@ -1,11 +1,14 @@
 ghost use Rattle.std.specs.Prelude.{◌≡◌};
-ghost use Rattle.control_memory.specs.Connecting.{connect, moved, with_path};
+ghost use Rattle.control_memory.specs.Connecting.{connect, moved};
 ghost use Rattle.control_memory.specs.Examples.{
   at,
   both_halves,
   row_shorter,
+  row_moved,
   column_shorter,
+  column_moved,
   same_length,
+  tie_moved,
 };
 ghost use Rattle.control_memory.specs.Carrying.{Wiring, BringsAcross, BringsOut};
 
@@ -19,9 +22,9 @@ pub fn worked_layouts()
 /// The rule of rearrangement where one of the two chains is shorter, and where neither is: which
 /// paths move, and which slot the new path gets.
 pub fn worked_chains()
-    ensures incoming { connect 3 2 row_shorter (at 0 1) (at 0 1) ≡ with_path (with_path row_shorter (at 0 0) (at 2 0) 0) (at 0 1) (at 0 1) 1 }
-    ensures outgoing { connect 3 2 column_shorter (at 0 1) (at 0 1) ≡ with_path (with_path column_shorter (at 2 0) (at 0 0) 0) (at 0 1) (at 0 1) 1 }
-    ensures tie { connect 3 2 same_length (at 0 1) (at 1 1) ≡ with_path (with_path (with_path same_length (at 2 0) (at 1 0) 1) (at 2 1) (at 0 0) 0) (at 0 1) (at 1 1) 0 }
+    ensures incoming { connect 3 2 row_shorter (at 0 1) (at 0 1) ≡ row_moved }
+    ensures outgoing { connect 3 2 column_shorter (at 0 1) (at 0 1) ≡ column_moved }
+    ensures tie { connect 3 2 same_length (at 0 1) (at 1 1) ≡ tie_moved }
 {}
 
 /// The tables of a legal layout do what the layout says. Where the incoming lines send by the first

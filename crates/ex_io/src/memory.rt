@@ -226,6 +226,3 @@ fn copy_front(to: &mut [u8], from: &[u8], count: usize)
 {
     to[..count].copy_from_slice(&from[..count]);
 }
-
-#[cfg(test)]
-mod tests;

@@ -8,8 +8,8 @@
 //!   [`Desk`]; `shared_exchange` implements it.
 //!
 //! What the events are stands in `exchange_events`, the rules of calls in `call_profile`, and their code in
-//! `call_control`. It stands on these, and on `circuit_model`, `control_memory`, `circuit_map`,
-//! `number_plan` and `tone_rules`.
+//! `call_control`. It stands on these, and on `circuit_model`, `seat_history`, `control_memory`,
+//! `circuit_map`, `number_plan` and `tone_rules`.
 #![tactic(auto)]
 
 mod commands;

@@ -1,8 +1,7 @@
 -- Registers that are told of one more call, and what they say of some more.
-use Rattle.std.proofs.Common.{◌≡◌, ℕ, true, ◌+◌, ◌-◌, ◌^◌, ◌≤◌, max, if◌then◌else◌, List, [], ◌∷◌, ◌++◌, length, length-append, ap, ◌∙◌, arith}
+use Rattle.std.proofs.Common.{◌≡◌, ℕ, ◌+◌, ◌-◌, ◌^◌, ◌≤◌, max, if◌then◌else◌, List, [], ◌∷◌, ◌++◌, length, length-append, ap, ◌∙◌, arith}
 use Rattle.std.proofs.lemmas.List.Sums.{sum_by-append}
 use Rattle.exchange_events.specs.declared.record.CallRecord.{CallRecord}
-use Rattle.meters.specs.CallsTo.{LineCount, IsCountOf, is_to, calls_to}
 use Rattle.meters.specs.Registers.{Held, Pegs, ArePegsOf, IsHeldBy, register_value, frames_held, total_held, longest_held, answered_calls, peg_line, holding_line, peg_text, peg_text_with, holding_text, holding_text_with}
 
 -- the longest of two lists of calls
@@ -34,12 +33,3 @@ holding_law held calls more is =
     let most = longest-append calls more in
     ap (λ n. holding_line n (register_value (max held.longest (longest_held more)))) (omega (arith, sums, is.total_is))
     ∙ ap (λ n. holding_line (register_value (total_held (calls ++ more))) n) (omega (arith, most, is.longest_is))
-
--- a count of the calls to a line that is told of one more of them
-pub count_more : (calls : List CallRecord) (call : CallRecord) (old : LineCount) (line now : ℕ) → old.line ≡ line → is_to line call.called ≡ true
-    → now ≡ register_value (old.calls + 1) → IsCountOf calls old → now ≡ register_value (calls_to line (calls ++ call ∷ []))
-count_more calls call old line now same to more is =
-    let before = ap (λ number. calls_to number calls) same in
-    let one = ap {B = ℕ} (λ b. if b then 1 else 0) to in
-    let sums = sum_by-append (λ told. if is_to line told.called then 1 else 0) calls (call ∷ []) in
-    omega (arith, before, one, sums, more, is)

@@ -2,4 +2,3 @@ pub mod Registers
 pub mod Details
 pub mod Telling
 pub mod Examples
-pub mod CallsTo

@@ -8,24 +8,18 @@
 //! - [`append_summaries`] appends the texts of several meters in order (`texts`), or leaves the
 //!   text as it was (`kept`).
 //!
-//! A program may hand in meters of its own, in boxes beside these: `calls_to_line` and `keeper` of the
-//! tests are two.
+//! A program may hand in meters of its own, in boxes beside these: `calls_to_line` and `keeper` of
+//! `text_tests` are two.
 //!
-//! It stands on `circuit_model` and `exchange_core`, and on the kit's `itoa`.
+//! It stands on `circuit_model` and `exchange_events`, and on the kit's `itoa`.
 #![tactic(auto)]
 
 mod call_detail;
-#[cfg(test)]
-mod calls_to_line;
 mod holding_time;
-#[cfg(test)]
-mod keeper;
 mod laws;
 mod meter;
 mod peg_count;
 mod summaries;
-#[cfg(test)]
-mod tests;
 mod texts;
 
 pub use call_detail::CallDetail;

@@ -6,7 +6,7 @@ use crate::elements::receive;
 use crate::legs::{Leg, Peer, State, leg_at, leg_named};
 use crate::no_leg::answer_without_leg;
 use crate::numbers::Number;
-use crate::paths::Paths;
+use crate::paths::{Chains, Paths};
 use crate::ports::Ports;
 use crate::sent::{CallRecord, Course, Party, Sent};
 use crate::types::SETUP;
@@ -20,6 +20,7 @@ use std::alloc::{AllocError, Global};
 #[derive(Drop)]
 pub struct PlainExchange {
     pub(crate) external: u8,
+    bridges: u8,
     pub(crate) circuits: Exchange,
     pub(crate) ports: Ports,
     pub(crate) paths: Paths,
@@ -62,6 +63,7 @@ impl PlainExchange {
     ) -> PlainExchange {
         PlainExchange {
             external,
+            bridges,
             circuits: Exchange::new(alloc),
             ports: Ports::new(alloc, external, bridges),
             paths: Paths::new(alloc),
@@ -78,6 +80,11 @@ impl PlainExchange {
         self.external
     }
 
+    /// How many lines there are, external and bridge lines together.
+    pub fn lines(&self) -> u32 {
+        u32::from(self.external) + u32::from(self.bridges)
+    }
+
     /// The legs of the calls.
     pub fn legs(&self) -> &[Leg] {
         self.legs.as_slice()
@@ -86,6 +93,11 @@ impl PlainExchange {
     /// The number plan.
     pub fn numbers(&self) -> &[Number] {
         self.numbers.as_slice()
+    }
+
+    /// Which chains of paths were moved so far.
+    pub fn chains(&self) -> Chains {
+        self.paths.chains
     }
 
     /// The number of the next frame.

@@ -18,13 +18,52 @@ struct Path {
 ///
 /// A path joins by Paull's rule: it gets the lowest internal slot that is free on both lines. Where
 /// there is none, let `a` be the lowest slot that is free on the incoming line and `b` the lowest that
-/// is free on the outgoing line. The paths of a chain exchange `a` and `b`, and the new path gets `a`.
-/// The chain starts with the path to the outgoing line in `a`; it goes on from a path in `a` with the path
-/// from the same incoming line in `b`, and from a path in `b` with the path to the same outgoing line in
-/// `a`.
+/// is free on the outgoing line. One chain starts with the path to the outgoing line in `a`, another with
+/// the path from the incoming line in `b`. Both go on from a path in `a` with the path from the same
+/// incoming line in `b`, and from a path in `b` with the path to the same outgoing line in `a`. The paths
+/// of one chain exchange `a` and `b`: of that from the incoming line where it has fewer paths, and then
+/// the new path gets `b`; else of that to the outgoing line, and it gets `a`.
 #[derive(Drop)]
 pub(crate) struct Paths {
     paths: Vec<Path>,
+    pub(crate) chains: Chains,
+}
+
+/// How often paths were moved for a new one, by the chain that was taken.
+#[derive(Clone, Copy, Debug, Default, PartialEq, Eq)]
+pub struct Chains {
+    /// That from the incoming line.
+    pub incoming: u32,
+    /// That to the outgoing line, which had fewer paths.
+    pub outgoing: u32,
+    /// That to the outgoing line, where both had as many.
+    pub tied: u32,
+    /// The most paths that were moved for one.
+    pub longest: u32,
+}
+
+impl Chains {
+    /// Counts what others count too.
+    pub fn add(&mut self, other: &Chains) {
+        self.incoming = self.incoming.saturating_add(other.incoming);
+        self.outgoing = self.outgoing.saturating_add(other.outgoing);
+        self.tied = self.tied.saturating_add(other.tied);
+        self.longest = self.longest.max(other.longest);
+    }
+
+    // Counts a chain that was taken, of so many paths from the incoming line and to the outgoing line.
+    fn count(&mut self, incoming: usize, outgoing: usize) {
+        let taken = if incoming < outgoing {
+            &mut self.incoming
+        } else if outgoing < incoming {
+            &mut self.outgoing
+        } else {
+            &mut self.tied
+        };
+        *taken = taken.saturating_add(1);
+        let paths = u32::try_from(incoming.min(outgoing)).unwrap_or(u32::MAX);
+        self.longest = self.longest.max(paths);
+    }
 }
 
 impl Paths {
@@ -32,6 +71,7 @@ impl Paths {
     pub(crate) fn new(alloc: Global) -> Paths {
         Paths {
             paths: Vec::new(alloc),
+            chains: Chains::default(),
         }
     }
 
@@ -66,17 +106,31 @@ impl Paths {
         }
         let a = (0..INTERNAL_SLOTS).find(|internal| self.from_line(from, *internal).is_none());
         let b = (0..INTERNAL_SLOTS).find(|internal| self.to_line(to, *internal).is_none());
-        if let (Some(a), Some(b)) = (a, b) {
-            let chain = self.chain(alloc, to, a, b)?;
-            self.exchange(chain.as_slice(), a, b);
+        let (Some(a), Some(b)) = (a, b) else {
+            return Ok(None);
+        };
+        let by_outgoing = self.chain(alloc, self.to_line(to, a), a, b)?;
+        let by_incoming = self.chain(alloc, self.from_line(from, b), a, b)?;
+        self.chains.count(by_incoming.len(), by_outgoing.len());
+        if by_incoming.len() < by_outgoing.len() {
+            self.exchange(by_incoming.as_slice(), a, b);
+            Ok(Some(b))
+        } else {
+            self.exchange(by_outgoing.as_slice(), a, b);
+            Ok(Some(a))
         }
-        Ok(a)
     }
 
-    // The places in the list of the chain's paths.
-    fn chain(&self, alloc: Global, to: u8, a: u8, b: u8) -> Result<Vec<usize>, AllocError> {
+    // The places in the list of the paths of the chain that starts with one of them.
+    fn chain(
+        &self,
+        alloc: Global,
+        first: Option<usize>,
+        a: u8,
+        b: u8,
+    ) -> Result<Vec<usize>, AllocError> {
         let mut chain = Vec::new(alloc);
-        let mut next = self.to_line(to, a);
+        let mut next = first;
         for _ in self.paths.iter() {
             let Some(place) = next else { break };
             chain.push(place)?;

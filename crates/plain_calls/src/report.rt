@@ -185,21 +185,3 @@ pub fn append_octets(text: &mut String, octets: &[u8]) -> Result<(), AllocError>
     }
     Ok(())
 }
-
-/// The report of a run of these events, in their order, through an exchange with so many external and
-/// bridge lines, this number plan and these tones.
-pub fn plain_report(
-    alloc: Global,
-    external: u8,
-    bridges: u8,
-    numbers: Vec<Number>,
-    tones: PlainTones,
-    events: &[PlainEvent],
-) -> Result<Vec<u8>, AllocError> {
-    let exchange = PlainExchange::new(alloc, external, bridges, numbers, tones);
-    let mut run = PlainRun::new(alloc, exchange);
-    for event in events {
-        run.step(alloc, event)?;
-    }
-    Ok(run.into_report().into_bytes())
-}

@@ -33,7 +33,7 @@ fn listener_of(circuit: Circuit) -> Slot
 }
 
 /// The octet that arrives on a slot in frame `f`.
-pub fn octet_arriving(inputs: &Rows<Option<[u8; 30]>>, f: u32, at: Slot) -> u8
+fn octet_arriving(inputs: &Rows<Option<[u8; 30]>>, f: u32, at: Slot) -> u8
     ensures { result ≡ arrives inputs.now f at }
 {
     octet_of_place(octets_of_line(inputs.row(f as usize), at.line), at.place)
@@ -98,7 +98,7 @@ fn table_of<'a>(kind: Kind, ringback: &'a [u8], busy: &'a [u8]) -> &'a [u8]
 
 /// What the bridge mixes for slot `y` in frame `g`: the values of the octets that the other members
 /// of the room sent two frames before are added up, and the sum is coded once.
-pub fn room_mix(
+fn room_mix(
     inputs: &Rows<Option<[u8; 30]>>,
     circuits: &[Circuit],
     room: u8,

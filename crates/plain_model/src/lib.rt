@@ -1,8 +1,8 @@
 //! The definitions of the exchange as a small, slow and plain program, for tests.
 //!
 //! Each function computes one definition of `circuit_model` by walking over lists, and its contract
-//! is that definition: [`expand_by_search`], [`compress_by_search`], [`find_heard`], [`octet_arriving`],
-//! [`room_mix`], [`octet_heard`]. [`Exchange`] takes commands and frames, and its `octet_heard` returns what the
+//! is that definition: [`expand_by_search`], [`compress_by_search`], [`find_heard`],
+//! [`octet_heard`]. [`Exchange`] takes commands and frames, and its `octet_heard` returns what the
 //! definitions say of them ([`law_of_stories`]). Nothing here knows a switching stage, a control
 //! memory or a port.
 //!
@@ -18,6 +18,6 @@ mod rows;
 
 pub use alaw::{compress_by_search, expand_by_search};
 pub use exchange::Exchange;
-pub use hearing::{find_heard, octet_arriving, octet_heard, room_mix};
+pub use hearing::{find_heard, octet_heard};
 pub use laws::law_of_stories;
 pub use rows::Rows;

@@ -1,4 +1,4 @@
 pub mod Messages
 pub mod EncodingFacts
-pub mod Rows
+pub mod RowFacts
 pub mod Digits

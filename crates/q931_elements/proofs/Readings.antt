@@ -86,19 +86,19 @@ reading_is octets elements is =
 -- ---- at least one reading
 
 -- octets begin with an item or are unfinished
-abbrev Begins : List ℕ → Type 0
-Begins octets = ((item : Item) × (rest : List ℕ) × IsItem item × (octets ≡ octets_of item ++ rest)) ⊎ IsUnfinishedElement octets
+abbrev BeginsByItem : List ℕ → Type 0
+BeginsByItem octets = ((item : Item) × (rest : List ℕ) × IsItem item × (octets ≡ octets_of item ++ rest)) ⊎ IsUnfinishedElement octets
 
-begins : (octets : List ℕ) → Begins octets
-begins [] = inr tt
-begins (octet ∷ rest) = elim (cases_lt octet 0x80) [ inl low ↦ begins_low rest low | inr high ↦ inl (SingleOctet octet, rest, high, refl) ]
+item_at_front : (octets : List ℕ) → BeginsByItem octets
+item_at_front [] = inr tt
+item_at_front (octet ∷ rest) = elim (cases_lt octet 0x80) [ inl low ↦ begins_low rest low | inr high ↦ inl (SingleOctet octet, rest, high, refl) ]
   where
     whole : (len : ℕ) (more : List ℕ) → len ≤ length more → (octet ∷ len ∷ more) ≡ (octet ∷ length (take len more) ∷ (take len more ++ drop len more))
     whole len more le =
         let is : length (take len more) ≡ len = omega (arith, length-take len more) in
         rw (is, take-append-drop len more) refl
 
-    begins_low : (more : List ℕ) → octet < 0x80 → Begins (octet ∷ more)
+    begins_low : (more : List ℕ) → octet < 0x80 → BeginsByItem (octet ∷ more)
     begins_low [] low = inr low
     begins_low (len ∷ more) low =
         elim (cases_lt (length more) len) [
@@ -150,7 +150,7 @@ single_kind octet high =
 -- one piece more
 read_longer : (n : ℕ) → ((octets : List ℕ) → length octets ≤ n → IsElementList octets (elements_of octets)) → (octets : List ℕ) → length octets ≤ suc n → IsElementList octets (elements_of octets)
 read_longer n again octets le =
-    elim (begins octets) [
+    elim (item_at_front octets) [
       | inr unfinished ↦ tail_alone octets (unfinished_tail octets unfinished)
       | inl (item, rest, is, parts) ↦ by_item item rest is parts
     ]
@@ -161,7 +161,7 @@ read_longer n again octets le =
 
     shifted : (shift : ℕ) (rest : List ℕ) → octets ≡ shift ∷ rest → IsNonLockingShift shift → IsElementList octets (elements_of octets)
     shifted shift rest parts is =
-        elim (begins rest) [
+        elim (item_at_front rest) [
           | inl (item, more, item-is, rest-parts) ↦ with_shifted octets shift item more is item-is (parts ∙ ap (λ left. shift ∷ left) rest-parts) (again more (shorter_twice item more rest-parts))
           | inr unfinished ↦ subst (λ left. IsElementList left (elements_of left)) (sym parts) (tail_alone (shift ∷ rest) (inr (inl (is, unfinished))))
         ]

@@ -1,5 +1,6 @@
 use crate::draw::Trial;
 use call_traffic::{Counts as Courses, Drawn, LONGEST_TONE, Script};
+use plain_calls::Chains;
 
 /// How many traces there were, and how many of them leave their workers a choice.
 #[derive(Clone, Copy, Default)]
@@ -34,6 +35,29 @@ impl Counts {
         self.refused = self.refused.saturating_add(trial.refused);
         self.frames = self.frames.saturating_add(trial.frames);
         self.octets = self.octets.saturating_add(trial.octets);
+    }
+}
+
+/// By which chains paths were moved in file order, and in how many traces more moved for one path than
+/// there are other lines.
+#[derive(Clone, Copy, Default)]
+pub struct Moves {
+    pub chains: Chains,
+    pub beyond: u32,
+}
+
+impl Moves {
+    pub fn add(&mut self, drawn: &Drawn) {
+        self.chains.add(&drawn.chains);
+        if drawn.chains.longest >= drawn.fresh.lines() {
+            self.beyond = self.beyond.saturating_add(1);
+        }
+    }
+
+    /// Whether each chain was taken, both had as many paths at times, and never too many moved.
+    pub fn is_whole(&self) -> bool {
+        let counts = [self.chains.incoming, self.chains.outgoing, self.chains.tied];
+        counts.iter().all(|count| *count > 0) && self.beyond == 0
     }
 }
 

@@ -26,9 +26,9 @@ mod yardstick;
 
 use call_traffic::{Counts as Courses, LONGEST_TONE, Random, draw_traffic};
 use check::agrees;
-use counts::{Counts, Orders, Tones};
+use counts::{Counts, Moves, Orders, Tones};
 use draw::drawn;
-use plain_calls::PlainRun;
+use plain_calls::{Chains, PlainRun};
 use std::alloc::Global;
 use std::process::ExitCode;
 use std::sync::Wait;
@@ -76,7 +76,7 @@ fn run<R: Print + Threads + Wait + Sync>(
 }
 
 /// Runs so many traces of calls and prints what they came to. Whether all reports were those of the
-/// plain program, and each act, each cause of a refusal and each tone came.
+/// plain program, and each act, each cause of a refusal, each tone and each chain of moved paths came.
 fn run_calls<R: Print + Threads + Wait + Sync>(
     rt: &R,
     alloc: Global,
@@ -87,11 +87,13 @@ fn run_calls<R: Print + Threads + Wait + Sync>(
     let mut courses = Courses::new();
     let mut tones = Tones::default();
     let mut moved = 0u32;
+    let mut moves = Moves::default();
     for number in 1..=traces {
         let drawn = draw_traffic(alloc, &mut random, EVENTS)?;
         tones.add(&drawn);
         courses.add(&drawn.counts);
         moved = moved.saturating_add(drawn.moved);
+        moves.add(&drawn);
         let fresh = PlainRun::new(alloc, drawn.fresh);
         if agrees(rt, alloc, &drawn.script, fresh)? {
             orders.add(&drawn.script);
@@ -101,8 +103,10 @@ fn run_calls<R: Print + Threads + Wait + Sync>(
     }
     print_orders(rt, "calls", "plain program", orders)?;
     println!(rt; "calls: in file order {moved} paths moved, {courses}")?;
+    print_moves(rt, moves)?;
     print_tones(rt, tones)?;
-    Ok(orders.traces == traces && courses.is_whole() && tones.is_whole())
+    let whole = courses.is_whole() && tones.is_whole() && moves.is_whole();
+    Ok(orders.traces == traces && whole)
 }
 
 /// Prints how many traces had the wanted reports.
@@ -116,6 +120,19 @@ fn print_orders(rt: &impl Print, name: &str, other: &str, orders: Orders) -> io:
         "{name}: {traces} traces, {events} events: {traces} lawful orders, in each of which exchange and {other} agree"
     )?;
     println!(rt; "{name}: {choices} of the traces have more than one lawful order")
+}
+
+fn print_moves(rt: &impl Print, moves: Moves) -> io::Result<()> {
+    let Moves { chains, beyond } = moves;
+    let Chains {
+        incoming,
+        outgoing,
+        tied,
+        longest,
+    } = chains;
+    println!(rt;
+        "calls: the incoming line's chain of paths was taken {incoming} times, the outgoing line's {outgoing} times as the shorter and {tied} times at a tie; at most {longest} paths moved, too many in {beyond} traces"
+    )
 }
 
 fn print_tones(rt: &impl Print, tones: Tones) -> io::Result<()> {

@@ -8,7 +8,7 @@
 //! - Every trace that is read is sound: its lines exist, and its sizes are those of an exchange
 //!   ([`traces_are_sound`]).
 //!
-//! It stands on `circuit_model`, `number_plan` and `exchange_core`, and on the kit's `memchr`.
+//! It stands on `circuit_model`, `number_plan` and `exchange_events`, and on the kit's `memchr`.
 #![tactic(auto)]
 
 mod cut;
@@ -21,8 +21,6 @@ mod octets;
 mod plain;
 mod reader;
 mod said;
-#[cfg(test)]
-mod tests;
 
 pub use fault::{Reason, TraceFault};
 pub use laws::{one_reading, some_reading, traces_are_sound};

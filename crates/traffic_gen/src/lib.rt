@@ -13,8 +13,6 @@ mod callee;
 mod draws;
 pub mod laws;
 mod lines;
-#[cfg(test)]
-mod tests;
 mod traffic;
 
 pub use traffic::generate;

@@ -11,7 +11,7 @@ const STATUS: MessageKind = MessageKind::Status;
 
 const COMPLETE: MessageKind = MessageKind::ReleaseComplete;
 
-const ANSWERS: [(&[u8], Option<Answer>); 10] = [
+const ANSWERS: [(&[u8], Option<Answer>); 12] = [
     (
         b"\x08\x02\x00\x01\x75",
         Some((true, 1, STATUS, Some(30), Some(0))),
@@ -40,6 +40,9 @@ const ANSWERS: [(&[u8], Option<Answer>); 10] = [
     (b"\x08\x02\x80\x01\x7D\x14\x01\x0A", None),
     (b"\x08\x02\x00\x01\x05", None),
     (b"\x08\x02\x80\x01\x05", None),
+    // On the global call reference.
+    (b"\x08\x02\x00\x00\x75", None),
+    (b"\x08\x02\x00\x00\x46\x79\x01\x86", None),
 ];
 
 fn answer(octets: &[u8]) -> Option<Answer> {

@@ -4,7 +4,7 @@ use Rattle.control_memory.specs.Layout.{Legal}
 use Rattle.control_memory.specs.Image.{HasLayout, port_entry}
 use Rattle.control_memory.specs.Shown.{heard_as}
 use Rattle.control_memory.specs.declared.heard.Heard.TheVariants.{Silent}
-use Rattle.circuit_map.specs.Connections.{Connections, lines_of, Represents, served_at, room_shown, entry_at}
+use Rattle.circuit_map.specs.Connections.{Connections, lines_of, Represents, served_in, room_in, entry_at}
 use Rattle.circuit_map.proofs.Holdings.{holds_frame}
 use Rattle.circuit_map.proofs.Paths.{own_ports}
 use Rattle.circuit_map.proofs.Showing.{shows}
@@ -56,6 +56,6 @@ returns-clause-shows g c = λ h ports holds.
       slots = b.sizes.slots ∙ a.sizes.slots ∙ c.requires.slots;
       legal = subst (λ w. Legal w c.args.self.now.slots c.args.self.now.layout) width (subst (λ (m : Connections). Legal (g.P.PathMap.width c.self.inside.paths) m.slots m.layout) is c.self.invariant.legal);
       tables = subst (λ l. HasLayout c.write_tables.new.image l) (ap (λ (m : Connections). m.layout) is) b.tables;
-      heard = λ at line place. ap (λ l. entry_at Silent l at) (b.heard ∙ a.heard) ∙ shown.hears at (subst (λ w. at.line < w) (sym lines) line) place ∙ ap (λ (m : Connections). heard_as (served_at m at)) is;
-      rooms = λ at line place. (λ i. port_entry (external i) ((b.rooms ∙ a.rooms ∙ c.deref.ensures.value) i) at) ∙ shown.sits at (subst (λ w. at.line < w) (sym lines) line) place ∙ ap (λ (m : Connections). room_shown m at) is;
+      heard = λ at line place. ap (λ l. entry_at Silent l at) (b.heard ∙ a.heard) ∙ shown.hears at (subst (λ w. at.line < w) (sym lines) line) place ∙ ap (λ (m : Connections). heard_as (served_in m.external m.heard m.ports at)) is;
+      rooms = λ at line place. (λ i. port_entry (external i) ((b.rooms ∙ a.rooms ∙ c.deref.ensures.value) i) at) ∙ shown.sits at (subst (λ w. at.line < w) (sym lines) line) place ∙ ap (λ (m : Connections). room_in m.external m.heard m.ports at) is;
     }) holds

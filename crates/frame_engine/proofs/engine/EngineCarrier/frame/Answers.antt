@@ -12,8 +12,8 @@ use Rattle.frame_engine.proofs.Frame.{IsAt, Did, plays, carries_on}
 use Rattle.frame_engine.proofs.engine.EngineCarrier.frame.Goals as goal
 
 -- the engine and the control memory as they come
-abbrev stages : goal.After-self-1 → Stages
-stages c = let w = c.self.inside in record { external = w.external; bridges = w.bridges; slots = w.slots; next = w.next; kept = w.kept; taken = w.speech.readable; crossed = w.crossed }
+abbrev engine_before : goal.After-self-1 → Stages
+engine_before c = let w = c.self.inside in record { external = w.external; bridges = w.bridges; slots = w.slots; next = w.next; kept = w.kept; taken = w.speech.readable; crossed = w.crossed }
 
 abbrev image : goal.After-self-1 → Control
 image c = c.args.image.now
@@ -22,7 +22,7 @@ image c = c.args.image.now
 abbrev octets_read : goal.After-self-1 → List ℕ
 octets_read c = c.swap.new.self.readable
 
-sizes : (c : goal.After-self-1) → IsAt (stages c) (image c) (octets_read c)
+sizes : (c : goal.After-self-1) → IsAt (engine_before c) (image c) (octets_read c)
 sizes c =
     let view = c.self.view_is in
     record {
@@ -38,7 +38,7 @@ sizes c =
           ∙ c.outgoing.ensures.octets at (let made = c.outgoing.ensures.lines in let had = c.self.invariant.read_lines in omega (arith, inside, made, had)) near;
     }
 
-did : (c : goal.After-self-1) → Did (stages c) (image c) c.args.input.now (octets_read c) c.swap-2.new.self.readable c.incoming.new.highway c.cross.new.crossed
+did : (c : goal.After-self-1) → Did (engine_before c) (image c) c.args.input.now (octets_read c) c.swap-2.new.self.readable c.incoming.new.highway c.cross.new.crossed
 did c =
     let external = (sizes c).external in
     let bridges = (sizes c).bridges in
@@ -69,25 +69,25 @@ record AtBoundary (e : Stages) (m : Control) (b : Boundary) : Type 0 where
   shows : Shows m b.circuits b.seats e.next
   come : Come e.external e.bridges (held_with b) (ports_with b)
 
-at_boundary : (c : goal.After-self-1) (b : Boundary) → IsNext (λ inputs held ports. EngineCarries c.args.self.now inputs held ports) (image c) b → AtBoundary (stages c) (image c) b
+at_boundary : (c : goal.After-self-1) (b : Boundary) → IsNext (λ inputs held ports. EngineCarries c.args.self.now inputs held ports) (image c) b → AtBoundary (engine_before c) (image c) b
 at_boundary c b next =
     let is = sizes c in
     record {
       carries = subst (λ (s : Stages). EngineCarries s b.inputs b.held b.ports) (sym c.self.view_is) next.carries;
       shows = subst (λ f. Shows (image c) b.circuits b.seats f) is.frame next.shows;
-      come = subst (λ l. Come l (stages c).bridges (held_with b) (ports_with b)) is.external (subst (λ l. Come (image c).external l (held_with b) (ports_with b)) is.bridges next.came);
+      come = subst (λ l. Come l (engine_before c).bridges (held_with b) (ports_with b)) is.external (subst (λ l. Come (image c).external l (held_with b) (ports_with b)) is.bridges next.came);
     }
 
 pub returns-clause-plays : goal.returns-clause-plays
 returns-clause-plays c b next at line place =
     let is = at_boundary c b next in
-    let here : at.line < (stages c).external = let external = (sizes c).external in omega (arith, line, external) in
+    let here : at.line < (engine_before c).external = let external = (sizes c).external in omega (arith, line, external) in
     c.play.ensures at line place
-    ∙ plays (stages c) (image c) (octets_read c) (sizes c) b.inputs b.held b.ports c.args.input.now b.circuits b.seats is.carries is.shows.0 is.shows.1 is.come (table_of c.args.tones.now) at here place
+    ∙ plays (engine_before c) (image c) (octets_read c) (sizes c) b.inputs b.held b.ports c.args.input.now b.circuits b.seats is.carries is.shows.0 is.shows.1 is.come (table_of c.args.tones.now) at here place
     ∙ sym (ap (λ f. hears (table_of c.args.tones.now) (inputs_with b c.args.input.now) (held_with b) f at) (sizes c).frame)
 
 pub returns-clause-carries : goal.returns-clause-carries
 returns-clause-carries c b next =
     let is = at_boundary c b next in
-    let on = carries_on (stages c) (image c) (octets_read c) (sizes c) b.inputs b.held b.ports c.args.input.now b.circuits b.seats is.carries is.shows.0 is.shows.1 is.come c.incoming.new.highway c.cross.new.crossed c.swap-2.new.self.readable (did c) in
-    subst (λ (m : Control). EngineCarries (record (stages c) { next = c.self.inside.next + 1; kept = m; taken = c.swap-2.new.self.readable; crossed = c.cross.new.crossed }) (inputs_with b c.args.input.now) (held_with b) (ports_with b)) (sym c.swap-3.ensures.x_after) on
+    let on = carries_on (engine_before c) (image c) (octets_read c) (sizes c) b.inputs b.held b.ports c.args.input.now b.circuits b.seats is.carries is.shows.0 is.shows.1 is.come c.incoming.new.highway c.cross.new.crossed c.swap-2.new.self.readable (did c) in
+    subst (λ (m : Control). EngineCarries (record (engine_before c) { next = c.self.inside.next + 1; kept = m; taken = c.swap-2.new.self.readable; crossed = c.cross.new.crossed }) (inputs_with b c.args.input.now) (held_with b) (ports_with b)) (sym c.swap-3.ensures.x_after) on

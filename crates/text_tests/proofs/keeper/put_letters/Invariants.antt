@@ -1,5 +1,5 @@
 use Rattle.std.proofs.Common.{◌≡◌, ◌++◌, take, drop, length, map, if◌then◌else◌}
-use Rattle.meters.proofs.keeper.put_letters.Given as goal
+use Rattle.text_tests.proofs.keeper.put_letters.Given as goal
 
 abbrev pub invariant-loop-call : goal.invariant-loop-call
 invariant-loop-call l = record {

@@ -1,6 +1,6 @@
 // The events, frames and segments of generated traces, beside the counts of a program outside.
-use crate::generated;
 use exchange_events::{Event, Trace};
+use generated_trace::generated;
 use std::test::Fail;
 
 // How many frames a trace has.

@@ -1,9 +1,9 @@
 // Each meter through the trait, beside two of a program's own.
 use crate::calls_to_line::CallsToLine;
 use crate::keeper::Keeper;
-use crate::{CallDetail, HoldingTime, Meter, PegCount, append_summaries};
 use circuit_model::Slot;
 use exchange_events::{CallRecord, Party};
+use meters::{CallDetail, HoldingTime, Meter, PegCount, append_summaries};
 use std::alloc::AllocError;
 use std::test::Fail;
 

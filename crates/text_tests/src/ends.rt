@@ -1,7 +1,8 @@
 // The answers of calls in turn, by the rules that the ends in memory are documented with.
 ghost use Rattle.std.specs.Prelude.{◌≤◌};
 
-use super::*;
+use ex_io::{MemSink, MemSource, Sink, Source};
+use std::alloc::Global;
 use std::process::Abort;
 use std::test::Fail;
 

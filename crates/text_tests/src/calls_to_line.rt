@@ -1,11 +1,11 @@
 // A meter of a program's own that never refuses a record: it counts the calls to one line.
 ghost use Rattle.std.specs.Prelude.{◌≡◌, ◌++◌, [], ◌∷◌, List, string_bytes, OnOk, OnErr, IsOk, IfOk};
 ghost use Rattle.exchange_events.specs.declared.record.CallRecord.{CallRecord};
-ghost use Rattle.meters.specs.CallsTo.{IsCountOf, calls_to, is_to, to_line, to_text_with};
+ghost use Rattle.text_tests.specs.CallsTo.{IsCountOf, calls_to, is_to, to_line, to_text_with};
 ghost use Rattle.meters.specs.Registers.{register_value};
 
-use crate::Meter;
 use exchange_events::{CallRecord, Party};
+use meters::Meter;
 use std::alloc::{AllocError, Global};
 use std::marker::Model;
 
@@ -18,7 +18,7 @@ pub(crate) struct CallsToLine {
 }
 
 impl Model for CallsToLine {
-    ghost use Rattle.meters.specs.CallsTo.{LineCount};
+    ghost use Rattle.text_tests.specs.CallsTo.{LineCount};
 
     ghost Value = { LineCount };
 

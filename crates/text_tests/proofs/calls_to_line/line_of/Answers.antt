@@ -1,6 +1,6 @@
 use Rattle.std.proofs.Common.{rules, ◌≡◌, ◌++◌, codes, decimal, string_bytes, IfOk, subst}
 use Rattle.std.proofs.lemmas.List.{append_assoc}
-use Rattle.meters.proofs.calls_to_line.line_of.Goals as goal
+use Rattle.text_tests.proofs.calls_to_line.line_of.Goals as goal
 
 pub returns : goal.returns
 returns c =

@@ -1,6 +1,6 @@
 // Traces beside those of a program outside, and Adler-32 sums of its octets by zlib.
-use crate::generate;
 use std::test::Fail;
+use traffic_gen::generate;
 
 // Whether a text has this line at an index.
 fn has_line(text: &[u8], index: usize, line: &str) -> bool {

@@ -2,8 +2,8 @@
 ghost use Rattle.std.specs.Prelude.{◌≡◌, ◌++◌, List, length, map, take, if◌then◌else◌, OnOk};
 ghost use Rattle.exchange_events.specs.declared.record.CallRecord.{CallRecord};
 
-use crate::Meter;
 use exchange_events::CallRecord;
+use meters::Meter;
 use std::alloc::{AllocError, Global};
 use std::marker::Model;
 

@@ -10,51 +10,51 @@ use Rattle.q931_codec.specs.declared.contents.ChannelIdentification.TheVariants.
 use Rattle.q931_codec.specs.Contents.{cause_of, call_state_of, channel_of, one_channel, is_bearer_channel, first_octet}
 use Rattle.q931_codec.specs.Fields.{contents_given, HasFields}
 
-abbrev Rows : Type 0
-Rows = List (ℕ × List ℕ)
+abbrev ElementRows : Type 0
+ElementRows = List (ℕ × List ℕ)
 
-abbrev elements_of_rows : Rows → List InformationElement
+abbrev elements_of_rows : ElementRows → List InformationElement
 elements_of_rows rows = map element_of (flat_map item_of_row rows)
 
 -- no row has the code
-abbrev lacks : ℕ → Rows → Bool
+abbrev lacks : ℕ → ElementRows → Bool
 lacks code [] = true
 lacks code (row ∷ rows) = cond (eqb row.0 code) false (lacks code rows)
 
 -- at most one row has the code
-abbrev has_once : ℕ → Rows → Bool
+abbrev has_once : ℕ → ElementRows → Bool
 has_once code [] = true
 has_once code (row ∷ rows) = cond (eqb row.0 code) (lacks code rows) (has_once code rows)
 
-abbrev contents_at : ℕ → Rows → List ℕ
+abbrev contents_at : ℕ → ElementRows → List ℕ
 contents_at code [] = []
 contents_at code (row ∷ rows) = cond (eqb row.0 code) row.1 (contents_at code rows)
 
-other_first : (c code : ℕ) (contents : List ℕ) (rows : Rows) → eqb c code ≡ false → first_of code (elements_of_rows ((c, contents) ∷ rows)) ≡ first_of code (elements_of_rows rows)
+other_first : (c code : ℕ) (contents : List ℕ) (rows : ElementRows) → eqb c code ≡ false → first_of code (elements_of_rows ((c, contents) ∷ rows)) ≡ first_of code (elements_of_rows rows)
 other_first c code [] rows is = refl
 other_first c code (octet ∷ octets) rows is = rw is refl
 
-lacks_by : (b : Bool) (c code : ℕ) (contents : List ℕ) (rows : Rows) → eqb c code ≡ b → cond b false (lacks code rows) ≡ true → (lacks code rows ≡ true → first_of code (elements_of_rows rows) ≡ None) → first_of code (elements_of_rows ((c, contents) ∷ rows)) ≡ None
+lacks_by : (b : Bool) (c code : ℕ) (contents : List ℕ) (rows : ElementRows) → eqb c code ≡ b → cond b false (lacks code rows) ≡ true → (lacks code rows ≡ true → first_of code (elements_of_rows rows) ≡ None) → first_of code (elements_of_rows ((c, contents) ∷ rows)) ≡ None
 lacks_by true c code contents rows same none others = absurd cc
 lacks_by false c code contents rows other none others = other_first c code contents rows other ∙ others none
 
-lacks_first : (code : ℕ) (rows : Rows) → lacks code rows ≡ true → first_of code (elements_of_rows rows) ≡ None
+lacks_first : (code : ℕ) (rows : ElementRows) → lacks code rows ≡ true → first_of code (elements_of_rows rows) ≡ None
 lacks_first code [] is = refl
 lacks_first code ((c, contents) ∷ rows) is = lacks_by (eqb c code) c code contents rows refl is (lacks_first code rows)
 
-same_first : (c code : ℕ) (contents : List ℕ) (rows : Rows) → eqb c code ≡ true → lacks code rows ≡ true → first_of code (elements_of_rows ((c, contents) ∷ rows)) ≡ contents_given contents
+same_first : (c code : ℕ) (contents : List ℕ) (rows : ElementRows) → eqb c code ≡ true → lacks code rows ≡ true → first_of code (elements_of_rows ((c, contents) ∷ rows)) ≡ contents_given contents
 same_first c code [] rows same none = lacks_first code rows none
 same_first c code (octet ∷ octets) rows same none = rw same refl
 
-once_by : (b : Bool) (c code : ℕ) (contents : List ℕ) (rows : Rows) → eqb c code ≡ b → cond b (lacks code rows) (has_once code rows) ≡ true → (has_once code rows ≡ true → first_of code (elements_of_rows rows) ≡ contents_given (contents_at code rows)) → first_of code (elements_of_rows ((c, contents) ∷ rows)) ≡ contents_given (cond b contents (contents_at code rows))
+once_by : (b : Bool) (c code : ℕ) (contents : List ℕ) (rows : ElementRows) → eqb c code ≡ b → cond b (lacks code rows) (has_once code rows) ≡ true → (has_once code rows ≡ true → first_of code (elements_of_rows rows) ≡ contents_given (contents_at code rows)) → first_of code (elements_of_rows ((c, contents) ∷ rows)) ≡ contents_given (cond b contents (contents_at code rows))
 once_by true c code contents rows same none others = same_first c code contents rows same none
 once_by false c code contents rows other once others = other_first c code contents rows other ∙ others once
 
-once_first : (code : ℕ) (rows : Rows) → has_once code rows ≡ true → first_of code (elements_of_rows rows) ≡ contents_given (contents_at code rows)
+once_first : (code : ℕ) (rows : ElementRows) → has_once code rows ≡ true → first_of code (elements_of_rows rows) ≡ contents_given (contents_at code rows)
 once_first code [] is = refl
 once_first code ((c, contents) ∷ rows) is = once_by (eqb c code) c code contents rows refl is (once_first code rows)
 
-after_complete : (code : ℕ) (complete : Bool) (rows : Rows) → eqb 0xA1 code ≡ false → first_of code (map element_of (item_of_complete complete ++ flat_map item_of_row rows)) ≡ first_of code (elements_of_rows rows)
+after_complete : (code : ℕ) (complete : Bool) (rows : ElementRows) → eqb 0xA1 code ≡ false → first_of code (map element_of (item_of_complete complete ++ flat_map item_of_row rows)) ≡ first_of code (elements_of_rows rows)
 after_complete code true rows other = rw other refl
 after_complete code false rows other = refl
 
@@ -62,7 +62,7 @@ after_complete code false rows other = refl
 row_first : (m : OutgoingMessage) (code : ℕ) → eqb 0xA1 code ≡ false → has_once code (rows m) ≡ true → first_of code (message_at_receiver m).elements ≡ contents_given (contents_at code (rows m))
 row_first m code other once = after_complete code m.complete (rows m) other ∙ once_first code (rows m) once
 
-complete_first : (complete : Bool) (rows : Rows) → lacks 0xA1 rows ≡ true → is_some (first_of 0xA1 (map element_of (item_of_complete complete ++ flat_map item_of_row rows))) ≡ complete
+complete_first : (complete : Bool) (rows : ElementRows) → lacks 0xA1 rows ≡ true → is_some (first_of 0xA1 (map element_of (item_of_complete complete ++ flat_map item_of_row rows))) ≡ complete
 complete_first true rows none = refl
 complete_first false rows none = ap is_some (lacks_first 0xA1 rows none)
 

@@ -1,8 +1,8 @@
 // One line for each answer, kept as the exchange keeps it.
-use crate::append_answer;
 use arrayvec::ArrayVec;
 use circuit_model::{IDLE, Slot};
 use exchange_events::{Answer, CallRecord, Encoded, Party, Records, Reply, Signal, Signals};
+use report_text::append_answer;
 use std::alloc::{AllocError, Global};
 use std::test::Fail;
 

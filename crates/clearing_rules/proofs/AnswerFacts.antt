@@ -1,0 +1,45 @@
+-- What answers a message on no call can be written.
+use Rattle.std.proofs.Common.{◌≡◌, ◌<◌, ◌^◌, true, false, inl, inr, Option, Some, None, sym, subst, ap, arith}
+use Rattle.std.specs.Prelude.{◌==◌, IfSome, if◌then◌else◌}
+use Rattle.circuit_model.proofs.Slots.{true_or_false}
+use Rattle.q931_codec.specs.declared.kind.MessageKind.{MessageKind}
+use Rattle.q931_codec.specs.declared.kind.MessageKind.TheVariants as kind
+use Rattle.q931_codec.specs.declared.message.Message.{Message}
+use Rattle.q931_codec.specs.Outgoing.{OutgoingMessage, IsWritable}
+use Rattle.clearing_rules.specs.Restarting.{global_call_reference}
+use Rattle.clearing_rules.specs.UnknownReference.{answer_to_type, answer_without_call}
+
+type_writable : (m : Message) → m.reference < 2 ^ 15 → (k : MessageKind) → IfSome (answer_to_type m k) IsWritable
+type_writable m small kind.Setup = tt
+type_writable m small kind.ReleaseComplete = tt
+type_writable m small kind.Status = tt
+type_writable m small kind.StatusEnquiry = record {
+  reference = small;
+  kind = tt;
+  bearer = omega arith;
+  cause = omega arith;
+  state = omega arith;
+  channel = tt;
+  calling = omega arith;
+  called = omega arith;
+  low = omega arith;
+  high = omega arith;
+}
+type_writable m small _ = record {
+  reference = small;
+  kind = tt;
+  bearer = omega arith;
+  cause = omega arith;
+  state = tt;
+  channel = tt;
+  calling = omega arith;
+  called = omega arith;
+  low = omega arith;
+  high = omega arith;
+}
+
+pub answer_writable : (m : Message) → m.reference < 2 ^ 15 → IfSome (answer_without_call m) IsWritable
+answer_writable m small = elim (true_or_false (m.reference == global_call_reference)) [
+  | inl global ↦ rw global tt
+  | inr own ↦ rw own (type_writable m small m.kind)
+]
