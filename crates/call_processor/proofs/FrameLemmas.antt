@@ -20,7 +20,7 @@ use Rattle.exchange_core.specs.declared.tool.Tool.TheVariants.{Image}
 use Rattle.seat_history.proofs.HistoryLemmas.{unseen_front}
 use Rattle.seat_history.specs.Histories.{StartsWith, unseen}
 use Rattle.exchange_core.specs.Boards.{Board, IsFrame, NoFrames, IsToolAt, ShowsAt, setting_at, world_at}
-use Rattle.exchange_events.specs.Sizes.{Setting}
+use Rattle.exchange_events.specs.Sizes.{Setting, Dimensions}
 use Rattle.exchange_events.specs.Sound.{Fits, IsSound}
 use Rattle.call_profile.specs.IsMade.{IsMade}
 use Rattle.call_profile.specs.Step.{next, world_after_all, events_of}

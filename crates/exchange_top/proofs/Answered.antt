@@ -21,7 +21,7 @@ use Rattle.exchange_events.specs.Orders.{IsEvent}
 use Rattle.seat_history.specs.declared.known.Known.{Known}
 use Rattle.seat_history.specs.Histories.{StartsWith, before, unseen}
 use Rattle.exchange_core.specs.Boards.{Board, AnswersAt, setting_at, world_at}
-use Rattle.exchange_events.specs.Sizes.{Setting}
+use Rattle.exchange_events.specs.Sizes.{Setting, Dimensions}
 use Rattle.exchange_events.specs.Sound.{setting_of}
 use Rattle.call_profile.specs.Step.{MovesAtMost, events_of, may_nail, next, reply, run, world_after_all}
 use Rattle.exchange_core.specs.Working.{Entry, IsNumbered, order_of, world_after}
