@@ -1,5 +1,5 @@
 -- The ports of the conference bridges, and which member has which. Source: this exchange's own.
-use Rattle.std.specs.Prelude.{◌≡◌, ◌<◌, Contains, ℕ, ℤ, pos, ◌+◌, ◌+ℤ◌, ◌*◌, ◌/◌, ◌%◌, Bool, false, List, [], ◌∷◌, map, replicate, Option, Some, None, option_map, position, slice_index_or, if◌then◌else◌}
+use Rattle.std.specs.Prelude.{◌≡◌, ◌<◌, Contains, ℕ, ℤ, pos, ◌+◌, ◌+ℤ◌, ◌-◌, ◌*◌, ◌/◌, ◌%◌, Bool, false, List, [], ◌∷◌, map, replicate, Option, Some, None, option_map, position, slice_index_or, if◌then◌else◌}
 use Rattle.circuit_model.specs.declared.channel.Slot.{Slot}
 use Rattle.circuit_model.specs.declared.circuit.Circuit.{Circuit}
 use Rattle.circuit_model.specs.declared.circuit.Circuit.TheVariants.{Pair, Member, Tone}
@@ -74,6 +74,10 @@ HaveOneEach ports = (j k : ℕ) (x : Slot) → owner_of ports j ≡ Some x → o
 
 abbrev pub KeepsPort : Ports → Ports → Slot → Type 0
 KeepsPort before now x = (k : ℕ) → owner_of before k ≡ Some x → owner_of now k ≡ Some x
+
+-- a member of frame f of these commands has in it the port that it had in the frame before
+abbrev pub KeepsItsPort : ℕ → List Command → ℕ → Slot → Type 0
+KeepsItsPort bridges cs f x = KeepsPort (ports_in bridges cs (f - 1)) (ports_in bridges cs f) x
 
 -- a slot sits in some room
 abbrev pub HasSeat : List Circuit → Slot → Type 0

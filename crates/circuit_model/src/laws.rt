@@ -13,7 +13,7 @@ ghost use Rattle.circuit_model.specs.Examples.{first, heard_in_frames, a_connect
 ///
 /// So an octet that crossed in the frame before, by a circuit that is heard now, was sent by it.
 pub fn law_of_age()
-    ensures { (commands : List Command) (f : ℕ) (c : Circuit) → Contains (circuits_in_frame commands f) c → since_of c < f → Contains (circuits_in_frame commands (f - 1)) c }
+    ensures { (cs : List Command) (f : ℕ) (c : Circuit) → Contains (circuits_in_frame cs f) c → since_of c < f → Contains (circuits_in_frame cs (f - 1)) c }
 {}
 
 /// The definitions of what a slot hears, evaluated on small exchanges: octets pass after exactly

@@ -1,12 +1,11 @@
 //! Laws of the conference ports, and of the lines that circuits name.
 
-ghost use Rattle.std.specs.Prelude.{◌≡◌, ◌<◌, ◌-◌, ◌*◌, ℕ, ℤ, List, Some, Contains};
+ghost use Rattle.std.specs.Prelude.{◌≡◌, ℕ, ℤ, List, Some, Contains};
 ghost use Rattle.circuit_model.specs.declared.channel.Slot.{Slot};
 ghost use Rattle.circuit_model.specs.declared.circuit.Circuit.{Circuit};
-ghost use Rattle.circuit_model.specs.declared.circuit.Circuit.TheVariants.{Member};
 ghost use Rattle.circuit_model.specs.Extent.{AreWithin, NamesWithin};
 ghost use Rattle.circuit_model.specs.Holding.{Command, circuits_in_frame};
-ghost use Rattle.circuit_model.specs.Ports.{InEachFrame, ports_in, owner_of, HasPort, HaveOneEach, KeepsPort, HasSeat, HasSeatBefore, sum_of_owners, sum_of_members};
+ghost use Rattle.circuit_model.specs.Ports.{InEachFrame, owner_of, HasPort, HaveOneEach, KeepsItsPort, HasSeat, HasSeatBefore, sum_of_owners, sum_of_members};
 
 /// The law of ports, over the frames of allowed commands: each member that stands in a frame has a
 /// port of a bridge line then, each port that is taken has a member that stands, no two ports have
@@ -16,7 +15,7 @@ pub fn law_of_ports()
     ensures each { (b : ℕ) → InEachFrame b (λ circuits ports. (x : Slot) → HasSeat circuits x → HasPort b ports x) }
     ensures owned { (b : ℕ) → InEachFrame b (λ circuits ports. (k : ℕ) (x : Slot) → owner_of ports k ≡ Some x → HasSeat circuits x) }
     ensures alone { (b : ℕ) → InEachFrame b (λ circuits ports. HaveOneEach ports) }
-    ensures kept { (b f : ℕ) (cs : List Command) (x : Slot) → HasSeatBefore f (circuits_in_frame cs f) x → KeepsPort (ports_in b cs (f - 1)) (ports_in b cs f) x }
+    ensures kept { (b f : ℕ) (cs : List Command) (x : Slot) → HasSeatBefore f (circuits_in_frame cs f) x → KeepsItsPort b cs f x }
     ensures sums { (b : ℕ) → InEachFrame b (λ circuits ports. (weight : Slot → ℤ) → sum_of_owners weight ports ≡ sum_of_members weight circuits) }
 {}
 

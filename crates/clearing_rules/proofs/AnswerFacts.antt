@@ -1,11 +1,11 @@
 -- What answers a message on no call can be written.
-use Rattle.std.proofs.Common.{◌≡◌, ◌<◌, ◌^◌, true, false, inl, inr, Option, Some, None, sym, subst, ap, arith}
-use Rattle.std.specs.Prelude.{◌==◌, IfSome, if◌then◌else◌}
+use Rattle.std.proofs.Common.{◌<◌, ◌^◌, inl, inr, arith}
+use Rattle.std.specs.Prelude.{◌==◌, IfSome}
 use Rattle.circuit_model.proofs.Slots.{true_or_false}
 use Rattle.q931_codec.specs.declared.kind.MessageKind.{MessageKind}
 use Rattle.q931_codec.specs.declared.kind.MessageKind.TheVariants as kind
 use Rattle.q931_codec.specs.declared.message.Message.{Message}
-use Rattle.q931_codec.specs.Outgoing.{OutgoingMessage, IsWritable}
+use Rattle.q931_codec.specs.Outgoing.{IsWritable}
 use Rattle.clearing_rules.specs.Restarting.{global_call_reference}
 use Rattle.clearing_rules.specs.UnknownReference.{answer_to_type, answer_without_call}
 

@@ -1,5 +1,5 @@
 -- No tone is given where neither ringing tone nor busy tone is.
-use Rattle.std.proofs.Common.{◌≡◌, ◌↔◌, Bool, true, false, true≢false, IsTrue, not, refl, sym}
+use Rattle.std.proofs.Common.{◌↔◌, Bool, true, false, true≢false, IsTrue, not, refl, sym}
 use Rattle.circuit_model.specs.declared.circuit.Kind.{Kind}
 use Rattle.circuit_model.specs.declared.circuit.Kind.TheVariants.{Ringback, Busy}
 use Rattle.tone_rules.specs.declared.tones.Tones.{Tones}

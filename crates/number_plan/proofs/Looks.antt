@@ -1,7 +1,7 @@
 -- What a look finds.
-use Rattle.std.proofs.Common.{◌≡◌, ◌≢◌, ◌⊎◌, ℕ, zero, suc, ◌<◌, ◌≤◌, Bool, true, false, cond, leb, List, [], ◌∷◌, length, get_or, Option, Some, None, refl, sym, ap, subst, ◌∙◌, arith, inl, inr}
-use Rattle.std.specs.Prelude.{IsTrue, not, ◌||◌}
-use Rattle.std.specs.List.{list_all, list_any, slice_get}
+use Rattle.std.proofs.Common.{◌≡◌, ℕ, zero, suc, ◌<◌, ◌≤◌, Bool, true, false, cond, leb, List, [], ◌∷◌, length, get_or, refl, sym, ap, ◌∙◌, arith, inl, inr}
+use Rattle.std.specs.Prelude.{◌||◌}
+use Rattle.std.specs.List.{list_all}
 use Rattle.std.specs.Ordering.{ordering_index}
 use Rattle.std.specs.declared.cmp.Ordering.{Ordering}
 use Rattle.std.specs.declared.cmp.Ordering.TheVariants.{Less, Equal, Greater}
@@ -13,7 +13,7 @@ use Rattle.number_plan.specs.declared.target.Found.{Found}
 use Rattle.number_plan.specs.declared.target.Found.TheVariants as answer
 use Rattle.number_plan.specs.Plan.{begins, side_by_side, precedes, in_order, is_number_taken, found_for, found_at}
 use Rattle.number_plan.specs.Search.{IsBesideAt, IsPlaceFor}
-use Rattle.number_plan.proofs.Side.{reversed, begins_equal, begun_equal, equal_begins, equal_begun, begins_begins, both_begin, begins_shorter, not_begins, not_begun, not_both, rising, is_less}
+use Rattle.number_plan.proofs.Side.{begins_equal, begun_equal, equal_begins, equal_begun, begins_begins, both_begin, begins_shorter, not_begins, not_begun, not_both, rising, is_less}
 use Rattle.number_plan.proofs.OrderFacts.{all_get}
 
 -- what a number beside the digits says
