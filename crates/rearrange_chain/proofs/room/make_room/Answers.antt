@@ -7,7 +7,7 @@ use Rattle.rearrange_chain.specs.InTurn.{CanLift}
 use Rattle.rearrange_chain.proofs.Exchange.{exchange_lifts, exchange_places}
 use Rattle.rearrange_chain.proofs.Freed.{Rearranged, lowest_in_both_is, ways, bounds, from_row, from_column, shorter_room, rearranges_shorter}
 use Rattle.rearrange_chain.proofs.room.make_room.Goals as goal
-use Rattle.rearrange_chain.proofs.room.make_room.Goals.{After-place_all, After-free_in_column-b, After-take_shorter-slot}
+use Rattle.rearrange_chain.proofs.room.make_room.Goals.{After-place_all}
 use Rattle.rearrange_chain.proofs.room.make_room.Given.{Over}
 
 pub returns-in-Some-clause-row_free : goal.returns-in-Some-clause-row_free

@@ -1,4 +1,4 @@
-use Rattle.std.proofs.Common.{rules, ◌≡◌, ◌+◌, ◌*◌, length, replicate, None, refl, ◌∙◌, ap}
+use Rattle.std.proofs.Common.{rules, ◌≡◌, ◌*◌, length, replicate, None, refl, ◌∙◌, ap}
 use Rattle.std.proofs.lemmas.List.{length-replicate}
 use Rattle.circuit_model.specs.Holding.{empty}
 use Rattle.conference_ports.specs.Owners.{members}
