@@ -6,7 +6,7 @@ ghost use Rattle.tone_rules.specs.Tables.{table_of};
 ghost use Rattle.call_processor.specs.Frames.{IsReady, IsReadyFor, HasFrame, engine_dimensions};
 ghost use Rattle.call_processor.specs.Parts.{part_of};
 ghost use Rattle.call_processor.specs.Work.{DidEvent, IsAnswer, MayWork, Works};
-ghost use Rattle.call_processor.specs.Workplaces.{EndsReady, FinishesReady, HasFrames, HasWorked};
+ghost use Rattle.call_processor.specs.Workplaces.{DidPart, EndsReady, FinishesReady, HasFrames, HasWorked, PlaysFrames};
 
 use crate::segment::{input_of, numbers_of};
 use crate::worked::{Finished, FinishedFrames, Framed, Placed, Worked, Workplace};
@@ -67,7 +67,7 @@ fn do_frame<B: Switchboard, G: Gate, C: Carrier, R: Wait>(
     Ok(Placed { place, answer })
 }
 
-// Makes room for what so many lines send, unless there is.
+// Room for what so many lines send, unless it is there already.
 fn grow(alloc: Global, octets: &mut Vec<[u8; 30]>, lines: usize) -> Result<(), AllocError>
     ensures { OnOk result (length octets.new.items ≡ lines) }
 {
@@ -157,9 +157,9 @@ pub fn run_frames<B: Switchboard, G: Gate, C: Carrier, R: Wait>(
     // The engine carries the frames of the history that the seat has seen, and the tool is of its size.
     requires ready { IsReady C.carries C.next (engine_dimensions C.external_lines C.bridge_lines C.depth) (B.board board.now) (B.known seat).seen engine tool }
     ensures seated { B.seated board.now result.worked.seat }
-    ensures works { Works (B.board board.now) (part_of trace.now segment Frame_worker) (B.known seat) result.worked.answers.items result.worked.whole (B.known result.worked.seat) }
+    ensures works { DidPart B.known (B.board board.now) (part_of trace.now segment Frame_worker) (B.known seat) result.worked }
     ensures ready { EndsReady C.carries C.next (engine_dimensions C.external_lines C.bridge_lines C.depth) B.known (B.board board.now) result }
-    ensures octets { All (HasFrame C.plays (table_of trace.now.tones) (B.board board.now) (B.known result.worked.seat)) result.worked.answers.items }
+    ensures octets { PlaysFrames C.plays (table_of trace.now.tones) B.known (B.board board.now) result.worked }
 {
     let mut seat = seat;
     let mut engine = engine;

@@ -3,7 +3,7 @@ ghost use Rattle.exchange_core.specs.declared.tool.Tool.TheVariants.{Nothing};
 ghost use Rattle.exchange_events.specs.Orders.{Processor};
 ghost use Rattle.call_processor.specs.Parts.{part_of};
 ghost use Rattle.call_processor.specs.Work.{MayWork, Works};
-ghost use Rattle.call_processor.specs.Workplaces.{HasWorked};
+ghost use Rattle.call_processor.specs.Workplaces.{DidPart, HasWorked};
 
 use crate::segment::{is_of_processor, numbers_of};
 use crate::worked::{Finished, Placed, Worked, Workplace};
@@ -71,7 +71,7 @@ pub fn process<B: Switchboard, G: Gate, R: Wait>(
     requires processor { processor < trace.now.processors }
     requires turns { length (part_of trace.now segment (Processor processor)) ≤ (B.known seat).left }
     ensures seated { B.seated board.now result.seat }
-    ensures works { Works (B.board board.now) (part_of trace.now segment (Processor processor)) (B.known seat) result.answers.items result.whole (B.known result.seat) }
+    ensures works { DidPart B.known (B.board board.now) (part_of trace.now segment (Processor processor)) (B.known seat) result }
     // An event that is no frame has no octets.
     ensures octets { All (λ p. p.answer.octets ≡ []) result.answers.items }
 {

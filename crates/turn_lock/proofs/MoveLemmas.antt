@@ -12,7 +12,7 @@ use Rattle.std.specs.List.{AllByRecursion as Every}
 use Rattle.std.proofs.lemmas.List.Elements.{All-from_recursion}
 use Rattle.seat_history.specs.declared.known.JoinedSeat.{JoinedSeat}
 use Rattle.seat_history.specs.Histories.{Entry, entries_of}
-use Rattle.seat_history.specs.Seats.{Accounts, HasJoinedAll, after_step}
+use Rattle.seat_history.specs.Seats.{Accounts, HasJoinedAll}
 use Rattle.turn_lock.specs.declared.board.View.{View}
 use Rattle.turn_lock.specs.declared.board.Stage.{Stage}
 use Rattle.turn_lock.specs.declared.board.Stage.TheVariants.{Idle, Waits, Served}

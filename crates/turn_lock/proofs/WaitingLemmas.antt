@@ -10,7 +10,7 @@ use Rattle.turn_lock.specs.declared.board.View.{View}
 use Rattle.turn_lock.specs.declared.board.Stage.{Stage}
 use Rattle.turn_lock.specs.declared.board.Stage.TheVariants.{Idle, Waits, Served}
 use Rattle.turn_lock.specs.Views.{HoldsTicket, IsServed, tickets_of, IsLive, weigh, total, Sits, Each, Pairs, next_ticket, now_serving}
-use Rattle.turn_lock.specs.Rule.{OneHistory, SlotsWay, Tickets}
+use Rattle.turn_lock.specs.Rule.{Tickets}
 use Rattle.turn_lock.specs.Waiting.{FewComeBefore, KeepsPlace, SomebodyCanGo}
 
 -- the ticket of a seat before the others, counted from base
