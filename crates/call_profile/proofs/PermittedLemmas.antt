@@ -18,7 +18,8 @@ use Rattle.exchange_events.specs.Sound.{Fits, IsPlanned}
 use Rattle.call_profile.specs.World.{World}
 use Rattle.call_profile.proofs.PermittedActLemmas.{act_permitted}
 use Rattle.call_profile.proofs.StandingLegLemmas.{octets_small}
-use Rattle.call_profile.proofs.NoCallAnswerLemmas.{answer_writable, back_permitted}
+use Rattle.clearing_rules.proofs.AnswerFacts.{answer_writable}
+use Rattle.call_profile.proofs.NoCallAnswerLemmas.{back_permitted}
 use Rattle.call_profile.proofs.NamedLegLemmas.{received_stands}
 use Rattle.call_profile.proofs.PermittedSetupLemmas.{setup_permitted}
 use Rattle.call_profile.proofs.SetupLemmas.{new_from, no_call_read}
@@ -40,4 +41,4 @@ module _ (s : Setting) (w : World) (line : ℕ) (octets : List ℕ) (planned : I
   answer_may m is =
       let read = no_call_read w.legs line (reading octets) m is in
       let message = read_message octets m (octets_small octets fits.1) read in
-      back_permitted s.dimensions s.tones (making_at w) line fits.0 (answer_without_call m) (answer_writable m message.value m.kind)
+      back_permitted s.dimensions s.tones (making_at w) line fits.0 (answer_without_call m) (answer_writable m message.value)
