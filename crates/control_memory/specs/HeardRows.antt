@@ -8,6 +8,10 @@ use Rattle.control_memory.specs.declared.heard.Heard.TheVariants.{Silent}
 abbrev pub heard_on : List Heard → ℕ → ℕ → Heard
 heard_on heard line place = slice_index_or heard (30 * line + place) Silent
 
+-- on each line whose mark is this bit, every place hears in one as in the other
+abbrev pub HearAlike : ℕ → ℕ → ℕ → List Heard → List Heard → Type 0
+HearAlike bit marks lines one other = (line place : ℕ) → line < lines → place < 30 → bit_at marks (line % 64) ≡ bit → heard_on one line place ≡ heard_on other line place
+
 -- no place of the line hears anything
 abbrev pub IsSilent : List Heard → ℕ → Type 0
 IsSilent heard line = (place : ℕ) → place < 30 → heard_on heard line place ≡ Silent

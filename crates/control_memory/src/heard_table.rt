@@ -1,7 +1,7 @@
 ghost use Rattle.std.specs.Prelude.{◌≡◌, ℕ, true, ◌+◌, ◌*◌, ◌%◌, ◌<◌, ◌≤◌, IfOk, length, replicate, slice_index_or, slice_set};
 ghost use Rattle.std.specs.Int.{bit_at};
 ghost use Rattle.control_memory.specs.Layout.{number_of};
-ghost use Rattle.control_memory.specs.HeardRows.{heard_on, IsSilent};
+ghost use Rattle.control_memory.specs.HeardRows.{HearAlike, heard_on, IsSilent};
 
 use crate::heard::Heard;
 use crate::heard_word::HeardWord;
@@ -124,8 +124,8 @@ fn copy_rows(to: &mut Vec<HeardWord>, from: &[HeardWord], lines: u8, marks: u64)
     requires to { length to.old.items ≡ 30 * lines }
     requires from { length from.now ≡ 30 * lines }
     ensures size { length to.new.items ≡ 30 * lines }
-    ensures marked { (line place : ℕ) → line < lines → place < 30 → bit_at marks (line % 64) ≡ 1 → heard_on to.new.items line place ≡ heard_on from.now line place }
-    ensures others { (line place : ℕ) → line < lines → place < 30 → bit_at marks (line % 64) ≡ 0 → heard_on to.new.items line place ≡ heard_on to.old.items line place }
+    ensures marked { HearAlike 1 marks lines to.new.items from.now }
+    ensures others { HearAlike 0 marks lines to.new.items to.old.items }
 {
     for line in 0..lines {
         if (marks >> (line % 64)) & 1 == 0 {
