@@ -12,7 +12,7 @@ use Rattle.command_words.specs.declared.command.Command.{Command}
 use Rattle.command_words.specs.declared.command.Command.TheVariants.{Run, Generate}
 use Rattle.command_words.specs.Words.{command_of}
 use Rattle.exchange_top.specs.declared.listing.Listing.TheVariants as listing
-use Rattle.exchange_top.specs.Commands.{Parties, Refuses, Told_so, Untold, IsUnfinished, fabric_of, IsRun, IsGeneration, IsNoCommand, IsInput, IsWholeInput, IsDone, IsSummed, IsTurnedDown, In_refusal, In_report, IsUndone, In_words, Unheard, In_answer, In_generation, Runs, Whole, Unwritten_from, No_memory_from, Answers, Done, Turned_down, Unwritten, No_memory, Sums, Summed, Sum_unwritten, Sum_no_memory, Told, Ends, Wrong_words, Words_unwritten, Unread, No_room, Answered, Generated, refusal, words_refusal}
+use Rattle.exchange_top.specs.Commands.{Parties, Refuses, Told_so, Untold, IsUnfinished, fabric_of, IsRun, IsGeneration, IsNoCommand, IsInput, IsWholeInput, IsDone, IsSummed, IsTurnedDown, In_refusal, In_report, By_write, By_memory, IsUndone, In_words, Unheard, In_answer, In_generation, Runs, Whole, Unwritten_from, No_memory_from, Answers, Done, Turned_down, Unwritten, No_memory, Sums, Summed, Sum_unwritten, Sum_no_memory, Told, Ends, Wrong_words, Words_unwritten, Unread, No_room, Answered, Generated, refusal, words_refusal}
 use Rattle.trace_text.proofs.TraceReadings.{never_both}
 
 -- ---- words ask for one thing
@@ -59,23 +59,23 @@ module _ (x : Parties) where
   pub answers_run : (bytes : List ℕ) (t : Trace) (status : ℕ) (order : List ℕ) (old new : Option (List ℕ)) (before after : ℕ) → IsTrace bytes t
       → Runs x listing.Report t status order old new before after → Answers x bytes status order old new before after
   answers_run bytes t status order old new before after is (Whole s run text engine) = Done s (record { trace = t; is_trace = is; run = run; text = text; engine = engine })
-  answers_run bytes t status order old new before after is (Unwritten_from s rose b) = Unwritten s rose (In_report t is b)
-  answers_run bytes t status order old new before after is (No_memory_from s b) = No_memory s (In_report t is b)
+  answers_run bytes t status order old new before after is (Unwritten_from s rose b) = Unwritten s rose (In_report t is (By_write s b))
+  answers_run bytes t status order old new before after is (No_memory_from s b) = No_memory s (In_report t is (By_memory s b))
 
   pub answers_refused : (bytes : List ℕ) (number : ℕ) (why : Reason) (status : ℕ) (order line : List ℕ) (old new : Option (List ℕ)) (before after : ℕ) → IsRefused bytes number why → order ≡ []
-      → line ≡ refusal number why → x.told [] → x.told_front [] → Refuses 1 line status old new before after → Answers x bytes status order old new before after
-  answers_refused bytes number why status order line old new before after refused none same told front (Told_so s written) =
+      → line ≡ refusal number why → x.told [] → Refuses 1 line status old new before after → Answers x bytes status order old new before after
+  answers_refused bytes number why status order line old new before after refused none same told (Told_so s written) =
       Turned_down s (record { number = number; why = why; refused = refused; none = none; text = rw same at written }) told
-  answers_refused bytes number why status order line old new before after refused none same told front (Untold s rose cut) = Unwritten s rose (In_refusal number why refused none (rw same at cut) front)
+  answers_refused bytes number why status order line old new before after refused none same told (Untold s rose cut) = Unwritten s rose (In_refusal s number why refused none (rw same at cut) told)
 
-  pub ends_words : (words : List (List ℕ)) (status : ℕ) (order : List ℕ) (old new : Told) → IsNoCommand words → order ≡ [] → x.told [] → x.told_front []
+  pub ends_words : (words : List (List ℕ)) (status : ℕ) (order : List ℕ) (old new : Told) → IsNoCommand words → order ≡ [] → x.told []
       → Refuses 2 words_refusal status old.written new.written old.writes new.writes → Ends x words status order old new
-  ends_words words status order old new unasked none told front (Told_so s written) = Wrong_words unasked s none written told
-  ends_words words status order old new unasked none told front (Untold s rose cut) = Words_unwritten unasked s none rose cut front
+  ends_words words status order old new unasked none told (Told_so s written) = Wrong_words unasked s none written told
+  ends_words words status order old new unasked none told (Untold s rose cut) = Words_unwritten unasked s none rose cut told
 
   -- ---- what each status says
 
-  pub done_says : (words : List (List ℕ)) (status : ℕ) (order : List ℕ) (old new : Told) → Ends x words status order old new → status ≡ 0 → IsRun words → (bytes : List ℕ) × IsWholeInput old.left new.left bytes × IsDone x.plays x.handed x.told bytes order old.written new.written
+  pub done_says : (words : List (List ℕ)) (status : ℕ) (order : List ℕ) (old new : Told) → Ends x words status order old new → status ≡ 0 → IsRun words → (bytes : List ℕ) × IsWholeInput old.left new.left bytes × IsDone x bytes order old.written new.written
   done_says words status order old new (Wrong_words unasked s none text told) h run = absurd (omega (arith, s, h))
   done_says words status order old new (Words_unwritten unasked s none rose text told) h run = absurd (omega (arith, s, h))
   done_says words status order old new (Unread is s none rose kept told) h run = absurd (omega (arith, s, h))
@@ -88,7 +88,7 @@ module _ (x : Parties) where
   done_says words status order old new (Generated seed calls is (Sum_unwritten s rose cut)) h run = absurd (omega (arith, s, h))
   done_says words status order old new (Generated seed calls is (Sum_no_memory s cut)) h run = absurd (omega (arith, s, h))
 
-  pub summed_says : (words : List (List ℕ)) (status : ℕ) (order : List ℕ) (old new : Told) (a n : ℕ) → Ends x words status order old new → status ≡ 0 → IsGeneration words a n → IsSummed x.handed x.told x.said a n order old.written new.written
+  pub summed_says : (words : List (List ℕ)) (status : ℕ) (order : List ℕ) (old new : Told) (a n : ℕ) → Ends x words status order old new → status ≡ 0 → IsGeneration words a n → IsSummed x a n order old.written new.written
   summed_says words status order old new a n (Wrong_words unasked s none text told) h gen = absurd (omega (arith, s, h))
   summed_says words status order old new a n (Words_unwritten unasked s none rose text told) h gen = absurd (omega (arith, s, h))
   summed_says words status order old new a n (Unread is s none rose kept told) h gen = absurd (omega (arith, s, h))
@@ -153,11 +153,11 @@ module _ (x : Parties) where
   write_failed_says words status order old new (Generated seed calls is (Sum_unwritten s rose cut)) h = rose
   write_failed_says words status order old new (Generated seed calls is (Sum_no_memory s cut)) h = absurd (omega (arith, s, h))
 
-  pub cut_short_says : (words : List (List ℕ)) (status : ℕ) (order : List ℕ) (old new : Told) → Ends x words status order old new → 4 ≤ status → IsUndone x.plays x.told x.told_front x.said words old.left new.left order old.written new.written
+  pub cut_short_says : (words : List (List ℕ)) (status : ℕ) (order : List ℕ) (old new : Told) → Ends x words status order old new → 4 ≤ status → IsUndone x status words old.left new.left order old.written new.written
   cut_short_says words status order old new (Wrong_words unasked s none text told) h = absurd (omega (arith, s, h))
-  cut_short_says words status order old new (Words_unwritten unasked s none rose text told) h = In_words unasked none text told
+  cut_short_says words status order old new (Words_unwritten unasked s none rose text told) h = In_words s unasked none text told
   cut_short_says words status order old new (Unread is s none rose kept told) h = absurd (omega (arith, s, h))
-  cut_short_says words status order old new (No_room s none kept told) h = Unheard none kept told
+  cut_short_says words status order old new (No_room s none kept told) h = Unheard s none kept told
   cut_short_says words status order old new (Answered is bytes input (Done s done)) h = absurd (omega (arith, s, h))
   cut_short_says words status order old new (Answered is bytes input (Turned_down s down told)) h = absurd (omega (arith, s, h))
   cut_short_says words status order old new (Answered is bytes input (Unwritten s rose cut)) h = In_answer is bytes input cut

@@ -9,7 +9,7 @@ use Rattle.seat_history.specs.Histories.{Entry}
 use Rattle.exchange_core.specs.Boards.{Board}
 use Rattle.generated_trace.specs.Generated.{IsTrafficOf}
 use Rattle.exchange_top.specs.declared.listing.Listing.TheVariants as listing
-use Rattle.exchange_top.specs.Commands.{Handing, Parties, Runs, Whole, Unwritten_from, No_memory_from, Sums, Summed, Sum_unwritten, Sum_no_memory, In_run, In_summary, IsHandedOut}
+use Rattle.exchange_top.specs.Commands.{Handing, Parties, Runs, Whole, Unwritten_from, No_memory_from, Sums, Summed, Sum_unwritten, Sum_no_memory, In_run, In_summary, Before_summary, By_write, By_memory, IsHandedOut}
 use Rattle.segment_run.specs.Segment.{IsChief}
 use Rattle.exchange_top.specs.Streams.{AppendsFront}
 use Rattle.exchange_top.specs.Summary.{summary_text}
@@ -26,19 +26,16 @@ moved P board wanted order seen same is holds = subst (λ b. P b order) same (su
 front_then : (old mid new : Option (List ℕ)) (text : List ℕ) → Appends old mid [] → AppendsFront mid new text → AppendsFront old new text
 front_then old mid new text none front = (front.0, front.1, Appends-trans old mid new [] _ none front.2)
 
-front_kept : (old mid new : Option (List ℕ)) (text : List ℕ) → Appends old mid [] → Keeps mid new → AppendsFront old new text
-front_kept old mid new text none kept = (0, omega arith, kept_nil old mid new none kept)
-  where
-    kept_nil : (old mid new : Option (List ℕ)) → Appends old mid [] → Keeps mid new → Appends old new []
-    kept_nil old mid new none kept = search rules
+kept_none : (old mid new : Option (List ℕ)) → Appends old mid [] → Keeps mid new → Appends old new []
+kept_none old mid new none kept = search rules
 
 module _ (x : Parties) (seed calls : ℕ) (t : Trace) (is : IsTrafficOf seed calls t) where
   -- the run itself was cut short
   pub sums_cut : (status : ℕ) (order : List ℕ) (old new : Option (List ℕ)) (before after : ℕ) → status ≢ 0 → Runs x listing.Nothing t status order old new before after
       → Sums x seed calls status order old new before after
   sums_cut status order old new before after not (Whole s run text engine) = absurd (not s)
-  sums_cut status order old new before after not (Unwritten_from s rose b) = Sum_unwritten s rose (In_run t is b)
-  sums_cut status order old new before after not (No_memory_from s b) = Sum_no_memory s (In_run t is b)
+  sums_cut status order old new before after not (Unwritten_from s rose b) = Sum_unwritten s rose (In_run t is (By_write s b))
+  sums_cut status order old new before after not (No_memory_from s b) = Sum_no_memory s (In_run t is (By_memory s b))
 
   -- all was run, and the summary was written, or not
   pub sums_up : (h : Handing) (status status' : ℕ) (order order' : List ℕ) (old mid new : Option (List ℕ)) (faults middle then : ℕ) → status ≡ 0
@@ -56,8 +53,8 @@ module _ (x : Parties) (seed calls : ℕ) (t : Trace) (is : IsTrafficOf seed cal
           engine = rw same ((done now).0 _ _ engine);
         })
         | inr other ↦ elim other [
-          | inl now ↦ Sum_unwritten now (elim steady [ inl four ↦ absurd (omega (arith, four, zero)) | inr kept ↦ rw (sym kept) (unwritten now).0 ]) (In_summary t is (rw same run) (front_then old mid new _ text (unwritten now).1))
-          | inr now ↦ Sum_no_memory now (In_summary t is (rw same run) (front_kept old mid new _ text (unsaid now)))
+          | inl now ↦ Sum_unwritten now (elim steady [ inl four ↦ absurd (omega (arith, four, zero)) | inr kept ↦ rw (sym kept) (unwritten now).0 ]) (In_summary now t is (rw same run) (front_then old mid new _ text (unwritten now).1))
+          | inr now ↦ Sum_no_memory now (Before_summary now t is (rw same run) (kept_none old mid new text (unsaid now)))
         ]
       ]
   sums_up h status status' order order' old mid new faults middle then zero (Unwritten_from s rose b) steady same done unwritten unsaid ends = absurd (omega (arith, s, zero))

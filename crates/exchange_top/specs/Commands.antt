@@ -1,10 +1,12 @@
 -- The commands, and what a call answers to them. Source: this exchange's own.
-use Rattle.std.specs.Prelude.{◌≡◌, ◌⊎◌, ℕ, ◌+◌, ◌≤◌, List, [], ◌++◌, length, codes, decimal, Some, None}
+use Rattle.std.specs.Prelude.{◌≡◌, ◌⊎◌, ℕ, ◌+◌, ◌≤◌, List, [], ◌++◌, length, map, codes, decimal, Some, None}
+use Rattle.std.specs.List.{concat}
 use Rattle.std.specs.Io.KnownBytes.{Appends, Consumes, IsAtEnd, Keeps}
 use Rattle.std.specs.declared.option.Option.{Option}
 use Rattle.ex_io.specs.Ends.{Rose}
 use Rattle.trace_text.specs.declared.fault.Reason.{Reason}
 use Rattle.trace_text.specs.declared.fault.Reason.TheVariants as reason
+use Rattle.exchange_events.specs.declared.record.CallRecord.{CallRecord}
 use Rattle.exchange_events.specs.declared.trace.Trace.{Trace}
 use Rattle.fabric_map.specs.Map.{most_moves}
 use Rattle.trace_text.specs.TraceGrammar.{IsTrace, IsRefused, most_bytes}
@@ -15,14 +17,14 @@ use Rattle.exchange_events.specs.Sound.{setting_of}
 use Rattle.exchange_core.specs.Working.{world_after}
 use Rattle.exchange_events.specs.Sizes.{Dimensions}
 use Rattle.call_profile.specs.World.{World}
-use Rattle.call_processor.specs.Frames.{Plays}
+use Rattle.call_processor.specs.Frames.{Carrying, Plays}
 use Rattle.exchange_top.specs.declared.listing.Listing.{Listing}
 use Rattle.exchange_top.specs.declared.listing.Listing.TheVariants as listing
-use Rattle.exchange_top.specs.Outcomes.{Fabric, IsRunWhole, IsBegun, listed}
-use Rattle.exchange_top.specs.Report.{report}
+use Rattle.exchange_top.specs.Outcomes.{Fabric, IsInterrupted, IsRunWhole, IsUnwritten, listed}
+use Rattle.exchange_top.specs.Report.{HandsOut, report}
 use Rattle.exchange_top.specs.Streams.{AppendsFront}
 use Rattle.exchange_top.specs.Summary.{summary_text}
-use Rattle.exchange_top.specs.Telling.{Telling}
+use Rattle.exchange_top.specs.Telling.{AreTold, AreToldBeyond, Telling}
 
 -- ---- the commands
 
@@ -90,25 +92,45 @@ fabric_of trace = record { slots = 30; most_moves = most_moves (trace.external +
 abbrev pub Handing : Type 1
 Handing = Dimensions → World → Type 0
 
+-- what a call is given and what becomes of its parties: what its engine plays, what is said of the engine that is handed out, what its meters were
+-- told, of all calls or of some and the first few of more, and what they say in the end
+pub record Parties : Type 1 where
+  pub plays : Plays
+  pub handed : Handing
+  pub told : Telling
+  pub told_beyond : List CallRecord → Telling
+  pub said : List ℕ
+
+-- those of a call: an engine plays so, has these dimensions and carries frames so, and may be handed out; meters stand for calls and say a text,
+-- before and after
+abbrev pub parties : {M E : Type 0} → Plays → (E → Dimensions) → Carrying E → Option E → (M → List CallRecord → Type 0) → (M → List CallRecord → List ℕ) → List M → List M → Parties
+parties plays sizes carries engine stands text old new = record {
+  plays = plays;
+  handed = HandsOut sizes carries engine;
+  told = AreTold stands text old new;
+  told_beyond = AreToldBeyond stands text old new;
+  said = concat (map (λ m. text m []) new);
+}
+
 -- the engine that was handed out has the size of the trace's exchange, and carries the frames of the run
 abbrev pub IsHandedOut : Handing → Trace → List ℕ → Type 0
 IsHandedOut handed trace order = let slots = (fabric_of trace).slots in handed (setting_of slots trace).dimensions (world_after slots trace order)
 
 -- the bytes are a trace, which was run, and its report was written, whole
-pub record IsDone (plays : Plays) (handed : Handing) (told : Telling) (bytes order : List ℕ) (old new : Option (List ℕ)) : Type 0 where
+pub record IsDone (x : Parties) (bytes order : List ℕ) (old new : Option (List ℕ)) : Type 0 where
   pub trace : Trace
   pub is_trace : IsTrace bytes trace
-  pub run : IsRunWhole (fabric_of trace) told trace order
-  pub text : Appends old new (report plays (fabric_of trace).slots trace order)
-  pub engine : IsHandedOut handed trace order
+  pub run : IsRunWhole (fabric_of trace) x.told trace order
+  pub text : Appends old new (report x.plays (fabric_of trace).slots trace order)
+  pub engine : IsHandedOut x.handed trace order
 
 -- the trace generated of this seed with so many calls was run, and its summary was written, whole: it ends with what the meters say
-pub record IsSummed (handed : Handing) (told : Telling) (said : List ℕ) (seed calls : ℕ) (order : List ℕ) (old new : Option (List ℕ)) : Type 0 where
+pub record IsSummed (x : Parties) (seed calls : ℕ) (order : List ℕ) (old new : Option (List ℕ)) : Type 0 where
   pub trace : Trace
   pub generated : IsTrafficOf seed calls trace
-  pub run : IsRunWhole (fabric_of trace) told trace order
-  pub text : Appends old new (summary_text trace said)
-  pub engine : IsHandedOut handed trace order
+  pub run : IsRunWhole (fabric_of trace) x.told trace order
+  pub text : Appends old new (summary_text trace x.said)
+  pub engine : IsHandedOut x.handed trace order
 
 -- ---- other ends
 
@@ -120,30 +142,35 @@ pub record IsTurnedDown (bytes order : List ℕ) (old new : Option (List ℕ)) :
   pub none : order ≡ []
   pub text : Appends old new (refusal number why)
 
--- the answer to the bytes was cut short: nothing was written, or a front of their refusal, or a front of the report of the segments that were done
-pub data IsCutShort (plays : Plays) (told_front : Telling) (bytes order : List ℕ) (old new : Option (List ℕ)) : Type 0 where
-  At_once : order ≡ [] → Keeps old new → told_front [] → IsCutShort plays told_front bytes order old new
-  In_refusal : (number : ℕ) (why : Reason) → IsRefused bytes number why → order ≡ [] → AppendsFront old new (refusal number why) → told_front []
-      → IsCutShort plays told_front bytes order old new
-  In_report : (trace : Trace) → IsTrace bytes trace → IsBegun plays listing.Report (fabric_of trace).slots told_front trace order old new
-      → IsCutShort plays told_front bytes order old new
+-- a run of a trace, of which this is listed, was cut short: a write failed, or memory ran out
+pub data IsBegun (x : Parties) (l : Listing) (trace : Trace) (status : ℕ) (order : List ℕ) (old new : Option (List ℕ)) : Type 0 where
+  By_write : status ≡ 4 → IsUnwritten x.plays l (fabric_of trace).slots x.told trace order old new → IsBegun x l trace status order old new
+  By_memory : status ≡ 5 → IsInterrupted x.plays l (fabric_of trace).slots x.told_beyond trace order old new → IsBegun x l trace status order old new
 
--- a run of a generated trace was cut short: nothing was written, or a front of its summary once all of it was run
-pub data IsSumCutShort (plays : Plays) (told told_front : Telling) (said : List ℕ) (seed calls : ℕ) (order : List ℕ) (old new : Option (List ℕ)) : Type 0 where
-  Not_begun : order ≡ [] → Keeps old new → told_front [] → IsSumCutShort plays told told_front said seed calls order old new
-  In_run : (trace : Trace) → IsTrafficOf seed calls trace → IsBegun plays listing.Nothing (fabric_of trace).slots told_front trace order old new
-      → IsSumCutShort plays told told_front said seed calls order old new
-  In_summary : (trace : Trace) → IsTrafficOf seed calls trace → IsRunWhole (fabric_of trace) told trace order → AppendsFront old new (summary_text trace said)
-      → IsSumCutShort plays told told_front said seed calls order old new
+-- the answer to the bytes was cut short: before anything was done, in their refusal, or in the run of the trace that they are
+pub data IsCutShort (x : Parties) (status : ℕ) (bytes order : List ℕ) (old new : Option (List ℕ)) : Type 0 where
+  At_once : status ≡ 5 → order ≡ [] → Keeps old new → x.told [] → IsCutShort x status bytes order old new
+  In_refusal : status ≡ 4 → (number : ℕ) (why : Reason) → IsRefused bytes number why → order ≡ [] → AppendsFront old new (refusal number why) → x.told []
+      → IsCutShort x status bytes order old new
+  In_report : (trace : Trace) → IsTrace bytes trace → IsBegun x listing.Report trace status order old new → IsCutShort x status bytes order old new
+
+-- a run of a generated trace was cut short: before it began, in the run, or once all of it was run, with a front of its summary or none of it
+pub data IsSumCutShort (x : Parties) (status seed calls : ℕ) (order : List ℕ) (old new : Option (List ℕ)) : Type 0 where
+  Not_begun : status ≡ 5 → order ≡ [] → Keeps old new → x.told [] → IsSumCutShort x status seed calls order old new
+  In_run : (trace : Trace) → IsTrafficOf seed calls trace → IsBegun x listing.Nothing trace status order old new → IsSumCutShort x status seed calls order old new
+  In_summary : status ≡ 4 → (trace : Trace) → IsTrafficOf seed calls trace → IsRunWhole (fabric_of trace) x.told trace order
+      → AppendsFront old new (summary_text trace x.said) → IsSumCutShort x status seed calls order old new
+  Before_summary : status ≡ 5 → (trace : Trace) → IsTrafficOf seed calls trace → IsRunWhole (fabric_of trace) x.told trace order → Appends old new []
+      → IsSumCutShort x status seed calls order old new
 
 -- the whole call was cut short: it could write no refusal of the words, or it could not read them or its input, or the answer to them was cut short
-pub data IsUndone (plays : Plays) (told told_front : Telling) (said : List ℕ) (words : List (List ℕ)) (left_old left_new : Option (List ℕ)) (order : List ℕ) (old new : Option (List ℕ)) : Type 0 where
-  In_words : IsNoCommand words → order ≡ [] → AppendsFront old new words_refusal → told_front [] → IsUndone plays told told_front said words left_old left_new order old new
-  Unheard : order ≡ [] → Keeps old new → told_front [] → IsUndone plays told told_front said words left_old left_new order old new
-  In_answer : IsRun words → (bytes : List ℕ) → IsInput left_old left_new bytes → IsCutShort plays told_front bytes order old new
-      → IsUndone plays told told_front said words left_old left_new order old new
-  In_generation : (seed calls : ℕ) → IsGeneration words seed calls → IsSumCutShort plays told told_front said seed calls order old new
-      → IsUndone plays told told_front said words left_old left_new order old new
+pub data IsUndone (x : Parties) (status : ℕ) (words : List (List ℕ)) (left_old left_new : Option (List ℕ)) (order : List ℕ) (old new : Option (List ℕ)) : Type 0 where
+  In_words : status ≡ 4 → IsNoCommand words → order ≡ [] → AppendsFront old new words_refusal → x.told [] → IsUndone x status words left_old left_new order old new
+  Unheard : status ≡ 5 → order ≡ [] → Keeps old new → x.told [] → IsUndone x status words left_old left_new order old new
+  In_answer : IsRun words → (bytes : List ℕ) → IsInput left_old left_new bytes → IsCutShort x status bytes order old new
+      → IsUndone x status words left_old left_new order old new
+  In_generation : (seed calls : ℕ) → IsGeneration words seed calls → IsSumCutShort x status seed calls order old new
+      → IsUndone x status words left_old left_new order old new
 
 -- ---- how the parts of a call end
 
@@ -153,34 +180,25 @@ pub data Refuses (wanted : ℕ) (line : List ℕ) (status : ℕ) (old new : Opti
   Told_so : status ≡ wanted → Appends old new line → Refuses wanted line status old new before after
   Untold : status ≡ 4 → Rose before after → AppendsFront old new line → Refuses wanted line status old new before after
 
--- what a call is told and what becomes of its parties: what its engine plays, what is said of the engine that is handed out, what its meters were
--- told, wholly or as far as it came, and what they say in the end
-pub record Parties : Type 1 where
-  pub plays : Plays
-  pub handed : Handing
-  pub told : Telling
-  pub told_front : Telling
-  pub said : List ℕ
-
 -- how an answer to the bytes that were read ends, by its status; the counts are those of the sink's faults before and after
 pub data Answers (x : Parties) (bytes : List ℕ) (status : ℕ) (order : List ℕ) (old new : Option (List ℕ)) (before after : ℕ) : Type 0 where
-  Done : status ≡ 0 → IsDone x.plays x.handed x.told bytes order old new → Answers x bytes status order old new before after
+  Done : status ≡ 0 → IsDone x bytes order old new → Answers x bytes status order old new before after
   Turned_down : status ≡ 1 → IsTurnedDown bytes order old new → x.told [] → Answers x bytes status order old new before after
-  Unwritten : status ≡ 4 → Rose before after → IsCutShort x.plays x.told_front bytes order old new → Answers x bytes status order old new before after
-  No_memory : status ≡ 5 → IsCutShort x.plays x.told_front bytes order old new → Answers x bytes status order old new before after
+  Unwritten : status ≡ 4 → Rose before after → IsCutShort x status bytes order old new → Answers x bytes status order old new before after
+  No_memory : status ≡ 5 → IsCutShort x status bytes order old new → Answers x bytes status order old new before after
 
 -- how a run of a trace ends, of which this is listed
 pub data Runs (x : Parties) (l : Listing) (trace : Trace) (status : ℕ) (order : List ℕ) (old new : Option (List ℕ)) (before after : ℕ) : Type 0 where
   Whole : status ≡ 0 → IsRunWhole (fabric_of trace) x.told trace order → Appends old new (listed l (report x.plays (fabric_of trace).slots trace order))
       → IsHandedOut x.handed trace order → Runs x l trace status order old new before after
-  Unwritten_from : status ≡ 4 → Rose before after → IsBegun x.plays l (fabric_of trace).slots x.told_front trace order old new → Runs x l trace status order old new before after
-  No_memory_from : status ≡ 5 → IsBegun x.plays l (fabric_of trace).slots x.told_front trace order old new → Runs x l trace status order old new before after
+  Unwritten_from : status ≡ 4 → Rose before after → IsUnwritten x.plays l (fabric_of trace).slots x.told trace order old new → Runs x l trace status order old new before after
+  No_memory_from : status ≡ 5 → IsInterrupted x.plays l (fabric_of trace).slots x.told_beyond trace order old new → Runs x l trace status order old new before after
 
 -- how a run of a generated trace ends
 pub data Sums (x : Parties) (seed calls : ℕ) (status : ℕ) (order : List ℕ) (old new : Option (List ℕ)) (before after : ℕ) : Type 0 where
-  Summed : status ≡ 0 → IsSummed x.handed x.told x.said seed calls order old new → Sums x seed calls status order old new before after
-  Sum_unwritten : status ≡ 4 → Rose before after → IsSumCutShort x.plays x.told x.told_front x.said seed calls order old new → Sums x seed calls status order old new before after
-  Sum_no_memory : status ≡ 5 → IsSumCutShort x.plays x.told x.told_front x.said seed calls order old new → Sums x seed calls status order old new before after
+  Summed : status ≡ 0 → IsSummed x seed calls order old new → Sums x seed calls status order old new before after
+  Sum_unwritten : status ≡ 4 → Rose before after → IsSumCutShort x status seed calls order old new → Sums x seed calls status order old new before after
+  Sum_no_memory : status ≡ 5 → IsSumCutShort x status seed calls order old new → Sums x seed calls status order old new before after
 
 -- what the source and the sink tell, before and after: the bytes left and written, and their counts of faults
 pub record Told : Type 0 where
@@ -192,10 +210,10 @@ pub record Told : Type 0 where
 -- how a call ends, by its status
 pub data Ends (x : Parties) (words : List (List ℕ)) (status : ℕ) (order : List ℕ) (old new : Told) : Type 0 where
   Wrong_words : IsNoCommand words → status ≡ 2 → order ≡ [] → Appends old.written new.written words_refusal → x.told [] → Ends x words status order old new
-  Words_unwritten : IsNoCommand words → status ≡ 4 → order ≡ [] → Rose old.writes new.writes → AppendsFront old.written new.written words_refusal → x.told_front []
+  Words_unwritten : IsNoCommand words → status ≡ 4 → order ≡ [] → Rose old.writes new.writes → AppendsFront old.written new.written words_refusal → x.told []
       → Ends x words status order old new
   Unread : IsRun words → status ≡ 3 → order ≡ [] → Rose old.reads new.reads → Keeps old.written new.written → x.told [] → Ends x words status order old new
-  No_room : status ≡ 5 → order ≡ [] → Keeps old.written new.written → x.told_front [] → Ends x words status order old new
+  No_room : status ≡ 5 → order ≡ [] → Keeps old.written new.written → x.told [] → Ends x words status order old new
   Answered : IsRun words → (bytes : List ℕ) → IsInput old.left new.left bytes → Answers x bytes status order old.written new.written old.writes new.writes
       → Ends x words status order old new
   Generated : (seed calls : ℕ) → IsGeneration words seed calls → Sums x seed calls status order old.written new.written old.writes new.writes → Ends x words status order old new

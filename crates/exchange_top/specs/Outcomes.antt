@@ -1,12 +1,14 @@
 -- How far a run came, what was written of it, and what its meters were told. Source: this exchange's own.
-use Rattle.std.specs.Prelude.{◌≡◌, ℕ, List, [], ◌++◌, All}
+use Rattle.std.specs.Prelude.{◌≡◌, ◌⊎◌, ℕ, List, [], ◌++◌, All}
 use Rattle.std.specs.Io.KnownBytes.{Appends}
 use Rattle.std.specs.declared.option.Option.{Option}
+use Rattle.exchange_events.specs.declared.record.CallRecord.{CallRecord}
 use Rattle.exchange_events.specs.declared.trace.Trace.{Trace}
 use Rattle.exchange_events.specs.Orders.{IsLawful, IsLawfulPrefix}
 use Rattle.exchange_events.specs.Sound.{setting_of}
 use Rattle.call_profile.specs.Step.{run, events_of, MovesAtMost}
 use Rattle.call_profile.specs.World.{start}
+use Rattle.segment_run.specs.Segment.{IsOfSegment}
 use Rattle.segment_run.specs.Segments.{IsDoneBelow}
 use Rattle.call_processor.specs.Frames.{Plays}
 use Rattle.exchange_top.specs.declared.listing.Listing.{Listing}
@@ -36,21 +38,41 @@ abbrev pub listed : Listing → List ℕ → List ℕ
 listed listing.Report text = text
 listed listing.Nothing text = []
 
--- Some events of the trace were done, in an order that is lawful as far as it goes. The first of them are those of the first segments, and a front
--- of what is written of these was written; of the segment in which the run ended, nothing was. The meters were told of the first few calls that
--- ended.
-pub record IsBegun (plays : Plays) (l : Listing) (slots : ℕ) (told_front : Telling) (trace : Trace) (order : List ℕ) (old new : Option (List ℕ)) : Type 0 where
+-- the text is what is written of the first few segments of an order
+pub record EndsWithSegment (plays : Plays) (l : Listing) (slots : ℕ) (trace : Trace) (order text : List ℕ) : Type 0 where
+  pub segments : ℕ
+  pub first : List ℕ
+  pub others : List ℕ
+  pub parts : order ≡ first ++ others
+  pub done : IsDoneBelow trace segments first
+  pub text_is : text ≡ listed l (report plays slots trace first)
+
+-- A write failed behind the first segments: the order is that of all their events, a front of what is written of them was written, and the meters
+-- were told of all calls that ended in them.
+pub record IsUnwritten (plays : Plays) (l : Listing) (slots : ℕ) (told : Telling) (trace : Trace) (order : List ℕ) (old new : Option (List ℕ)) : Type 0 where
+  pub segments : ℕ
+  pub done : IsDoneBelow trace segments order
+  pub text : AppendsFront old new (listed l (report plays slots trace order))
+  pub calls : told (calls_told slots trace order)
+
+-- Memory ran out behind the first segments: the order is that of all their events, and maybe of some of the next one, lawful as far as it goes.
+-- What was written is all that is written of the first few of these segments, and the meters were told of all calls that ended in the first
+-- segments, and of the first few that ended in the next one.
+pub record IsInterrupted (plays : Plays) (l : Listing) (slots : ℕ) (told_beyond : List CallRecord → Telling) (trace : Trace) (order : List ℕ) (old new : Option (List ℕ)) : Type 0 where
   pub lawful : IsLawfulPrefix trace order
   pub segments : ℕ
   pub whole : List ℕ
   pub rest : List ℕ
   pub parts : order ≡ whole ++ rest
   pub done : IsDoneBelow trace segments whole
-  pub text : AppendsFront old new (listed l (report plays slots trace whole))
-  pub calls : told_front (calls_told slots trace order)
+  pub next : All (IsOfSegment trace segments) rest
+  pub text : List ℕ
+  pub written : Appends old new text
+  pub ends : EndsWithSegment plays l slots trace whole text
+  pub more : List CallRecord
+  pub calls_are : calls_told slots trace order ≡ calls_told slots trace whole ++ more
+  pub calls : told_beyond (calls_told slots trace whole) more
 
--- the text was written up to what is pending
-pub record IsPending (old new : Option (List ℕ)) (pending text : List ℕ) : Type 0 where
-  pub done : List ℕ
-  pub written : Appends old new done
-  pub rest : text ≡ done ++ pending
+-- what was pending is left so, or all of it was written
+abbrev pub IsFlushed : (old new : Option (List ℕ)) → (pending left : List ℕ) → Type 0
+IsFlushed old new pending left = ((new ≡ old) × (left ≡ pending)) ⊎ (Appends old new pending × (left ≡ []))

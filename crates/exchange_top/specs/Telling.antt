@@ -1,5 +1,5 @@
 -- The calls that the meters of a run are told of. Source: this exchange's own.
-use Rattle.std.specs.Prelude.{ℕ, List, [], ◌∷◌, ◌++◌}
+use Rattle.std.specs.Prelude.{◌≡◌, ℕ, List, [], ◌∷◌, ◌++◌}
 use Rattle.std.specs.List.{AllZip}
 use Rattle.exchange_events.specs.declared.answer.Answer.{Answer}
 use Rattle.exchange_events.specs.declared.answer.Kept.{Kept}
@@ -48,3 +48,11 @@ AreTold stands text old new calls = AllZip (λ m n. IsTold calls (stands m) (sta
 -- each meter was told of the first few of these calls
 abbrev pub AreToldFront : {M : Type 0} → (M → List CallRecord → Type 0) → (M → List CallRecord → List ℕ) → List M → List M → Telling
 AreToldFront stands text old new calls = AllZip (λ m n. IsToldFront calls (stands m) (stands n) (text m) (text n)) old new
+
+-- a meter was told of all of some calls, and then of the first few of more
+abbrev pub IsToldBeyond : List CallRecord → List CallRecord → (stood stands : List CallRecord → Type 0) → (said says : List CallRecord → List ℕ) → Type 0
+IsToldBeyond calls more stood stands said says = (front rest : List CallRecord) × (more ≡ front ++ rest) × IsTold (calls ++ front) stood stands said says
+
+-- so was each meter
+abbrev pub AreToldBeyond : {M : Type 0} → (M → List CallRecord → Type 0) → (M → List CallRecord → List ℕ) → List M → List M → List CallRecord → Telling
+AreToldBeyond stands text old new calls more = AllZip (λ m n. IsToldBeyond calls more (stands m) (stands n) (text m) (text n)) old new

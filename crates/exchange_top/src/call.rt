@@ -7,11 +7,10 @@ ghost use Rattle.trace_text.specs.TraceGrammar.{IsTrace, IsRefused};
 ghost use Rattle.exchange_events.specs.declared.trace.Trace.{Trace};
 ghost use Rattle.exchange_events.specs.Sound.{IsSound};
 ghost use Rattle.call_processor.specs.Frames.{engine_dimensions};
-ghost use Rattle.exchange_top.specs.Commands.{IsRun, IsGeneration, IsNoCommand, IsInput, IsDone, IsSummed, IsTurnedDown, IsUndone, IsUnfinished, IsWholeInput, Refuses, Runs, Sums, Answers, Ends, most_read, reason_name, refusal, words_refusal};
-ghost use Rattle.exchange_top.specs.Report.{HandsOut};
+ghost use Rattle.exchange_top.specs.Commands.{IsRun, IsGeneration, IsNoCommand, IsInput, IsDone, IsSummed, IsTurnedDown, IsUndone, IsUnfinished, IsWholeInput, Refuses, Runs, Sums, Answers, Ends, most_read, parties, reason_name, refusal, words_refusal};
 ghost use Rattle.exchange_top.specs.Streams.{AppendsFront, ConsumesAtMost};
 ghost use Rattle.exchange_top.specs.Summary.{summary_text};
-ghost use Rattle.exchange_top.specs.Telling.{AreTold, AreToldFront};
+ghost use Rattle.exchange_top.specs.Telling.{AreTold};
 
 use crate::listing::Listing;
 use crate::run::{RunFault, run};
@@ -113,13 +112,8 @@ fn run_trace<K: Sink, G: Gate, C: Carrier, R: Threads + Wait + Sync>(
 ) -> Outcome<C>
     requires sound { IsSound trace.now }
     requires blank { out.old.items ≡ [] }
-    ensures runs { Runs (record {
-      plays = C.plays;
-      handed = HandsOut (engine_dimensions C.external_lines C.bridge_lines C.depth) C.carries result.engine;
-      told = AreTold (λ m. stands m) (λ m. text m) meters.old.items meters.new.items;
-      told_front = AreToldFront (λ m. stands m) (λ m. text m) meters.old.items meters.new.items;
-      said = concat (map (λ m. text m []) meters.new.items);
-    })
+    ensures runs { Runs (parties C.plays (engine_dimensions C.external_lines C.bridge_lines C.depth) C.carries result.engine
+        (λ m. stands m) (λ m. text m) meters.old.items meters.new.items)
         listing trace.now result.status result.order.items (K.written sink.old) (K.written sink.new) (K.faults sink.old) (K.faults sink.new) }
     ensures engine { IsSome result.engine ↔ (result.status ≡ 0) }
     ensures writes { (result.status ≡ 4) ⊎ (K.faults sink.new ≡ K.faults sink.old) }
@@ -160,13 +154,8 @@ fn answer<K: Sink, G: Gate, C: Carrier, R: Threads + Wait + Sync>(
     gate: &G,
     meters: &mut Vec<Box<dyn Meter>>,
 ) -> Outcome<C>
-    ensures answers { Answers (record {
-      plays = C.plays;
-      handed = HandsOut (engine_dimensions C.external_lines C.bridge_lines C.depth) C.carries result.engine;
-      told = AreTold (λ m. stands m) (λ m. text m) meters.old.items meters.new.items;
-      told_front = AreToldFront (λ m. stands m) (λ m. text m) meters.old.items meters.new.items;
-      said = concat (map (λ m. text m []) meters.new.items);
-    })
+    ensures answers { Answers (parties C.plays (engine_dimensions C.external_lines C.bridge_lines C.depth) C.carries result.engine
+        (λ m. stands m) (λ m. text m) meters.old.items meters.new.items)
         bytes.items result.status result.order.items (K.written sink.old) (K.written sink.new) (K.faults sink.old) (K.faults sink.new) }
     ensures engine { IsSome result.engine ↔ (result.status ≡ 0) }
     ensures writes { (result.status ≡ 4) ⊎ (K.faults sink.new ≡ K.faults sink.old) }
@@ -249,13 +238,8 @@ fn run_generated<K: Sink, G: Gate, C: Carrier, R: Threads + Wait + Sync>(
 ) -> Outcome<C>
     requires some { 1 ≤ calls }
     requires most { calls ≤ 2000 }
-    ensures sums { Sums (record {
-      plays = C.plays;
-      handed = HandsOut (engine_dimensions C.external_lines C.bridge_lines C.depth) C.carries result.engine;
-      told = AreTold (λ m. stands m) (λ m. text m) meters.old.items meters.new.items;
-      told_front = AreToldFront (λ m. stands m) (λ m. text m) meters.old.items meters.new.items;
-      said = concat (map (λ m. text m []) meters.new.items);
-    })
+    ensures sums { Sums (parties C.plays (engine_dimensions C.external_lines C.bridge_lines C.depth) C.carries result.engine
+        (λ m. stands m) (λ m. text m) meters.old.items meters.new.items)
         seed calls result.status result.order.items (K.written sink.old) (K.written sink.new) (K.faults sink.old) (K.faults sink.new) }
     ensures engine { IsSome result.engine ↔ (result.status ≡ 0) }
     ensures writes { (result.status ≡ 4) ⊎ (K.faults sink.new ≡ K.faults sink.old) }
@@ -289,13 +273,8 @@ fn run_input<S: Source, K: Sink, G: Gate, C: Carrier, R: Threads + Wait + Sync>(
     gate: &G,
     meters: &mut Vec<Box<dyn Meter>>,
 ) -> Outcome<C>
-    ensures ends { (words : List (List ℕ)) → IsRun words → Ends (record {
-      plays = C.plays;
-      handed = HandsOut (engine_dimensions C.external_lines C.bridge_lines C.depth) C.carries result.engine;
-      told = AreTold (λ m. stands m) (λ m. text m) meters.old.items meters.new.items;
-      told_front = AreToldFront (λ m. stands m) (λ m. text m) meters.old.items meters.new.items;
-      said = concat (map (λ m. text m []) meters.new.items);
-    })
+    ensures ends { (words : List (List ℕ)) → IsRun words → Ends (parties C.plays (engine_dimensions C.external_lines C.bridge_lines C.depth) C.carries result.engine
+        (λ m. stands m) (λ m. text m) meters.old.items meters.new.items)
         words result.status result.order.items
         (record { left = S.left source.old; reads = S.faults source.old; written = K.written sink.old; writes = K.faults sink.old })
         (record { left = S.left source.new; reads = S.faults source.new; written = K.written sink.new; writes = K.faults sink.new }) }
@@ -321,13 +300,8 @@ fn answer_words<S: Source, K: Sink, G: Gate, C: Carrier, R: Threads + Wait + Syn
     gate: &G,
     meters: &mut Vec<Box<dyn Meter>>,
 ) -> Outcome<C>
-    ensures ends { Ends (record {
-      plays = C.plays;
-      handed = HandsOut (engine_dimensions C.external_lines C.bridge_lines C.depth) C.carries result.engine;
-      told = AreTold (λ m. stands m) (λ m. text m) meters.old.items meters.new.items;
-      told_front = AreToldFront (λ m. stands m) (λ m. text m) meters.old.items meters.new.items;
-      said = concat (map (λ m. text m []) meters.new.items);
-    })
+    ensures ends { Ends (parties C.plays (engine_dimensions C.external_lines C.bridge_lines C.depth) C.carries result.engine
+        (λ m. stands m) (λ m. text m) meters.old.items meters.new.items)
         (map string_bytes words.now) result.status result.order.items
         (record { left = S.left source.old; reads = S.faults source.old; written = K.written sink.old; writes = K.faults sink.old })
         (record { left = S.left source.new; reads = S.faults source.new; written = K.written sink.new; writes = K.faults sink.new }) }
@@ -379,13 +353,13 @@ pub fn exchange<S: Source, K: Sink, G: Gate, C: Carrier, R: Threads + Wait + Syn
     // told of the calls that ended, and the engine has the trace's sizes and carries their frames.
     ensures done { result.status ≡ 0 → IsRun (map string_bytes words.now) → (bytes : List ℕ)
         × IsWholeInput (S.left source.old) (S.left source.new) bytes
-        × IsDone C.plays (HandsOut (engine_dimensions C.external_lines C.bridge_lines C.depth) C.carries result.engine)
-        (AreTold (λ m. stands m) (λ m. text m) meters.old.items meters.new.items)
+        × IsDone (parties C.plays (engine_dimensions C.external_lines C.bridge_lines C.depth) C.carries result.engine
+        (λ m. stands m) (λ m. text m) meters.old.items meters.new.items)
         bytes result.order.items (K.written sink.old) (K.written sink.new) }
     // 0 for `gen`: the same of the generated trace, whose summary was written.
     ensures summed { (seed calls : ℕ) → result.status ≡ 0 → IsGeneration (map string_bytes words.now) seed calls
-        → IsSummed (HandsOut (engine_dimensions C.external_lines C.bridge_lines C.depth) C.carries result.engine)
-        (AreTold (λ m. stands m) (λ m. text m) meters.old.items meters.new.items) (concat (map (λ m. text m []) meters.new.items))
+        → IsSummed (parties C.plays (engine_dimensions C.external_lines C.bridge_lines C.depth) C.carries result.engine
+        (λ m. stands m) (λ m. text m) meters.old.items meters.new.items)
         seed calls result.order.items (K.written sink.old) (K.written sink.new) }
     ensures engine { IsSome result.engine ↔ (result.status ≡ 0) }
     // 1: what was read is no trace, and the line that says so was written.
@@ -402,13 +376,14 @@ pub fn exchange<S: Source, K: Sink, G: Gate, C: Carrier, R: Threads + Wait + Syn
     ensures read_failed { result.status ≡ 3 → Rose (S.faults source.old) (S.faults source.new) }
     ensures silent { result.status ≡ 3 → (result.order.items ≡ []) × Keeps (K.written sink.old) (K.written sink.new)
         × AreTold (λ m. stands m) (λ m. text m) meters.old.items meters.new.items [] }
-    // 4: a write failed. 5: there was no memory. A front of the text was written, and each meter was told
-    // of the first few of the calls that ended.
+    // 4: a write failed; whole segments were run and told to the meters, and a front of their text was
+    // written. 5: there was no memory; behind whole segments maybe one was begun, and what was written
+    // ends with a segment.
     ensures write_failed { result.status ≡ 4 → Rose (K.faults sink.old) (K.faults sink.new) }
-    ensures cut_short { 4 ≤ result.status → IsUndone C.plays
-        (AreTold (λ m. stands m) (λ m. text m) meters.old.items meters.new.items)
-        (AreToldFront (λ m. stands m) (λ m. text m) meters.old.items meters.new.items) (concat (map (λ m. text m []) meters.new.items))
-        (map string_bytes words.now) (S.left source.old) (S.left source.new)
+    ensures cut_short { 4 ≤ result.status
+        → IsUndone (parties C.plays (engine_dimensions C.external_lines C.bridge_lines C.depth) C.carries result.engine
+        (λ m. stands m) (λ m. text m) meters.old.items meters.new.items)
+        result.status (map string_bytes words.now) (S.left source.old) (S.left source.new)
         result.order.items (K.written sink.old) (K.written sink.new) }
     // There is no other status, and a fault is answered by its own alone.
     ensures statuses { result.status ≤ 5 }

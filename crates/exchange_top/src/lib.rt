@@ -11,8 +11,8 @@
 //!
 //! - What is no trace is refused at its first line that fails (`turned_down`).
 //! - Statuses 3 and 4 come only where a fault was counted (`read_failed`, `write_failed`), and no
-//!   other status hides one (`reads`, `writes`). With 4 and 5 a front of the text was written
-//!   (`cut_short`).
+//!   other status hides one (`reads`, `writes`). With 4 a front of the text was written, and with 5 a
+//!   front that ends with a segment (`cut_short`).
 //!
 //! It stands on `ex_io`, `circuit_model`, `seat_history`, `control_memory`, `tone_rules`, `fabric_map`,
 //! `frame_engine`, `exchange_core`, `shared_exchange`, `gate`, `call_processor`, `segment_run`,

@@ -7,9 +7,9 @@ ghost use Rattle.exchange_core.specs.Working.{order_of, world_after};
 ghost use Rattle.seat_history.specs.Seats.{first_seat};
 ghost use Rattle.shared_exchange.specs.Sharing.{IsSeated};
 ghost use Rattle.call_processor.specs.Frames.{CarriesFrames, IsReady, engine_dimensions};
-ghost use Rattle.exchange_top.specs.Outcomes.{IsRunWhole, IsBegun, listed};
+ghost use Rattle.exchange_top.specs.Outcomes.{IsInterrupted, IsRunWhole, IsUnwritten, listed};
 ghost use Rattle.exchange_top.specs.Report.{report};
-ghost use Rattle.exchange_top.specs.Telling.{AreTold, AreToldFront};
+ghost use Rattle.exchange_top.specs.Telling.{AreTold, AreToldBeyond};
 ghost use Rattle.exchange_top.specs.Running.{IsUnused};
 
 use crate::listing::Listing;
@@ -60,8 +60,8 @@ impl From<Failed> for RunFault {
 /// # Errors
 ///
 /// [`RunFault::Write`] where a write failed and the sink's count of faults rose, and
-/// [`RunFault::Memory`] for want of memory, where no write failed. A front of the report of the
-/// segments that were done was written by then.
+/// [`RunFault::Memory`] for want of memory, where no write failed. By then a front of the report of the
+/// segments that were done was written, which for want of memory ends with a segment.
 pub fn run<P: PathMap + Drop + Send, K: Sink, G: Gate, C: Carrier, R: Threads + Wait + Sync>(
     rt: &R,
     alloc: Global,
@@ -87,8 +87,10 @@ pub fn run<P: PathMap + Drop + Send, K: Sink, G: Gate, C: Carrier, R: Threads + 
     ensures sized { IfOk result (λ e. engine_dimensions C.external_lines C.bridge_lines C.depth e ≡ (setting_of (P.depth paths) trace.now).dimensions) }
     ensures steady { OnOk result (K.faults sink.new ≡ K.faults sink.old) }
 
-    ensures begun { OnErr result (IsBegun C.plays listing (P.depth paths) (AreToldFront (λ m. stands m) (λ m. text m) meters.old.items meters.new.items)
-        trace.now order.new.items (K.written sink.old) (K.written sink.new)) }
+    ensures unwritten { IsErrOf result RunFault.Write → IsUnwritten C.plays listing (P.depth paths)
+        (AreTold (λ m. stands m) (λ m. text m) meters.old.items meters.new.items) trace.now order.new.items (K.written sink.old) (K.written sink.new) }
+    ensures interrupted { IsErrOf result RunFault.Memory → IsInterrupted C.plays listing (P.depth paths)
+        (AreToldBeyond (λ m. stands m) (λ m. text m) meters.old.items meters.new.items) trace.now order.new.items (K.written sink.old) (K.written sink.new) }
     ensures cause { IsErrOf result RunFault.Write → Rose (K.faults sink.old) (K.faults sink.new) }
     ensures no_fault { IsErrOf result RunFault.Memory → K.faults sink.new ≡ K.faults sink.old }
 {

@@ -12,11 +12,11 @@ ghost use Rattle.call_processor.specs.Frames.{CarriesFrames, IsReady, IsReadyFor
 ghost use Rattle.segment_run.specs.Segment.{IsChief, Ran, RanWhole};
 ghost use Rattle.segment_run.specs.Segments.{IsDoneBelow};
 ghost use Rattle.exchange_top.specs.declared.run.RunFault.TheVariants.{Memory, Write};
-ghost use Rattle.exchange_top.specs.Outcomes.{IsRunWhole, IsBegun, IsPending, listed};
+ghost use Rattle.exchange_top.specs.Outcomes.{IsFlushed, IsInterrupted, IsRunWhole, IsUnwritten, listed};
 ghost use Rattle.exchange_top.specs.Report.{lines_of, report};
 ghost use Rattle.exchange_top.specs.Running.{GrewFew, GrowthIsTold, fabric_at, grown_lines};
 ghost use Rattle.exchange_top.specs.Streams.{AppendsFront};
-ghost use Rattle.exchange_top.specs.Telling.{AreTold, AreToldFront};
+ghost use Rattle.exchange_top.specs.Telling.{AreTold, AreToldBeyond, AreToldFront};
 
 use crate::listing::Listing;
 use crate::run::RunFault;
@@ -81,8 +81,10 @@ pub fn report_segments<B: Switchboard, K: Sink, G: Gate, C: Carrier, R: Threads 
     ensures sized { IfOk result (λ e. engine_dimensions C.external_lines C.bridge_lines C.depth e ≡ (setting_at (B.board board.now)).dimensions) }
     ensures steady { OnOk result (K.faults sink.new ≡ K.faults sink.old) }
 
-    ensures begun { OnErr result (IsBegun C.plays listing (B.board board.now).slots (AreToldFront (λ m. stands m) (λ m. text m) meters.old.items meters.new.items)
-        trace.now (order_of (B.known seat.new).seen) (K.written sink.old) (K.written sink.new)) }
+    ensures unwritten { IsErrOf result RunFault.Write → IsUnwritten C.plays listing (B.board board.now).slots
+        (AreTold (λ m. stands m) (λ m. text m) meters.old.items meters.new.items) trace.now (order_of (B.known seat.new).seen) (K.written sink.old) (K.written sink.new) }
+    ensures interrupted { IsErrOf result RunFault.Memory → IsInterrupted C.plays listing (B.board board.now).slots
+        (AreToldBeyond (λ m. stands m) (λ m. text m) meters.old.items meters.new.items) trace.now (order_of (B.known seat.new).seen) (K.written sink.old) (K.written sink.new) }
     ensures cause { IsErrOf result RunFault.Write → Rose (K.faults sink.old) (K.faults sink.new) }
     ensures no_fault { IsErrOf result RunFault.Memory → K.faults sink.new ≡ K.faults sink.old }
 {
@@ -174,9 +176,7 @@ fn append_lines(text: &mut Vec<u8>, answers: &[Answer]) -> Result<(), AllocError
 
 // Writes what is pending, once it is a whole piece.
 fn flush_full<K: Sink>(sink: &mut K, text: &mut Vec<u8>) -> Result<(), Failed>
-    ensures pending { (known : Option (List ℕ)) (whole : List ℕ) →
-        IsPending known (K.written sink.old) text.old.items whole
-        → OnOk result (IsPending known (K.written sink.new) text.new.items whole) }
+    ensures flushed { OnOk result (IsFlushed (K.written sink.old) (K.written sink.new) text.old.items text.new.items) }
     ensures steady { OnOk result (K.faults sink.new ≡ K.faults sink.old) }
 
     ensures front { OnErr result (AppendsFront (K.written sink.old) (K.written sink.new) text.old.items) }

@@ -8,12 +8,12 @@ use Rattle.call_processor.specs.Frames.{engine_dimensions}
 use Rattle.exchange_top.specs.Commands.{Sum_no_memory, Not_begun}
 use Rattle.exchange_top.specs.Report.{HandsOut}
 use Rattle.exchange_top.proofs.Sums.{keeps, sums_cut, sums_up}
-use Rattle.exchange_top.proofs.Tellings.{none_front}
+use Rattle.exchange_top.proofs.Tellings.{none_told}
 use Rattle.trace_text.proofs.SoundLemmas.{sound_trace}
 use Rattle.exchange_top.proofs.call.run_generated.Goals as goal
 
 pub returns-in_default-clause-sums : goal.returns-in_default-clause-sums
-returns-in_default-clause-sums g c = Sum_no_memory (search rules) (Not_begun (search rules) (keeps _) (none_front _ _ _ _))
+returns-in_default-clause-sums g c = Sum_no_memory (search rules) (Not_begun (search rules) (search rules) (keeps _) (none_told _ _ _))
 
 pub run_trace-outcome-requires-clause-sound : goal.run_trace-outcome-requires-clause-sound
 run_trace-outcome-requires-clause-sound g c lifetimes outlive = sound_trace _ c.in-Ok.trace c.in-Ok.ensures

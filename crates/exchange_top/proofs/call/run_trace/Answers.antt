@@ -5,22 +5,22 @@ use Rattle.exchange_core.specs.Working.{world_after}
 use Rattle.std.specs.Io.KnownBytes.{Appends}
 use Rattle.call_processor.specs.Frames.{CarriesFrames, engine_dimensions}
 use Rattle.exchange_top.specs.Commands.{Whole, Unwritten_from, No_memory_from, fabric_of}
-use Rattle.exchange_top.specs.Outcomes.{Fabric, IsRunWhole, IsBegun, listed}
+use Rattle.exchange_top.specs.Outcomes.{Fabric, IsInterrupted, IsRunWhole, IsUnwritten, listed}
 use Rattle.exchange_top.specs.Report.{report}
-use Rattle.exchange_top.specs.Telling.{AreTold, AreToldFront}
-use Rattle.exchange_top.proofs.Tellings.{none_front}
+use Rattle.exchange_top.specs.Telling.{AreTold, AreToldBeyond}
+use Rattle.exchange_top.proofs.Tellings.{none_beyond}
 use Rattle.exchange_top.proofs.Underway.{begun_none}
 use Rattle.exchange_top.proofs.call.run_trace.Goals as goal
 
 pub returns-in_default-clause-runs : goal.returns-in_default-clause-runs
 returns-in_default-clause-runs g c =
     let e = c.ended.ensures in
-    No_memory_from e.status (begun_none _ _ _ _ _ _ _ e.none (none_front _ _ _ _))
+    No_memory_from e.status (begun_none _ _ _ _ _ _ _ e.none (none_beyond _ _ _))
 
 pub returns-in_default-with_capacity-clause-runs : goal.returns-in_default-with_capacity-clause-runs
 returns-in_default-with_capacity-clause-runs g c =
     let e = c.ended-in_default-with_capacity.ensures in
-    No_memory_from e.status (begun_none _ _ _ _ _ _ _ e.none (none_front _ _ _ _))
+    No_memory_from e.status (begun_none _ _ _ _ _ _ _ e.none (none_beyond _ _ _))
 
 pub returns-in-Ok-run-clause-runs : goal.returns-in-Ok-run-clause-runs
 returns-in-Ok-run-clause-runs g c =
@@ -36,11 +36,12 @@ returns-in-Ok-run-clause-runs g c =
 pub returns-in-Err-Write-clause-runs : goal.returns-in-Err-Write-clause-runs
 returns-in-Err-Write-clause-runs g c =
     let r = c.in-Err-Write.ensures in
-    Unwritten_from refl (r.cause (ap Err c.in-Err-Write.field-0-is))
-    (subst (λ s. IsBegun g.C.Carrier.plays c.args.listing s (AreToldFront (λ m. (goal.Meter-dyn g (m.vtable, m.value)).stands m.value) (λ m. (goal.Meter-dyn g (m.vtable, m.value)).text m.value) c.args.meters.now.items c.run.new.meters.items) c.args.trace.now c.run.new.order.items (g.K.Sink.written c.args.sink.now) (g.K.Sink.written c.run.new.sink)) c.in-Ok.ensures.slots r.begun)
+    let write = ap Err c.in-Err-Write.field-0-is in
+    Unwritten_from refl (r.cause write)
+    (subst (λ s. IsUnwritten g.C.Carrier.plays c.args.listing s (AreTold (λ m. (goal.Meter-dyn g (m.vtable, m.value)).stands m.value) (λ m. (goal.Meter-dyn g (m.vtable, m.value)).text m.value) c.args.meters.now.items c.run.new.meters.items) c.args.trace.now c.run.new.order.items (g.K.Sink.written c.args.sink.now) (g.K.Sink.written c.run.new.sink)) c.in-Ok.ensures.slots (r.unwritten write))
 
 pub returns-in-Err-Memory-clause-runs : goal.returns-in-Err-Memory-clause-runs
 returns-in-Err-Memory-clause-runs g c =
     let r = c.in-Err-Memory.ensures in
     No_memory_from refl
-    (subst (λ s. IsBegun g.C.Carrier.plays c.args.listing s (AreToldFront (λ m. (goal.Meter-dyn g (m.vtable, m.value)).stands m.value) (λ m. (goal.Meter-dyn g (m.vtable, m.value)).text m.value) c.args.meters.now.items c.run.new.meters.items) c.args.trace.now c.run.new.order.items (g.K.Sink.written c.args.sink.now) (g.K.Sink.written c.run.new.sink)) c.in-Ok.ensures.slots r.begun)
+    (subst (λ s. IsInterrupted g.C.Carrier.plays c.args.listing s (AreToldBeyond (λ m. (goal.Meter-dyn g (m.vtable, m.value)).stands m.value) (λ m. (goal.Meter-dyn g (m.vtable, m.value)).text m.value) c.args.meters.now.items c.run.new.meters.items) c.args.trace.now c.run.new.order.items (g.K.Sink.written c.args.sink.now) (g.K.Sink.written c.run.new.sink)) c.in-Ok.ensures.slots (r.interrupted (ap Err c.in-Err-Memory.field-0-is)))

@@ -1,19 +1,19 @@
-use Rattle.std.proofs.Common.{◌≡◌, List, ◌++◌, OnOk, OnErr, length, sym, ap, ◌∙◌}
+use Rattle.std.proofs.Common.{◌≡◌, List, ◌++◌, OnOk, IsErrOf, length, sym, ap, ◌∙◌}
 use Rattle.std.specs.Io.KnownBytes.{Appends}
 use Rattle.exchange_core.specs.Boards.{Board}
 use Rattle.exchange_core.specs.Working.{order_of}
-use Rattle.exchange_top.specs.Outcomes.{IsRunWhole, IsBegun, listed}
+use Rattle.exchange_top.specs.declared.run.RunFault.TheVariants.{Memory, Write}
+use Rattle.exchange_top.specs.Outcomes.{IsInterrupted, IsRunWhole, IsUnwritten, listed}
 use Rattle.exchange_top.specs.Report.{report}
 use Rattle.exchange_top.specs.Running.{fabric_at}
-use Rattle.exchange_top.specs.Telling.{AreTold, AreToldFront}
-use Rattle.exchange_top.proofs.Pending.{on_err}
+use Rattle.exchange_top.specs.Telling.{AreTold, AreToldBeyond}
 use Rattle.exchange_top.proofs.Sums.{fits_order, moved}
-use Rattle.exchange_top.proofs.Tellings.{none_front}
+use Rattle.exchange_top.proofs.Tellings.{none_beyond}
 use Rattle.exchange_top.proofs.Underway.{begun_none}
 use Rattle.exchange_top.proofs.run.run.Goals as goal
 
-pub returns-in_err-board-clause-begun : goal.returns-in_err-board-clause-begun
-returns-in_err-board-clause-begun g c = on_err c.from_residual.result (begun_none _ _ _ _ _ _ _ c.requires.empty (none_front _ _ _ _))
+pub returns-in_err-board-clause-interrupted : goal.returns-in_err-board-clause-interrupted
+returns-in_err-board-clause-interrupted g c memory = begun_none _ _ _ _ _ _ _ c.requires.empty (none_beyond _ _ _)
 
 pub note_order-requires : goal.note_order-requires
 note_order-requires g c = record {
@@ -35,9 +35,16 @@ returns-clause-text g c =
     moved (λ b o. OnOk c.report_segments-done.result (Appends (g.K.Sink.written c.args.sink.now) (g.K.Sink.written c.report_segments-done.new.sink) (listed c.args.listing (report g.C.Carrier.plays b.slots c.args.trace.now o))))
     _ _ _ _ c.in_ok-board.ensures.board order c.report_segments-done.ensures.text
 
-pub returns-clause-begun : goal.returns-clause-begun
-returns-clause-begun g c =
+pub returns-clause-unwritten : goal.returns-clause-unwritten
+returns-clause-unwritten g c =
     let journal = c.journal-2.ensures ∙ c.close.ensures.journal in
     let order = c.note_order.ensures ∙ (λ i. c.requires.empty i ++ order_of (journal i)) in
-    moved (λ b o. OnErr c.report_segments-done.result (IsBegun g.C.Carrier.plays c.args.listing b.slots (AreToldFront (λ m. (goal.Meter-dyn g (m.vtable, m.value)).stands m.value) (λ m. (goal.Meter-dyn g (m.vtable, m.value)).text m.value) c.args.meters.now.items c.report_segments-done.new.meters.items) c.args.trace.now o (g.K.Sink.written c.args.sink.now) (g.K.Sink.written c.report_segments-done.new.sink)))
-    _ _ _ _ c.in_ok-board.ensures.board order c.report_segments-done.ensures.begun
+    moved (λ b o. IsErrOf c.report_segments-done.result Write → IsUnwritten g.C.Carrier.plays c.args.listing b.slots (AreTold (λ m. (goal.Meter-dyn g (m.vtable, m.value)).stands m.value) (λ m. (goal.Meter-dyn g (m.vtable, m.value)).text m.value) c.args.meters.now.items c.report_segments-done.new.meters.items) c.args.trace.now o (g.K.Sink.written c.args.sink.now) (g.K.Sink.written c.report_segments-done.new.sink))
+    _ _ _ _ c.in_ok-board.ensures.board order c.report_segments-done.ensures.unwritten
+
+pub returns-clause-interrupted : goal.returns-clause-interrupted
+returns-clause-interrupted g c =
+    let journal = c.journal-2.ensures ∙ c.close.ensures.journal in
+    let order = c.note_order.ensures ∙ (λ i. c.requires.empty i ++ order_of (journal i)) in
+    moved (λ b o. IsErrOf c.report_segments-done.result Memory → IsInterrupted g.C.Carrier.plays c.args.listing b.slots (AreToldBeyond (λ m. (goal.Meter-dyn g (m.vtable, m.value)).stands m.value) (λ m. (goal.Meter-dyn g (m.vtable, m.value)).text m.value) c.args.meters.now.items c.report_segments-done.new.meters.items) c.args.trace.now o (g.K.Sink.written c.args.sink.now) (g.K.Sink.written c.report_segments-done.new.sink))
+    _ _ _ _ c.in_ok-board.ensures.board order c.report_segments-done.ensures.interrupted

@@ -1,6 +1,6 @@
-use Rattle.exchange_top.proofs.Pending.{ok_both, pending_written}
+use Rattle.std.proofs.Common.{inr}
+use Rattle.exchange_top.proofs.Pending.{ok_both}
 use Rattle.exchange_top.proofs.segments.flush_full.Goals as goal
 
-pub returns-clause-pending : goal.returns-clause-pending
-returns-clause-pending g c known whole p =
-    ok_both c.flush.result c.flush.ensures.whole c.flush.ensures.empty (λ written none. pending_written known _ _ _ _ whole p written none)
+pub returns-clause-flushed : goal.returns-clause-flushed
+returns-clause-flushed g c = ok_both c.flush.result c.flush.ensures.whole c.flush.ensures.empty (λ written none. inr (written, none))

@@ -6,13 +6,12 @@ use Rattle.segment_run.specs.Segment.{Ran, RanWhole}
 use Rattle.segment_run.proofs.OrderLemmas.{few_segments}
 use Rattle.std.specs.Io.KnownBytes.{Appends}
 use Rattle.ex_io.specs.Ends.{Rose}
-use Rattle.exchange_top.specs.Outcomes.{IsBegun, IsRunWhole, listed}
+use Rattle.exchange_top.specs.Outcomes.{IsInterrupted, IsRunWhole, IsUnwritten, listed}
 use Rattle.exchange_top.specs.Report.{report}
-use Rattle.exchange_top.specs.Telling.{AreTold, AreToldFront}
+use Rattle.exchange_top.specs.Telling.{AreTold, AreToldBeyond}
 use Rattle.exchange_top.proofs.Answered.{calls_grown}
-use Rattle.exchange_top.proofs.Tellings.{both_told, both_front, told_front, none_told}
+use Rattle.exchange_top.proofs.Tellings.{both_beyond, both_told, none_told}
 use Rattle.exchange_top.specs.Running.{fabric_at}
-use Rattle.exchange_top.proofs.Pending.{on_err}
 use Rattle.exchange_top.proofs.Underway.{underway_first, underway_more, underway_written, begun_segment, begun_flush, run_whole, all_written}
 use Rattle.exchange_top.proofs.segments.report_segments.Goals as goal
 
@@ -32,21 +31,20 @@ loop-segment-init g c = record {
   told = rw c.requires.fresh (none_told _ _ _);
 }
 
-pub returns-in_err-carried-clause-begun : goal.returns-in_err-carried-clause-begun
-returns-in_err-carried-clause-begun g c =
+pub returns-in_err-carried-clause-interrupted : goal.returns-in_err-carried-clause-interrupted
+returns-in_err-carried-clause-interrupted g c memory =
     let K = g.B.Switchboard.known in
     let board = g.B.Switchboard.board c.args.board.now in
     let v = K c.loop-segment.seat in
     let w = K c.report_segment.new.seat in
     let k = c.loop-segment.segment in
     let ran = subst (λ (t : Trace). Ran t k v w) c.requires.trace c.report_segment.ensures.ran in
-    on_err c.from_residual.result
-    (subst (λ (t : Trace). IsBegun g.C.Carrier.plays c.args.listing board.slots (AreToldFront (λ m. (goal.Meter-dyn g (m.vtable, m.value)).stands m.value) (λ m. (goal.Meter-dyn g (m.vtable, m.value)).text m.value) c.args.meters.now.items c.report_segment.new.meters.items) t (order_of w.seen) (g.K.Sink.written c.args.sink.now) (g.K.Sink.written c.loop-segment.sink)) (sym c.requires.trace)
+    subst (λ (t : Trace). IsInterrupted g.C.Carrier.plays c.args.listing board.slots (AreToldBeyond (λ m. (goal.Meter-dyn g (m.vtable, m.value)).stands m.value) (λ m. (goal.Meter-dyn g (m.vtable, m.value)).text m.value) c.args.meters.now.items c.report_segment.new.meters.items) t (order_of w.seen) (g.K.Sink.written c.args.sink.now) (g.K.Sink.written c.loop-segment.sink)) (sym c.requires.trace)
     (begun_segment g.C.Carrier.plays c.args.listing board k v _ _ c.loop-segment.out.items c.loop-segment.invariant.underway _ w ran
-    (subst (AreToldFront (λ m. (goal.Meter-dyn g (m.vtable, m.value)).stands m.value) (λ m. (goal.Meter-dyn g (m.vtable, m.value)).text m.value) c.args.meters.now.items c.report_segment.new.meters.items) (sym (calls_grown board v w ran.begins)) (both_front _ _ _ _ _ _ _ c.loop-segment.invariant.told c.in_err-carried.ensures.told_front))))
+    (both_beyond _ _ _ _ _ _ _ c.loop-segment.invariant.told c.in_err-carried.ensures.told_front))
 
-pub returns-in_err-flush_full-clause-begun : goal.returns-in_err-flush_full-clause-begun
-returns-in_err-flush_full-clause-begun g c =
+pub returns-in_err-flush_full-clause-unwritten : goal.returns-in_err-flush_full-clause-unwritten
+returns-in_err-flush_full-clause-unwritten g c write =
     let K = g.B.Switchboard.known in
     let board = g.B.Switchboard.board c.args.board.now in
     let v = K c.loop-segment.seat in
@@ -55,10 +53,9 @@ returns-in_err-flush_full-clause-begun g c =
     let ran = subst (λ (t : Trace). Ran t k v w) c.requires.trace c.report_segment.ensures.ran in
     let whole = subst (λ (t : Trace). RanWhole t k v w) c.requires.trace c.in_ok-carried.ensures.whole in
     let more = underway_more g.C.Carrier.plays c.args.listing board k v _ _ c.loop-segment.out.items c.loop-segment.invariant.underway w c.report_segment.new.out.items c.report_segment.ensures.chief ran whole c.in_ok-carried.ensures.lines c.in_ok-carried.ensures.few in
-    on_err c.from_residual-in_err-flush_full.result
-    (subst (λ (t : Trace). IsBegun g.C.Carrier.plays c.args.listing board.slots (AreToldFront (λ m. (goal.Meter-dyn g (m.vtable, m.value)).stands m.value) (λ m. (goal.Meter-dyn g (m.vtable, m.value)).text m.value) c.args.meters.now.items c.report_segment.new.meters.items) t (order_of w.seen) (g.K.Sink.written c.args.sink.now) (g.K.Sink.written c.flush_full.new.sink)) (sym c.requires.trace)
+    subst (λ (t : Trace). IsUnwritten g.C.Carrier.plays c.args.listing board.slots (AreTold (λ m. (goal.Meter-dyn g (m.vtable, m.value)).stands m.value) (λ m. (goal.Meter-dyn g (m.vtable, m.value)).text m.value) c.args.meters.now.items c.report_segment.new.meters.items) t (order_of w.seen) (g.K.Sink.written c.args.sink.now) (g.K.Sink.written c.flush_full.new.sink)) (sym c.requires.trace)
     (begun_flush g.C.Carrier.plays c.args.listing board (k + 1) w _ _ c.report_segment.new.out.items more _ _ c.in_err-flush_full.ensures.front
-    (told_front _ _ _ _ _ (subst (AreTold (λ m. (goal.Meter-dyn g (m.vtable, m.value)).stands m.value) (λ m. (goal.Meter-dyn g (m.vtable, m.value)).text m.value) c.args.meters.now.items c.report_segment.new.meters.items) (sym (calls_grown board v w ran.begins)) (both_told _ _ _ _ _ _ _ c.loop-segment.invariant.told c.in_ok-carried.ensures.told)))))
+    (subst (AreTold (λ m. (goal.Meter-dyn g (m.vtable, m.value)).stands m.value) (λ m. (goal.Meter-dyn g (m.vtable, m.value)).text m.value) c.args.meters.now.items c.report_segment.new.meters.items) (sym (calls_grown board v w ran.begins)) (both_told _ _ _ _ _ _ _ c.loop-segment.invariant.told c.in_ok-carried.ensures.told)))
 
 pub loop-segment-preserved : goal.loop-segment-preserved
 loop-segment-preserved g c =
@@ -72,21 +69,19 @@ loop-segment-preserved g c =
     let more = underway_more g.C.Carrier.plays c.args.listing board k v _ _ c.loop-segment.out.items c.loop-segment.invariant.underway w c.report_segment.new.out.items c.report_segment.ensures.chief ran whole c.in_ok-carried.ensures.lines c.in_ok-carried.ensures.few in
     record {
       seated = c.report_segment.ensures.seated;
-      underway = underway_written g.C.Carrier.plays c.args.listing board (k + 1) w _ _ c.report_segment.new.out.items more _ _ c.in_ok-flush_full.ensures.pending;
+      underway = underway_written g.C.Carrier.plays c.args.listing board (k + 1) w _ _ c.report_segment.new.out.items more _ _ c.in_ok-flush_full.ensures.flushed;
       ready = c.in_ok-carried.ensures.ready;
       steady = c.in_ok-flush_full.ensures.steady ∙ c.loop-segment.invariant.steady;
       told = subst (AreTold (λ m. (goal.Meter-dyn g (m.vtable, m.value)).stands m.value) (λ m. (goal.Meter-dyn g (m.vtable, m.value)).text m.value) c.args.meters.now.items c.report_segment.new.meters.items) (sym (calls_grown board v w ran.begins)) (both_told _ _ _ _ _ _ _ c.loop-segment.invariant.told c.in_ok-carried.ensures.told);
     }
 
-pub returns-in_err-flush-clause-begun : goal.returns-in_err-flush-clause-begun
-returns-in_err-flush-clause-begun g c =
+pub returns-in_err-flush-clause-unwritten : goal.returns-in_err-flush-clause-unwritten
+returns-in_err-flush-clause-unwritten g c write =
     let K = g.B.Switchboard.known in
     let board = g.B.Switchboard.board c.args.board.now in
     let v = K c.loop-segment.seat in
-    on_err c.from_residual-in_err-flush.result
-    (subst (λ (t : Trace). IsBegun g.C.Carrier.plays c.args.listing board.slots (AreToldFront (λ m. (goal.Meter-dyn g (m.vtable, m.value)).stands m.value) (λ m. (goal.Meter-dyn g (m.vtable, m.value)).text m.value) c.args.meters.now.items c.loop-segment.meters.items) t (order_of v.seen) (g.K.Sink.written c.args.sink.now) (g.K.Sink.written c.flush.new.sink)) (sym c.requires.trace)
-    (begun_flush g.C.Carrier.plays c.args.listing board c.loop-segment.segment v _ _ c.loop-segment.out.items c.loop-segment.invariant.underway _ _ c.in_err-flush.ensures.front
-    (told_front _ _ _ _ _ c.loop-segment.invariant.told)))
+    subst (λ (t : Trace). IsUnwritten g.C.Carrier.plays c.args.listing board.slots (AreTold (λ m. (goal.Meter-dyn g (m.vtable, m.value)).stands m.value) (λ m. (goal.Meter-dyn g (m.vtable, m.value)).text m.value) c.args.meters.now.items c.loop-segment.meters.items) t (order_of v.seen) (g.K.Sink.written c.args.sink.now) (g.K.Sink.written c.flush.new.sink)) (sym c.requires.trace)
+    (begun_flush g.C.Carrier.plays c.args.listing board c.loop-segment.segment v _ _ c.loop-segment.out.items c.loop-segment.invariant.underway _ _ c.in_err-flush.ensures.front c.loop-segment.invariant.told)
 
 pub returns-clause-whole : goal.returns-clause-whole
 returns-clause-whole g c =
