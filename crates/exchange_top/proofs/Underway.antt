@@ -103,7 +103,7 @@ module _ (plays : Plays) (l : Listing) (board : Board) where
       done = one_more board.trace k v w so_far.done ran whole;
       text = rw (lines, listed_grown ran) (pending_more _ old now pending _ (listed l (grown_lines plays board v w))
           (pending_also _ (EndsWithSegment plays l board.slots board.trace (order_of w.seen))
-          (λ text e. subst (λ order. EndsWithSegment plays l board.slots board.trace order text) (sym (order_grown v w ran.begins)) (ends_longer plays l board.slots board.trace (order_of v.seen) (grown v w) text e))
+          (λ text e. subst (λ order. EndsWithSegment plays l board.slots board.trace order text) (sym (order_grown v w ran.begins)) (ends_longer plays l board.slots board.trace (order_of v.seen) (new_events v w) text e))
           old now pending _ so_far.text));
       few = few_grown board v w ran.begins so_far.few few;
     }
