@@ -98,13 +98,7 @@ fn table_of<'a>(kind: Kind, ringback: &'a [u8], busy: &'a [u8]) -> &'a [u8]
 
 /// What the bridge mixes for slot `y` in frame `g`: the values of the octets that the other members
 /// of the room sent two frames before are added up, and the sum is coded once.
-fn room_mix(
-    inputs: &Rows<Option<[u8; 30]>>,
-    circuits: &[Circuit],
-    room: u8,
-    y: Slot,
-    g: u32,
-) -> u8
+fn room_mix(inputs: &Rows<Option<[u8; 30]>>, circuits: &[Circuit], room: u8, y: Slot, g: u32) -> u8
     ensures { result ≡ mix inputs.now circuits.now room y g }
 {
     let mut sum = 0;
