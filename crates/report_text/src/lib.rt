@@ -1,7 +1,8 @@
 //! The text of a report: a line for each event.
 //!
 //! [`append_answer`] appends the one line of a kept answer (`line`), as `specs/Report.antt` spells
-//! it. Where memory runs out, the text stays as it was (`kept`).
+//! it, and [`append_line`] does so from the response and the outbox of a step. Where memory runs out,
+//! the text stays as it was (`kept`).
 //!
 //! It stands on `circuit_model` and `exchange_core`, and on the kit's `arrayvec`, `hex` and `itoa`.
 #![tactic(auto)]
@@ -13,4 +14,4 @@ mod report;
 mod tests;
 mod text;
 
-pub use report::append_answer;
+pub use report::{append_answer, append_line};
