@@ -2,3 +2,4 @@ pub mod Segments
 pub mod Done
 pub mod FrameSteps
 pub mod Tools
+mod Handing

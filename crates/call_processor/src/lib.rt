@@ -15,12 +15,16 @@
 //! and `gate`.
 #![tactic(auto)]
 
+mod answer_list;
 mod framing;
+mod keeper;
 mod processing;
 mod segment;
 mod worked;
 
+pub use answer_list::AnswerList;
 pub use framing::{run_frames, run_frames_at};
+pub use keeper::Keeper;
 pub use processing::{process, process_at};
 pub use segment::{input_of, is_of_processor, numbers_of, processor_of};
 pub use worked::{Finished, FinishedFrames, Framed, Placed, Worked, Workplace};

@@ -1,0 +1,39 @@
+-- What a worker keeps of the events that it did. Source: this exchange's own.
+use Rattle.std.specs.Prelude.{◌≡◌, ℕ, ◌<◌, List, [], ◌∷◌, ◌++◌, length, drop, All, Option, Some, None}
+use Rattle.exchange_core.specs.declared.outbox.Outbox.{Outbox}
+use Rattle.exchange_core.specs.declared.outbox.Response.{Response}
+use Rattle.exchange_core.specs.Kept.{kept}
+use Rattle.exchange_core.specs.Responses.{reply_of}
+use Rattle.call_processor.specs.declared.worked.Placed.{Placed}
+
+-- the answer of an event at its place, from the response and the outbox of its step and from what each line sends
+abbrev pub placed : ℕ → ℕ → Response → Outbox → List (List ℕ) → Placed
+placed place event response outbox octets = record { place = place; answer = record { event = event; reply = kept (reply_of response outbox); octets = octets } }
+
+-- the place of the first of these answers
+abbrev pub first_place : List Placed → Option ℕ
+first_place [] = None
+first_place (p ∷ ps) = Some p.place
+
+-- A keeper that held these answers handed the first ones to another: the first of all, and those behind it that come before a place. The other has
+-- them behind its own.
+pub record HandsOn {K : Type 0} (holds : K → List Placed → Type 0) (below : ℕ) (answers others : List Placed) (from to : K) : Type 0 where
+  pub run : List Placed
+  pub rest : List Placed
+  pub parts : answers ≡ run ++ rest
+  pub some : 0 < length answers → 0 < length run
+  pub before : All (λ (p : Placed). p.place < below) (drop 1 run)
+  pub left : holds from rest
+  pub got : holds to (others ++ run)
+
+-- a keeper holds these answers, and maybe more behind them
+pub record StillHolds {K : Type 0} (holds : K → List Placed → Type 0) (answers : List Placed) (k : K) : Type 0 where
+  pub more : List Placed
+  pub held : holds k (answers ++ more)
+
+-- the first answers were moved from one list behind another, as far as they come before a place
+pub record HandsBelow (below : ℕ) (answers others from to : List Placed) : Type 0 where
+  pub run : List Placed
+  pub parts : answers ≡ run ++ from
+  pub before : All (λ (p : Placed). p.place < below) run
+  pub got : to ≡ others ++ run
