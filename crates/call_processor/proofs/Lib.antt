@@ -3,3 +3,4 @@ pub mod Done
 pub mod FrameSteps
 pub mod Tools
 mod Handing
+mod KeepingLemmas

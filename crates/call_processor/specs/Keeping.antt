@@ -1,10 +1,12 @@
 -- What a worker keeps of the events that it did. Source: this exchange's own.
-use Rattle.std.specs.Prelude.{◌≡◌, ℕ, ◌<◌, List, [], ◌∷◌, ◌++◌, length, drop, All, Option, Some, None}
+use Rattle.std.specs.Prelude.{◌≡◌, ℕ, ◌+◌, ◌<◌, Bool, List, [], ◌∷◌, ◌++◌, length, drop, All, Option, Some, None}
 use Rattle.exchange_core.specs.declared.outbox.Outbox.{Outbox}
 use Rattle.exchange_core.specs.declared.outbox.Response.{Response}
 use Rattle.exchange_core.specs.Kept.{kept}
 use Rattle.exchange_core.specs.Responses.{reply_of}
+use Rattle.exchange_core.specs.Seats.{Board, Known}
 use Rattle.call_processor.specs.declared.worked.Placed.{Placed}
+use Rattle.call_processor.specs.Work.{IsAnswer, Works}
 
 -- the answer of an event at its place, from the response and the outbox of its step and from what each line sends
 abbrev pub placed : ℕ → ℕ → Response → Outbox → List (List ℕ) → Placed
@@ -37,3 +39,27 @@ pub record HandsBelow (below : ℕ) (answers others from to : List Placed) : Typ
   pub parts : answers ≡ run ++ from
   pub before : All (λ (p : Placed). p.place < below) run
   pub got : to ≡ others ++ run
+
+-- ---- one event, and a part of a segment
+
+-- The event was done by the seat and kept: behind all that was kept before stands its answer, at the place of the seat's last entry. Of its octets
+-- holds what is said.
+pub record HasKept {K : Type 0} (holds : K → List Placed → Type 0) (board : Board) (seat : Known) (event : ℕ) (octets : Placed → Type 0) (before after : K) : Type 0 where
+  pub answer : Placed
+  pub place : length seat.seen ≡ answer.place + 1
+  pub event_is : answer.answer.event ≡ event
+  pub is : IsAnswer board seat answer
+  pub said : octets answer
+  pub held : (answers : List Placed) → holds before answers → holds after (answers ++ answer ∷ [])
+
+-- an event that is no frame has no octets
+abbrev pub has_no_octets : Placed → Type 0
+has_no_octets p = p.answer.octets ≡ []
+
+-- From v to w the first events of the part were done, as `Works` says, and their answers are what is kept; of the octets of each holds what is said,
+-- given what the seat knows at last.
+pub record KeepsWork {K : Type 0} (holds : K → List Placed → Type 0) (board : Board) (octets : Known → Placed → Type 0) (part : List ℕ) (v : Known) (keeper : K) (whole : Bool) (w : Known) : Type 0 where
+  pub answers : List Placed
+  pub held : holds keeper answers
+  pub works : Works board part v answers whole w
+  pub said : All (octets w) answers

@@ -20,6 +20,7 @@ mod framing;
 mod keeper;
 mod processing;
 mod segment;
+mod shortage;
 mod worked;
 
 pub use answer_list::AnswerList;
@@ -27,4 +28,5 @@ pub use framing::{run_frames, run_frames_at};
 pub use keeper::Keeper;
 pub use processing::{process, process_at};
 pub use segment::{input_of, is_of_processor, numbers_of, processor_of};
+pub use shortage::Shortage;
 pub use worked::{Finished, FinishedFrames, Framed, Placed, Worked, Workplace};
