@@ -1,7 +1,7 @@
 //! Seats at work, each in a thread of its own.
 ghost use Rattle.std.specs.Prelude.{◌≡◌, ◌<◌, ◌≤◌, ◌+◌, ◌*◌, ◌^◌, length};
 ghost use Rattle.std.specs.Thread.{IsSync};
-ghost use Rattle.turn_lock.specs.Seats.{IsSeatOf};
+ghost use Rattle.turn_lock.specs.Locks.{IsSeatOf};
 
 use crate::sum::Sum;
 use std::alloc::Global;
@@ -12,10 +12,10 @@ use turn_lock::{Seat, TurnLock};
 // Steps the events 1 to `count`.
 fn steps<R: Wait>(rt: &R, lock: &TurnLock<Sum>, mut seat: Seat<Sum>, count: u32) -> Seat<Sum>
     requires of { IsSeatOf lock.now seat }
-    requires turns { (count ≤ seat.left) × (count < 2 ^ 31) }
+    requires turns { (count ≤ seat.known.left) × (count < 2 ^ 31) }
     ensures of { IsSeatOf lock.now result }
-    ensures number { result.number ≡ seat.number }
-    ensures seats { (result.made ≡ seat.made) × (length result.kept ≡ length seat.kept) }
+    ensures number { result.known.number ≡ seat.known.number }
+    ensures seats { (result.known.made ≡ seat.known.made) × (length result.known.kept ≡ length seat.known.kept) }
 {
     let mut tool = 0;
     for i in 0..count {
@@ -33,12 +33,12 @@ fn crew<R: Threads + Wait + Sync>(
     count: u32,
 ) -> Seat<Sum>
     requires of { IsSeatOf lock.now seat }
-    requires chief { seat.number ≡ 0 }
-    requires turns { (count * (more + 1) ≤ seat.left) × (count < 2 ^ 31) }
-    requires few { seat.made + more < 2 ^ 32 }
+    requires chief { seat.known.number ≡ 0 }
+    requires turns { (count * (more + 1) ≤ seat.known.left) × (count < 2 ^ 31) }
+    requires few { seat.known.made + more < 2 ^ 32 }
     ensures of { IsSeatOf lock.now result }
-    ensures chief { result.number ≡ 0 }
-    ensures seats { (result.made ≡ seat.made + more) × (length result.kept ≡ length seat.kept + more) }
+    ensures chief { result.known.number ≡ 0 }
+    ensures seats { (result.known.made ≡ seat.known.made + more) × (length result.known.kept ≡ length seat.known.kept + more) }
 {
     if more == 0 {
         return steps(rt, lock, seat, count);
@@ -48,12 +48,12 @@ fn crew<R: Threads + Wait + Sync>(
     let (other, mut seat) = join(
         rt,
         move || -> Seat<Sum>
-            requires { IsSeatOf lock.now other × (count ≤ other.left) × (count < 2 ^ 31) }
+            requires { IsSeatOf lock.now other × (count ≤ other.known.left) × (count < 2 ^ 31) }
             ensures { IsSeatOf lock.entry.now result }
         { steps(rt, lock, other, count) },
         move || -> Seat<Sum>
-            requires { IsSync R.row × IsSeatOf lock.now seat × (seat.number ≡ 0) × (count * (next + 1) ≤ seat.left) × (count < 2 ^ 31) × (seat.made + next < 2 ^ 32) }
-            ensures { IsSeatOf lock.entry.now result × (result.number ≡ 0) × (result.made ≡ seat.made + next) × (length result.kept ≡ length seat.kept + next) }
+            requires { IsSync R.row × IsSeatOf lock.now seat × (seat.known.number ≡ 0) × (count * (next + 1) ≤ seat.known.left) × (count < 2 ^ 31) × (seat.known.made + next < 2 ^ 32) }
+            ensures { IsSeatOf lock.entry.now result × (result.known.number ≡ 0) × (result.known.made ≡ seat.known.made + next) × (length result.known.kept ≡ length seat.known.kept + next) }
         { crew(rt, lock, seat, next, count) },
     );
     seat.join(lock, other);

@@ -2,14 +2,14 @@
 ghost use Rattle.std.specs.Prelude.{◌≡◌, ◌-◌, ◌≤◌, [], length, vec_capacity, IfOk};
 
 use std::alloc::{AllocError, Global};
-use turn_lock::{Entry, Stepper};
+use turn_lock::Stepper;
 
 /// A step adds its event and answers the sum.
 #[derive(Drop)]
 pub struct Sum {
     total: u64,
     most: usize,
-    journal: Vec<Entry>,
+    journal: Vec<(u32, u32)>,
     ghost reserved: { most ≤ vec_capacity journal },
 }
 
@@ -52,7 +52,7 @@ impl Stepper for Sum {
 
     fn step(&mut self, by: u32, event: u32, _tool: &mut u8) -> u64 {
         self.total = self.total.wrapping_add(u64::from(event));
-        if self.journal.push(Entry { by, event }).is_err() {
+        if self.journal.push((by, event)).is_err() {
             unreachable!()
         }
         self.total

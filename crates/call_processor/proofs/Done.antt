@@ -8,9 +8,12 @@ use Rattle.std.proofs.lemmas.Option.{slice_get_within}
 use lib.Seq.{take-append-le}
 use Rattle.exchange_core.specs.declared.reply.Reply.{Reply}
 use Rattle.exchange_core.specs.Kept.{kept}
-use Rattle.exchange_core.specs.Seats.{Board, Known, StartsWith, AnswersAt, before, entries_of, handling, world_at}
+use Rattle.seat_history.specs.declared.known.Known.{Known}
+use Rattle.seat_history.specs.Histories.{StartsWith, before, entries_of}
+use Rattle.seat_history.specs.Seats.{after_step}
+use Rattle.exchange_core.specs.Boards.{Board, AnswersAt, world_at}
 use Rattle.exchange_core.specs.Step.{MovesAtMost}
-use Rattle.exchange_core.specs.Working.{Entry}
+use Rattle.seat_history.specs.Histories.{Entry}
 use Rattle.call_processor.specs.declared.worked.Placed.{Placed}
 use Rattle.call_processor.specs.Frames.{Plays, HasFrame, IsPlayed}
 use Rattle.call_processor.specs.Work.{Did, Handled, IsAnswer, Works, answered, entries_for}
@@ -35,7 +38,7 @@ nothing_done v = record {
 
 -- what the next call shows of the seat: its event n is done at this history
 pub record Next (history : List Entry) (n place : ℕ) (w x : Known) : Type 0 where
-  pub seat : x ≡ handling history n w
+  pub seat : x ≡ after_step history n w
   pub begins : StartsWith history w.seen
   pub place_is : length history ≡ place
   pub turn : 0 < w.left

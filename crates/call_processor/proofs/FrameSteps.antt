@@ -17,12 +17,14 @@ use Rattle.exchange_core.specs.declared.trace.Event.TheVariants.{Nail, Seat, Fre
 use Rattle.exchange_core.specs.declared.trace.Trace.{Trace}
 use Rattle.exchange_core.specs.declared.tool.Tool.{Tool}
 use Rattle.exchange_core.specs.declared.tool.Tool.TheVariants.{Image}
-use Rattle.exchange_core.specs.Seats.{Board, StartsWith, IsFrame, NoFrames, IsToolAt, ShowsAt, setting_at, unseen, world_at}
+use Rattle.seat_history.specs.Histories.{StartsWith, unseen}
+use Rattle.exchange_core.specs.Boards.{Board, IsFrame, NoFrames, IsToolAt, ShowsAt, setting_at, world_at}
 use Rattle.exchange_core.specs.Setup.{Setting}
 use Rattle.exchange_core.specs.Sound.{Fits, IsSound}
 use Rattle.exchange_core.specs.Standing.{IsMade}
 use Rattle.exchange_core.specs.Step.{next, world, events_of}
-use Rattle.exchange_core.specs.Working.{Entry, IsNumbered, IsOfSize, IsToolFor, ShowsWorld, order_of}
+use Rattle.seat_history.specs.Histories.{Entry}
+use Rattle.exchange_core.specs.Working.{IsNumbered, IsOfSize, IsToolFor, ShowsWorld, order_of}
 use Rattle.exchange_core.specs.World.{Dimensions, World, start, pass}
 use Rattle.exchange_core.proofs.Histories.{made, made_pass}
 use Rattle.exchange_core.proofs.Quiet.{SameFrames, same_self, then_same as same_then, quiet}

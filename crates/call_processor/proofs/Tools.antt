@@ -6,7 +6,7 @@ use Rattle.exchange_core.specs.declared.trace.Event.{Event}
 use Rattle.exchange_core.specs.declared.trace.Event.TheVariants.{Nail, Seat, Free, Message, Frame}
 use Rattle.exchange_core.specs.declared.trace.Trace.{Trace}
 use Rattle.exchange_core.specs.Orders.{Processor, worker_of}
-use Rattle.exchange_core.specs.Seats.{Board, IsToolAt, setting_at}
+use Rattle.exchange_core.specs.Boards.{Board, IsToolAt, setting_at}
 use Rattle.exchange_core.specs.Working.{IsToolFor}
 use Rattle.exchange_core.specs.World.{Dimensions}
 use Rattle.call_processor.specs.Parts.{does, is_its, is_worker}

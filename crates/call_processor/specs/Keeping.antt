@@ -4,7 +4,8 @@ use Rattle.exchange_core.specs.declared.outbox.Outbox.{Outbox}
 use Rattle.exchange_core.specs.declared.outbox.Response.{Response}
 use Rattle.exchange_core.specs.Kept.{kept}
 use Rattle.exchange_core.specs.Responses.{reply_of}
-use Rattle.exchange_core.specs.Seats.{Board, Known}
+use Rattle.seat_history.specs.declared.known.Known.{Known}
+use Rattle.exchange_core.specs.Boards.{Board}
 use Rattle.call_processor.specs.declared.worked.Placed.{Placed}
 use Rattle.call_processor.specs.Work.{IsAnswer, Works}
 

@@ -4,9 +4,12 @@ use Rattle.exchange_core.specs.declared.reply.Reply.{Reply}
 use Rattle.exchange_core.specs.declared.trace.Trace.{Trace}
 use Rattle.exchange_core.specs.Kept.{kept}
 use Rattle.exchange_core.specs.Orders.{Worker}
-use Rattle.exchange_core.specs.Seats.{Board, Known, StartsWith, AnswersAt, before, entries_of, handling}
+use Rattle.seat_history.specs.declared.known.Known.{Known}
+use Rattle.seat_history.specs.Histories.{StartsWith, before, entries_of}
+use Rattle.seat_history.specs.Seats.{after_step}
+use Rattle.exchange_core.specs.Boards.{Board, AnswersAt}
 use Rattle.exchange_core.specs.Step.{MovesAtMost}
-use Rattle.exchange_core.specs.Working.{Entry}
+use Rattle.seat_history.specs.Histories.{Entry}
 use Rattle.call_processor.specs.declared.worked.Placed.{Placed}
 use Rattle.call_processor.specs.Parts.{part_of}
 
@@ -35,7 +38,7 @@ pub record Did (v : Known) (events : List ℕ) (w : Known) : Type 0 where
 -- From v to w the seat did one event, behind a history that begins with what it had seen.
 pub record Handled (v : Known) (event : ℕ) (w : Known) : Type 0 where
   pub place : ℕ
-  pub seat : w ≡ handling (before place w.seen) event v
+  pub seat : w ≡ after_step (before place w.seen) event v
   pub begins : StartsWith (before place w.seen) v.seen
   pub last : length w.seen ≡ place + 1
   pub turn : 0 < v.left

@@ -1,6 +1,7 @@
 -- What came of a part of a segment that was done at a workplace. Source: this exchange's own.
 use Rattle.std.specs.Prelude.{ℕ, List}
-use Rattle.exchange_core.specs.Seats.{Board, Known}
+use Rattle.seat_history.specs.declared.known.Known.{Known}
+use Rattle.exchange_core.specs.Boards.{Board}
 use Rattle.exchange_core.specs.World.{Dimensions}
 use Rattle.call_processor.specs.declared.worked.Finished.{Finished}
 use Rattle.call_processor.specs.declared.worked.FinishedFrames.{FinishedFrames}

@@ -24,4 +24,4 @@ pub mod Peers
 pub mod Working
 pub mod Responses
 pub mod Answered
-pub mod Seats
+pub mod Boards

@@ -1,7 +1,10 @@
 ghost use Rattle.std.specs.Prelude.{◌≡◌, ◌+◌, ◌<◌, ◌≤◌, ◌^◌, length, IsTrue};
+ghost use Rattle.seat_history.specs.declared.known.Known.{Known};
+ghost use Rattle.seat_history.specs.Histories.{StartsWith, before, entries_of, unseen};
+ghost use Rattle.seat_history.specs.Seats.{HasJoinedAll, Settled, after_join, after_split, after_step, new_seat};
 ghost use Rattle.exchange_core.specs.Orders.{IsEvent};
 ghost use Rattle.exchange_core.specs.Responses.{reply_of};
-ghost use Rattle.exchange_core.specs.Seats.{Board, Known, Settled, StartsWith, NoFrames, IsFrame, IsToolAt, AnswersAt, ShowsAt, before, unseen, entries_of, giving, getting, handling, joining, turns_of};
+ghost use Rattle.exchange_core.specs.Boards.{Board, NoFrames, IsFrame, IsToolAt, AnswersAt, ShowsAt, turns_of};
 ghost use Rattle.exchange_core.specs.Sound.{IsSound};
 ghost use Rattle.exchange_core.specs.Step.{MovesAtMost};
 
@@ -40,8 +43,8 @@ pub trait Switchboard: Sync {
         requires numbers { (known seat.old).made + 1 < 2 ^ 32 }
         ensures sound { IsSound (board self.now).trace }
         ensures seated { seated self.now seat.new × seated self.now result }
-        ensures old { known seat.new ≡ giving budget baton (known seat.old) }
-        ensures new { known result ≡ getting budget baton (known seat.old) };
+        ensures old { known seat.new ≡ after_split budget baton (known seat.old) }
+        ensures new { known result ≡ new_seat budget baton (known seat.old) };
 
     /// Does one event of the trace, by its number, counted from 1, once the seat's turn has come; waits
     /// for it. Answers the place in the history, counted from 0, and the exchange's reply.
@@ -62,14 +65,18 @@ pub trait Switchboard: Sync {
         requires tool { IsToolAt (board self.now) event tool.old }
         ensures sound { IsSound (board self.now).trace }
         ensures seated { seated self.now seat.new }
-        // One turn less, and its entry behind the history before it and among its own. The rest of what the seat knows is as it was.
-        ensures seat { known seat.new ≡ handling (before result.0 (known seat.new).seen) event (known seat.old) }
+        // One turn less, and its entry behind the history before it and among its own.
+        ensures seat { known seat.new ≡ after_step (before result.0 (known seat.new).seen) event (known seat.old) }
         ensures place { length (known seat.new).seen ≡ result.0 + 1 }
         ensures below { result.0 < turns_of (board self.now) }
         ensures begins { StartsWith (before result.0 (known seat.new).seen) (known seat.old).seen }
         ensures own { (known seat.new).own ≡ entries_of (known seat.new).number (known seat.new).seen }
         // The holder of the baton had seen every frame of the history before.
-        ensures frames { IsTrue (known seat.old).baton → NoFrames (board self.now).trace (unseen (known seat.old).seen (before result.0 (known seat.new).seen)) }
+        ensures frames { IsTrue (known seat.old).baton
+            → NoFrames (board self.now).trace (unseen (known seat.old).seen (before result.0 (known seat.new).seen)) }
+        // What seat 0 knows adds up, and where all other seats are joined nobody did an event between.
+        ensures settled { (known seat.old).number ≡ 0 → Settled (turns_of (board self.now)) (known seat.new) }
+        ensures alone { (known seat.old).number ≡ 0 → HasJoinedAll (known seat.old) → before result.0 (known seat.new).seen ≡ (known seat.old).seen }
         ensures reply { AnswersAt (board self.now) (before result.0 (known seat.new).seen) event result.1 }
         ensures few { MovesAtMost (board self.now).bound result.1 }
         ensures shows { ShowsAt (board self.now) (before result.0 (known seat.new).seen) event tool.new }
@@ -91,12 +98,15 @@ pub trait Switchboard: Sync {
         requires tool { IsToolAt (board self.now) event desk.old.tool }
         ensures sound { IsSound (board self.now).trace }
         ensures seated { seated self.now seat.new }
-        ensures seat { known seat.new ≡ handling (before result.0 (known seat.new).seen) event (known seat.old) }
+        ensures seat { known seat.new ≡ after_step (before result.0 (known seat.new).seen) event (known seat.old) }
         ensures place { length (known seat.new).seen ≡ result.0 + 1 }
         ensures below { result.0 < turns_of (board self.now) }
         ensures begins { StartsWith (before result.0 (known seat.new).seen) (known seat.old).seen }
         ensures own { (known seat.new).own ≡ entries_of (known seat.new).number (known seat.new).seen }
-        ensures frames { IsTrue (known seat.old).baton → NoFrames (board self.now).trace (unseen (known seat.old).seen (before result.0 (known seat.new).seen)) }
+        ensures frames { IsTrue (known seat.old).baton
+            → NoFrames (board self.now).trace (unseen (known seat.old).seen (before result.0 (known seat.new).seen)) }
+        ensures settled { (known seat.old).number ≡ 0 → Settled (turns_of (board self.now)) (known seat.new) }
+        ensures alone { (known seat.old).number ≡ 0 → HasJoinedAll (known seat.old) → before result.0 (known seat.new).seen ≡ (known seat.old).seen }
         ensures reply { AnswersAt (board self.now) (before result.0 (known seat.new).seen) event (reply_of result.1 desk.new.out) }
         ensures few { MovesAtMost (board self.now).bound (reply_of result.1 desk.new.out) }
         ensures shows { ShowsAt (board self.now) (before result.0 (known seat.new).seen) event desk.new.tool }
@@ -108,7 +118,7 @@ pub trait Switchboard: Sync {
         requires chief { (known seat.old).number ≡ 0 }
         ensures sound { IsSound (board self.now).trace }
         ensures seated { seated self.now seat.new }
-        ensures seat { known seat.new ≡ joining (known seat.old) (known other) }
+        ensures seat { known seat.new ≡ after_join (known seat.old) (known other) }
         ensures first { StartsWith (known seat.new).seen (known seat.old).seen }
         ensures second { StartsWith (known seat.new).seen (known other).seen }
         ensures settled { Settled (turns_of (board self.now)) (known seat.new) };

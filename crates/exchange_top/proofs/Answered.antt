@@ -18,7 +18,9 @@ use Rattle.exchange_core.specs.declared.trace.Trace.{Trace}
 use Rattle.exchange_core.specs.IdleSlots.{idle, nailed}
 use Rattle.exchange_core.specs.Kept.{kept}
 use Rattle.exchange_core.specs.Orders.{IsEvent}
-use Rattle.exchange_core.specs.Seats.{Board, Known, StartsWith, AnswersAt, before, setting_at, unseen, world_at}
+use Rattle.seat_history.specs.declared.known.Known.{Known}
+use Rattle.seat_history.specs.Histories.{StartsWith, before, unseen}
+use Rattle.exchange_core.specs.Boards.{Board, AnswersAt, setting_at, world_at}
 use Rattle.exchange_core.specs.Setup.{Setting}
 use Rattle.exchange_core.specs.Sound.{setting_of}
 use Rattle.exchange_core.specs.Step.{MovesAtMost, events_of, may_nail, next, reply, run, world}

@@ -4,7 +4,7 @@ use Rattle.std.specs.Io.KnownBytes.{Appends, Keeps}
 use Rattle.std.proofs.KnownBytes.{Appends-nil, Appends-trans}
 use Rattle.ex_io.specs.Ends.{Rose}
 use Rattle.exchange_core.specs.declared.trace.Trace.{Trace}
-use Rattle.exchange_core.specs.Seats.{Board}
+use Rattle.exchange_core.specs.Boards.{Board}
 use Rattle.generated_trace.specs.Generated.{IsTrafficOf}
 use Rattle.exchange_top.specs.declared.listing.Listing.TheVariants as listing
 use Rattle.exchange_top.specs.Commands.{Handing, Parties, Runs, Whole, Unwritten_from, No_memory_from, Sums, Summed, Sum_unwritten, Sum_no_memory, In_run, In_summary, IsHandedOut}

@@ -6,7 +6,9 @@ use Rattle.std.proofs.KnownBytes.{Appends-nil}
 use Rattle.std.proofs.lemmas.List.Elements.{All-nil, All-weaker}
 use Rattle.exchange_core.specs.declared.trace.Trace.{Trace}
 use Rattle.exchange_core.specs.Orders.{IsEvent}
-use Rattle.exchange_core.specs.Seats.{Board, Known, first_seat, turns_of}
+use Rattle.seat_history.specs.declared.known.Known.{Known}
+use Rattle.seat_history.specs.Seats.{first_seat}
+use Rattle.exchange_core.specs.Boards.{Board, turns_of}
 use Rattle.exchange_core.specs.Sound.{IsSound}
 use Rattle.exchange_core.specs.Working.{order_of}
 use Rattle.call_processor.specs.Frames.{Plays}

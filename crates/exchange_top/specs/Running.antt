@@ -2,7 +2,8 @@
 use Rattle.std.specs.Prelude.{◌≡◌, ◌≤◌, ◌*◌, ℕ, List, None, All, replicate}
 use Rattle.tone_rules.specs.Tables.{table_of}
 use Rattle.control_memory.specs.Layout.{Layout}
-use Rattle.exchange_core.specs.Seats.{Board, Known, setting_at, world_at}
+use Rattle.seat_history.specs.declared.known.Known.{Known}
+use Rattle.exchange_core.specs.Boards.{Board, setting_at, world_at}
 use Rattle.exchange_core.specs.Step.{run, events_of, MovesAtMost}
 use Rattle.segment_run.specs.Segment.{grown}
 use Rattle.call_processor.specs.Frames.{Plays}

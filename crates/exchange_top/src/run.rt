@@ -4,7 +4,7 @@ ghost use Rattle.ex_io.specs.Ends.{Rose};
 ghost use Rattle.exchange_top.specs.declared.run.RunFault.TheVariants.{Memory, Write};
 ghost use Rattle.exchange_core.specs.Sound.{IsSound, setting_of};
 ghost use Rattle.exchange_core.specs.Working.{order_of, world_after};
-ghost use Rattle.exchange_core.specs.Seats.{first_seat};
+ghost use Rattle.seat_history.specs.Seats.{first_seat};
 ghost use Rattle.shared_exchange.specs.Sharing.{IsSeated, known};
 ghost use Rattle.call_processor.specs.Frames.{CarriesFrames, IsReady, engine_dimensions};
 ghost use Rattle.exchange_top.specs.Outcomes.{IsRunWhole, IsBegun, listed};

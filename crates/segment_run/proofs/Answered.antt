@@ -12,7 +12,9 @@ use Rattle.exchange_core.specs.declared.answer.Answer.{Answer}
 use Rattle.exchange_core.specs.declared.trace.Event.TheVariants.{Frame}
 use Rattle.exchange_core.specs.declared.trace.Trace.{Trace}
 use Rattle.exchange_core.specs.Orders.{Worker, Processor, segment_of}
-use Rattle.exchange_core.specs.Seats.{Board, Known, StartsWith, AnswersAt, before, world_at}
+use Rattle.seat_history.specs.declared.known.Known.{Known}
+use Rattle.seat_history.specs.Histories.{StartsWith, before}
+use Rattle.exchange_core.specs.Boards.{Board, AnswersAt, world_at}
 use Rattle.exchange_core.specs.Working.{Entry, IsNumbered, order_of}
 use Rattle.call_processor.specs.declared.worked.Placed.{Placed}
 use Rattle.call_processor.specs.declared.worked.Workplace.{Workplace}

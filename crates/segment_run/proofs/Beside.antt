@@ -4,7 +4,8 @@ use Rattle.std.specs.List.{All, AllZip}
 use Rattle.std.proofs.lemmas.List.Elements.{All-push}
 use Rattle.exchange_core.specs.declared.trace.Trace.{Trace}
 use Rattle.exchange_core.specs.Orders.{Worker, Processor, Frame_worker}
-use Rattle.exchange_core.specs.Seats.{Board, Known}
+use Rattle.seat_history.specs.declared.known.Known.{Known}
+use Rattle.exchange_core.specs.Boards.{Board}
 use Rattle.call_processor.specs.declared.worked.Placed.{Placed}
 use Rattle.call_processor.specs.Parts.{part_of}
 use Rattle.call_processor.specs.Work.{MayWork, Works}

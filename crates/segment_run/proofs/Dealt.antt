@@ -7,7 +7,8 @@ use Rattle.std.proofs.lemmas.Bool.Decides.{nat_tests}
 use Rattle.std.proofs.lemmas.List.{map-append}
 use Rattle.std.proofs.lemmas.List.Elements.{All-push}
 use Rattle.exchange_core.specs.declared.trace.Trace.{Trace}
-use Rattle.exchange_core.specs.Seats.{Known, giving, getting}
+use Rattle.seat_history.specs.declared.known.Known.{Known}
+use Rattle.seat_history.specs.Seats.{after_split, new_seat}
 use Rattle.segment_run.specs.Team.{AreDealt, HasDealt, IsNew, any_baton, load, loads_below, turns_left}
 use Rattle.segment_run.proofs.Lists.{all_front, all_last}
 use Rattle.segment_run.proofs.Loads.{loads_grow, loads_more, loads_none}
@@ -138,7 +139,7 @@ module _ {J : Type 0} (number : J → ℕ) (known : J → Known) (trace : Trace)
 
   -- the worker gets a seat
   pub one_dealt : (i turns : ℕ) (b : Bool) (js : List J) (j : J) (k after : Known) → i ≤ trace.processors → turns ≡ load trace segment i → number j ≡ i → turns ≤ k.left
-      → b ≡ nat_eq i trace.processors → after ≡ giving turns b k → known j ≡ getting turns b k → Dealing i js k → Dealing (i + 1) (js ++ j ∷ []) after
+      → b ≡ nat_eq i trace.processors → after ≡ after_split turns b k → known j ≡ new_seat turns b k → Dealing i js k → Dealing (i + 1) (js ++ j ∷ []) after
   one_dealt i turns b js j k after le is_load mine enough_left is_last old new d = record {
     below = All-push (λ (x : J). number x < i + 1) js j (λ m x h. let a = d.below m x h in omega (arith, a)) (omega (arith, mine));
     dealt = subst (AreDealt trace segment v (v.made + 1) 0) (sym seats_more)

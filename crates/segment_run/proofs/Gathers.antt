@@ -1,18 +1,20 @@
 -- Seats joined from the last on.
 use Rattle.std.proofs.Common.{◌≡◌, List, [], ◌∷◌, ◌++◌, map, reverse, sym, refl, ap, ◌∙◌, append_assoc}
 use Rattle.std.proofs.lemmas.List.{map-append, reverse-append}
-use Rattle.exchange_core.specs.Seats.{Known, StartsWith, joining}
+use Rattle.seat_history.specs.declared.known.Known.{Known}
+use Rattle.seat_history.specs.Histories.{StartsWith}
+use Rattle.seat_history.specs.Seats.{after_join}
 use Rattle.exchange_core.specs.Working.{Entry}
 use Rattle.segment_run.specs.Team.{joined_all}
 
-joined_snoc : (v : Known) (ws : List Known) (w : Known) → joined_all v (ws ++ w ∷ []) ≡ joined_all (joining v w) ws
+joined_snoc : (v : Known) (ws : List Known) (w : Known) → joined_all v (ws ++ w ∷ []) ≡ joined_all (after_join v w) ws
 joined_snoc v [] w = refl
-joined_snoc v (u ∷ ws) w = ap (λ (k : Known). joining k u) (joined_snoc v ws w)
+joined_snoc v (u ∷ ws) w = ap (λ (k : Known). after_join k u) (joined_snoc v ws w)
 
 pub starts_on : (a b c : List Entry) → StartsWith a b → StartsWith b c → StartsWith a c
 starts_on a b c p q = (q.0 ++ p.0, p.1 ∙ (ap (λ (l : List Entry). l ++ p.0) q.1 ∙ append_assoc c q.0 p.0))
 
-pub joined_more : {X : Type 0} (f : X → Known) (v : Known) (xs : List X) (x : X) → joined_all v (map f (xs ++ x ∷ [])) ≡ joined_all (joining v (f x)) (map f xs)
+pub joined_more : {X : Type 0} (f : X → Known) (v : Known) (xs : List X) (x : X) → joined_all v (map f (xs ++ x ∷ [])) ≡ joined_all (after_join v (f x)) (map f xs)
 joined_more f v xs x = ap (joined_all v) (map-append f xs (x ∷ [])) ∙ joined_snoc v (map f xs) (f x)
 
 pub lists_more : {X Y : Type 0} (f : X → Y) (ls : List Y) (xs : List X) (x : X) → (ls ++ f x ∷ []) ++ reverse (map f xs) ≡ ls ++ reverse (map f (xs ++ x ∷ []))

@@ -13,7 +13,10 @@ use Rattle.std.proofs.Math.Seq.{drop-cons, drop-append_seam, take-append-add}
 use Rattle.exchange_core.specs.declared.trace.Event.{Event}
 use Rattle.exchange_core.specs.declared.trace.Trace.{Trace}
 use Rattle.exchange_core.specs.Orders.{Worker, Processor, Frame_worker, worker_of, segment_of, Precedes, IsEvent, IsLawful, IsLawfulPrefix, file_order}
-use Rattle.exchange_core.specs.Seats.{Accounts, Kept, Known, StartsWith, entries_of, first_seat, unseen}
+use Rattle.seat_history.specs.declared.known.JoinedSeat.{JoinedSeat}
+use Rattle.seat_history.specs.declared.known.Known.{Known}
+use Rattle.seat_history.specs.Histories.{StartsWith, entries_of, unseen}
+use Rattle.seat_history.specs.Seats.{Accounts, first_seat}
 use Rattle.exchange_core.specs.Sound.{IsSound, last_of}
 use Rattle.exchange_core.specs.Working.{Entry, order_of}
 use Rattle.call_processor.specs.Parts.{is_worker, does, is_its, part_of}
@@ -380,8 +383,8 @@ first_chief turns = record {
   joined = refl;
   settled = record {
     own = refl;
-    kept = All-nil (λ (k : Kept). k.own ≡ entries_of k.number []);
-    others = All-nil (λ (k : Kept). (k.number ≢ 0) × (k.number ≤ 0));
+    kept = All-nil (λ (k : JoinedSeat). k.own ≡ entries_of k.number []);
+    others = All-nil (λ (k : JoinedSeat). (k.number ≢ 0) × (k.number ≤ 0));
     once = λ i j d less within. absurd (omega (arith, within));
     entries_made = All-nil (λ (e : Entry). e.0 ≤ 0);
     within = omega arith;

@@ -5,7 +5,11 @@ use Rattle.std.specs.List.{All, AllZip}
 use Rattle.std.proofs.lemmas.Bool.{cases_lt}
 use Rattle.exchange_core.specs.declared.trace.Trace.{Trace}
 use Rattle.exchange_core.specs.Orders.{Worker, Processor, Frame_worker}
-use Rattle.exchange_core.specs.Seats.{Board, Known, Kept, Settled, StartsWith, keeping, unseen}
+use Rattle.seat_history.specs.declared.known.Known.{Known}
+use Rattle.seat_history.specs.declared.known.JoinedSeat.{JoinedSeat}
+use Rattle.seat_history.specs.Histories.{StartsWith, unseen}
+use Rattle.seat_history.specs.Seats.{Settled, kept_of}
+use Rattle.exchange_core.specs.Boards.{Board}
 use Rattle.exchange_core.specs.Working.{Entry, order_of}
 use Rattle.call_processor.specs.declared.worked.Workplace.{Workplace}
 use Rattle.call_processor.specs.Parts.{is_its, is_worker, part_of}
@@ -51,9 +55,9 @@ module _ {A B : Type 0} (R : A → B → Type 0) where
 
 -- ---- seat 0 with seats joined
 
-pub joined_kept : (c : Known) (ws : List Known) → (joined_all c ws).kept ≡ map keeping ws ++ c.kept
+pub joined_kept : (c : Known) (ws : List Known) → (joined_all c ws).kept ≡ map kept_of ws ++ c.kept
 joined_kept c [] = refl
-joined_kept c (w ∷ ws) = ap (λ (l : List Kept). keeping w ∷ l) (joined_kept c ws)
+joined_kept c (w ∷ ws) = ap (λ (l : List JoinedSeat). kept_of w ∷ l) (joined_kept c ws)
 
 abbrev pub sum_left : List Known → ℕ
 sum_left [] = 0
@@ -117,11 +121,11 @@ module _ {J U : Type 0} (board : Board) (trace : Trace) (segment : ℕ) (wj : J 
   doers_seats (j ∷ js) [] z = absurd z
   doers_seats (j ∷ js) (u ∷ us) z = ap (λ (l : List (ℕ × Known)). (wj j, kj j) ∷ l) (doers_seats js us z.1)
 
-  doers_kept : (js : List J) (us : List U) (z : AllZip Each js us) → map (λ (t : Doer). keeping t.to) (doers js us z) ≡ map keeping (map ku us)
+  doers_kept : (js : List J) (us : List U) (z : AllZip Each js us) → map (λ (t : Doer). kept_of t.to) (doers js us z) ≡ map kept_of (map ku us)
   doers_kept [] [] z = refl
   doers_kept [] (u ∷ us) z = absurd z
   doers_kept (j ∷ js) [] z = absurd z
-  doers_kept (j ∷ js) (u ∷ us) z = ap (λ (l : List Kept). keeping (ku u) ∷ l) (doers_kept js us z.1)
+  doers_kept (j ∷ js) (u ∷ us) z = ap (λ (l : List JoinedSeat). kept_of (ku u) ∷ l) (doers_kept js us z.1)
 
   -- the pair that a doer comes from
   pub record Pair (js : List J) (us : List U) (t : Doer) : Type 0 where
@@ -185,14 +189,14 @@ module _ {J U : Type 0} (board : Board) (trace : Trace) (segment : ℕ) (wj : J 
     pub made_is : k.made ≡ v.made + length js
     made_is = ap (λ (x : Known). x.made) is ∙ ((joined_rest c (map ku us)).made ∙ dealt.made)
 
-    kept_are : k.kept ≡ map keeping (map ku us) ++ v.kept
-    kept_are = ap (λ (x : Known). x.kept) is ∙ (joined_kept c (map ku us) ∙ ap (λ (l : List Kept). map keeping (map ku us) ++ l) dealt.kept)
+    kept_are : k.kept ≡ map kept_of (map ku us) ++ v.kept
+    kept_are = ap (λ (x : Known). x.kept) is ∙ (joined_kept c (map ku us) ∙ ap (λ (l : List JoinedSeat). map kept_of (map ku us) ++ l) dealt.kept)
 
     all_joined : k.made ≡ length k.kept
     all_joined =
         let a = ap length kept_are in
-        let b = length-append (map keeping (map ku us)) v.kept in
-        let d = length_of_map keeping (map ku us) in
+        let b = length-append (map kept_of (map ku us)) v.kept in
+        let d = length_of_map kept_of (map ku us) in
         let e = length_of_map ku us in
         omega (arith, a, b, d, e, made_is, long, chief.joined)
 
@@ -201,7 +205,7 @@ module _ {J U : Type 0} (board : Board) (trace : Trace) (segment : ℕ) (wj : J 
       grew = grew;
       own = ap (λ (x : Known). x.own) is ∙ ((joined_rest c (map ku us)).own ∙ dealt.own);
       number = number_is;
-      kept = kept_are ∙ ap (λ (l : List Kept). l ++ v.kept) (sym (doers_kept js us z));
+      kept = kept_are ∙ ap (λ (l : List JoinedSeat). l ++ v.kept) (sym (doers_kept js us z));
       all = all_joined;
       dealt = subst (AreDealt trace segment v (v.made + 1) 0) (sym (doers_seats js us z)) seated;
       named = λ t i. let p = pair_of js us z t i in ap (λ (x : Doer). x.to.number) p.is ∙ (p.each.0.did.number ∙ ap (λ (x : Doer). x.from.number) (sym p.is));

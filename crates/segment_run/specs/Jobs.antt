@@ -5,7 +5,8 @@ use Rattle.circuit_model.specs.declared.circuit.Kind.{Kind}
 use Rattle.exchange_core.specs.declared.tool.Tool.{Tool}
 use Rattle.exchange_core.specs.declared.trace.Trace.{Trace}
 use Rattle.exchange_core.specs.Orders.{Processor}
-use Rattle.exchange_core.specs.Seats.{Board, Known}
+use Rattle.seat_history.specs.declared.known.Known.{Known}
+use Rattle.exchange_core.specs.Boards.{Board}
 use Rattle.exchange_core.specs.World.{Dimensions}
 use Rattle.call_processor.specs.declared.worked.Finished.{Finished}
 use Rattle.call_processor.specs.Frames.{Carrying, Plays, IsReady}

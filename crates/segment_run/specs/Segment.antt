@@ -8,7 +8,10 @@ use Rattle.exchange_core.specs.declared.trace.Event.TheVariants.{Frame}
 use Rattle.exchange_core.specs.declared.trace.Trace.{Trace}
 use Rattle.exchange_core.specs.Kept.{kept}
 use Rattle.exchange_core.specs.Orders.{Worker, IsEvent, segment_of}
-use Rattle.exchange_core.specs.Seats.{Board, Known, Settled, StartsWith, AnswersAt, before, turns_of, unseen, world_at}
+use Rattle.seat_history.specs.declared.known.Known.{Known}
+use Rattle.seat_history.specs.Histories.{StartsWith, before, unseen}
+use Rattle.seat_history.specs.Seats.{Settled}
+use Rattle.exchange_core.specs.Boards.{Board, AnswersAt, turns_of, world_at}
 use Rattle.exchange_core.specs.Step.{MovesAtMost}
 use Rattle.exchange_core.specs.Working.{Entry, IsNumbered, order_of}
 use Rattle.exchange_core.specs.World.{Dimensions}

@@ -3,7 +3,8 @@ use Rattle.std.specs.Prelude.{◌≡◌, ℕ, zero, suc, ◌+◌, ◌-◌, ◌<�
 use Rattle.exchange_core.specs.declared.answer.Answer.{Answer}
 use Rattle.exchange_core.specs.declared.trace.Trace.{Trace}
 use Rattle.exchange_core.specs.Orders.{Worker, Processor, Frame_worker}
-use Rattle.exchange_core.specs.Seats.{Known, joining}
+use Rattle.seat_history.specs.declared.known.Known.{Known}
+use Rattle.seat_history.specs.Seats.{after_join}
 use Rattle.call_processor.specs.declared.worked.Placed.{Placed}
 use Rattle.call_processor.specs.declared.worked.Workplace.{Workplace}
 use Rattle.call_processor.specs.Parts.{part_of}
@@ -59,7 +60,7 @@ pub record HasDealt (v : Known) (seats : ℕ) (w : Known) : Type 0 where
 -- seat 0 with these seats joined, the last first
 abbrev pub joined_all : Known → List Known → Known
 joined_all v [] = v
-joined_all v (w ∷ ws) = joining (joined_all v ws) w
+joined_all v (w ∷ ws) = after_join (joined_all v ws) w
 
 -- the answer's place is one of so many, from lo on
 abbrev pub IsWithin : ℕ → ℕ → Placed → Type 0

@@ -1,5 +1,7 @@
 ghost use Rattle.std.specs.Prelude.{◌≡◌, ◌<◌, ◌≤◌, ◌+◌, ◌↔◌, [], IsTrue, length, map, reverse, All, vec_len, vec_capacity};
-ghost use Rattle.exchange_core.specs.Seats.{Settled, StartsWith, turns_of};
+ghost use Rattle.seat_history.specs.Histories.{StartsWith};
+ghost use Rattle.seat_history.specs.Seats.{Settled};
+ghost use Rattle.exchange_core.specs.Boards.{turns_of};
 ghost use Rattle.segment_run.specs.Rooms.{HasRoom};
 ghost use Rattle.segment_run.specs.Team.{joined_all};
 

@@ -2,7 +2,8 @@
 ghost use Rattle.std.specs.Prelude.{◌≡◌, ℕ, ◌+◌, ◌*◌, ◌^◌, ◌<◌, ◌≤◌, List, [], length};
 ghost use Rattle.exchange_core.specs.declared.trace.Trace.{Trace};
 ghost use Rattle.exchange_core.specs.Orders.{IsLawful, IsLawfulPrefix};
-ghost use Rattle.exchange_core.specs.Seats.{Known, first_seat};
+ghost use Rattle.seat_history.specs.declared.known.Known.{Known};
+ghost use Rattle.seat_history.specs.Seats.{first_seat};
 ghost use Rattle.exchange_core.specs.Sound.{IsSound};
 ghost use Rattle.exchange_core.specs.Working.{order_of};
 ghost use Rattle.segment_run.specs.Segment.{IsChief, Ran, RanWhole};

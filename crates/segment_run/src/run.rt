@@ -1,5 +1,5 @@
 ghost use Rattle.std.specs.Prelude.{◌≡◌, ◌+◌, ◌<◌, ◌≤◌, ◌^◌, IfOk, length};
-ghost use Rattle.exchange_core.specs.Seats.{turns_of};
+ghost use Rattle.exchange_core.specs.Boards.{turns_of};
 ghost use Rattle.tone_rules.specs.Tables.{table_of};
 ghost use Rattle.call_processor.specs.Frames.{IsReady, IsReadyFor, engine_dimensions};
 ghost use Rattle.segment_run.specs.Segment.{AreAnswered, IsAnswerOf, IsChief, MayRun, Ran, RanWhole};

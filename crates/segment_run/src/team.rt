@@ -2,7 +2,7 @@ ghost use Rattle.std.specs.Prelude.{◌≡◌, ℕ, ◌<◌, ◌≤◌, ◌+◌,
 ghost use Rattle.std.specs.List.{AllZip};
 ghost use Rattle.std.specs.Thread.{IsSync};
 ghost use Rattle.exchange_core.specs.Orders.{Frame_worker};
-ghost use Rattle.exchange_core.specs.Seats.{Known};
+ghost use Rattle.seat_history.specs.declared.known.Known.{Known};
 ghost use Rattle.exchange_core.specs.Sound.{IsSound};
 ghost use Rattle.tone_rules.specs.Tables.{table_of};
 ghost use Rattle.call_processor.specs.Frames.{IsReadyFor, engine_dimensions};

@@ -1,5 +1,5 @@
 ghost use Rattle.std.specs.Prelude.{◌≡◌, IsTrue};
-ghost use Rattle.exchange_core.specs.Seats.{turns_of};
+ghost use Rattle.exchange_core.specs.Boards.{turns_of};
 ghost use Rattle.call_processor.specs.Frames.{IsReadyFor, engine_dimensions};
 ghost use Rattle.segment_run.specs.Gathered.{AllDone, IsComplete};
 ghost use Rattle.segment_run.specs.Segment.{IsChief, MayRun, Ran};

@@ -1,7 +1,8 @@
 ghost use Rattle.std.specs.Prelude.{◌≡◌, [], IfOk, length};
-ghost use Rattle.exchange_core.specs.Seats.{IsFrame, Settled, first_seat, turns_of};
-ghost use Rattle.shared_exchange.specs.Sharing.{IsSeated, board_of, known};
-ghost use Rattle.turn_lock.specs.Seats.{IsSeatOf};
+ghost use Rattle.seat_history.specs.Seats.{HasJoinedAll, Settled, first_seat};
+ghost use Rattle.exchange_core.specs.Boards.{IsFrame, turns_of};
+ghost use Rattle.shared_exchange.specs.Sharing.{IsSeated, board_of};
+ghost use Rattle.turn_lock.specs.Locks.{IsSeatOf};
 
 use crate::stepper::Exchange;
 use control_memory::PathMap;
@@ -19,9 +20,9 @@ pub struct SharedExchange<'t, P: PathMap> {
 }
 
 impl<'t, P: PathMap> Model for SharedExchange<'t, P> {
-    ghost use Rattle.exchange_core.specs.Seats.{Board};
+    ghost use Rattle.exchange_core.specs.Boards.{Board};
     ghost use Rattle.shared_exchange.specs.Sharing.{IsBoard};
-    ghost use Rattle.turn_lock.specs.Seats.{Lock};
+    ghost use Rattle.turn_lock.specs.Locks.{Lock};
 
     ghost Value = { Lock Board };
 
@@ -30,17 +31,17 @@ impl<'t, P: PathMap> Model for SharedExchange<'t, P> {
     ghost invariant = { λ x. IsBoard x.lock };
 }
 
-/// A seat at a shared exchange: the right to do so many events. Contracts see what it knows.
+/// A seat at a shared exchange: the right to do so many events. Contracts see what its lock's seat knows.
 #[derive(Drop)]
 pub struct Seat<'t, P: PathMap> {
     turns: turn_lock::Seat<Exchange<'t, P>>,
 }
 
 impl<'t, P: PathMap> Model for Seat<'t, P> {
-    ghost use Rattle.exchange_core.specs.Seats.{Board};
-    ghost use Rattle.turn_lock.specs.Seats.{Known};
+    ghost use Rattle.exchange_core.specs.Boards.{Board};
+    ghost use Rattle.turn_lock.specs.Locks.{SeatAt};
 
-    ghost Value = { Known Board };
+    ghost Value = { SeatAt Board };
 
     ghost view = { λ s. s.turns };
 }
@@ -55,7 +56,7 @@ impl<'t, P: PathMap + Drop> SharedExchange<'t, P> {
         requires empty { core.journal ≡ [] }
         ensures board { IfOk result (λ r. r.0.setting ≡ board_of core.entry) }
         ensures of { IfOk result (λ r. IsSeated r.0 r.1) }
-        ensures seat { IfOk result (λ r. known r.1 ≡ first_seat (length core.entry.trace.events)) }
+        ensures seat { IfOk result (λ r. r.1.known ≡ first_seat (length core.entry.trace.events)) }
     {
         let turns = core.trace().events.as_slice().len() as u32;
         let core = Box::new(alloc, core)?;
@@ -71,11 +72,11 @@ impl<'t, P: PathMap> SharedExchange<'t, P> {
     /// the whole history, which is what seat 0 has seen.
     pub fn close(self, seat: Seat<'t, P>) -> Core<'t, P>
         requires of { IsSeatOf self seat }
-        requires chief { (known seat).number ≡ 0 }
-        requires all { (known seat).made ≡ length (known seat).kept }
+        requires chief { seat.known.number ≡ 0 }
+        requires all { HasJoinedAll seat.known }
         ensures board { board_of result ≡ self.entry.setting }
-        ensures journal { result.journal ≡ (known seat.entry).seen }
-        ensures settled { Settled (turns_of self.entry.setting) (known seat.entry) }
+        ensures journal { result.journal ≡ seat.entry.known.seen }
+        ensures settled { Settled (turns_of self.entry.setting) seat.entry.known }
     {
         let SharedExchange { lock } = self;
         let Seat { turns } = seat;
@@ -89,7 +90,7 @@ impl<'t, P: PathMap + Send> Switchboard for SharedExchange<'t, P> {
 
     ghost board = { λ x. x.setting };
 
-    ghost known = { λ s. known s };
+    ghost known = { λ s. s.known };
 
     ghost seated = { IsSeated };
 

@@ -2,8 +2,8 @@
 ghost use Rattle.std.specs.Prelude.{◌-◌, length};
 ghost use Rattle.exchange_core.specs.Orders.{IsEvent};
 ghost use Rattle.exchange_core.specs.Responses.{reply_of};
-ghost use Rattle.exchange_core.specs.Seats.{IsFrame, IsToolAt};
-ghost use Rattle.shared_exchange.specs.Sharing.{Answers, board_of, history_of, turns_in};
+ghost use Rattle.exchange_core.specs.Boards.{IsFrame, IsToolAt};
+ghost use Rattle.shared_exchange.specs.Sharing.{Answers, board_of};
 
 use control_memory::PathMap;
 use exchange_core::{Core, Desk, Response, Trace};
@@ -18,7 +18,7 @@ pub struct Setting {
 }
 
 impl Model for Setting {
-    ghost use Rattle.exchange_core.specs.Seats.{Board};
+    ghost use Rattle.exchange_core.specs.Boards.{Board};
 
     ghost Value = { Board };
 
@@ -41,7 +41,7 @@ impl<'t, P: PathMap> Stepper for Exchange<'t, P> {
 
     ghost setting = { λ x. board_of x.core.value };
 
-    ghost journal = { λ x. turns_in x.core.value.journal };
+    ghost journal = { λ x. x.core.value.journal };
 
     ghost room = { λ x. length x.core.value.trace.events - length x.core.value.journal };
 
@@ -49,7 +49,7 @@ impl<'t, P: PathMap> Stepper for Exchange<'t, P> {
 
     ghost ready = { λ board event desk. IsEvent board.trace event × IsToolAt board event desk.tool };
 
-    ghost answers = { λ board turns by event response desk. Answers board (history_of turns) event (reply_of response desk.out) desk.tool };
+    ghost answers = { λ board history by event response desk. Answers board history event (reply_of response desk.out) desk.tool };
 
     fn step(&mut self, by: u32, event: u32, desk: &mut Desk) -> Response {
         self.core.work(by, event, &mut desk.tool, &mut desk.out)

@@ -1,9 +1,13 @@
 -- Facts on histories and lists.
 use Rattle.std.proofs.Common.{◌≡◌, ◌≢◌, ℕ, eqb, ◌≤◌, ltb, cond, Bool, true, false, List, [], ◌∷◌, ◌++◌, length, sym, refl, ap, ◌∙◌, subst, arith, append-nil, append_assoc, length-append, eq-eqb, ne_eqb}
 use Rattle.std.proofs.lemmas.Bool.Decides.{nat_tests}
-use Rattle.std.proofs.lemmas.List.Elements.{filter-append}
-use Rattle.turn_lock.specs.declared.history.Entry.{Entry}
-use Rattle.turn_lock.specs.History.{entry, StartsWith, unseen, before, Every, longer, entries_of}
+use Rattle.std.proofs.lemmas.List.Elements.{All-from_recursion, filter-append}
+use Rattle.std.proofs.lemmas.List.Kept.{AllPairs-cons}
+use Rattle.std.specs.Prelude.{AllPairs}
+use Rattle.std.specs.List.{AllByRecursion as Every}
+use Rattle.seat_history.specs.declared.known.JoinedSeat.{JoinedSeat}
+use Rattle.seat_history.specs.Histories.{Entry, HasNone, StartsWith, unseen, before, longer, entries_of}
+use Rattle.turn_lock.specs.Entries.{Once}
 
 module _ {X : Type 0} where
   pub every_more : (P : X → Type 0) (xs ys : List X) → Every P xs → Every P ys → Every P (xs ++ ys)
@@ -30,15 +34,15 @@ pub every_swap : {X Y : Type 0} (R : X → Y → Type 0) (xs : List X) (ys : Lis
 every_swap R xs [] a = tt
 every_swap R xs (y ∷ ys) a = (every_map xs (λ x r. r.0) a, every_swap R xs ys (every_map xs (λ x r. r.1) a))
 
-pub entries_none : (n : ℕ) (log : List Entry) → Every (λ (e : Entry). e.by ≢ n) log → entries_of n log ≡ []
+pub entries_none : (n : ℕ) (log : List Entry) → Every (λ (e : Entry). e.0 ≢ n) log → entries_of n log ≡ []
 entries_none n [] a = refl
-entries_none n (e ∷ log) a = subst (λ (b : Bool). cond b (e ∷ entries_of n log) (entries_of n log) ≡ []) (sym (ne_eqb e.by n a.0)) (entries_none n log a.1)
+entries_none n (e ∷ log) a = subst (λ (b : Bool). cond b (e ∷ entries_of n log) (entries_of n log) ≡ []) (sym (ne_eqb e.0 n a.0)) (entries_none n log a.1)
 
-pub entries_same : (n event : ℕ) (log : List Entry) → entries_of n (log ++ entry n event ∷ []) ≡ entries_of n log ++ entry n event ∷ []
-entries_same n event log = filter-append (λ (e : Entry). eqb e.by n) log (entry n event ∷ []) ∙ ap (λ (b : Bool). entries_of n log ++ cond b (entry n event ∷ []) []) (eq-eqb n n refl)
+pub entries_same : (n event : ℕ) (log : List Entry) → entries_of n (log ++ (n, event) ∷ []) ≡ entries_of n log ++ (n, event) ∷ []
+entries_same n event log = filter-append (λ (e : Entry). eqb e.0 n) log ((n, event) ∷ []) ∙ ap (λ (b : Bool). entries_of n log ++ cond b ((n, event) ∷ []) []) (eq-eqb n n refl)
 
-pub entries_else : (n m event : ℕ) (log : List Entry) → m ≢ n → entries_of n (log ++ entry m event ∷ []) ≡ entries_of n log
-entries_else n m event log other = filter-append (λ (e : Entry). eqb e.by n) log (entry m event ∷ []) ∙ (ap (λ (b : Bool). entries_of n log ++ cond b (entry m event ∷ []) []) (ne_eqb m n other) ∙ append-nil (entries_of n log))
+pub entries_else : (n m event : ℕ) (log : List Entry) → m ≢ n → entries_of n (log ++ (m, event) ∷ []) ≡ entries_of n log
+entries_else n m event log other = filter-append (λ (e : Entry). eqb e.0 n) log ((m, event) ∷ []) ∙ (ap (λ (b : Bool). entries_of n log ++ cond b ((m, event) ∷ []) []) (ne_eqb m n other) ∙ append-nil (entries_of n log))
 
 pub starts_more : (log rest seen : List Entry) → StartsWith log seen → StartsWith (log ++ rest) seen
 starts_more log rest seen s = (s.0 ++ rest, ap (λ (l : List Entry). l ++ rest) s.1 ∙ append_assoc seen s.0 rest)
@@ -46,9 +50,9 @@ starts_more log rest seen s = (s.0 ++ rest, ap (λ (l : List Entry). l ++ rest) 
 pub starts_same : (a : List Entry) → StartsWith a a
 starts_same a = ([], sym (append-nil a))
 
--- what is behind has no entry of the number
-pub entries_front : (n : ℕ) (seen rest : List Entry) → Every (λ (e : Entry). e.by ≢ n) rest → entries_of n (seen ++ rest) ≡ entries_of n seen
-entries_front n seen rest none = filter-append (λ (e : Entry). eqb e.by n) seen rest ∙ (ap (λ (l : List Entry). entries_of n seen ++ l) (entries_none n rest none) ∙ append-nil (entries_of n seen))
+-- what is behind has no (of, the) number
+pub entries_front : (n : ℕ) (seen rest : List Entry) → Every (λ (e : Entry). e.0 ≢ n) rest → entries_of n (seen ++ rest) ≡ entries_of n seen
+entries_front n seen rest none = filter-append (λ (e : Entry). eqb e.0 n) seen rest ∙ (ap (λ (l : List Entry). entries_of n seen ++ l) (entries_none n rest none) ∙ append-nil (entries_of n seen))
 
 -- of two beginnings of one list the shorter begins the longer
 pub shorter : (log a b ra rb : List Entry) → length a ≤ length b → log ≡ a ++ ra → log ≡ b ++ rb → (x : List Entry) × (b ≡ a ++ x) × (ra ≡ x ++ rb)
@@ -80,7 +84,22 @@ pub unseen_front : (seen rest : List Entry) → unseen seen (seen ++ rest) ≡ r
 unseen_front [] rest = refl
 unseen_front (x ∷ seen) rest = unseen_front seen rest
 
--- the history before the entry that follows it
+-- the history before the (that, follows) it
 pub before_front : (log more : List Entry) → before (length log) (log ++ more) ≡ log
 before_front [] more = refl
 before_front (x ∷ log) more = ap (λ (l : List Entry). x ∷ l) (before_front log more)
+
+pub nothing_behind : (seen rest : List Entry) → seen ≡ seen ++ rest → rest ≡ []
+nothing_behind seen [] same = refl
+nothing_behind seen (x ∷ rest) same = let l = ap length same in absurd (omega (arith, length-append seen (x ∷ rest)))
+
+-- the same in the words of callers
+pub all_once : (ks : List JoinedSeat) → Once ks → AllPairs (λ (k m : JoinedSeat). m.number ≢ k.number) ks
+all_once [] a = λ i j d lt within. absurd (omega arith)
+all_once (k ∷ ks) a = AllPairs-cons (λ (i j : JoinedSeat). j.number ≢ i.number) k ks (All-from_recursion (λ (m : JoinedSeat). m.number ≢ k.number) ks a.0) (all_once ks a.1)
+
+-- where none of what came between has the property, none of what was unseen has
+pub has_none_between : (P : ℕ → Type 0) (seen rest more : List Entry) (place : ℕ) → place ≡ length (seen ++ rest) → Every (λ (e : Entry). P e.1 → ⊥) rest → HasNone P (unseen seen (before place ((seen ++ rest) ++ more)))
+has_none_between P seen rest more place there none =
+    subst (HasNone P) (sym (ap (λ (l : List Entry). unseen seen l) (ap (λ (n : ℕ). before n ((seen ++ rest) ++ more)) there ∙ before_front (seen ++ rest) more) ∙ unseen_front seen rest))
+    (All-from_recursion (λ (e : Entry). P e.1 → ⊥) rest none)

@@ -8,18 +8,20 @@ use lib.ListN.{get_elem?}
 use lib.Seq.{set-get_or}
 use Rattle.atomic_table.specs.Table.{State, Me, step, keeps, takes, gives, stepped, rest, opening, Allows, Splits, Joins, Final, Seen}
 use Rattle.atomic_table.proofs.Lists.{set_here, set_again, set_else, at_longer}
-use Rattle.turn_lock.specs.declared.history.Entry.{Entry}
-use Rattle.turn_lock.specs.declared.history.Kept.{Kept}
-use Rattle.turn_lock.specs.History.{entry, Every, entries_of}
+use Rattle.std.specs.List.{AllByRecursion as Every}
+use Rattle.std.proofs.lemmas.List.Elements.{All-from_recursion}
+use Rattle.seat_history.specs.declared.known.JoinedSeat.{JoinedSeat}
+use Rattle.seat_history.specs.Histories.{Entry, entries_of}
+use Rattle.seat_history.specs.Seats.{Accounts, HasJoinedAll, after_step}
 use Rattle.turn_lock.specs.declared.board.View.{View}
 use Rattle.turn_lock.specs.declared.board.Stage.{Stage}
 use Rattle.turn_lock.specs.declared.board.Stage.TheVariants.{Idle, Waits, Served}
 use Rattle.turn_lock.specs.Views.{HoldsTicket, IsServed, tickets_of, IsLive, Sits, Pairs, NoneServed}
 use Rattle.turn_lock.specs.Rule.{Reserves, IsAt, TurnRule}
-use Rattle.turn_lock.specs.Moves.{Foreign, newcomer, spent, gave, got, joined, rested, passed_on, drew, Gets, looked, passed, met, KnowsAll, Closes}
+use Rattle.turn_lock.specs.Moves.{Foreign, first_view, spent_view, view_after_split, new_view, view_after_join, view_after_meet, view_after_pass, IsDraw, Gets, IsLook, IsPass, IsMeet, KnowsAll, IsEnd}
 use Rattle.turn_lock.proofs.Facts.{IsPast, Apart, Knows, SeatOk, Facts, facts, ruled, ticket_below}
 use Rattle.turn_lock.proofs.Numbers.{all_kept}
-use Rattle.turn_lock.proofs.Histories.{every_more, every_left, every_right, every_map, every_both, every_swap, entries_none, entries_same, entries_else, entries_front, starts_more, starts_same, both_begin, squeezed}
+use Rattle.turn_lock.proofs.Histories.{every_more, every_left, every_right, every_map, every_both, every_swap, entries_none, entries_same, entries_else, entries_front, starts_more, starts_same, both_begin, nothing_behind, squeezed, all_once}
 use Rattle.turn_lock.proofs.Views.{total_set, total_spent, total_one, total_two, total_more, total_alone, set_at, seats_set, seats_more, seats_spent, sits_else, pairs_at, pairs_set, pairs_spent, pairs_more}
 
 unless : (b c : Bool) → IsTrue (cond b false c) → IsTrue c
@@ -45,7 +47,7 @@ ticket_or d (Served t) = t
 
 module _ {C : Type 0} where
   abbrev left_of : View C → ℕ
-  left_of v = v.left
+  left_of v = v.known.left
 
   abbrev held_of : View C → ℕ
   held_of v = tickets_of v.stage
@@ -54,7 +56,7 @@ module _ {C : Type 0} where
   one_of v = 1
 
   abbrev kept_count : View C → ℕ
-  kept_count v = length v.kept
+  kept_count v = length v.known.kept
 
   -- where none is served afterwards and the changed seat was not served before, none was
   pub none_before : (vs : List (View C)) (id : ℕ) (v w : View C) → Sits vs id v → NoneServed (set vs id w) → (IsServed v.stage → ⊥) → NoneServed vs
@@ -68,11 +70,11 @@ module _ {C : Type 0} where
 
   -- some live view has seen all of the history
   abbrev Longest : List Entry → List (View C) → Type 0
-  Longest log vs = (j : ℕ) × (v : View C) × Sits vs j v × (v.seen ≡ log)
+  Longest log vs = (j : ℕ) × (v : View C) × Sits vs j v × (v.known.seen ≡ log)
 
-  pub longest_set : (log : List Entry) (vs : List (View C)) (id : ℕ) (v w : View C) → Sits vs id v → IsLive w.setting → (v.seen ≡ log → w.seen ≡ log) → Longest log vs → Longest log (set vs id w)
+  pub longest_set : (log : List Entry) (vs : List (View C)) (id : ℕ) (v w : View C) → Sits vs id v → IsLive w.setting → (v.known.seen ≡ log → w.known.seen ≡ log) → Longest log vs → Longest log (set vs id w)
   longest_set log vs id v w sits live same l = dite (ℕ_discrete l.0 id)
-      (λ (e : l.0 ≡ id). (id, w, (set_at vs id v w sits.0, live), same (ap (λ (z : View C). z.seen) (some-injective v l.1 (sym sits.0 ∙ (sym (ap (get_elem? vs) e) ∙ l.2.0))) ∙ l.3)))
+      (λ (e : l.0 ≡ id). (id, w, (set_at vs id v w sits.0, live), same (ap (λ (z : View C). z.known.seen) (some-injective v l.1 (sym sits.0 ∙ (sym (ap (get_elem? vs) e) ∙ l.2.0))) ∙ l.3)))
       (λ other. (l.0, l.1, sits_else vs id w l.0 l.1 other l.2, l.3))
 
   -- one more ticket is given
@@ -124,12 +126,49 @@ module _ {S C : Type 0} (setting : S → C) (journal : S → List Entry) (room :
   abbrev Ok : List Entry → ℕ → V → Type 0
   Ok = SeatOk reserved opening' budget
 
-  pub draws : (slots id : ℕ) (me : M) (event : ℕ) → IsLive me.0.setting → me.0.stage ≡ Idle → 0 < me.0.left → (Reserves reserved me.0.setting event → IsTrue me.0.baton)
-      → Allows Rule slots id me 0 (λ n. (n + 1) % 2 ^ 64) (drew setting journal room reserved event (step slots 0 1 0 none) me)
-  draws slots id me event live idle some_left allowed s ru deep at small =
+  -- where all other seats were joined, there is no other
+  alone : (s : St) → Full s → (id : ℕ) (v : V) → Sits s.views id v → v.known.number ≡ 0 → HasJoinedAll v.known → (j : ℕ) (u : V) → Sits s.views j u → j ≢ id → ⊥
+  alone s r id v sits first all j u sit other =
+      let two = total_two one_of s.views j id u v other sit sits in
+      let kept = total_one kept_count s.views id v sits in
+      let c = r.count in let m = (r.seats id v sits).chief first in omega arith
+
+  seen_whole : (s : St) (r : Full s) (id : ℕ) (v : V) → Sits s.views id v → v.known.number ≡ 0 → HasJoinedAll v.known → v.known.seen ≡ r.log
+  seen_whole s r id v sits first all = let l = r.longest in dite (ℕ_discrete l.0 id)
+      (λ (e : l.0 ≡ id). ap (λ (z : View C). z.known.seen) (some-injective v l.1 (sym sits.0 ∙ (sym (ap (get_elem? s.views) e) ∙ l.2.0))) ∙ l.3)
+      (λ other. absurd (alone s r id v sits first all l.0 l.1 l.2 other))
+
+  -- what seat 0 knows adds up, between two calls of its own
+  settles : (s : St) → Full s → (id : ℕ) (v : V) → Sits s.views id v → v.stage ≡ Idle → v.known.number ≡ 0 → KnowsAll v
+  settles s r id v sits idle first =
+      let ok = r.seats id v sits in
+      let made_is : v.known.made ≡ r.made = ok.chief first in
+      let none_held : tickets_of v.stage ≡ 0 = ap tickets_of idle in
+      let behind = every_swap (λ (e : Entry) (k : JoinedSeat). e.0 ≢ k.number) ok.rest v.known.kept (every_map ok.rest (λ e f. f.kept_are) ok.foreign) in
+      let born : Every (λ (e : Entry). e.0 ≤ v.known.made) v.known.seen = subst (λ (m : ℕ). Every (λ (e : Entry). e.0 ≤ m) v.known.seen) (sym made_is) (every_left _ v.known.seen ok.rest (subst (Every (λ (e : Entry). e.0 ≤ r.made)) ok.whole r.born)) in
+      let others : Every (λ (k : JoinedSeat). (k.number ≢ v.known.number) × (k.number ≤ v.known.made)) v.known.kept = every_map v.known.kept (λ k p. let low = p.made_so in (p.other, omega arith)) ok.kept_is in
+      record {
+        own = ok.own_is ∙ (ap (entries_of v.known.number) ok.whole ∙ entries_front v.known.number v.known.seen ok.rest (every_map ok.rest (λ e f. f.number_is) ok.foreign));
+        kept = All-from_recursion (λ (k : JoinedSeat). k.own ≡ entries_of k.number v.known.seen) v.known.kept
+            (every_both v.known.kept (λ k p none. p.own_is ∙ (ap (entries_of k.number) ok.whole ∙ entries_front k.number v.known.seen ok.rest none)) ok.kept_is behind);
+        others = All-from_recursion (λ (k : JoinedSeat). (k.number ≢ v.known.number) × (k.number ≤ v.known.made)) v.known.kept others;
+        once = all_once v.known.kept ok.once;
+        entries_made = All-from_recursion (λ (e : Entry). e.0 ≤ v.known.made) v.known.seen born;
+        within = let a = total_one left_of s.views id v sits in let g = r.given in let b = ok.budget_is in omega arith;
+        accounted = λ all. All-from_recursion (λ (e : Entry). Accounts v.known e.0) v.known.seen
+            (every_map v.known.seen (λ e low. all_kept v.known.number v.known.made v.known.kept first all others ok.once e.0 low) born);
+        whole = λ all. let only = alone s r id v sits first all in
+            let a = total_alone left_of s.views id v sits only in let b = total_alone held_of s.views id v sits only in
+            let seen_is = seen_whole s r id v sits first all in
+            let l = ap length seen_is in let h = r.held in let g = r.given in let c = ok.budget_is in omega arith;
+      }
+
+  pub draw_keeps : (slots id : ℕ) (me : M) (event : ℕ) → IsLive me.0.setting → me.0.stage ≡ Idle → 0 < me.0.known.left → (Reserves reserved me.0.setting event → IsTrue me.0.known.baton)
+      → Allows Rule slots id me 0 (λ n. (n + 1) % 2 ^ 64) (IsDraw setting journal room reserved event (step slots 0 1 0 none) me)
+  draw_keeps slots id me event live idle some_left allowed s ru deep at small =
       let r : Full s = in_full s ru in
       let n : ℕ = get_or s.words 0 0 in
-      let w : V = record me.0 { left = me.0.left - 1; stage = Waits n; event = event } in
+      let w : V = record me.0 { known = record me.0.known { left = me.0.known.left - 1 }; stage = Waits n; event = event } in
       let sits : Sits s.views id me.0 = (at, live) in
       let one = total_one left_of s.views id me.0 sits in
       let turns = total_set left_of s.views id me.0 w sits live in
@@ -172,8 +211,8 @@ module _ {S C : Type 0} (setting : S → C) (journal : S → List Entry) (room :
         (refl, refl),
       )
 
-  pub looks : (slots id : ℕ) (me : M) (t : ℕ) → IsLive me.0.setting → me.0.stage ≡ Waits t → me.1 ≡ [] → Allows Rule slots id me 1 (λ n. n) (looked setting journal room reserved (step slots 1 0 0 none) me)
-  looks slots id me t live waits empty s ru deep at small =
+  pub look_keeps : (slots id : ℕ) (me : M) (t : ℕ) → IsLive me.0.setting → me.0.stage ≡ Waits t → me.1 ≡ [] → Allows Rule slots id me 1 (λ n. n) (IsLook setting journal room reserved (step slots 1 0 0 none) me)
+  look_keeps slots id me t live waits empty s ru deep at small =
       let r : Full s = in_full s ru in
       let n : ℕ = get_or s.words 1 0 in
       let sits : Sits s.views id me.0 = (at, live) in
@@ -183,8 +222,8 @@ module _ {S C : Type 0} (setting : S → C) (journal : S → List Entry) (room :
       let len : length r.log ≡ t = sym r.serving ∙ hit in
       let free : NoneServed s.views = turn_free reserved s.views id me.0 r.log (get_or s.words 0 0) t sits waits len r.knows r.apart in
       let state = r.home free in
-      let seen' : List Entry = me.0.seen ++ ok.rest in
-      let w : V = record me.0 { seen = seen'; stage = Served t } in
+      let seen' : List Entry = me.0.known.seen ++ ok.rest in
+      let w : V = record me.0 { known = record me.0.known { seen = seen' }; stage = Served t } in
       let known = subst (Knows reserved r.log (get_or s.words 0 0) me.0) waits (r.knows id me.0 sits) in
       let less : (k : ℕ) → t ≡ k → HoldsTicket me.0.stage k = λ k h. subst (λ st. HoldsTicket st k) (sym waits) h in
       let held_one : tickets_of me.0.stage ≡ 1 = ap tickets_of waits in (
@@ -201,7 +240,7 @@ module _ {S C : Type 0} (setting : S → C) (journal : S → List Entry) (room :
           held = let m = total_set held_of s.views id me.0 w sits live in let g = r.held in omega arith;
           given = let m = total_set left_of s.views id me.0 w sits live in let g = r.given in omega arith;
           seats = seats_set s.views (λ _ v. Ok r.log r.made v) id w
-              record { setting_is = ok.setting_is; budget_is = ok.budget_is; rest = []; whole = ok.whole ∙ sym (append-nil seen'); foreign = tt; own_is = ok.own_is; kept_is = ok.kept_is; once = ok.once; made_so = ok.made_so; olds = (starts_more me.0.seen ok.rest me.0.first ok.olds.0, starts_more me.0.seen ok.rest me.0.second ok.olds.1); chief = ok.chief; plain = ok.plain }
+              record { setting_is = ok.setting_is; budget_is = ok.budget_is; rest = []; whole = ok.whole ∙ sym (append-nil seen'); foreign = tt; own_is = ok.own_is; kept_is = ok.kept_is; once = ok.once; made_so = ok.made_so; olds = (starts_more me.0.known.seen ok.rest me.0.first ok.olds.0, starts_more me.0.known.seen ok.rest me.0.second ok.olds.1); chief = ok.chief; plain = ok.plain }
               (λ j v _ sit. r.seats j v sit);
           knows = seats_set s.views (λ _ v. Knows reserved r.log (get_or s.words 0 0) v v.stage) id w (len, known.1, known.2, sym ok.whole) (λ j v _ sit. r.knows j v sit);
           apart = pairs_set s.views Apart id w r.apart (λ j v other sit. let a = r.apart j id v me.0 sit sits other in let b = r.apart id j me.0 v sits sit (λ e. other (sym e)) in (
@@ -219,9 +258,10 @@ module _ {S C : Type 0} (setting : S → C) (journal : S → List Entry) (room :
                 rest = ok.rest;
                 view = refl;
                 foreign = ok.foreign;
-                own_is = ok.own_is ∙ ap (entries_of me.0.number) ok.whole;
+                own_is = ok.own_is ∙ ap (entries_of me.0.known.number) ok.whole;
                 place = sym len ∙ ap length ok.whole;
                 within = let l = known.1 in let g = r.given in let b = ok.budget_is in omega arith;
+                alone = λ first all. nothing_behind me.0.known.seen ok.rest (seen_whole s r id me.0 sits first all ∙ ok.whole);
                 state = state.0;
                 slot = refl;
                 at = let a = state.2 in record {
@@ -242,22 +282,22 @@ module _ {S C : Type 0} (setting : S → C) (journal : S → List Entry) (room :
       ))
 
   -- what another seat knows of the history, where this seat puts its entry behind it
-  other_seat : (log : List Entry) (made event : ℕ) (me v : V) → me.setting ≡ v.setting → (Reserves reserved me.setting event → IsTrue me.baton) → Apart v me → Ok log made v → Ok (log ++ entry me.number event ∷ []) made v
+  other_seat : (log : List Entry) (made event : ℕ) (me v : V) → me.setting ≡ v.setting → (Reserves reserved me.setting event → IsTrue me.known.baton) → Apart v me → Ok log made v → Ok (log ++ (me.known.number, event) ∷ []) made v
   other_seat log made event me v same allowed a o =
-      let e : Entry = entry me.number event in
+      let e : Entry = (me.known.number, event) in
       let strange : Foreign reserved v e = record {
         number_is = λ h. a.number (sym h);
-        kept_are = every_map v.kept (λ k h g. h (sym g)) a.gone;
+        kept_are = every_map v.known.kept (λ k h g. h (sym g)) a.gone;
         plain = λ baton asked. a.baton baton (allowed (subst (λ (c : Option C). Reserves reserved c event) (sym same) asked));
       } in
       record {
         setting_is = o.setting_is;
         budget_is = o.budget_is;
         rest = o.rest ++ e ∷ [];
-        whole = ap (λ (l : List Entry). l ++ e ∷ []) o.whole ∙ append_assoc v.seen o.rest (e ∷ []);
+        whole = ap (λ (l : List Entry). l ++ e ∷ []) o.whole ∙ append_assoc v.known.seen o.rest (e ∷ []);
         foreign = every_more (Foreign reserved v) o.rest (e ∷ []) o.foreign (strange, tt);
-        own_is = o.own_is ∙ sym (entries_else v.number me.number event log (λ h. a.number (sym h)));
-        kept_is = every_both v.kept (λ k p g. record { own_is = p.own_is ∙ sym (entries_else k.number me.number event log (λ h. g (sym h))); other = p.other; made_so = p.made_so }) o.kept_is a.gone;
+        own_is = o.own_is ∙ sym (entries_else v.known.number me.known.number event log (λ h. a.number (sym h)));
+        kept_is = every_both v.known.kept (λ k p g. record { own_is = p.own_is ∙ sym (entries_else k.number me.known.number event log (λ h. g (sym h))); other = p.other; made_so = p.made_so }) o.kept_is a.gone;
         once = o.once;
         made_so = o.made_so;
         olds = o.olds;
@@ -266,38 +306,38 @@ module _ {S C : Type 0} (setting : S → C) (journal : S → List Entry) (room :
       }
 
   -- the same of the seat itself
-  own_seat : (log : List Entry) (made : ℕ) (me : V) → me.seen ≡ log → Ok log made me → Ok (log ++ entry me.number me.event ∷ []) made (passed_on me)
+  own_seat : (log : List Entry) (made : ℕ) (me : V) → me.known.seen ≡ log → Ok log made me → Ok (log ++ (me.known.number, me.event) ∷ []) made (view_after_pass me)
   own_seat log made me whole o =
-      let e : Entry = entry me.number me.event in
-      let seen_is : me.seen ++ e ∷ [] ≡ log ++ e ∷ [] = ap (λ (l : List Entry). l ++ e ∷ []) whole in
+      let e : Entry = (me.known.number, me.event) in
+      let seen_is : me.known.seen ++ e ∷ [] ≡ log ++ e ∷ [] = ap (λ (l : List Entry). l ++ e ∷ []) whole in
       record {
         setting_is = o.setting_is;
         budget_is = o.budget_is;
         rest = [];
-        whole = sym (append-nil (me.seen ++ e ∷ []) ∙ seen_is);
+        whole = sym (append-nil (me.known.seen ++ e ∷ []) ∙ seen_is);
         foreign = tt;
-        own_is = ap (λ (l : List Entry). l ++ e ∷ []) o.own_is ∙ sym (entries_same me.number me.event log);
-        kept_is = every_map me.kept (λ k p. let q = p.other in record { own_is = p.own_is ∙ sym (entries_else k.number me.number me.event log (λ h. q (sym h))); other = p.other; made_so = p.made_so }) o.kept_is;
+        own_is = ap (λ (l : List Entry). l ++ e ∷ []) o.own_is ∙ sym (entries_same me.known.number me.event log);
+        kept_is = every_map me.known.kept (λ k p. let q = p.other in record { own_is = p.own_is ∙ sym (entries_else k.number me.known.number me.event log (λ h. q (sym h))); other = p.other; made_so = p.made_so }) o.kept_is;
         once = o.once;
         made_so = o.made_so;
-        olds = (starts_more me.seen (e ∷ []) me.first o.olds.0, starts_more me.seen (e ∷ []) me.second o.olds.1);
+        olds = (starts_more me.known.seen (e ∷ []) me.first o.olds.0, starts_more me.known.seen (e ∷ []) me.second o.olds.1);
         chief = o.chief;
         plain = o.plain;
       }
 
-  pub passes : (slots id : ℕ) (me : M) (t : ℕ) (x : S) → IsLive me.0.setting → me.0.stage ≡ Served t → me.1 ≡ (0, Some x) ∷ []
-      → IsAt setting journal room me.0.setting me.0.budget (me.0.seen ++ entry me.0.number me.0.event ∷ []) x
-      → Allows Rule slots id me 1 (λ n. (n + 1) % 2 ^ 64) (passed (step slots 1 1 0 none) me)
-  passes slots id me t x live served has fits s ru deep at small =
+  pub pass_keeps : (slots id : ℕ) (me : M) (t : ℕ) (x : S) → IsLive me.0.setting → me.0.stage ≡ Served t → me.1 ≡ (0, Some x) ∷ []
+      → IsAt setting journal room me.0.setting me.0.budget (me.0.known.seen ++ (me.0.known.number, me.0.event) ∷ []) x
+      → Allows Rule slots id me 1 (λ n. (n + 1) % 2 ^ 64) (IsPass (step slots 1 1 0 none) me)
+  pass_keeps slots id me t x live served has fits s ru deep at small =
       let r : Full s = in_full s ru in
       let n : ℕ = get_or s.words 1 0 in
       let sits : Sits s.views id me.0 = (at, live) in
       let ok = r.seats id me.0 sits in
       let known = subst (Knows reserved r.log (get_or s.words 0 0) me.0) served (r.knows id me.0 sits) in
-      let e : Entry = entry me.0.number me.0.event in
+      let e : Entry = (me.0.known.number, me.0.event) in
       let log' : List Entry = r.log ++ e ∷ [] in
-      let w : V = passed_on me.0 in
-      let seen_is : w.seen ≡ log' = ap (λ (l : List Entry). l ++ e ∷ []) known.3 in
+      let w : V = view_after_pass me.0 in
+      let seen_is : w.known.seen ≡ log' = ap (λ (l : List Entry). l ++ e ∷ []) known.3 in
       let more : length log' ≡ length r.log + 1 = length-append r.log (e ∷ []) in
       let len : length r.log ≡ t = known.0 in
       let below : t < get_or s.words 0 0 = known.1 in
@@ -306,41 +346,43 @@ module _ {S C : Type 0} (setting : S → C) (journal : S → List Entry) (room :
       let ws : List ℕ = set s.words 1 ((n + 1) % 2 ^ 64) in
       let same : get_or ws 0 0 ≡ get_or s.words 0 0 = get_or-set_other s.words 1 0 ((n + 1) % 2 ^ 64) 0 (λ e. omega arith) in
       let mine : HoldsTicket me.0.stage (length r.log) = subst (λ st. HoldsTicket st (length r.log)) (sym served) (sym len) in
-      let held_one : tickets_of me.0.stage ≡ 1 = ap tickets_of served in (
+      let held_one : tickets_of me.0.stage ≡ 1 = ap tickets_of served in
+      let after : St = stepped s 1 ((n + 1) % 2 ^ 64) id ((0, Some x) ∷ []) w gives in
+      let full : Full after = record {
+        log = log';
+        made = r.made;
+        small = r.small;
+        wide = length-set s.words 1 ((n + 1) % 2 ^ 64) ∙ r.wide;
+        deep = length-set s.homes 0 (some (Some x)) ∙ r.deep;
+        serving = get_or-set_same s.words 1 ((n + 1) % 2 ^ 64) 0 (omega arith) ∙ (next ∙ (omega arith));
+        held = let m = total_set held_of s.views id me.0 w sits live in omega arith;
+        given = let m = total_set left_of s.views id me.0 w sits live in omega arith;
+        seats = seats_set s.views (λ _ v. Ok log' r.made v) id w (own_seat r.log r.made me.0 known.3 ok)
+            (λ j v other sit. let o = r.seats j v sit in other_seat r.log r.made me.0.event me.0 v (ok.setting_is ∙ sym o.setting_is) known.2 (r.apart j id v me.0 sit sits other) o);
+        knows = seats_set s.views (λ _ v. Knows reserved log' (get_or ws 0 0) v v.stage) id w tt
+            (λ j v other sit. subst (λ (k : ℕ). Knows reserved log' k v v.stage) (sym same) (others_pass reserved r.log log' (get_or s.words 0 0) v v.stage more (λ h. (r.apart j id v me.0 sit sits other).ticket (length r.log) h mine) (r.knows j v sit)));
+        apart = pairs_set s.views Apart id w r.apart (λ j v other sit. let a = r.apart j id v me.0 sit sits other in let b = r.apart id j me.0 v sits sit (λ e. other (sym e)) in (
+          record { number = a.number; ticket = λ k h g. g; baton = a.baton; gone = a.gone },
+          record { number = b.number; ticket = λ k h g. h; baton = b.baton; gone = b.gone },
+        ));
+        born = every_more (λ (e : Entry). e.0 ≤ r.made) r.log (e ∷ []) r.born (ok.made_so, tt);
+        count = let m = total_set one_of s.views id me.0 w sits live in let k = total_set kept_count s.views id me.0 w sits live in let c = r.count in omega arith;
+        longest = (id, w, (set_at s.views id me.0 w at, live), seen_is);
+        home = λ _. (
+          x,
+          set_here s.homes 0 (some (Some x)) (let d = r.deep in omega arith),
+          record { setting_is = sym ok.setting_is ∙ fits.setting_is; journal_is = fits.journal_is ∙ seen_is; roomy = let f = fits.roomy in let bb = ok.budget_is in let l = ap length known.3 in omega (arith, length-append me.0.known.seen (e ∷ []), length-append r.log (e ∷ [])) },
+        );
+      } in (
         w,
         gives,
         tt,
-        subst (λ (c : List (ℕ × Option S)). Rule (stepped s 1 ((n + 1) % 2 ^ 64) id c w gives)) (sym has) (in_rule (stepped s 1 ((n + 1) % 2 ^ 64) id ((0, Some x) ∷ []) w gives) record {
-          log = log';
-          made = r.made;
-          small = r.small;
-          wide = length-set s.words 1 ((n + 1) % 2 ^ 64) ∙ r.wide;
-          deep = length-set s.homes 0 (some (Some x)) ∙ r.deep;
-          serving = get_or-set_same s.words 1 ((n + 1) % 2 ^ 64) 0 (omega arith) ∙ (next ∙ (omega arith));
-          held = let m = total_set held_of s.views id me.0 w sits live in omega arith;
-          given = let m = total_set left_of s.views id me.0 w sits live in omega arith;
-          seats = seats_set s.views (λ _ v. Ok log' r.made v) id w (own_seat r.log r.made me.0 known.3 ok)
-              (λ j v other sit. let o = r.seats j v sit in other_seat r.log r.made me.0.event me.0 v (ok.setting_is ∙ sym o.setting_is) known.2 (r.apart j id v me.0 sit sits other) o);
-          knows = seats_set s.views (λ _ v. Knows reserved log' (get_or ws 0 0) v v.stage) id w tt
-              (λ j v other sit. subst (λ (k : ℕ). Knows reserved log' k v v.stage) (sym same) (others_pass reserved r.log log' (get_or s.words 0 0) v v.stage more (λ h. (r.apart j id v me.0 sit sits other).ticket (length r.log) h mine) (r.knows j v sit)));
-          apart = pairs_set s.views Apart id w r.apart (λ j v other sit. let a = r.apart j id v me.0 sit sits other in let b = r.apart id j me.0 v sits sit (λ e. other (sym e)) in (
-            record { number = a.number; ticket = λ k h g. g; baton = a.baton; gone = a.gone },
-            record { number = b.number; ticket = λ k h g. h; baton = b.baton; gone = b.gone },
-          ));
-          born = every_more (λ (e : Entry). e.by ≤ r.made) r.log (e ∷ []) r.born (ok.made_so, tt);
-          count = let m = total_set one_of s.views id me.0 w sits live in let k = total_set kept_count s.views id me.0 w sits live in let c = r.count in omega arith;
-          longest = (id, w, (set_at s.views id me.0 w at, live), seen_is);
-          home = λ _. (
-            x,
-            set_here s.homes 0 (some (Some x)) (let d = r.deep in omega arith),
-            record { setting_is = sym ok.setting_is ∙ fits.setting_is; journal_is = fits.journal_is ∙ seen_is; roomy = let f = fits.roomy in let bb = ok.budget_is in let l = ap length known.3 in omega (arith, length-append me.0.seen (e ∷ []), length-append r.log (e ∷ [])) },
-          );
-        }),
-        λ i. (w, rest (has i)),
+        subst (λ (c : List (ℕ × Option S)). Rule (stepped s 1 ((n + 1) % 2 ^ 64) id c w gives)) (sym has) (in_rule after full),
+        ((λ i. (w, rest (has i))), λ first. settles after full id w (set_at s.views id me.0 w at, live) refl first),
       )
 
-  pub opens : (x : S) → setting x ≡ opening' → journal x ≡ [] → budget ≤ room x → budget < 2 ^ 32 → Rule (opening (0 ∷ 0 ∷ []) (Some x ∷ []) (newcomer opening' budget))
-  opens x is empty roomy small = in_rule (opening (0 ∷ 0 ∷ []) (Some x ∷ []) (newcomer opening' budget)) record {
+  pub open_keeps : (x : S) → setting x ≡ opening' → journal x ≡ [] → budget ≤ room x → budget < 2 ^ 32 → Rule (opening (0 ∷ 0 ∷ []) (Some x ∷ []) (first_view opening' budget))
+  open_keeps x is empty roomy small = in_rule (opening (0 ∷ 0 ∷ []) (Some x ∷ []) (first_view opening' budget)) record {
     log = [];
     made = 0;
     small = small;
@@ -359,26 +401,26 @@ module _ {S C : Type 0} (setting : S → C) (journal : S → List Entry) (room :
   }
     where
       first : V
-      first = newcomer opening' budget
+      first = first_view opening' budget
 
       only : (j : ℕ) (v : V) → Sits (first ∷ []) j v → (j ≡ 0) × (first ≡ v)
       only zero v sit = (refl, some-injective first v sit.0)
       only (suc j) v sit = absurd (some-ne-none v (sym sit.0))
 
-  pub splits : (id : ℕ) (v : V) (n : ℕ) (b : Bool) → IsLive v.setting → v.stage ≡ Idle → v.number ≡ 0 → n ≤ v.left → (IsTrue b → IsTrue v.baton) → Splits Rule id v (gave n b v) (got n b v)
-  splits id v n b live idle first within allowed s ru at =
+  pub split_keeps : (id : ℕ) (v : V) (n : ℕ) (b : Bool) → IsLive v.setting → v.stage ≡ Idle → v.known.number ≡ 0 → n ≤ v.known.left → (IsTrue b → IsTrue v.known.baton) → Splits Rule id v (view_after_split n b v) (new_view n b v)
+  split_keeps id v n b live idle first within allowed s ru at =
       let r : Full s = in_full s ru in
       let sits : Sits s.views id v = (at, live) in
       let ok = r.seats id v sits in
-      let given : V = gave n b v in
-      let new : V = got n b v in
+      let given : V = view_after_split n b v in
+      let new : V = new_view n b v in
       let vs : List V = set s.views id given in
       let made' : ℕ = r.made + 1 in
-      let made_is : v.made ≡ r.made = ok.chief first in
+      let made_is : v.known.made ≡ r.made = ok.chief first in
       let none_held : tickets_of v.stage ≡ 0 = ap tickets_of idle in
-      let unborn : (log : List Entry) → Every (λ (e : Entry). e.by ≤ r.made) log → Every (λ (e : Entry). e.by ≢ v.made + 1) log = λ log born. every_map log (λ e le same. omega arith) born in
-      let born' : Every (λ (e : Entry). e.by ≤ r.made) ok.rest = every_right _ v.seen ok.rest (subst (Every (λ (e : Entry). e.by ≤ r.made)) ok.whole r.born) in
-      let more : (number : ℕ) (kept : List Kept) → Every (IsPast r.log number r.made) kept → Every (IsPast r.log number made') kept = λ number kept k. every_map kept (λ x p. record { own_is = p.own_is; other = p.other; made_so = let q = p.made_so in omega arith }) k in
+      let unborn : (log : List Entry) → Every (λ (e : Entry). e.0 ≤ r.made) log → Every (λ (e : Entry). e.0 ≢ v.known.made + 1) log = λ log born. every_map log (λ e le same. omega arith) born in
+      let born' : Every (λ (e : Entry). e.0 ≤ r.made) ok.rest = every_right _ v.known.seen ok.rest (subst (Every (λ (e : Entry). e.0 ≤ r.made)) ok.whole r.born) in
+      let more : (number : ℕ) (kept : List JoinedSeat) → Every (IsPast r.log number r.made) kept → Every (IsPast r.log number made') kept = λ number kept k. every_map kept (λ x p. record { own_is = p.own_is; other = p.other; made_so = let q = p.made_so in omega arith }) k in
       in_rule _ record {
         log = r.log;
         made = made';
@@ -395,11 +437,11 @@ module _ {S C : Type 0} (setting : S → C) (journal : S → List Entry) (room :
               rest = ok.rest;
               whole = ok.whole;
               foreign = every_both ok.rest (λ e f other. let g = f.plain in record { number_is = other; kept_are = tt; plain = λ on. g (allowed on) }) ok.foreign (unborn ok.rest born');
-              own_is = sym (entries_none (v.made + 1) r.log (unborn r.log r.born));
+              own_is = sym (entries_none (v.known.made + 1) r.log (unborn r.log r.born));
               kept_is = tt;
               once = tt;
               made_so = omega arith;
-              olds = ((v.seen, refl), (v.seen, refl));
+              olds = ((v.known.seen, refl), (v.known.seen, refl));
               chief = λ z. absurd (omega arith);
               plain = λ _. refl;
             })
@@ -409,9 +451,9 @@ module _ {S C : Type 0} (setting : S → C) (journal : S → List Entry) (room :
               budget_is = ok.budget_is;
               rest = ok.rest;
               whole = ok.whole;
-              foreign = every_map ok.rest (λ e f. let g = f.plain in record { number_is = f.number_is; kept_are = f.kept_are; plain = λ on. g (unless b v.baton on) }) ok.foreign;
+              foreign = every_map ok.rest (λ e f. let g = f.plain in record { number_is = f.number_is; kept_are = f.kept_are; plain = λ on. g (unless b v.known.baton on) }) ok.foreign;
               own_is = ok.own_is;
-              kept_is = more v.number v.kept ok.kept_is;
+              kept_is = more v.known.number v.known.kept ok.kept_is;
               once = ok.once;
               made_so = omega arith;
               olds = ok.olds;
@@ -425,7 +467,7 @@ module _ {S C : Type 0} (setting : S → C) (journal : S → List Entry) (room :
               whole = o.whole;
               foreign = o.foreign;
               own_is = o.own_is;
-              kept_is = more u.number u.kept o.kept_is;
+              kept_is = more u.known.number u.known.kept o.kept_is;
               once = o.once;
               made_so = let q = o.made_so in omega arith;
               olds = o.olds;
@@ -436,16 +478,16 @@ module _ {S C : Type 0} (setting : S → C) (journal : S → List Entry) (room :
             (seats_set s.views (λ _ u. Knows reserved r.log (get_or s.words 0 0) u u.stage) id given (subst (Knows reserved r.log (get_or s.words 0 0) given) (sym idle) tt) (λ j u _ sit. r.knows j u sit));
         apart = pairs_more vs Apart new
             (pairs_set s.views Apart id given r.apart (λ j u other sit. let a = r.apart j id u v sit sits other in let c = r.apart id j v u sits sit (λ e. other (sym e)) in let ab = a.baton in let cb = c.baton in (
-              record { number = a.number; ticket = a.ticket; baton = λ h k. ab h (unless b v.baton k); gone = a.gone },
-              record { number = c.number; ticket = c.ticket; baton = λ h k. cb (unless b v.baton h) k; gone = c.gone },
+              record { number = a.number; ticket = a.ticket; baton = λ h k. ab h (unless b v.known.baton k); gone = a.gone },
+              record { number = c.number; ticket = c.ticket; baton = λ h k. cb (unless b v.known.baton h) k; gone = c.gone },
             )))
             (seats_set s.views (λ _ u. Apart u new × Apart new u) id given
-            (let gone = every_map v.kept (λ k p same. let q = p.made_so in omega arith) ok.kept_is in (
-              record { number = λ same. omega arith; ticket = λ t h k. k; baton = not_both b v.baton; gone = gone },
-              record { number = λ same. omega arith; ticket = λ t h k. h; baton = λ h k. not_both b v.baton k h; gone = tt },
+            (let gone = every_map v.known.kept (λ k p same. let q = p.made_so in omega arith) ok.kept_is in (
+              record { number = λ same. omega arith; ticket = λ t h k. k; baton = not_both b v.known.baton; gone = gone },
+              record { number = λ same. omega arith; ticket = λ t h k. h; baton = λ h k. not_both b v.known.baton k h; gone = tt },
             ))
             (λ j u other sit. let o = r.seats j u sit in let a = r.apart j id u v sit sits other in let ab = a.baton in let low = o.made_so in (
-              record { number = λ same. omega arith; ticket = λ t h k. k; baton = λ h k. ab h (allowed k); gone = every_map u.kept (λ k p same. let q = p.made_so in omega arith) o.kept_is },
+              record { number = λ same. omega arith; ticket = λ t h k. k; baton = λ h k. ab h (allowed k); gone = every_map u.known.kept (λ k p same. let q = p.made_so in omega arith) o.kept_is },
               record { number = λ same. omega arith; ticket = λ t h k. h; baton = λ h k. ab k (allowed h); gone = tt },
             )));
         born = every_map r.log (λ e le. omega arith) r.born;
@@ -454,10 +496,10 @@ module _ {S C : Type 0} (setting : S → C) (journal : S → List Entry) (room :
         home = λ unserved. r.home (none_before s.views id v given sits (λ j u sit. unserved j u (at_longer vs (new ∷ []) j u sit.0, sit.1)) (λ served. subst IsServed idle served));
       }
 
-  pub joins : (id : ℕ) (v : V) (other : ℕ) (w : V) → IsLive v.setting → v.stage ≡ Idle → v.number ≡ 0 → IsLive w.setting → w.stage ≡ Idle → Joins Rule id v other w (joined v w) spent
-  joins id v other w live idle first live' idle' s ru at apart there =
+  pub join_keeps : (id : ℕ) (v : V) (other : ℕ) (w : V) → IsLive v.setting → v.stage ≡ Idle → v.known.number ≡ 0 → IsLive w.setting → w.stage ≡ Idle → Joins Rule id v other w (view_after_join v w) spent_view
+  join_keeps id v other w live idle first live' idle' s ru at apart there =
       let r : Full s = in_full s ru in
-      let both : V = joined v w in
+      let both : V = view_after_join v w in
       let mid : List V = set s.views id both in
       let there' : get_elem? s.views other ≡ some w = sym (set_else s.views id other both apart) ∙ there in
       let sits : Sits s.views id v = (at, live) in
@@ -465,12 +507,12 @@ module _ {S C : Type 0} (setting : S → C) (journal : S → List Entry) (room :
       let ok = r.seats id v sits in
       let ok' = r.seats other w sits' in
       let differ = r.apart other id w v sits' sits apart in
-      let fits = both_begin (Foreign reserved v) (Foreign reserved w) r.log v.seen w.seen ok.rest ok'.rest ok.whole ok'.whole ok.foreign ok'.foreign in
+      let fits = both_begin (Foreign reserved v) (Foreign reserved w) r.log v.known.seen w.known.seen ok.rest ok'.rest ok.whole ok'.whole ok.foreign ok'.foreign in
       let none_held : tickets_of v.stage ≡ 0 = ap tickets_of idle in
       let none_held' : tickets_of w.stage ≡ 0 = ap tickets_of idle' in
       let number = differ.number in
-      let keeps_none : length w.kept ≡ 0 = ok'.plain (λ h. number (h ∙ sym first)) in
-      let there_still : Sits (set mid other spent) id both = (set_else mid other id spent (λ e. apart (sym e)) ∙ set_at s.views id v both at, live) in
+      let keeps_none : length w.known.kept ≡ 0 = ok'.plain (λ h. number (h ∙ sym first)) in
+      let there_still : Sits (set mid other spent_view) id both = (set_else mid other id spent_view (λ e. apart (sym e)) ∙ set_at s.views id v both at, live) in
       let idles : (x : V) → x.stage ≡ Idle → (u : V) → x ≡ u → IsServed u.stage → ⊥ = λ x is u e h. subst IsServed is (subst (λ (z : V). IsServed z.stage) (sym e) h) in
       in_rule _ record {
         log = r.log;
@@ -490,7 +532,7 @@ module _ {S C : Type 0} (setting : S → C) (journal : S → List Entry) (room :
               foreign = every_both fits.0 (λ e f g. let p = f.plain in let q = g.plain in record {
                 number_is = f.number_is;
                 kept_are = (g.number_is, f.kept_are);
-                plain = λ on asked. ⊎_elim (λ h. p h asked) (λ h. q h (subst (λ (c : Option C). Reserves reserved c e.event) (ok.setting_is ∙ sym ok'.setting_is) asked)) (either_true v.baton w.baton on);
+                plain = λ on asked. ⊎_elim (λ h. p h asked) (λ h. q h (subst (λ (c : Option C). Reserves reserved c e.1) (ok.setting_is ∙ sym ok'.setting_is) asked)) (either_true v.known.baton w.known.baton on);
               }) fits.2 fits.3;
               own_is = ok.own_is;
               kept_is = (record { own_is = ok'.own_is; other = number; made_so = ok'.made_so }, ok.kept_is);
@@ -504,63 +546,29 @@ module _ {S C : Type 0} (setting : S → C) (journal : S → List Entry) (room :
         knows = seats_spent mid (λ _ u. Knows reserved r.log (get_or s.words 0 0) u u.stage) other (λ j u _ sit. seats_set s.views (λ _ u. Knows reserved r.log (get_or s.words 0 0) u u.stage) id both (subst (Knows reserved r.log (get_or s.words 0 0) both) (sym idle) tt) (λ i x _ e. r.knows i x e) j u sit);
         apart = pairs_spent mid Apart other (pairs_at s.views (λ i u j x. i ≢ other → j ≢ other → Apart u x) id both (λ i j u x a b far _ _. r.apart i j u x a b far)
             (λ j u far sit. let a = r.apart j id u v sit sits far in let c = r.apart id j v u sits sit (λ e. far (sym e)) in (
-              (λ away _. let a' = r.apart j other u w sit sits' away in let p = a.baton in let q = a'.baton in record { number = a.number; ticket = a.ticket; baton = λ h k. ⊎_elim (p h) (q h) (either_true v.baton w.baton k); gone = a.gone }),
-              (λ _ away. let c' = r.apart other j w u sits' sit (λ e. away (sym e)) in let p = c.baton in let q = c'.baton in record { number = c.number; ticket = c.ticket; baton = λ h k. ⊎_elim (λ g. p g k) (λ g. q g k) (either_true v.baton w.baton h); gone = (c'.number, c.gone) }),
+              (λ away _. let a' = r.apart j other u w sit sits' away in let p = a.baton in let q = a'.baton in record { number = a.number; ticket = a.ticket; baton = λ h k. ⊎_elim (p h) (q h) (either_true v.known.baton w.known.baton k); gone = a.gone }),
+              (λ _ away. let c' = r.apart other j w u sits' sit (λ e. away (sym e)) in let p = c.baton in let q = c'.baton in record { number = c.number; ticket = c.ticket; baton = λ h k. ⊎_elim (λ g. p g k) (λ g. q g k) (either_true v.known.baton w.known.baton h); gone = (c'.number, c.gone) }),
             )));
         born = r.born;
         count = let m = total_set one_of s.views id v both sits live in let k = total_spent one_of mid other w (there, live') in let m2 = total_set kept_count s.views id v both sits live in let k2 = total_spent kept_count mid other w (there, live') in let c = r.count in omega arith;
         longest = let l = r.longest in dite (ℕ_discrete l.0 id)
-            (λ (e : l.0 ≡ id). (id, both, there_still, squeezed r.log both.seen fits.4.0 fits.0 fits.1 (fits.4.1 ∙ ap (λ (h : List Entry). h ++ fits.4.0) (ap (λ (z : V). z.seen) (some-injective v l.1 (sym at ∙ (sym (ap (get_elem? s.views) e) ∙ l.2.0))) ∙ l.3))))
+            (λ (e : l.0 ≡ id). (id, both, there_still, squeezed r.log both.known.seen fits.4.0 fits.0 fits.1 (fits.4.1 ∙ ap (λ (h : List Entry). h ++ fits.4.0) (ap (λ (z : V). z.known.seen) (some-injective v l.1 (sym at ∙ (sym (ap (get_elem? s.views) e) ∙ l.2.0))) ∙ l.3))))
             (λ far. dite (ℕ_discrete l.0 other)
-            (λ (e : l.0 ≡ other). (id, both, there_still, squeezed r.log both.seen fits.5.0 fits.0 fits.1 (fits.5.1 ∙ ap (λ (h : List Entry). h ++ fits.5.0) (ap (λ (z : V). z.seen) (some-injective w l.1 (sym there' ∙ (sym (ap (get_elem? s.views) e) ∙ l.2.0))) ∙ l.3))))
-            (λ away. (l.0, l.1, sits_else mid other spent l.0 l.1 away (sits_else s.views id both l.0 l.1 far l.2), l.3)));
+            (λ (e : l.0 ≡ other). (id, both, there_still, squeezed r.log both.known.seen fits.5.0 fits.0 fits.1 (fits.5.1 ∙ ap (λ (h : List Entry). h ++ fits.5.0) (ap (λ (z : V). z.known.seen) (some-injective w l.1 (sym there' ∙ (sym (ap (get_elem? s.views) e) ∙ l.2.0))) ∙ l.3))))
+            (λ away. (l.0, l.1, sits_else mid other spent_view l.0 l.1 away (sits_else s.views id both l.0 l.1 far l.2), l.3)));
         home = λ unserved. r.home (λ j u sit served. dite (ℕ_discrete j id)
             (λ (e : j ≡ id). idles v idle u (some-injective v u (sym at ∙ (sym (ap (get_elem? s.views) e) ∙ sit.0))) served)
             (λ far. dite (ℕ_discrete j other)
             (λ (e : j ≡ other). idles w idle' u (some-injective w u (sym there' ∙ (sym (ap (get_elem? s.views) e) ∙ sit.0))) served)
-            (λ away. unserved j u (sits_else mid other spent j u away (sits_else s.views id both j u far sit)) served)));
+            (λ away. unserved j u (sits_else mid other spent_view j u away (sits_else s.views id both j u far sit)) served)));
       }
 
-  -- what seat 0 knows where all other seats were taken in
-  alone : (s : St) → Full s → (id : ℕ) (v : V) → Sits s.views id v → v.number ≡ 0 → v.made ≡ length v.kept → (j : ℕ) (u : V) → Sits s.views j u → j ≢ id → ⊥
-  alone s r id v sits first all j u sit other =
-      let two = total_two one_of s.views j id u v other sit sits in
-      let kept = total_one kept_count s.views id v sits in
-      let c = r.count in let m = (r.seats id v sits).chief first in omega arith
-
-  seen_whole : (s : St) (r : Full s) (id : ℕ) (v : V) → Sits s.views id v → v.number ≡ 0 → v.made ≡ length v.kept → v.seen ≡ r.log
-  seen_whole s r id v sits first all = let l = r.longest in dite (ℕ_discrete l.0 id)
-      (λ (e : l.0 ≡ id). ap (λ (z : V). z.seen) (some-injective v l.1 (sym sits.0 ∙ (sym (ap (get_elem? s.views) e) ∙ l.2.0))) ∙ l.3)
-      (λ other. absurd (alone s r id v sits first all l.0 l.1 l.2 other))
-
-  settles : (s : St) → Full s → (id : ℕ) (v : V) → Sits s.views id v → v.stage ≡ Idle → v.number ≡ 0 → KnowsAll v
-  settles s r id v sits idle first lock =
-      let ok = r.seats id v sits in
-      let made_is : v.made ≡ r.made = ok.chief first in
-      let none_held : tickets_of v.stage ≡ 0 = ap tickets_of idle in
-      let behind = every_swap (λ (e : Entry) (k : Kept). e.by ≢ k.number) ok.rest v.kept (every_map ok.rest (λ e f. f.kept_are) ok.foreign) in
-      let born : Every (λ (e : Entry). e.by ≤ v.made) v.seen = subst (λ (m : ℕ). Every (λ (e : Entry). e.by ≤ m) v.seen) (sym made_is) (every_left _ v.seen ok.rest (subst (Every (λ (e : Entry). e.by ≤ r.made)) ok.whole r.born)) in
-      let others : Every (λ (k : Kept). (k.number ≢ v.number) × (k.number ≤ v.made)) v.kept = every_map v.kept (λ k p. let low = p.made_so in (p.other, omega arith)) ok.kept_is in
-      record {
-        own = ok.own_is ∙ (ap (entries_of v.number) ok.whole ∙ entries_front v.number v.seen ok.rest (every_map ok.rest (λ e f. f.number_is) ok.foreign));
-        kept = every_both v.kept (λ k p none. p.own_is ∙ (ap (entries_of k.number) ok.whole ∙ entries_front k.number v.seen ok.rest none)) ok.kept_is behind;
-        others = others;
-        once = ok.once;
-        entries_made = born;
-        within = let a = total_one left_of s.views id v sits in let g = r.given in let b = ok.budget_is in omega arith;
-        accounted = λ all. every_map v.seen (λ e low. all_kept v.number v.made v.kept first all others ok.once e.by low) born;
-        whole = λ all. let only = alone s r id v sits first all in
-            let a = total_alone left_of s.views id v sits only in let b = total_alone held_of s.views id v sits only in
-            let seen_is = seen_whole s r id v sits first all in
-            let l = ap length seen_is in let h = r.held in let g = r.given in omega arith;
-      }
-
-  pub meets : (slots id : ℕ) (me : M) → IsLive me.0.setting → me.0.stage ≡ Idle → me.0.number ≡ 0 → Allows Rule slots id me 0 (λ n. n) (met (step slots 0 0 0 none) me)
-  meets slots id me live idle first s ru deep at small =
+  pub meet_keeps : (slots id : ℕ) (me : M) → IsLive me.0.setting → me.0.stage ≡ Idle → me.0.known.number ≡ 0 → Allows Rule slots id me 0 (λ n. n) (IsMeet (step slots 0 0 0 none) me)
+  meet_keeps slots id me live idle first s ru deep at small =
       let r : Full s = in_full s ru in
       let sits : Sits s.views id me.0 = (at, live) in
       let ok = r.seats id me.0 sits in
-      let w : V = rested me.0 in (
+      let w : V = view_after_meet me.0 in (
         w,
         keeps,
         tt,
@@ -574,7 +582,7 @@ module _ {S C : Type 0} (setting : S → C) (journal : S → List Entry) (room :
           held = let m = total_set held_of s.views id me.0 w sits live in let h = r.held in omega arith;
           given = let m = total_set left_of s.views id me.0 w sits live in let g = r.given in omega arith;
           seats = seats_set s.views (λ _ v. Ok r.log r.made v) id w
-              record { setting_is = ok.setting_is; budget_is = ok.budget_is; rest = ok.rest; whole = ok.whole; foreign = ok.foreign; own_is = ok.own_is; kept_is = ok.kept_is; once = ok.once; made_so = ok.made_so; olds = ((me.0.seen, refl), (me.0.seen, refl)); chief = ok.chief; plain = ok.plain }
+              record { setting_is = ok.setting_is; budget_is = ok.budget_is; rest = ok.rest; whole = ok.whole; foreign = ok.foreign; own_is = ok.own_is; kept_is = ok.kept_is; once = ok.once; made_so = ok.made_so; olds = ((me.0.known.seen, refl), (me.0.known.seen, refl)); chief = ok.chief; plain = ok.plain }
               (λ j v _ sit. r.seats j v sit);
           knows = seats_set s.views (λ _ v. Knows reserved r.log (get_or s.words 0 0) v v.stage) id w (same_knows r.log (get_or s.words 0 0) me.0 me.0.stage (r.knows id me.0 sits)) (λ j v _ sit. r.knows j v sit);
           apart = pairs_set s.views Apart id w r.apart (λ j v other sit. let a = r.apart j id v me.0 sit sits other in let b = r.apart id j me.0 v sits sit (λ e. other (sym e)) in (
@@ -589,15 +597,15 @@ module _ {S C : Type 0} (setting : S → C) (journal : S → List Entry) (room :
         (refl, ok.olds.0, ok.olds.1, settles s r id me.0 sits idle first),
       )
     where
-      same_knows : (log : List Entry) (next : ℕ) (v : V) (st : Stage) → Knows reserved log next v st → Knows reserved log next (rested v) st
+      same_knows : (log : List Entry) (next : ℕ) (v : V) (st : Stage) → Knows reserved log next v st → Knows reserved log next (view_after_meet v) st
       same_knows log next v Idle k = tt
       same_knows log next v (Waits u) k = k
       same_knows log next v (Served u) k = k
 
   -- the slot of the closed table has the state
-  pub closes_with : (id : ℕ) (v : V) → IsLive v.setting → v.stage ≡ Idle → v.number ≡ 0 → v.made ≡ length v.kept → (ws : List ℕ) (xs : List (Option S)) → Final (Seen Rule id v) ws xs
-      → (o : Option S) → get_elem? xs 0 ≡ some o → (x : S) × (o ≡ Some x) × Closes setting journal v x
-  closes_with id v live idle first all ws xs f o at =
+  pub close_gives : (id : ℕ) (v : V) → IsLive v.setting → v.stage ≡ Idle → v.known.number ≡ 0 → HasJoinedAll v.known → (ws : List ℕ) (xs : List (Option S)) → Final (Seen Rule id v) ws xs
+      → (o : Option S) → get_elem? xs 0 ≡ some o → (x : S) × (o ≡ Some x) × IsEnd setting journal v x
+  close_gives id v live idle first all ws xs f o at =
       let s = f.0 in let r : Full s = in_full s f.1.0 in
       let sits : Sits s.views id v = (f.1.1, live) in
       let state = r.home (λ j u sit served. dite (ℕ_discrete j id)

@@ -5,7 +5,7 @@ use lib.ListN.{get_elem?}
 use Rattle.atomic_table.proofs.Lists.{at_set, set_else, at_snoc}
 use Rattle.turn_lock.specs.declared.board.View.{View}
 use Rattle.turn_lock.specs.Views.{IsLive, weigh, total, Sits, Pairs}
-use Rattle.turn_lock.specs.Moves.{spent}
+use Rattle.turn_lock.specs.Moves.{spent_view}
 
 module _ {X : Type 0} where
   pub set_at : (xs : List X) (id : ℕ) (v w : X) → get_elem? xs id ≡ some v → get_elem? (set xs id w) id ≡ some w
@@ -37,7 +37,7 @@ module _ {C : Type 0} (f : View C → ℕ) where
   total_set (x ∷ xs) zero v w sits live = let a = weighs x v sits.0 sits.1 in let b = weigh_live w.setting (f w) live in omega arith
   total_set (x ∷ xs) (suc id) v w sits live = omega (arith, total_set xs id v w sits live)
 
-  pub total_spent : (vs : List (View C)) (id : ℕ) (v : View C) → Sits vs id v → total f (set vs id spent) + f v ≡ total f vs
+  pub total_spent : (vs : List (View C)) (id : ℕ) (v : View C) → Sits vs id v → total f (set vs id spent_view) + f v ≡ total f vs
   total_spent [] id v sits = absurd (some-ne-none v (sym sits.0))
   total_spent (x ∷ xs) zero v sits = let a = weighs x v sits.0 sits.1 in omega arith
   total_spent (x ∷ xs) (suc id) v sits = omega (arith, total_spent xs id v sits)
@@ -84,10 +84,10 @@ module _ {C : Type 0} (vs : List (View C)) where
   seats_more K w mine others j v s = ⊎_elim (λ t. others j v (t, s.1)) (λ (t : w ≡ v). subst (K j) t (mine j)) (at_snoc vs w v j s.0)
 
   -- the view other is spent
-  pub sits_spent : (other j : ℕ) (v : View C) → Sits (set vs other spent) j v → (j ≢ other) × Sits vs j v
-  sits_spent other j v s = ⊎_elim (λ (t : (j ≡ other) × (spent ≡ v)). absurd (true≢false (sym (subst (λ (u : View C). IsLive u.setting) (sym t.1) s.1)))) (λ t. t) (sits_set other spent j v s)
+  pub sits_spent : (other j : ℕ) (v : View C) → Sits (set vs other spent_view) j v → (j ≢ other) × Sits vs j v
+  sits_spent other j v s = ⊎_elim (λ (t : (j ≡ other) × (spent_view ≡ v)). absurd (true≢false (sym (subst (λ (u : View C). IsLive u.setting) (sym t.1) s.1)))) (λ t. t) (sits_set other spent_view j v s)
 
-  pub seats_spent : (K : ℕ → View C → Type 0) (other : ℕ) → ((j : ℕ) (v : View C) → j ≢ other → Sits vs j v → K j v) → (j : ℕ) (v : View C) → Sits (set vs other spent) j v → K j v
+  pub seats_spent : (K : ℕ → View C → Type 0) (other : ℕ) → ((j : ℕ) (v : View C) → j ≢ other → Sits vs j v → K j v) → (j : ℕ) (v : View C) → Sits (set vs other spent_view) j v → K j v
   seats_spent K other others j v s = let t = sits_spent other j v s in others j v t.0 t.1
 
   pub sits_else : (id : ℕ) (w : View C) (j : ℕ) (v : View C) → j ≢ id → Sits vs j v → Sits (set vs id w) j v
@@ -110,7 +110,7 @@ module _ {C : Type 0} (vs : List (View C)) where
   pub pairs_set : (R : View C → View C → Type 0) (id : ℕ) (w : View C) → Pairs R vs → ((j : ℕ) (v : View C) → j ≢ id → Sits vs j v → R v w × R w v) → Pairs R (set vs id w)
   pairs_set R id w pairs mine = pairs_at (λ _ u _ v. R u v) id w pairs mine
 
-  pub pairs_spent : (R : View C → View C → Type 0) (other : ℕ) → ((i j : ℕ) (u v : View C) → Sits vs i u → Sits vs j v → i ≢ j → i ≢ other → j ≢ other → R u v) → Pairs R (set vs other spent)
+  pub pairs_spent : (R : View C → View C → Type 0) (other : ℕ) → ((i j : ℕ) (u v : View C) → Sits vs i u → Sits vs j v → i ≢ j → i ≢ other → j ≢ other → R u v) → Pairs R (set vs other spent_view)
   pairs_spent R other pairs i j u v a b apart = let s = sits_spent other i u a in let t = sits_spent other j v b in pairs i j u v s.1 t.1 apart s.0 t.0
 
   -- a new view comes last

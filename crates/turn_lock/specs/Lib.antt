@@ -1,5 +1,5 @@
-pub mod History
+pub mod Entries
 pub mod Views
 pub mod Rule
-pub mod Seats
+pub mod Locks
 pub mod Moves

@@ -2,26 +2,27 @@
 -- Source: this exchange's own. The two words are those of the ticket lock: J. M. Mellor-Crummey and M. L. Scott, "Algorithms for
 -- scalable synchronization on shared-memory multiprocessors", ACM Transactions on Computer Systems 9 (1), 1991, section 2.2.
 use Rattle.std.specs.Prelude.{◌≡◌, ◌≢◌, ℕ, ◌+◌, ◌<◌, ◌≤◌, ◌^◌, IsTrue, List, length, Option, Some}
+use Rattle.std.specs.List.{AllByRecursion as Every}
 use mathlib.Core.Option.{some}
 use lib.ListN.{get_elem?}
 use Rattle.atomic_table.specs.Table.{State}
-use Rattle.turn_lock.specs.declared.history.Entry.{Entry}
-use Rattle.turn_lock.specs.declared.history.Kept.{Kept}
+use Rattle.seat_history.specs.declared.known.JoinedSeat.{JoinedSeat}
+use Rattle.seat_history.specs.Histories.{Entry, StartsWith, unseen}
 use Rattle.turn_lock.specs.declared.board.View.{View}
-use Rattle.turn_lock.specs.History.{StartsWith, Every, Once, NoneReserved, IsWhole, unseen}
+use Rattle.turn_lock.specs.Entries.{Once, IsWhole}
 use Rattle.turn_lock.specs.Views.{HoldsTicket, IsServed, tickets_of, Under, Sits, Each, Pairs, total, NoneServed, ticket, serving}
 
 module _ {X C : Type 0} where
   -- 1. One history. Some seat has seen all of it, what each seat has seen begins it, and `serving` is its length.
   pub record OneHistory (log : List Entry) (s : State X (View C)) : Type 0 where
     pub length_is : serving s ≡ length log
-    pub longest : (j : ℕ) × (v : View C) × Sits s.views j v × (v.seen ≡ log)
-    pub begun : Each s.views (λ v. StartsWith log v.seen)
+    pub longest : (j : ℕ) × (v : View C) × Sits s.views j v × (v.known.seen ≡ log)
+    pub begun : Each s.views (λ v. StartsWith log v.known.seen)
 
   -- 2. Tickets. Those that were drawn and the turns left make up the budget. The tickets held are the numbers from `serving` up to `ticket`,
   -- each held by one seat.
   pub record Tickets (budget : ℕ) (s : State X (View C)) : Type 0 where
-    pub budget_is : ticket s + total (λ (v : View C). v.left) s.views ≡ budget
+    pub budget_is : ticket s + total (λ (v : View C). v.known.left) s.views ≡ budget
     pub held : serving s + total (λ (v : View C). tickets_of v.stage) s.views ≡ ticket s
     pub between : Each s.views (λ v. (t : ℕ) → HoldsTicket v.stage t → (serving s ≤ t) × (t < ticket s))
     pub one_each : Pairs (λ v w. (t : ℕ) → HoldsTicket v.stage t → HoldsTicket w.stage t → ⊥) s.views
@@ -31,15 +32,15 @@ module _ {C : Type 0} where
   -- keeps for each seat that was joined. No two of these numbers are the same, and none is above the number of seats made. A number that was not
   -- made has no entry.
   pub record OwnEntries (log : List Entry) (made : ℕ) (views : List (View C)) : Type 0 where
-    pub own : Each views (λ v. IsWhole log v.seen v.number v.own)
-    pub kept : Each views (λ v. Every (λ (k : Kept). IsWhole log v.seen k.number k.own) v.kept)
-    pub differ : Pairs (λ v w. v.number ≢ w.number) views
-    pub gone : Pairs (λ v w. Every (λ (k : Kept). k.number ≢ w.number) v.kept) views
-    pub not_mine : Each views (λ v. Every (λ (k : Kept). k.number ≢ v.number) v.kept)
-    pub kept_once : Each views (λ v. Once v.kept)
-    pub number_made : Each views (λ v. v.number ≤ made)
-    pub kept_made : Each views (λ v. Every (λ (k : Kept). k.number ≤ made) v.kept)
-    pub entries_made : Every (λ (e : Entry). e.by ≤ made) log
+    pub own : Each views (λ v. IsWhole log v.known.seen v.known.number v.known.own)
+    pub kept : Each views (λ v. Every (λ (k : JoinedSeat). IsWhole log v.known.seen k.number k.own) v.known.kept)
+    pub differ : Pairs (λ v w. v.known.number ≢ w.known.number) views
+    pub gone : Pairs (λ v w. Every (λ (k : JoinedSeat). k.number ≢ w.known.number) v.known.kept) views
+    pub not_mine : Each views (λ v. Every (λ (k : JoinedSeat). k.number ≢ v.known.number) v.known.kept)
+    pub kept_once : Each views (λ v. Once v.known.kept)
+    pub number_made : Each views (λ v. v.known.number ≤ made)
+    pub kept_made : Each views (λ v. Every (λ (k : JoinedSeat). k.number ≤ made) v.known.kept)
+    pub entries_made : Every (λ (e : Entry). e.0 ≤ made) log
 
 module _ {S C : Type 0} (setting : S → C) (journal : S → List Entry) (room : S → ℕ) where
   -- the state is at this history, and has room for the steps that may still come
@@ -52,7 +53,7 @@ module _ {S C : Type 0} (setting : S → C) (journal : S → List Entry) (room :
   -- Where it is no seat's turn, the slot is at home and holds the state, whose journal is the history. Every view has the setting and the budget
   -- of the opening, and no move changes these.
   pub record SlotsWay (opening : C) (budget : ℕ) (log : List Entry) (s : State (Option S) (View C)) : Type 0 where
-    pub turn : Each s.views (λ v. IsServed v.stage → HoldsTicket v.stage (serving s) × (v.seen ≡ log))
+    pub turn : Each s.views (λ v. IsServed v.stage → HoldsTicket v.stage (serving s) × (v.known.seen ≡ log))
     pub home : NoneServed s.views → (x : S) × (get_elem? s.homes 0 ≡ some (some (Some x))) × IsAt (Some opening) budget log x
     pub opened : Each s.views (λ v. (v.setting ≡ Some opening) × (v.budget ≡ budget))
 
@@ -64,20 +65,20 @@ module _ {C : Type 0} (reserved : C → ℕ → Type 0) where
   -- 5. The baton. One seat at most holds it. Who holds a ticket for a reserved event holds the baton, and its holder has seen every reserved
   -- entry of the history.
   pub record Baton (log : List Entry) (views : List (View C)) : Type 0 where
-    pub one : Pairs (λ v w. IsTrue v.baton → IsTrue w.baton → ⊥) views
-    pub asked : Each views (λ v. (t : ℕ) → HoldsTicket v.stage t → Reserves v.setting v.event → IsTrue v.baton)
-    pub seen : Each views (λ v. IsTrue v.baton → NoneReserved (Reserves v.setting) (unseen v.seen log))
+    pub one : Pairs (λ v w. IsTrue v.known.baton → IsTrue w.known.baton → ⊥) views
+    pub asked : Each views (λ v. (t : ℕ) → HoldsTicket v.stage t → Reserves v.setting v.event → IsTrue v.known.baton)
+    pub seen : Each views (λ v. IsTrue v.known.baton → Every (λ (e : Entry). Reserves v.setting e.1 → ⊥) (unseen v.known.seen log))
 
 module _ {C : Type 0} where
   -- 6. How many seats. Seat 0, the seats that it made and the seats that were joined add up; seat 0 counts those made, and it alone keeps entries.
   pub record HowMany (made : ℕ) (views : List (View C)) : Type 0 where
-    pub count : total (λ (v : View C). 1) views + total (λ (v : View C). length v.kept) views ≡ made + 1
-    pub counts : Each views (λ v. v.number ≡ 0 → v.made ≡ made)
-    pub keeps : Each views (λ v. v.number ≢ 0 → length v.kept ≡ 0)
+    pub count : total (λ (v : View C). 1) views + total (λ (v : View C). length v.known.kept) views ≡ made + 1
+    pub counts : Each views (λ v. v.known.number ≡ 0 → v.known.made ≡ made)
+    pub keeps : Each views (λ v. v.known.number ≢ 0 → length v.known.kept ≡ 0)
 
   -- 7. Old histories. What seat 0 and the seat that it joins had seen begins what seat 0 has seen.
   abbrev pub OldHistories : List (View C) → Type 0
-  OldHistories views = Each views (λ v. StartsWith v.seen v.first × StartsWith v.seen v.second)
+  OldHistories views = Each views (λ v. StartsWith v.known.seen v.first × StartsWith v.known.seen v.second)
 
 module _ {S C : Type 0} (setting : S → C) (journal : S → List Entry) (room : S → ℕ) (reserved : C → ℕ → Type 0) where
   -- The rule of a lock that was opened with this setting and this budget: there are a history and a number of seats made, of which all seven parts hold

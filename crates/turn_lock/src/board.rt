@@ -2,9 +2,9 @@
 //! Word 0 is the next ticket that is drawn, word 1 the ticket whose turn it is, and slot 0 holds the state.
 ghost use Rattle.std.specs.Prelude.{ℕ, Bool, false};
 
-use crate::history::{Entry, Kept};
 use crate::stepper::Stepper;
 use atomic_table::{Seat, TableRule};
+use seat_history::Known;
 use std::marker::{Brand, PhantomData};
 use std::snapshot::Snapshot;
 
@@ -17,30 +17,20 @@ pub enum Stage {
     Served(u64),
 }
 
-/// What a seat knows. No value of it is made.
+/// What the table keeps of a seat. No value of it is made.
 pub struct View<C> {
     /// None where the seat was joined.
     pub setting: Option<C>,
     pub budget: u64,
-    pub number: u64,
-    /// The turns left.
-    pub left: u64,
-    pub baton: bool,
+    /// What the seat knows.
+    pub known: Known,
     pub stage: Stage,
     /// The event of the ticket that the seat holds.
     pub event: u64,
     // A clause reads an array as a list, of any length.
-    /// The history that the seat has seen.
-    pub seen: [Entry; 0],
-    /// The seat's own entries.
-    pub own: [Entry; 0],
-    /// How many seats seat 0 has made.
-    pub made: u64,
-    /// The own entries of each seat that seat 0 joined.
-    pub kept: [Kept; 0],
     /// Inside a call of `join`, the two histories that seat 0 and the other had seen.
-    pub first: [Entry; 0],
-    pub second: [Entry; 0],
+    pub first: [(u32, u32); 0],
+    pub second: [(u32, u32); 0],
 }
 
 /// What a lock is opened with.
@@ -65,11 +55,11 @@ pub struct Turns<S> {
 
 impl<S: Stepper> TableRule<Option<S>, View<S::Setting>, Opening<S>> for Turns<S> {
     ghost use Rattle.turn_lock.specs.Rule.{TurnRule};
-    ghost use Rattle.turn_lock.specs.Moves.{newcomer};
+    ghost use Rattle.turn_lock.specs.Moves.{first_view};
 
     ghost holds = { λ k. TurnRule S.setting S.journal S.room S.reserved (S.setting k.state.value) k.budget };
 
-    ghost first = { λ k. newcomer (S.setting k.state.value) k.budget };
+    ghost first = { λ k. first_view (S.setting k.state.value) k.budget };
 }
 
 /// A seat at the table. It has no bytes.

@@ -82,7 +82,6 @@
 #![tactic(auto)]
 
 pub mod board;
-mod history;
 mod lock;
 pub mod moves;
 mod plays;
@@ -90,6 +89,5 @@ mod stepper;
 #[cfg(test)]
 mod tests;
 
-pub use history::{Entry, Kept};
 pub use lock::{Seat, TurnLock};
 pub use stepper::Stepper;

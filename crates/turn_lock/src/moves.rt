@@ -1,10 +1,11 @@
 //! The moves of the lock, each one step on a word of its table or on its slot.
 ghost use Rattle.std.specs.Prelude.{◌≡◌, ℕ, ◌+◌, ◌-◌, ◌<◌, ◌++◌, [], ◌∷◌, ◌≤◌, length, Some, None, IfOk, IfErr, IsTrue};
 ghost use Rattle.turn_lock.specs.declared.board.Stage.TheVariants.{Idle, Waits, Served};
-ghost use Rattle.turn_lock.specs.History.{entry, StartsWith};
+ghost use Rattle.seat_history.specs.Histories.{StartsWith};
+ghost use Rattle.seat_history.specs.Seats.{HasJoinedAll};
 ghost use Rattle.turn_lock.specs.Views.{IsLive, Under};
 ghost use Rattle.turn_lock.specs.Rule.{Reserves};
-ghost use Rattle.turn_lock.specs.Moves.{Gets, HoldsState, IsFree, Closes, KnowsAll, Steps, newcomer, gave, got, joined, rested, passed_on};
+ghost use Rattle.turn_lock.specs.Moves.{Gets, HoldsState, IsFree, IsEnd, KnowsAll, IsStep, first_view, view_after_split, new_view, view_after_join, view_after_meet, view_after_pass};
 
 use crate::board::{Aim, Gift, Opening, Token, Turns, View};
 use crate::plays::{Cut, Draw, Glue, Look, Meet, Pass};
@@ -34,7 +35,7 @@ impl<S: Stepper> Board<S> {
         requires room { budget ≤ S.room state }
         ensures lock { IfOk result (λ r. r.1.table_id ≡ r.0.table.shared.table_id) }
         ensures key { IfOk result (λ r. (r.0.table.shared.key.state.value ≡ state) × (r.0.table.shared.key.budget ≡ budget)) }
-        ensures seat { IfOk result (λ r. r.1.me ≡ (newcomer (S.setting state) budget, [])) }
+        ensures seat { IfOk result (λ r. r.1.me ≡ (first_view (S.setting state) budget, [])) }
         ensures refused { IfErr result (λ e. e.0 ≡ state) }
     {
         let opening = Opening {
@@ -54,12 +55,12 @@ impl<S: Stepper> Board<S> {
     // Split: what `G` names goes over to a new seat.
     fn cut<G: Gift>(&self, seat: &mut Token<S>, turns: u32, baton: bool) -> Token<S>
         requires lock { seat.old.table_id ≡ self.now.table.shared.table_id }
-        requires chief { IsFree seat.old.me × (seat.old.me.0.number ≡ 0) }
-        requires turns { (G.turns ≡ turns) × (turns ≤ seat.old.me.0.left) }
-        requires baton { (G.baton ≡ baton) × (IsTrue baton → IsTrue seat.old.me.0.baton) }
+        requires chief { IsFree seat.old.me × (seat.old.me.0.known.number ≡ 0) }
+        requires turns { (G.turns ≡ turns) × (turns ≤ seat.old.me.0.known.left) }
+        requires baton { (G.baton ≡ baton) × (IsTrue baton → IsTrue seat.old.me.0.known.baton) }
         ensures lock { (seat.new.table_id ≡ seat.old.table_id) × (result.table_id ≡ seat.old.table_id) }
-        ensures old { seat.new.me ≡ (gave turns baton seat.old.me.0, seat.old.me.1) }
-        ensures new { result.me ≡ (got turns baton seat.old.me.0, []) }
+        ensures old { seat.new.me ≡ (view_after_split turns baton seat.old.me.0, seat.old.me.1) }
+        ensures new { result.me ≡ (new_view turns baton seat.old.me.0, []) }
     {
         self.table.shared.split_seat::<Cut<G>>(seat)
     }
@@ -67,12 +68,12 @@ impl<S: Stepper> Board<S> {
     // Split: some of the turns go over to a new seat, and the baton where asked.
     pub(crate) fn split(&self, seat: &mut Token<S>, turns: u32, baton: bool) -> Token<S>
         requires lock { seat.old.table_id ≡ self.now.table.shared.table_id }
-        requires chief { IsFree seat.old.me × (seat.old.me.0.number ≡ 0) }
-        requires turns { turns ≤ seat.old.me.0.left }
-        requires baton { IsTrue baton → IsTrue seat.old.me.0.baton }
+        requires chief { IsFree seat.old.me × (seat.old.me.0.known.number ≡ 0) }
+        requires turns { turns ≤ seat.old.me.0.known.left }
+        requires baton { IsTrue baton → IsTrue seat.old.me.0.known.baton }
         ensures lock { (seat.new.table_id ≡ seat.old.table_id) × (result.table_id ≡ seat.old.table_id) }
-        ensures old { seat.new.me ≡ (gave turns baton seat.old.me.0, seat.old.me.1) }
-        ensures new { result.me ≡ (got turns baton seat.old.me.0, []) }
+        ensures old { seat.new.me ≡ (view_after_split turns baton seat.old.me.0, seat.old.me.1) }
+        ensures new { result.me ≡ (new_view turns baton seat.old.me.0, []) }
     {
         self.cut::<Brand>(seat, turns, baton)
     }
@@ -80,14 +81,14 @@ impl<S: Stepper> Board<S> {
     // Join and meet: seat 0 takes another seat in and keeps its entries, and learns that both histories begin what it has seen.
     pub(crate) fn join(&self, seat: &mut Token<S>, other: Token<S>)
         requires lock { (seat.old.table_id ≡ self.now.table.shared.table_id) × (other.table_id ≡ self.now.table.shared.table_id) }
-        requires chief { IsFree seat.old.me × (seat.old.me.0.number ≡ 0) }
+        requires chief { IsFree seat.old.me × (seat.old.me.0.known.number ≡ 0) }
         requires other { IsFree other.me }
         ensures lock { seat.new.table_id ≡ seat.old.table_id }
-        ensures view { seat.new.me ≡ (rested (joined seat.old.me.0 other.me.0), []) }
-        ensures first { StartsWith seat.new.me.0.seen seat.old.me.0.seen }
-        ensures second { StartsWith seat.new.me.0.seen other.me.0.seen }
+        ensures view { seat.new.me ≡ (view_after_meet (view_after_join seat.old.me.0 other.me.0), []) }
+        ensures first { StartsWith seat.new.me.0.known.seen seat.old.me.0.known.seen }
+        ensures second { StartsWith seat.new.me.0.known.seen other.me.0.known.seen }
         ensures settled { KnowsAll seat.new.me.0 }
-        ensures within { seat.new.me.0.left ≤ seat.new.me.0.budget }
+        ensures within { seat.new.me.0.known.left ≤ seat.new.me.0.budget }
     {
         self.table.shared.join_seat::<Glue>(seat, other);
         self.table.shared.load::<Meet<S>>(seat, 0);
@@ -96,10 +97,10 @@ impl<S: Stepper> Board<S> {
     // Draw: a ticket for the event that `E` names.
     fn draw<E: Aim>(&self, seat: &mut Token<S>) -> u64
         requires lock { seat.old.table_id ≡ self.now.table.shared.table_id }
-        requires turn { IsFree seat.old.me × (0 < seat.old.me.0.left) }
-        requires baton { Reserves S.reserved seat.old.me.0.setting E.event → IsTrue seat.old.me.0.baton }
+        requires turn { IsFree seat.old.me × (0 < seat.old.me.0.known.left) }
+        requires baton { Reserves S.reserved seat.old.me.0.setting E.event → IsTrue seat.old.me.0.known.baton }
         ensures lock { seat.new.table_id ≡ seat.old.table_id }
-        ensures view { seat.new.me.0 ≡ record seat.old.me.0 { left = seat.old.me.0.left - 1; stage = Waits result; event = E.event } }
+        ensures view { seat.new.me.0 ≡ record seat.old.me.0 { known = record seat.old.me.0.known { left = seat.old.me.0.known.left - 1 }; stage = Waits result; event = E.event } }
         ensures slots { seat.new.me.1 ≡ seat.old.me.1 }
     {
         self.table.shared.fetch_add::<Draw<S, E>>(seat, 0, 1)
@@ -108,11 +109,11 @@ impl<S: Stepper> Board<S> {
     // Draw: a ticket for an event.
     fn draw_for<E: Aim>(&self, seat: &mut Token<S>, event: u32) -> u64
         requires lock { seat.old.table_id ≡ self.now.table.shared.table_id }
-        requires turn { IsFree seat.old.me × (0 < seat.old.me.0.left) }
+        requires turn { IsFree seat.old.me × (0 < seat.old.me.0.known.left) }
         requires aim { E.event ≡ event }
-        requires baton { Reserves S.reserved seat.old.me.0.setting E.event → IsTrue seat.old.me.0.baton }
+        requires baton { Reserves S.reserved seat.old.me.0.setting E.event → IsTrue seat.old.me.0.known.baton }
         ensures lock { seat.new.table_id ≡ seat.old.table_id }
-        ensures view { seat.new.me.0 ≡ record seat.old.me.0 { left = seat.old.me.0.left - 1; stage = Waits result; event = event } }
+        ensures view { seat.new.me.0 ≡ record seat.old.me.0 { known = record seat.old.me.0.known { left = seat.old.me.0.known.left - 1 }; stage = Waits result; event = event } }
         ensures slots { seat.new.me.1 ≡ seat.old.me.1 }
     {
         self.draw::<E>(seat)
@@ -137,13 +138,13 @@ impl<S: Stepper> Board<S> {
     // Take and give: the state leaves its slot, is stepped, and comes back into it.
     fn serve(&self, seat: &mut Token<S>, by: u32, event: u32, tool: &mut S::Tool) -> S::Reply
         requires lock { seat.old.table_id ≡ self.now.table.shared.table_id }
-        requires state { HoldsState S.setting S.journal S.room seat.old.me seat.old.me.0.seen }
-        requires turn { length seat.old.me.0.seen < seat.old.me.0.budget }
+        requires state { HoldsState S.setting S.journal S.room seat.old.me seat.old.me.0.known.seen }
+        requires turn { length seat.old.me.0.known.seen < seat.old.me.0.budget }
         requires ready { Under seat.old.me.0.setting (λ c. S.ready c event tool.old) }
         ensures lock { seat.new.table_id ≡ seat.old.table_id }
         ensures view { seat.new.me.0 ≡ seat.old.me.0 }
-        ensures state { HoldsState S.setting S.journal S.room seat.new.me (seat.old.me.0.seen ++ entry by event ∷ []) }
-        ensures answers { Under seat.old.me.0.setting (λ c. S.answers c seat.old.me.0.seen by event result tool.new) }
+        ensures state { HoldsState S.setting S.journal S.room seat.new.me (seat.old.me.0.known.seen ++ (by, event) ∷ []) }
+        ensures answers { Under seat.old.me.0.setting (λ c. S.answers c seat.old.me.0.known.seen by event result tool.new) }
     {
         let Some(mut state) = self.table.shared.exchange(seat, 0, None) else {
             unreachable!()
@@ -160,9 +161,10 @@ impl<S: Stepper> Board<S> {
     fn pass(&self, seat: &mut Token<S>)
         requires lock { seat.old.table_id ≡ self.now.table.shared.table_id }
         requires served { IsLive seat.old.me.0.setting × ((t : ℕ) × (seat.old.me.0.stage ≡ Served t)) }
-        requires state { HoldsState S.setting S.journal S.room seat.old.me (seat.old.me.0.seen ++ entry seat.old.me.0.number seat.old.me.0.event ∷ []) }
+        requires state { HoldsState S.setting S.journal S.room seat.old.me (seat.old.me.0.known.seen ++ (seat.old.me.0.known.number, seat.old.me.0.event) ∷ []) }
         ensures lock { seat.new.table_id ≡ seat.old.table_id }
-        ensures view { seat.new.me ≡ (passed_on seat.old.me.0, []) }
+        ensures view { seat.new.me ≡ (view_after_pass seat.old.me.0, []) }
+        ensures settled { seat.old.me.0.known.number ≡ 0 → KnowsAll seat.new.me.0 }
     {
         self.table.shared.fetch_add::<Pass<S>>(seat, 1, 1);
     }
@@ -177,12 +179,12 @@ impl<S: Stepper> Board<S> {
         tool: &mut S::Tool,
     ) -> (u64, S::Reply)
         requires lock { seat.old.table_id ≡ self.now.table.shared.table_id }
-        requires turn { IsFree seat.old.me × (0 < seat.old.me.0.left) }
-        requires number { seat.old.me.0.number ≡ by }
-        requires baton { Reserves S.reserved seat.old.me.0.setting event → IsTrue seat.old.me.0.baton }
+        requires turn { IsFree seat.old.me × (0 < seat.old.me.0.known.left) }
+        requires number { seat.old.me.0.known.number ≡ by }
+        requires baton { Reserves S.reserved seat.old.me.0.setting event → IsTrue seat.old.me.0.known.baton }
         requires ready { Under seat.old.me.0.setting (λ c. S.ready c event tool.old) }
         ensures lock { seat.new.table_id ≡ seat.old.table_id }
-        ensures history { Steps S.reserved S.answers seat.old.me.0 event result.0 result.1 tool.new seat.new.me.0 }
+        ensures history { IsStep S.reserved S.answers seat.old.me.0 event result.0 result.1 tool.new seat.new.me.0 }
         ensures free { IsFree seat.new.me }
     {
         let ticket = self.draw_for::<Brand>(seat, event);
@@ -195,9 +197,9 @@ impl<S: Stepper> Board<S> {
     // The state, where all other seats were joined.
     pub(crate) fn close(self, seat: Token<S>) -> S
         requires lock { seat.table_id ≡ self.table.shared.table_id }
-        requires chief { IsFree seat.me × (seat.me.0.number ≡ 0) }
-        requires all { seat.me.0.made ≡ length seat.me.0.kept }
-        ensures state { Closes S.setting S.journal seat.me.0 result }
+        requires chief { IsFree seat.me × (seat.me.0.known.number ≡ 0) }
+        requires all { HasJoinedAll seat.me.0.known }
+        ensures state { IsEnd S.setting S.journal seat.me.0 result }
     {
         let Board { table } = self;
         let mut closed = table.close_with(seat);

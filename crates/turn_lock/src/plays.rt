@@ -1,5 +1,5 @@
 //! The moves, as the table asks for them: what each tells its seat, and how a view is cut in two and two are made one.
-ghost use Rattle.turn_lock.specs.Moves.{drew, looked, passed, met, gave, got, joined, spent};
+ghost use Rattle.turn_lock.specs.Moves.{IsDraw, IsLook, IsPass, IsMeet, view_after_split, new_view, view_after_join, spent_view};
 
 use crate::board::{Aim, Gift, View};
 use crate::stepper::Stepper;
@@ -11,17 +11,17 @@ pub(crate) struct Cut<G> {
 }
 
 impl<C, G: Gift> Split<View<C>> for Cut<G> {
-    ghost left = { gave G.turns G.baton };
+    ghost left = { view_after_split G.turns G.baton };
 
-    ghost right = { got G.turns G.baton };
+    ghost right = { new_view G.turns G.baton };
 }
 
 pub(crate) struct Glue;
 
 impl<C> Join<View<C>> for Glue {
-    ghost both = { joined };
+    ghost both = { view_after_join };
 
-    ghost spent = { spent };
+    ghost spent = { spent_view };
 }
 
 pub(crate) struct Meet<S> {
@@ -29,7 +29,7 @@ pub(crate) struct Meet<S> {
 }
 
 impl<S: Stepper> Play<Option<S>, View<S::Setting>> for Meet<S> {
-    ghost then = { met };
+    ghost then = { IsMeet };
 }
 
 pub(crate) struct Draw<S, E> {
@@ -37,7 +37,7 @@ pub(crate) struct Draw<S, E> {
 }
 
 impl<S: Stepper, E: Aim> Play<Option<S>, View<S::Setting>> for Draw<S, E> {
-    ghost then = { drew S.setting S.journal S.room S.reserved E.event };
+    ghost then = { IsDraw S.setting S.journal S.room S.reserved E.event };
 }
 
 pub(crate) struct Look<S> {
@@ -45,7 +45,7 @@ pub(crate) struct Look<S> {
 }
 
 impl<S: Stepper> Play<Option<S>, View<S::Setting>> for Look<S> {
-    ghost then = { looked S.setting S.journal S.room S.reserved };
+    ghost then = { IsLook S.setting S.journal S.room S.reserved };
 }
 
 pub(crate) struct Pass<S> {
@@ -53,5 +53,5 @@ pub(crate) struct Pass<S> {
 }
 
 impl<S: Stepper> Play<Option<S>, View<S::Setting>> for Pass<S> {
-    ghost then = { passed };
+    ghost then = { IsPass };
 }

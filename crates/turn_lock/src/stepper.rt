@@ -1,6 +1,5 @@
 ghost use Rattle.std.specs.Prelude.{◌≡◌, ℕ, ◌+◌, ◌<◌, ◌++◌, [], ◌∷◌, List};
-ghost use Rattle.turn_lock.specs.declared.history.Entry.{Entry};
-ghost use Rattle.turn_lock.specs.History.{entry};
+ghost use Rattle.seat_history.specs.Histories.{Entry};
 
 /// A state that is stepped by one event at a time, and keeps a journal of its steps.
 pub trait Stepper {
@@ -34,7 +33,7 @@ pub trait Stepper {
         requires room { 0 < room self.old }
         requires ready { ready (setting self.old) event tool.old }
         ensures setting { setting self.new ≡ setting self.old }
-        ensures journal { journal self.new ≡ journal self.old ++ entry by event ∷ [] }
+        ensures journal { journal self.new ≡ journal self.old ++ (by, event) ∷ [] }
         ensures room { room self.new + 1 ≡ room self.old }
         ensures answers { answers (setting self.old) (journal self.old) by event result tool.new };
 }

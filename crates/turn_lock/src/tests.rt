@@ -2,7 +2,7 @@
 mod crew;
 mod sum;
 
-use crate::{Entry, TurnLock};
+use crate::TurnLock;
 use crew::{crew, step_all};
 use std::alloc::Global;
 use std::sync::Wait;
@@ -16,7 +16,7 @@ struct Run {
     answers: Vec<(u32, u64)>,
     left: u32,
     baton: bool,
-    journal: Vec<Entry>,
+    journal: Vec<(u32, u32)>,
 }
 
 // Seat 0 gives turns to seat 1, and turns and the baton to seat 2. The steps are made in their order, each a seat's number and an event, and then
@@ -64,7 +64,7 @@ fn in_threads<R: Threads + Wait + Sync>(
     alloc: Global,
     seats: u32,
     count: u32,
-) -> Option<Vec<Entry>> {
+) -> Option<Vec<(u32, u32)>> {
     if seats == 0 || seats > 100 || count > 100000 {
         return None;
     }
@@ -80,15 +80,15 @@ fn in_threads<R: Threads + Wait + Sync>(
 }
 
 // Each seat's steps stand in the journal in their order, each once, and nothing else does.
-fn has_all(journal: &[Entry], seats: u32, count: u32) -> bool {
+fn has_all(journal: &[(u32, u32)], seats: u32, count: u32) -> bool {
     for seat in 0..seats {
         let mut last = 0;
-        for entry in journal {
-            if entry.by == seat {
-                if Some(entry.event) != u32::checked_add(last, 1) {
+        for &(by, event) in journal {
+            if by == seat {
+                if Some(event) != u32::checked_add(last, 1) {
                     return false;
                 }
-                last = entry.event;
+                last = event;
             }
         }
         if last != count {
@@ -96,10 +96,6 @@ fn has_all(journal: &[Entry], seats: u32, count: u32) -> bool {
         }
     }
     Some(journal.len()) == (seats as usize).checked_mul(count as usize)
-}
-
-fn entry(by: u32, event: u32) -> Entry {
-    Entry { by, event }
 }
 
 #[test]
@@ -111,10 +107,7 @@ fn a_sum_is_stepped_in_turn(rt: HostRuntime) -> Result<(), Fail> {
         [(0, 5), (1, 12), (2, 13)].as_slice()
     );
     assert_eq!(rt; run.left, 1);
-    assert_eq!(rt;
-        run.journal.as_slice(),
-        [entry(0, 5), entry(1, 7), entry(0, 1)].as_slice()
-    );
+    assert_eq!(rt; run.journal.as_slice(), [(0, 5), (1, 7), (0, 1)].as_slice());
     Ok(())
 }
 
@@ -136,10 +129,7 @@ fn three_seats_in_every_order(rt: HostRuntime) -> Result<(), Fail> {
                 run.answers.as_slice(),
                 [(0, 3), (1, 7), (2, 12)].as_slice()
             );
-            assert_eq!(rt;
-                run.journal.as_slice(),
-                [entry(a, 3), entry(b, 4), entry(c, 5)].as_slice()
-            );
+            assert_eq!(rt; run.journal.as_slice(), [(a, 3), (b, 4), (c, 5)].as_slice());
             assert_eq!(rt; (run.left, run.baton), (1, true), "at {a} {b} {c}");
         }
     }
@@ -149,7 +139,7 @@ fn three_seats_in_every_order(rt: HostRuntime) -> Result<(), Fail> {
 #[test]
 fn the_baton_goes_over(rt: HostRuntime) -> Result<(), Fail> {
     let run = three_seats(&rt, rt.alloc(), [1, 1, 1], &[(2, 0)], false).ok_or("no run")?;
-    assert_eq!(rt; run.journal.as_slice(), [entry(2, 0)].as_slice());
+    assert_eq!(rt; run.journal.as_slice(), [(2, 0)].as_slice());
     assert!(rt; three_seats(&rt, rt.alloc(), [1, 1, 1], &[(0, 0)], false).is_none());
     assert!(rt; three_seats(&rt, rt.alloc(), [1, 1, 1], &[(1, 4), (1, 4)], false).is_none());
     Ok(())

@@ -1,7 +1,7 @@
 //! Seats at work, one after the other and in threads of their own.
 ghost use Rattle.std.specs.Prelude.{◌≡◌, ◌<◌, ◌+◌, ◌^◌, length};
 ghost use Rattle.std.specs.Thread.{IsSync};
-ghost use Rattle.turn_lock.specs.Seats.{IsSeatOf};
+ghost use Rattle.turn_lock.specs.Locks.{IsSeatOf};
 
 use super::sum::Sum;
 use crate::{Seat, TurnLock};
@@ -18,8 +18,8 @@ pub fn step_once<R: Wait>(
 ) -> Option<(u32, u64)>
     requires of { IsSeatOf lock.now seat.old }
     ensures of { IsSeatOf lock.now seat.new }
-    ensures number { seat.new.number ≡ seat.old.number }
-    ensures seats { (seat.new.made ≡ seat.old.made) × (length seat.new.kept ≡ length seat.old.kept) }
+    ensures number { seat.new.known.number ≡ seat.old.known.number }
+    ensures seats { (seat.new.known.made ≡ seat.old.known.made) × (length seat.new.known.kept ≡ length seat.old.known.kept) }
 {
     if seat.left() == 0 || (event == 0 && !seat.baton()) {
         return None;
@@ -44,8 +44,8 @@ pub fn step_all<R: Wait>(
     ensures zero { IsSeatOf lock.now zero.new }
     ensures one { IsSeatOf lock.now one.new }
     ensures two { IsSeatOf lock.now two.new }
-    ensures number { zero.new.number ≡ zero.old.number }
-    ensures seats { (zero.new.made ≡ zero.old.made) × (length zero.new.kept ≡ length zero.old.kept) }
+    ensures number { zero.new.known.number ≡ zero.old.known.number }
+    ensures seats { (zero.new.known.made ≡ zero.old.known.made) × (length zero.new.known.kept ≡ length zero.old.known.kept) }
 {
     let mut answers = Vec::new(alloc);
     for &(number, event) in steps {
@@ -64,8 +64,8 @@ pub fn steps<R: Wait>(rt: &R, lock: &TurnLock<Sum>, mut seat: Seat<Sum>, count: 
     requires of { IsSeatOf lock.now seat }
     requires few { count < 1000000 }
     ensures of { IsSeatOf lock.now result }
-    ensures number { result.number ≡ seat.number }
-    ensures seats { (result.made ≡ seat.made) × (length result.kept ≡ length seat.kept) }
+    ensures number { result.known.number ≡ seat.known.number }
+    ensures seats { (result.known.made ≡ seat.known.made) × (length result.known.kept ≡ length seat.known.kept) }
 {
     for i in 0..count {
         step_once(rt, lock, &mut seat, i + 1);
@@ -82,11 +82,11 @@ pub fn crew<R: Threads + Wait + Sync>(
     count: u32,
 ) -> Seat<Sum>
     requires of { IsSeatOf lock.now seat }
-    requires chief { seat.number ≡ 0 }
-    requires few { (count < 1000000) × (seat.made + more < 2 ^ 32) }
+    requires chief { seat.known.number ≡ 0 }
+    requires few { (count < 1000000) × (seat.known.made + more < 2 ^ 32) }
     ensures of { IsSeatOf lock.now result }
-    ensures chief { result.number ≡ 0 }
-    ensures seats { (result.made ≡ seat.made + more) × (length result.kept ≡ length seat.kept + more) }
+    ensures chief { result.known.number ≡ 0 }
+    ensures seats { (result.known.made ≡ seat.known.made + more) × (length result.known.kept ≡ length seat.known.kept + more) }
 {
     if more == 0 {
         return steps(rt, lock, seat, count);
@@ -101,8 +101,8 @@ pub fn crew<R: Threads + Wait + Sync>(
             ensures { IsSeatOf lock.entry.now result }
         { steps(rt, lock, other, count) },
         move || -> Seat<Sum>
-            requires { IsSync R.row × IsSeatOf lock.now seat × (seat.number ≡ 0) × (count < 1000000) × (seat.made + next < 2 ^ 32) }
-            ensures { IsSeatOf lock.entry.now result × (result.number ≡ 0) × (result.made ≡ seat.made + next) × (length result.kept ≡ length seat.kept + next) }
+            requires { IsSync R.row × IsSeatOf lock.now seat × (seat.known.number ≡ 0) × (count < 1000000) × (seat.known.made + next < 2 ^ 32) }
+            ensures { IsSeatOf lock.entry.now result × (result.known.number ≡ 0) × (result.known.made ≡ seat.known.made + next) × (length result.known.kept ≡ length seat.known.kept + next) }
         { crew(rt, lock, seat, next, count) },
     );
     seat.join(lock, other);

@@ -1,7 +1,7 @@
 //! A sum that many seats add to.
 ghost use Rattle.std.specs.Prelude.{◌≡◌, ◌-◌, ◌≤◌, [], length, vec_capacity, IfOk};
 
-use crate::{Entry, Stepper};
+use crate::Stepper;
 use std::alloc::{AllocError, Global};
 
 /// A step adds its event and answers the sum. The tool counts the steps. Event 0 is reserved.
@@ -9,7 +9,7 @@ use std::alloc::{AllocError, Global};
 pub struct Sum {
     total: u64,
     most: usize,
-    journal: Vec<Entry>,
+    journal: Vec<(u32, u32)>,
     ghost reserved: { most ≤ vec_capacity journal },
 }
 
@@ -25,7 +25,7 @@ impl Sum {
         })
     }
 
-    pub fn into_journal(self) -> Vec<Entry> {
+    pub fn into_journal(self) -> Vec<(u32, u32)> {
         let Sum {
             total: _,
             most: _,
@@ -57,7 +57,7 @@ impl Stepper for Sum {
     fn step(&mut self, by: u32, event: u32, tool: &mut u32) -> u64 {
         *tool = tool.wrapping_add(1);
         self.total = self.total.wrapping_add(u64::from(event));
-        if self.journal.push(Entry { by, event }).is_err() {
+        if self.journal.push((by, event)).is_err() {
             unreachable!()
         }
         self.total

@@ -1,7 +1,8 @@
 use Rattle.std.proofs.Common.{rules, ◌≡◌, ◌+◌, ℕ, [], ◌∷◌, ◌++◌, length, refl, sym, ap, ◌∙◌, subst, arith, length-take-le}
 use Rattle.circuit_model.specs.FrameInput.{Input}
 use Rattle.exchange_core.specs.Responses.{reply_of}
-use Rattle.exchange_core.specs.Seats.{before, world_at, setting_at}
+use Rattle.seat_history.specs.Histories.{before}
+use Rattle.exchange_core.specs.Boards.{world_at, setting_at}
 use Rattle.exchange_core.specs.World.{Dimensions}
 use Rattle.frame_engine.specs.Frames.{PlaysOut}
 use Rattle.tone_rules.specs.Tables.{table_of}

@@ -1,6 +1,6 @@
 use Rattle.std.proofs.Common.{[], refl, arith, length-take-le}
 use Rattle.exchange_core.specs.Responses.{reply_of}
-use Rattle.exchange_core.specs.Seats.{before}
+use Rattle.seat_history.specs.Histories.{before}
 use Rattle.call_processor.specs.declared.worked.Placed.{Placed}
 use Rattle.call_processor.specs.Keeping.{placed}
 use Rattle.call_processor.proofs.Done.{Next, answer_next}

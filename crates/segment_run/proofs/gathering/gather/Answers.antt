@@ -1,7 +1,8 @@
 use Rattle.std.proofs.Common.{rules, sym, subst, ap, ◌∙◌, List, ◌++◌, map, reverse}
 use Rattle.std.specs.List.{All}
 use Rattle.std.proofs.lemmas.List.Elements.{All-push}
-use Rattle.exchange_core.specs.Seats.{Known, StartsWith}
+use Rattle.seat_history.specs.declared.known.Known.{Known}
+use Rattle.seat_history.specs.Histories.{StartsWith}
 use Rattle.call_processor.specs.declared.worked.Finished.{Finished}
 use Rattle.call_processor.specs.declared.worked.Workplace.{Workplace}
 use Rattle.segment_run.specs.Team.{joined_all}

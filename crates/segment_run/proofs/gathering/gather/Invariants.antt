@@ -1,7 +1,9 @@
 use Rattle.std.proofs.Common.{◌≡◌, ◌+◌, ◌<◌, ◌≤◌, ◌++◌, List, length, map, reverse}
 use Rattle.std.specs.List.{All}
 use Rattle.std.specs.Prelude.{vec_len, vec_capacity}
-use Rattle.exchange_core.specs.Seats.{Settled, StartsWith, turns_of}
+use Rattle.seat_history.specs.Histories.{StartsWith}
+use Rattle.seat_history.specs.Seats.{Settled}
+use Rattle.exchange_core.specs.Boards.{turns_of}
 use Rattle.exchange_core.specs.Working.{Entry}
 use Rattle.segment_run.specs.Team.{joined_all}
 use Rattle.segment_run.proofs.gathering.gather.Given as goal

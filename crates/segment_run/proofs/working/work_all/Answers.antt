@@ -1,7 +1,7 @@
 use Rattle.std.proofs.Common.{◌+◌, ℕ, sym, subst, ap, ◌∙◌, IsTrue, List, length}
 use Rattle.std.specs.Prelude.{replicate}
 use Rattle.std.specs.List.{All}
-use Rattle.exchange_core.specs.Seats.{Known}
+use Rattle.seat_history.specs.declared.known.Known.{Known}
 use Rattle.exchange_core.specs.Sound.{IsSound}
 use Rattle.exchange_core.specs.Working.{Entry}
 use Rattle.tone_rules.specs.Tables.{table_of}

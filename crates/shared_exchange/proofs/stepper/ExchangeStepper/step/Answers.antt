@@ -1,14 +1,11 @@
-use Rattle.std.proofs.Common.{List, sym, subst}
+use Rattle.std.proofs.Common.{subst}
 use Rattle.exchange_core.specs.Responses.{reply_of}
-use Rattle.exchange_core.specs.Working.{Working, Entry}
+use Rattle.exchange_core.specs.Working.{Working}
 use Rattle.shared_exchange.specs.Sharing.{Answers, board_of}
-use Rattle.shared_exchange.proofs.Histories.{history_in}
 use Rattle.shared_exchange.proofs.stepper.ExchangeStepper.step.Goals as goal
 
 pub returns-clause-answers : goal.returns-clause-answers
 returns-clause-answers g c =
-    let core = c.args.self.now.core.value in
     let done = c.work.ensures in
-    subst (λ (history : List Entry). Answers (board_of core) history c.args.event (reply_of c.work.result c.work.new.out) c.work.new.tool) (sym (history_in core.journal))
-    (subst (λ (m : Working). Answers (board_of m) m.journal c.args.event (reply_of c.work.result c.work.new.out) c.work.new.tool) c.deref_mut.ensures.value
-    record { reply = done.reply; few = done.few; shows = done.shows; tool_is = done.tool })
+    subst (λ (m : Working). Answers (board_of m) m.journal c.args.event (reply_of c.work.result c.work.new.out) c.work.new.tool) c.deref_mut.ensures.value
+    record { reply = done.reply; few = done.few; shows = done.shows; tool_is = done.tool }

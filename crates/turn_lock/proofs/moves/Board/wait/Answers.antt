@@ -1,11 +1,11 @@
 use Rattle.std.proofs.Common.{rules, ap, sym, ◌∙◌, subst}
 use Rattle.turn_lock.specs.Moves.{Gets}
 use Rattle.turn_lock.specs.Views.{IsLive}
-use Rattle.turn_lock.proofs.Keeps.{looks}
+use Rattle.turn_lock.proofs.Keeps.{look_keeps}
 use Rattle.turn_lock.proofs.moves.Board.wait.Goals as goal
 
 pub load-requires : goal.load-requires
-load-requires g c = let inv = c.loop.invariant in (search rules, search rules, looks _ _ _ _ _ _ _ _ _ c.args.ticket (subst (λ m. IsLive m.0.setting) (sym inv.1) c.requires.ticket.0) (search rules) (search rules))
+load-requires g c = let inv = c.loop.invariant in (search rules, search rules, look_keeps _ _ _ _ _ _ _ _ _ c.args.ticket (subst (λ m. IsLive m.0.setting) (sym inv.1) c.requires.ticket.0) (search rules) (search rules))
 
 pub returns-then-load-ticket-clause-gets : goal.returns-then-load-ticket-clause-gets
 returns-then-load-ticket-clause-gets g c =

@@ -1,5 +1,5 @@
 use Rattle.std.proofs.Common.{◌≡◌, length}
-use Rattle.turn_lock.specs.Seats.{IsSeatOf}
+use Rattle.turn_lock.specs.Locks.{IsSeatOf}
 use Rattle.turn_lock.proofs.tests.crew.step_all.Given as goal
 
 abbrev pub invariant-loop-number : goal.invariant-loop-number
@@ -7,7 +7,7 @@ invariant-loop-number g l = record {
   zero : IsSeatOf l.fn.lock l.zero;
   one : IsSeatOf l.fn.lock l.one;
   two : IsSeatOf l.fn.lock l.two;
-  number : l.zero.number ≡ l.fn.zero.number;
-  made : l.zero.made ≡ l.fn.zero.made;
-  kept : length l.zero.kept ≡ length l.fn.zero.kept;
+  number : l.zero.known.number ≡ l.fn.zero.known.number;
+  made : l.zero.known.made ≡ l.fn.zero.known.made;
+  kept : length l.zero.known.kept ≡ length l.fn.zero.known.kept;
 }

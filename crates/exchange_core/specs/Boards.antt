@@ -1,0 +1,52 @@
+-- What a switchboard does, and what it answers at a history. A seat is the right to do so many events of a trace; all seats of a board share one
+-- history. Source: this exchange's own.
+use Rattle.std.specs.Prelude.{◌≡◌, ℕ, List, length}
+use Rattle.circuit_model.specs.FrameInput.{Input}
+use Rattle.seat_history.specs.Histories.{Entry, HasNone}
+use Rattle.exchange_core.specs.declared.reply.Reply.{Reply}
+use Rattle.exchange_core.specs.declared.tool.Tool.{Tool}
+use Rattle.exchange_core.specs.declared.trace.Event.{Event}
+use Rattle.exchange_core.specs.declared.trace.Event.TheVariants.{Frame}
+use Rattle.exchange_core.specs.declared.trace.Trace.{Trace}
+use Rattle.exchange_core.specs.Setup.{Setting}
+use Rattle.exchange_core.specs.Sound.{setting_of}
+use Rattle.exchange_core.specs.Step.{reply}
+use Rattle.exchange_core.specs.Working.{IsNumbered, IsToolFor, ShowsWorld, order_of, world_after}
+use Rattle.exchange_core.specs.World.{World}
+
+-- the trace, how many internal slots the fabric has, and how many live paths a new one moves at the most
+pub record Board : Type 0 where
+  pub trace : Trace
+  pub slots : ℕ
+  pub bound : ℕ
+
+-- one turn for each event
+abbrev pub turns_of : Board → ℕ
+turns_of board = length board.trace.events
+
+abbrev pub setting_at : Board → Setting
+setting_at board = setting_of board.slots board.trace
+
+-- the world after a history
+abbrev pub world_at : Board → List Entry → World
+world_at board history = world_after board.slots board.trace (order_of history)
+
+-- the trace's event with this number is a frame
+abbrev pub IsFrame : Trace → ℕ → Type 0
+IsFrame trace n = (input : Input) × IsNumbered trace n (Frame input)
+
+-- no entry is of a frame
+abbrev pub NoFrames : Trace → List Entry → Type 0
+NoFrames trace history = HasNone (IsFrame trace) history
+
+-- the tool is one for the event with this number
+abbrev pub IsToolAt : Board → ℕ → Tool → Type 0
+IsToolAt board n tool = (e : Event) → IsNumbered board.trace n e → IsToolFor (setting_at board).dimensions e tool
+
+-- the event with this number is answered as the exchange does after this history
+abbrev pub AnswersAt : Board → List Entry → ℕ → Reply → Type 0
+AnswersAt board history n answer = (e : Event) → IsNumbered board.trace n e → answer ≡ reply (setting_at board) (world_at board history) e
+
+-- where the event with this number is a frame, the tool shows the world after this history
+abbrev pub ShowsAt : Board → List Entry → ℕ → Tool → Type 0
+ShowsAt board history n tool = (e : Event) → IsNumbered board.trace n e → ShowsWorld (world_at board history) e tool
