@@ -1,15 +1,14 @@
 -- What is kept of a worker's events, one after another.
-use Rattle.std.proofs.Common.{◌≡◌, ℕ, ◌+◌, ◌<◌, true, false, List, [], ◌∷◌, ◌++◌, length, Result, Ok, Err, OnOk, refl, sym, ap, ◌∙◌, subst}
+use Rattle.std.proofs.Common.{◌≡◌, ℕ, true, false, List, [], ◌∷◌, ◌++◌, Result, Ok, Err, OnOk, refl, subst}
 use Rattle.std.specs.List.{All}
 use Rattle.std.proofs.lemmas.List.Elements.{All-nil, All-push}
 use Rattle.seat_history.specs.declared.known.Known.{Known}
 use Rattle.seat_history.specs.Histories.{StartsWith, before}
 use Rattle.exchange_core.specs.Boards.{Board}
-use Rattle.seat_history.specs.Histories.{Entry}
 use Rattle.call_processor.specs.declared.worked.Placed.{Placed}
 use Rattle.call_processor.specs.Keeping.{HasKept, KeepsWork}
 use Rattle.call_processor.specs.Work.{Handled, IsAnswer}
-use Rattle.call_processor.proofs.Done.{Going, Next, begins_next, going_none, going_said, next_of, works_front, works_lacking, works_whole}
+use Rattle.call_processor.proofs.Done.{Going, begins_next, going_none, going_said, next_of, works_front, works_lacking, works_whole}
 
 pub on_ok : {A E : Type 0} {P Q : Type 0} (r : Result A E) → (P → Q) → OnOk r P → OnOk r Q
 on_ok (Ok a) f p = f p
