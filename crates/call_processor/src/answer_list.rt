@@ -30,6 +30,10 @@ impl AnswerList {
 impl Keeper for AnswerList {
     ghost holds = { λ k answers. k.items.items ≡ answers };
 
+    fn another(&self, alloc: Global) -> AnswerList {
+        AnswerList::new(alloc)
+    }
+
     fn clear(&mut self) {
         self.items.clear();
     }

@@ -9,9 +9,13 @@ use std::alloc::{AllocError, Global};
 
 /// What a worker has for the events that it did: it is told of each, and keeps of it what is wanted.
 /// Events that several workers did are put together by their places in the history.
-pub trait Keeper: Send + Drop {
+pub trait Keeper: Sized + Send + Drop {
     /// What it keeps is of these answers, each with its place, in order.
     ghost holds: { Self → List Placed → Type 0 };
+
+    /// Another keeper of the same kind, which keeps nothing yet.
+    fn another(&self, alloc: Global) -> Self
+        ensures { holds result [] };
 
     /// Keeps nothing any more.
     fn clear(&mut self)

@@ -17,7 +17,6 @@ use Rattle.seat_history.specs.Histories.{StartsWith, before}
 use Rattle.exchange_core.specs.Boards.{Board, AnswersAt, world_at}
 use Rattle.exchange_core.specs.Working.{Entry, IsNumbered, order_of}
 use Rattle.call_processor.specs.declared.worked.Placed.{Placed}
-use Rattle.call_processor.specs.declared.worked.Workplace.{Workplace}
 use Rattle.call_processor.specs.Frames.{Plays, HasFrame, IsPlayed}
 use Rattle.call_processor.specs.Parts.{does, is_its}
 use Rattle.call_processor.specs.Work.{IsAnswer, Works, answered}
@@ -41,12 +40,12 @@ number_of (Some e) = e.0
 pub no_frame : (trace : Trace) (p n : ℕ) (input : Input) → is_its trace (Processor p) n ≡ true → IsNumbered trace n (Frame input) → ⊥
 no_frame trace p n input its number = let e : false ≡ true = ap (does trace.processors (Processor p)) (sym number) ∙ its in absurd (cc e)
 
-module _ {J U : Type 0} (plays : Plays) (tones : Kind → List ℕ) (board : Board) (trace : Trace) (segment : ℕ) (wj : J → ℕ) (kj : J → Known) (ku : U → Known) (au : U → Workplace) (bu : U → Bool) where
+module _ {J U : Type 0} (plays : Plays) (tones : Kind → List ℕ) (board : Board) (trace : Trace) (segment : ℕ) (wj : J → ℕ) (kj : J → Known) (ku : U → Known) (au : U → List Placed) (bu : U → Bool) where
   abbrev pub Octets : J → U → Type 0
-  Octets j u = wj j ≡ trace.processors → All (HasFrame plays tones board (ku u)) (au u).answers.items
+  Octets j u = wj j ≡ trace.processors → All (HasFrame plays tones board (ku u)) (au u)
 
   abbrev pub Answers : J → U → Type 0
-  Answers j u = Works board (part_numbered trace segment (wj j)) (kj j) (au u).answers.items (bu u) (ku u) × Octets j u
+  Answers j u = Works board (part_numbered trace segment (wj j)) (kj j) (au u) (bu u) (ku u) × Octets j u
 
   abbrev pub seated : List J → List (ℕ × Known)
   seated js = map (λ (j : J). (wj j, kj j)) js
@@ -59,17 +58,17 @@ module _ {J U : Type 0} (plays : Plays) (tones : Kind → List ℕ) (board : Boa
     given : IsAnswered plays tones board k.seen p.place p.answer
 
   module _ (same : trace ≡ board.trace) (v k : Known) where
-    good : (j : J) (u : U) → Answers j u → wj j ≤ trace.processors → (kj j).seen ≡ v.seen → StartsWith k.seen (ku u).seen → (p : Placed) → In p (au u).answers.items → Good (length v.seen) k (kj j).number p
+    good : (j : J) (u : U) → Answers j u → wj j ≤ trace.processors → (kj j).seen ≡ v.seen → StartsWith k.seen (ku u).seen → (p : Placed) → In p (au u) → Good (length v.seen) k (kj j).number p
     good j u r few started s p i =
         let w = r.0 in
-        let a = all_in (IsAnswer board (ku u)) (au u).answers.items w.each p i in
+        let a = all_in (IsAnswer board (ku u)) (au u) w.each p i in
         let here = got_within (ku u).seen p.place ((ku u).number, p.answer.event) a.entry in
         let as_before : before p.place k.seen ≡ before p.place (ku u).seen = ap (take p.place) s.1 ∙ take-append-le p.place (ku u).seen s.0 (omega (arith, here)) in
-        let beyond = all_in (λ (q : Placed). length (kj j).seen ≤ q.place) (au u).answers.items w.beyond p i in
+        let beyond = all_in (λ (q : Placed). length (kj j).seen ≤ q.place) (au u) w.beyond p i in
         let long = ap length started in
         let part = part_numbered trace segment (wj j) in
-        let said : In p.answer.event (answered (au u).answers.items) = in_map (λ (q : Placed). q.answer.event) (au u).answers.items p i in
-        let done : In p.answer.event w.done = subst (λ (l : List ℕ). In p.answer.event l) (sym w.told.1) (in_left (answered (au u).answers.items) w.told.0 p.answer.event said) in
+        let said : In p.answer.event (answered (au u)) = in_map (λ (q : Placed). q.answer.event) (au u) p i in
+        let done : In p.answer.event w.done = subst (λ (l : List ℕ). In p.answer.event l) (sym w.told.1) (in_left (answered (au u)) w.told.0 p.answer.event said) in
         let its : In p.answer.event part = subst (λ (l : List ℕ). In p.answer.event l) (sym w.first.1) (in_left w.done w.first.0 p.answer.event done) in
         let worker = worker_numbered trace.processors (wj j) in
         let f = filter_in (λ (m : ℕ). nat_eq (segment_of trace.segments m) segment && is_its trace worker m) _ p.answer.event its in
@@ -96,21 +95,21 @@ module _ {J U : Type 0} (plays : Plays) (tones : Kind → List ℕ) (board : Boa
         octets mine input number (inl inside) =
             absurd (no_frame trace (wj j) p.answer.event input (ap (λ (w : Worker). is_its trace w p.answer.event) (sym (numbered_processor trace.processors (wj j) inside)) ∙ mine)
             (subst (λ (t : Trace). IsNumbered t p.answer.event (Frame input)) (sym same) number))
-        octets mine input number (inr past) = all_in (HasFrame plays tones board (ku u)) (au u).answers.items (r.1 (omega (arith, past, few))) p i input number
+        octets mine input number (inr past) = all_in (HasFrame plays tones board (ku u)) (au u) (r.1 (omega (arith, past, few))) p i input number
 
     -- ---- all answers
 
     abbrev pub lists : List U → List (Workplace)
     lists us = reverse (map au us)
 
-    lists_cons : (u : U) (us : List U) → all_of (lists (u ∷ us)) ≡ all_of (lists us) ++ (au u).answers.items
+    lists_cons : (u : U) (us : List U) → all_of (lists (u ∷ us)) ≡ all_of (lists us) ++ (au u)
     lists_cons u us = ap all_of (reverse_cons (au u) (map au us)) ∙ all_of_last (lists us) (au u)
 
-    in_lists : (us : List U) (p : Placed) → In p (all_of (lists us)) → (u : U) × In u us × In p (au u).answers.items
+    in_lists : (us : List U) (p : Placed) → In p (all_of (lists us)) → (u : U) × In u us × In p (au u)
     in_lists [] p i = absurd (subst (λ (l : List Placed). In p l) all_of_none i)
-    in_lists (u ∷ us) p i = pick (in_lists us p) (in_either (all_of (lists us)) (au u).answers.items p (subst (λ (l : List Placed). In p l) (lists_cons u us) i))
+    in_lists (u ∷ us) p i = pick (in_lists us p) (in_either (all_of (lists us)) (au u) p (subst (λ (l : List Placed). In p l) (lists_cons u us) i))
       where
-        pick : (In p (all_of (lists us)) → (x : U) × In x us × In p (au x).answers.items) → In p (all_of (lists us)) ⊎ In p (au u).answers.items → (x : U) × In x (u ∷ us) × In p (au x).answers.items
+        pick : (In p (all_of (lists us)) → (x : U) × In x us × In p (au x)) → In p (all_of (lists us)) ⊎ In p (au u) → (x : U) × In x (u ∷ us) × In p (au x)
         pick tail (inl h) = let r = tail h in (r.0, inr r.1, r.2)
         pick tail (inr h) = (u, inl refl, h)
 
@@ -159,7 +158,7 @@ module _ {J U : Type 0} (plays : Plays) (tones : Kind → List ℕ) (board : Boa
     apart n low (j ∷ js) (u ∷ us) z d seen =
         let tail : All Seen us = λ i x h. seen (suc i) x (omega (arith, h)) in
         subst AreApart (sym (lists_cons u us))
-        (apart_append (all_of (lists us)) (au u).answers.items (apart (n + 1) (wj j + 1) js us z.1 d.3 tail) (apart_rising (au u).answers.items z.0.0.rising)
+        (apart_append (all_of (lists us)) (au u) (apart (n + 1) (wj j + 1) js us z.1 d.3 tail) (apart_rising (au u) z.0.0.rising)
         (λ p q a b e.
         let older = one_good (n + 1) (wj j + 1) js us z.1 d.3 tail p a in
         let mine = good j u z.0 d.1 d.2.seen_is (seen 0 u (omega arith)) q b in
@@ -176,10 +175,10 @@ module _ {J U : Type 0} (plays : Plays) (tones : Kind → List ℕ) (board : Boa
     as_many n low (j ∷ js) [] z d whole = absurd z
     as_many n low (j ∷ js) (u ∷ us) z d whole =
         let a = ap length (lists_cons u us) in
-        let b = length-append (all_of (lists us)) (au u).answers.items in
+        let b = length-append (all_of (lists us)) (au u) in
         let c = as_many (n + 1) (wj j + 1) js us z.1 d.3 (λ i x h. whole (suc i) x (omega (arith, h))) in
         let told = ap length (z.0.0.all (whole 0 u (omega arith))) in
-        let e = length_of_map (λ (q : Placed). q.answer.event) (au u).answers.items in
+        let e = length_of_map (λ (q : Placed). q.answer.event) (au u) in
         let turns = d.2.turns_are in
         omega (arith, a, b, c, told, e, turns)
 

@@ -1,7 +1,7 @@
 pub mod Orders
 pub mod Lists
 pub mod Doers
-pub mod Filling
+pub mod Merges
 pub mod Runs
 pub mod Loads
 pub mod Answered

@@ -17,7 +17,6 @@ use Rattle.exchange_core.specs.Boards.{Board, IsFrame, NoFrames, turns_of, world
 use Rattle.exchange_core.specs.Sound.{IsSound}
 use Rattle.exchange_core.specs.Working.{Entry, order_of}
 use Rattle.exchange_core.specs.World.{Dimensions}
-use Rattle.call_processor.specs.declared.worked.Workplace.{Workplace}
 use Rattle.call_processor.specs.Frames.{Carrying, Plays, IsReady}
 use Rattle.call_processor.specs.Parts.{does, is_its, is_worker, part_of}
 use Rattle.call_processor.specs.Work.{Works, answered}
@@ -126,7 +125,7 @@ module _ (turns : ℕ) (trace : Trace) (segment : ℕ) (v k : Known) (rest : Lis
 
 -- ---- the whole run
 
-module _ {J U E : Type 0} (board : Board) (trace : Trace) (segment : ℕ) (wj : J → ℕ) (kj : J → Known) (ku : U → Known) (au : U → Workplace) (bu : U → Bool)
+module _ {J U E : Type 0} (board : Board) (trace : Trace) (segment : ℕ) (wj : J → ℕ) (kj : J → Known) (ku : U → Known) (au : U → List Placed) (bu : U → Bool)
     (plays : Plays) (tones : Kind → List ℕ) (carries : Carrying E) (next : E → ℕ) (sizes : E → Dimensions) where
   abbrev IsReadyAt : List Entry → E → Tool → Type 0
   IsReadyAt = IsReady carries next sizes board
@@ -135,7 +134,7 @@ module _ {J U E : Type 0} (board : Board) (trace : Trace) (segment : ℕ) (wj : 
   jobs_of js = map (λ (j : J). (wj j, kj j)) js
 
   abbrev Did_part : J → U → Type 0
-  Did_part j u = Works board (part_numbered trace segment (wj j)) (kj j) (au u).answers.items (bu u) (ku u)
+  Did_part j u = Works board (part_numbered trace segment (wj j)) (kj j) (au u) (bu u) (ku u)
 
   abbrev Has_octets : J → U → Type 0
   Has_octets = Octets plays tones board trace segment wj kj ku au bu
@@ -265,7 +264,7 @@ module _ {J U E : Type 0} (board : Board) (trace : Trace) (segment : ℕ) (wj : 
         let w = y.0 in
         let given = ap length (w.all (whole 0 u (omega arith))) in
         let told = ap length w.told.1 in
-        let told_long = length-append (answered (au u).answers.items) w.told.0 in
+        let told_long = length-append (answered (au u)) w.told.0 in
         let first = ap length w.first.1 in
         let first_long = length-append w.done w.first.0 in
         let turns = w.did.turns in

@@ -61,21 +61,3 @@ pub record HasDealt (v : Known) (seats : ℕ) (w : Known) : Type 0 where
 abbrev pub joined_all : Known → List Known → Known
 joined_all v [] = v
 joined_all v (w ∷ ws) = after_join (joined_all v ws) w
-
--- the answer's place is one of so many, from lo on
-abbrev pub IsWithin : ℕ → ℕ → Placed → Type 0
-IsWithin lo count p = (lo ≤ p.place) × (p.place < lo + count)
-
--- the answers once each of these stands at its place, counted from lo; the last is put there first
-unfoldable pub filled : ℕ → List Placed → List Answer → List Answer
-filled lo [] xs = xs
-filled lo (p ∷ ps) xs = slice_set (filled lo ps xs) (p.place - lo) p.answer
-
--- the answers at all workplaces
-unfoldable pub all_of : List Workplace → List Placed
-all_of [] = []
-all_of (w ∷ ws) = w.answers.items ++ all_of ws
-
--- each answer at the workplace stands behind the one before it in the history
-abbrev pub IsRising : Workplace → Type 0
-IsRising w = AllPairs (λ (p q : Placed). p.place < q.place) w.answers.items

@@ -24,7 +24,7 @@ mod team;
 mod working;
 mod workroom;
 
-pub use answers::SegmentAnswer;
+pub use answers::{SegmentAnswer, SegmentDone};
 pub use laws::{first_seat_is_chief, segments_leave_room, segments_make_lawful_orders};
 pub use run::{run_segment, run_segment_in};
 pub use workroom::Workroom;
