@@ -108,6 +108,11 @@ pub all_of_none : all_of [] ≡ []
 unfolding all_of
 all_of_none = refl
 
+pub all_of_last : (parts : List (List Placed)) (ps : List Placed) → all_of (parts ++ ps ∷ []) ≡ all_of parts ++ ps
+all_of_last [] ps = all_of_cons ps [] ∙ (ap (λ (l : List Placed). ps ++ l) all_of_none ∙ (append-nil ps ∙ ap (λ (l : List Placed). l ++ ps) (sym all_of_none)))
+all_of_last (qs ∷ parts) ps =
+    all_of_cons qs (parts ++ ps ∷ []) ∙ (ap (λ (l : List Placed). qs ++ l) (all_of_last parts ps) ∙ (sym (append_assoc qs (all_of parts) ps) ∙ ap (λ (l : List Placed). l ++ ps) (sym (all_of_cons qs parts))))
+
 in_front : (ps : List Placed) (parts : List (List Placed)) (p : Placed) → In p ps → In p (all_of (ps ∷ parts))
 in_front ps parts p i = subst (In p) (sym (all_of_cons ps parts)) (in_left ps (all_of parts) p i)
 
@@ -121,6 +126,19 @@ pub in_part : (parts : List (List Placed)) (k : ℕ) (ps : List Placed) (p : Pla
 in_part [] k ps p at i = absurd (cc at)
 in_part (qs ∷ parts) zero ps p at i = let same : qs ≡ ps = cc at in in_front qs parts p (subst (In p) (sym same) i)
 in_part (qs ∷ parts) (suc k) ps p at i = in_behind qs parts p (in_part parts k ps p at i)
+
+-- one part more, at the end
+pub apart_last : (parts : List (List Placed)) (ps : List Placed) → AreApart parts → IsRising ps → ((p q : Placed) → In p (all_of parts) → In q ps → q.place ≢ p.place) → AreApart (parts ++ ps ∷ [])
+apart_last [] ps a r f = (r, (λ p q i j. absurd (subst (In q) all_of_none j)), tt)
+apart_last (qs ∷ parts) ps a r f = (
+  a.0,
+  (λ p q i j. pick p q i (in_either (all_of parts) ps q (subst (In q) (all_of_last parts ps) j))),
+  apart_last parts ps a.2 r (λ p q i j. f p q (in_behind qs parts p i) j),
+)
+  where
+    pick : (p q : Placed) → In p qs → In q (all_of parts) ⊎ In q ps → q.place ≢ p.place
+    pick p q i (inl h) = a.1 p q i h
+    pick p q i (inr h) = f p q (in_front qs parts p i) h
 
 -- what is left once the part with number k is cut to what is behind its run
 module _ (ps run rest : List Placed) (is : ps ≡ run ++ rest) where

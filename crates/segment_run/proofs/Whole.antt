@@ -17,19 +17,20 @@ use Rattle.exchange_core.specs.Boards.{Board, IsFrame, NoFrames, turns_of, world
 use Rattle.exchange_core.specs.Sound.{IsSound}
 use Rattle.exchange_core.specs.Working.{Entry, order_of}
 use Rattle.exchange_core.specs.World.{Dimensions}
+use Rattle.call_processor.specs.declared.worked.Placed.{Placed}
 use Rattle.call_processor.specs.Frames.{Carrying, Plays, IsReady}
 use Rattle.call_processor.specs.Parts.{does, is_its, is_worker, part_of}
 use Rattle.call_processor.specs.Work.{Works, answered}
 use Rattle.call_processor.proofs.FrameSteps.{same_frames, still_carried}
-use Rattle.segment_run.specs.Nothing.{nothing}
+use Rattle.segment_run.specs.Merging.{AreApart, IsMerged, all_of}
 use Rattle.segment_run.specs.Segment.{AreAnswered, IsChief, IsOfSegment, Ran, RanWhole, grown}
 use Rattle.segment_run.specs.Segments.{events_before}
-use Rattle.segment_run.specs.Team.{AreDealt, HasDealt, IsRising, IsWithin, all_of, any_baton, filled, joined_all, load, loads_below, part_numbered, turns_left, worker_numbered}
+use Rattle.segment_run.specs.Team.{AreDealt, HasDealt, any_baton, joined_all, load, loads_below, part_numbered, turns_left, worker_numbered}
 use Rattle.segment_run.proofs.Lists.{In, all_in, in_all, in_filter, in_left, in_right, in_map, filter_none, none_behind}
 use Rattle.segment_run.proofs.Doers.{Doer, Joined, dealt_in, alike, entries_split, found, numbered_frames, numbered_processor, one_worker, its_of}
 use Rattle.segment_run.proofs.Loads.{ends_are, loads_all}
 use Rattle.segment_run.proofs.Runs.{zip_and, sum_left, still_chief, ran, ran_whole, turns_are, grown_is, grew, ts, pair_of, joined, after as settled_after, doer, doers}
-use Rattle.segment_run.proofs.Answered.{Octets, all_rising, all_within, are_answered, as_many, lists}
+use Rattle.segment_run.proofs.Answered.{Octets, apart, are_answered, as_many, lists}
 
 -- ---- a run that did nothing
 
@@ -303,28 +304,22 @@ module _ {J U E : Type 0} (board : Board) (trace : Trace) (segment : ℕ) (wj : 
           let g = r.begun in
           omega (arith, a, b, d, f, g)
 
-      abbrev all_answers : List (Workplace)
+      abbrev all_answers : List (List Placed)
       all_answers = lists plays tones board trace segment wj kj ku au bu r.same v k us
 
       zipped : AllZip (λ j u. Did_part j u × Has_octets j u) js us
       zipped = zip_and Did_part Has_octets js us r.works r.octets
 
-      pub run_within : (lo count : ℕ) → lo ≡ events_before trace.segments segment → count ≡ events_before trace.segments (segment + 1) - events_before trace.segments segment → All (IsWithin lo count) (all_of all_answers)
-      run_within lo count low many =
-          all_within plays tones board trace segment wj kj ku au bu r.same v k growth it_grew it_grew_by (v.made + 1) 0 js us zipped r.dealt r.fronts
-          lo count (low ∙ sym r.begun) (many ∙ sym run_size)
+      pub run_apart : AreApart all_answers
+      run_apart = apart plays tones board trace segment wj kj ku au bu r.same v k (v.made + 1) 0 js us zipped r.dealt r.fronts
 
-      pub run_many : (count : ℕ) → count ≡ events_before trace.segments (segment + 1) - events_before trace.segments segment → length (all_of all_answers) ≡ count
-      run_many count many = as_many plays tones board trace segment wj kj ku au bu r.same v k (v.made + 1) 0 js us zipped r.dealt whole ∙ (sym size ∙ (run_size ∙ sym many))
+      pub run_many : length (all_of all_answers) ≡ events_before trace.segments (segment + 1) - events_before trace.segments segment
+      run_many = as_many plays tones board trace segment wj kj ku au bu r.same v k (v.made + 1) 0 js us zipped r.dealt whole ∙ (sym size ∙ run_size)
 
-      pub run_rising : All IsRising all_answers
-      run_rising = all_rising plays tones board trace segment wj kj ku au bu r.same v k js us zipped
-
-      pub run_answered : (lo count : ℕ) → lo ≡ events_before trace.segments segment → count ≡ events_before trace.segments (segment + 1) - events_before trace.segments segment
-          → (m : List Answer) → m ≡ filled lo (all_of all_answers) (replicate count nothing) → AreAnswered plays tones board v k m
-      run_answered lo count low many m is =
+      pub run_answered : (m : List Placed) → IsMerged all_answers m → AreAnswered plays tones board v k (map (λ (p : Placed). p.answer) m)
+      run_answered m merged =
           are_answered plays tones board trace segment wj kj ku au bu r.same v k growth it_grew it_grew_by (v.made + 1) 0 js us zipped r.dealt r.fronts
-          lo count (low ∙ sym r.begun) (many ∙ sym run_size) (run_many count many) m is
+          (run_many ∙ sym run_size) m merged
 
 -- ---- before the workers start
 

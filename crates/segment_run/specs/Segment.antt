@@ -1,5 +1,5 @@
 -- What a run of a segment does, from what seat 0 knew before it to what it knows afterwards. Source: this exchange's own.
-use Rattle.std.specs.Prelude.{◌≡◌, ℕ, ◌+◌, ◌<◌, ◌≤◌, ◌^◌, IsTrue, List, ◌++◌, length, map, filter, slice_get, Some, All}
+use Rattle.std.specs.Prelude.{◌≡◌, ℕ, ◌+◌, ◌<◌, ◌≤◌, ◌^◌, IsTrue, List, [], ◌++◌, length, map, filter, slice_get, Some, All}
 use Rattle.circuit_model.specs.declared.circuit.Kind.{Kind}
 use Rattle.circuit_model.specs.FrameInput.{Input}
 use Rattle.exchange_core.specs.declared.answer.Answer.{Answer}

@@ -23,17 +23,17 @@ side_by_side-crew-requires-clause-ready g c lifetimes outlive =
     let K = g.B.Switchboard.known in
     let v = K c.args.seat.now in
     let P : List Entry → Type 0 = λ seen. IsReady g.C.Carrier.carries g.C.Carrier.next (engine_dimensions g.C.Carrier.external_lines g.C.Carrier.bridge_lines g.C.Carrier.depth) (g.B.Switchboard.board c.args.board.now) seen c.args.engine c.args.tool in
-    each_at c.args.trace.now c.args.segment (λ (j : Job _). j.worker) (λ (j : Job _). K j.seat) v P (v.made + 1) 0 c.deal-jobs.result.items c.deal-jobs.ensures.dealt c.requires.ready
+    each_at c.args.trace.now c.args.segment (λ (j : Job _ _). j.worker) (λ (j : Job _ _). K j.seat) v P (v.made + 1) 0 c.deal-jobs.result.items c.deal-jobs.ensures.dealt c.requires.ready
 
 pub returns-clause-chief : goal.returns-clause-chief
 returns-clause-chief g c =
     let K = g.B.Switchboard.known in
     let board = g.B.Switchboard.board c.args.board.now in
-    let number : Job _ → ℕ = λ j. j.worker in
-    let known : Job _ → Known = λ j. K j.seat in
-    let joined : Finished _ → Known = λ f. K f.seat in
-    let workplace = λ (f : Finished _). f.workplace in
-    let whole = λ (f : Finished _). f.whole in
+    let number : Job _ _ → ℕ = λ j. j.worker in
+    let known : Job _ _ → Known = λ j. K j.seat in
+    let joined : Finished _ _ → Known = λ f. K f.seat in
+    let workplace = λ (f : Finished _ _). f.workplace in
+    let whole = λ (f : Finished _ _). f.whole in
     let sizes = engine_dimensions g.C.Carrier.external_lines g.C.Carrier.bridge_lines g.C.Carrier.depth in
     let v = K c.args.seat.now in
     let dealt = K c.deal-jobs.new.seat in
@@ -70,11 +70,11 @@ pub returns-clause-ran : goal.returns-clause-ran
 returns-clause-ran g c =
     let K = g.B.Switchboard.known in
     let board = g.B.Switchboard.board c.args.board.now in
-    let number : Job _ → ℕ = λ j. j.worker in
-    let known : Job _ → Known = λ j. K j.seat in
-    let joined : Finished _ → Known = λ f. K f.seat in
-    let workplace = λ (f : Finished _). f.workplace in
-    let whole = λ (f : Finished _). f.whole in
+    let number : Job _ _ → ℕ = λ j. j.worker in
+    let known : Job _ _ → Known = λ j. K j.seat in
+    let joined : Finished _ _ → Known = λ f. K f.seat in
+    let workplace = λ (f : Finished _ _). f.workplace in
+    let whole = λ (f : Finished _ _). f.whole in
     let sizes = engine_dimensions g.C.Carrier.external_lines g.C.Carrier.bridge_lines g.C.Carrier.depth in
     let v = K c.args.seat.now in
     let dealt = K c.deal-jobs.new.seat in
@@ -112,11 +112,11 @@ returns-clause-done g c =
     λ done.
     let K = g.B.Switchboard.known in
     let board = g.B.Switchboard.board c.args.board.now in
-    let number : Job _ → ℕ = λ j. j.worker in
-    let known : Job _ → Known = λ j. K j.seat in
-    let joined : Finished _ → Known = λ f. K f.seat in
-    let workplace = λ (f : Finished _). f.workplace in
-    let whole = λ (f : Finished _). f.whole in
+    let number : Job _ _ → ℕ = λ j. j.worker in
+    let known : Job _ _ → Known = λ j. K j.seat in
+    let joined : Finished _ _ → Known = λ f. K f.seat in
+    let workplace = λ (f : Finished _ _). f.workplace in
+    let whole = λ (f : Finished _ _). f.whole in
     let sizes = engine_dimensions g.C.Carrier.external_lines g.C.Carrier.bridge_lines g.C.Carrier.depth in
     let v = K c.args.seat.now in
     let dealt = K c.deal-jobs.new.seat in
@@ -147,7 +147,7 @@ returns-clause-done g c =
       fronts = c.gather.ensures.fronts;
       settled = c.gather.ensures.settled;
     } in
-    let all_done = subst (All (λ (f : Finished _). IsTrue f.whole)) c.as_slice.ensures.value (c.all_whole-whole.ensures.0 done) in
+    let all_done = subst (All (λ (f : Finished _ _). IsTrue f.whole)) c.as_slice.ensures.value (c.all_whole-whole.ensures.0 done) in
     let lie = sym c.gather.ensures.workplaces in
     record {
       whole = run_whole board c.args.trace.now c.args.segment number known joined workplace whole g.C.Carrier.plays (table_of c.args.trace.now.tones) g.C.Carrier.carries g.C.Carrier.next sizes v dealt k jobs workers c.args.engine c.side_by_side-crew.result.engine c.args.tool c.side_by_side-crew.result.tool r all_done;
