@@ -1,10 +1,9 @@
 -- The answers of all workers, each at its place in the history.
 use Rattle.std.proofs.Common.{◌≡◌, ◌≢◌, ℕ, zero, suc, ◌+◌, ◌-◌, ◌<◌, ◌≤◌, ◌⊎◌, inl, inr, Bool, true, false, ◌&&◌, IsTrue, List, [], ◌∷◌, ◌++◌, map, length, reverse, take, slice_get, Option, Some, None, refl, sym, ap, ◌∙◌, subst, arith, length-append}
-use Rattle.std.specs.Prelude.{nat_eq, replicate}
+use Rattle.std.specs.Prelude.{nat_eq}
 use Rattle.std.specs.List.{All, AllZip}
 use Rattle.std.proofs.lemmas.Bool.{cases_lt}
-use Rattle.std.proofs.lemmas.List.{length-replicate, reverse-append}
-use Rattle.std.proofs.lemmas.List.Elements.{All-push}
+use Rattle.std.proofs.lemmas.List.{reverse-append}
 use lib.Seq.{take-append-le}
 use Rattle.circuit_model.specs.declared.circuit.Kind.{Kind}
 use Rattle.circuit_model.specs.FrameInput.{Input}
@@ -18,14 +17,14 @@ use Rattle.seat_history.specs.Histories.{StartsWith, before}
 use Rattle.exchange_core.specs.Boards.{Board, AnswersAt, world_at, IsFrame}
 use Rattle.exchange_core.specs.Working.{Entry, IsNumbered, order_of}
 use Rattle.call_processor.specs.declared.worked.Placed.{Placed}
-use Rattle.call_processor.specs.Frames.{Plays, HasFrame, IsPlayed}
+use Rattle.call_processor.specs.Frames.{Plays, IsPlayed}
 use Rattle.call_processor.specs.Parts.{does, is_its}
 use Rattle.call_processor.specs.Work.{IsAnswer, Works, answered}
 use Rattle.segment_run.specs.Jobs.{HasItsOctets}
 use Rattle.segment_run.specs.Merging.{AreApart, IsMerged, all_of}
 use Rattle.segment_run.specs.Segment.{IsAnswered, AreAnswered, grown}
 use Rattle.segment_run.specs.Team.{AreDealt, load, part_numbered, turns_left, worker_numbered}
-use Rattle.segment_run.proofs.Lists.{In, all_in, in_all, in_either, in_left, in_map, filter_in, length_of_map, range_in, both, got_in, got_left, got_behind, got_within}
+use Rattle.segment_run.proofs.Lists.{In, all_in, in_either, in_left, in_map, filter_in, length_of_map, range_in, both, got_in, got_left, got_behind, got_within}
 use Rattle.segment_run.proofs.Doers.{numbered_frames, numbered_processor}
 use Rattle.segment_run.proofs.Merges.{all_of_last, all_of_none, apart_last, each_place, events_are}
 use Rattle.segment_run.proofs.Runs.{zip_right}

@@ -10,3 +10,4 @@ pub mod Counting
 pub mod Dealt
 pub mod Beside
 pub mod Whole
+pub mod Pairing

@@ -1,7 +1,7 @@
 -- What several workers kept, put together by place.
 use Rattle.std.proofs.Common.{◌≡◌, ◌≢◌, ℕ, zero, suc, ◌+◌, ◌-◌, ◌<◌, ◌≤◌, ◌⊎◌, inl, inr, Bool, true, false, List, [], ◌∷◌, ◌++◌, map, length, drop, nat_lt, slice_get, Result, Ok, Err, OnErr, Option, Some, None, refl, sym, ap, ◌∙◌, subst, arith, append_assoc, append-nil, length-append}
 use Rattle.std.specs.Prelude.{slice_set, if◌then◌else◌}
-use Rattle.std.specs.List.{All, AllPairs}
+use Rattle.std.specs.List.{All}
 use Rattle.std.proofs.lemmas.Bool.{cases_lt}
 use Rattle.std.proofs.lemmas.Bool.Decides.{nat_tests}
 use Rattle.exchange_core.specs.declared.answer.Answer.{Answer}
@@ -10,12 +10,16 @@ use Rattle.seat_history.specs.Histories.{Entry}
 use Rattle.call_processor.specs.declared.worked.Placed.{Placed}
 use Rattle.call_processor.specs.declared.worked.Workplace.{Workplace}
 use Rattle.call_processor.specs.Keeping.{HandsOn, StillHolds, first_place}
-use Rattle.segment_run.specs.Merging.{AddsMerged, AreApart, IsMerged, IsNextRun, IsOneOf, IsRising, Keep, all_of, first_of_two}
-use Rattle.segment_run.proofs.Lists.{In, all_in, in_all, in_either, in_left, in_right, no_length}
+use Rattle.segment_run.specs.Merging.{AddsMerged, AreApart, IsNextRun, IsRising, Keep, all_of, first_of_two}
+use Rattle.segment_run.proofs.Lists.{In, all_in, in_all, in_either, in_left, in_right}
 
 pub on_err : {T E P : Type 0} (r : Result T E) → P → OnErr r P
 on_err (Ok x) p = tt
 on_err (Err e) p = p
+
+pub if_err : {T E P Q : Type 0} (r : Result T E) → (P → Q) → OnErr r P → OnErr r Q
+if_err (Ok x) f p = tt
+if_err (Err e) f p = f p
 
 pub still_more : {K : Type 0} (holds : K → List Placed → Type 0) (kept answers : List Placed) (k : K) → StillHolds holds (kept ++ answers) k → StillHolds holds kept k
 still_more holds kept answers k s = record { more = answers ++ s.more; held = subst (holds k) (append_assoc kept answers s.more) s.held }

@@ -1,11 +1,10 @@
 -- A segment's run as a whole: from what was dealt, done and joined to what the run promises.
 use Rattle.std.proofs.Common.{◌≡◌, ◌≢◌, ℕ, suc, ◌+◌, ◌-◌, ◌<◌, ◌≤◌, ◌⊎◌, inl, inr, Bool, true, false, IsTrue, List, [], ◌∷◌, ◌++◌, map, length, drop, filter, refl, sym, ap, ◌∙◌, subst, arith, append-nil, append_assoc, length-append}
-use Rattle.std.specs.Prelude.{◌||◌, nat_eq, replicate}
+use Rattle.std.specs.Prelude.{◌||◌, nat_eq}
 use Rattle.std.specs.List.{All, AllZip}
 use Rattle.std.proofs.lemmas.Bool.{cases_lt}
 use Rattle.std.proofs.lemmas.Bool.Decides.{nat_tests}
 use Rattle.circuit_model.specs.declared.circuit.Kind.{Kind}
-use Rattle.exchange_core.specs.declared.answer.Answer.{Answer}
 use Rattle.exchange_core.specs.declared.tool.Tool.{Tool}
 use Rattle.exchange_core.specs.declared.trace.Trace.{Trace}
 use Rattle.exchange_core.specs.Orders.{Worker, Frame_worker}

@@ -15,7 +15,6 @@ use Rattle.exchange_core.specs.Boards.{Board, IsFrame, AnswersAt, turns_of, worl
 use Rattle.exchange_core.specs.Step.{MovesAtMost}
 use Rattle.exchange_core.specs.Working.{Entry, IsNumbered, order_of}
 use Rattle.exchange_core.specs.World.{Dimensions}
-use Rattle.tone_rules.specs.Tables.{table_of}
 use Rattle.call_processor.specs.Frames.{Carrying, Plays, IsPlayed, IsReady}
 use Rattle.call_processor.specs.Parts.{is_its, part_of}
 use Rattle.call_processor.specs.declared.worked.Placed.{Placed}
@@ -77,11 +76,11 @@ pub record MayRun (board : Board) (trace : Trace) (segment : ℕ) (v : Known) : 
   pub numbers : v.made + 10 < 2 ^ 32
   pub begun : length v.seen ≡ events_before trace.segments segment
 
--- a keeper keeps behind what it kept the answers of what the history grew by
-pub record AddsAnswers {K : Type 0} (holds : K → List Placed → Type 0) (plays : Plays) (tones : Kind → List ℕ) (board : Board) (v w : Known) (before after : K) : Type 0 where
+-- a keeper keeps behind what it kept before the answers of what the history grew by
+pub record AddsAnswers {K : Type 0} (holds : K → List Placed → Type 0) (plays : Plays) (tones : Kind → List ℕ) (board : Board) (v w : Known) (kept : List Placed) (keeper : K) : Type 0 where
   pub answers : List Placed
   pub answered : AreAnswered plays tones board v w (map (λ (p : Placed). p.answer) answers)
-  pub held : (kept : List Placed) → holds before kept → holds after (kept ++ answers)
+  pub held : holds keeper (kept ++ answers)
 
 -- from v to w the segment was run whole, and the engine and the tool came back ready for the next frame
 pub record RanTo {T E K : Type 0} (carries : Carrying E) (next : E → ℕ) (sizes : E → Dimensions) (board : Board) (trace : Trace) (segment : ℕ) (v w : Known) (a : SegmentDone T E K) : Type 0 where

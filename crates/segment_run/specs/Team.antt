@@ -1,12 +1,9 @@
 -- The workers of a segment, their seats and their answers. Source: this exchange's own.
-use Rattle.std.specs.Prelude.{◌≡◌, ℕ, zero, suc, ◌+◌, ◌-◌, ◌<◌, ◌≤◌, ◌||◌, nat_lt, Bool, false, if◌then◌else◌, List, [], ◌∷◌, ◌++◌, length, slice_set, AllPairs}
-use Rattle.exchange_core.specs.declared.answer.Answer.{Answer}
+use Rattle.std.specs.Prelude.{◌≡◌, ℕ, zero, suc, ◌+◌, ◌≤◌, ◌||◌, nat_lt, Bool, false, if◌then◌else◌, List, [], ◌∷◌, length}
 use Rattle.exchange_core.specs.declared.trace.Trace.{Trace}
 use Rattle.exchange_core.specs.Orders.{Worker, Processor, Frame_worker}
 use Rattle.seat_history.specs.declared.known.Known.{Known}
 use Rattle.seat_history.specs.Seats.{after_join}
-use Rattle.call_processor.specs.declared.worked.Placed.{Placed}
-use Rattle.call_processor.specs.declared.worked.Workplace.{Workplace}
 use Rattle.call_processor.specs.Parts.{part_of}
 
 -- the workers by number: the call processors by theirs, and behind them the frame worker

@@ -123,7 +123,8 @@ pub fn run_segment_in<B: Switchboard, G: Gate, C: Carrier, K: Keeper, R: Threads
     ensures ran { Ran trace.now segment (B.known seat.old) (B.known seat.new) }
     ensures whole { IfOk result (RanTo C.carries C.next (engine_dimensions C.external_lines C.bridge_lines C.depth) (B.board board.now)
         trace.now segment (B.known seat.old) (B.known seat.new)) }
-    ensures answered { OnOk result (AddsAnswers K.holds C.plays (table_of trace.now.tones) (B.board board.now) (B.known seat.old) (B.known seat.new) keeper.old keeper.new) }
+    ensures answered { OnOk result ((kept : List Placed) → K.holds keeper.old kept
+        → AddsAnswers K.holds C.plays (table_of trace.now.tones) (B.board board.now) (B.known seat.old) (B.known seat.new) kept keeper.new) }
     ensures kept { OnErr result ((kept : List Placed) → K.holds keeper.old kept → K.holds keeper.new kept) }
 {
     let loads = loads_of(trace, segment);

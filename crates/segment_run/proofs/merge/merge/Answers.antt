@@ -1,5 +1,4 @@
-use Rattle.std.proofs.Common.{rules, ◌≡◌, ◌≤◌, ◌+◌, ◌++◌, ℕ, List, [], length, sym, subst, ap, ◌∙◌, refl, arith, Option, Some, None, append-nil, slice_get}
-use Rattle.call_processor.specs.declared.worked.Placed.{Placed}
+use Rattle.std.proofs.Common.{rules, ◌≡◌, ◌++◌, length, subst, refl, Some, None, slice_get}
 use Rattle.segment_run.specs.Merging.{IsNextRun}
 use Rattle.segment_run.proofs.Lists.{got_read}
 use Rattle.segment_run.proofs.Merges.{done_when_many, done_when_none, on_err, run_more, still_more, underway}

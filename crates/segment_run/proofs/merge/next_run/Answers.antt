@@ -1,6 +1,5 @@
-use Rattle.std.proofs.Common.{rules, ◌≡◌, ◌+◌, sym, subst, ap, ◌∙◌, List, Option, Some, None, slice_get, ℕ, length, arith}
-use Rattle.segment_run.specs.Merging.{IsNextRun, first_of_two}
-use Rattle.call_processor.specs.declared.worked.Placed.{Placed}
+use Rattle.std.proofs.Common.{rules, ◌+◌, sym, subst, ap, ◌∙◌, Some}
+use Rattle.segment_run.specs.Merging.{IsNextRun}
 use Rattle.call_processor.specs.declared.worked.Workplace.{Workplace}
 use Rattle.segment_run.proofs.Lists.{got_read}
 use Rattle.segment_run.proofs.Merges.{next_more, next_same}
