@@ -120,7 +120,7 @@ fn equipped<'t, P: PathMap + Drop, C: Carrier>(
     let carried = Carried {
         engine: C::new(alloc, external, bridges, slots)?,
         tool: Tool::Image(Image::new(alloc, external, bridges, slots)?),
-        workroom: Workroom::new(alloc)?,
+        workroom: Workroom::new(alloc, &AnswerList::new(alloc))?,
     };
     Ok((board, seat, carried))
 }

@@ -15,9 +15,11 @@ use Rattle.exchange_core.specs.Boards.{Board, IsFrame, AnswersAt, turns_of, worl
 use Rattle.exchange_core.specs.Step.{MovesAtMost}
 use Rattle.exchange_core.specs.Working.{Entry, IsNumbered, order_of}
 use Rattle.exchange_core.specs.World.{Dimensions}
+use Rattle.tone_rules.specs.Tables.{table_of}
 use Rattle.call_processor.specs.Frames.{Carrying, Plays, IsPlayed, IsReady}
 use Rattle.call_processor.specs.Parts.{is_its, part_of}
 use Rattle.call_processor.specs.declared.worked.Placed.{Placed}
+use Rattle.segment_run.specs.declared.answers.SegmentAnswer.{SegmentAnswer}
 use Rattle.segment_run.specs.declared.answers.SegmentDone.{SegmentDone}
 use Rattle.segment_run.specs.Segments.{events_before}
 
@@ -86,4 +88,11 @@ pub record AddsAnswers {K : Type 0} (holds : K → List Placed → Type 0) (play
 pub record RanTo {T E K : Type 0} (carries : Carrying E) (next : E → ℕ) (sizes : E → Dimensions) (board : Board) (trace : Trace) (segment : ℕ) (v w : Known) (a : SegmentDone T E K) : Type 0 where
   pub whole : RanWhole trace segment v w
   pub long : length w.seen ≡ events_before trace.segments (segment + 1)
+  pub ready : IsReady carries next sizes board w.seen a.engine a.tool
+
+-- from v to w the segment was run whole, and this is its answer
+pub record IsAnswerOf {E : Type 0} (plays : Plays) (carries : Carrying E) (next : E → ℕ) (sizes : E → Dimensions) (board : Board) (trace : Trace) (segment : ℕ) (v w : Known) (a : SegmentAnswer E) : Type 0 where
+  pub whole : RanWhole trace segment v w
+  pub long : length w.seen ≡ events_before trace.segments (segment + 1)
+  pub answered : AreAnswered plays (table_of trace.tones) board v w a.answers.items
   pub ready : IsReady carries next sizes board w.seen a.engine a.tool

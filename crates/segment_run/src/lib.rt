@@ -26,5 +26,5 @@ mod workroom;
 
 pub use answers::{SegmentAnswer, SegmentDone};
 pub use laws::{first_seat_is_chief, segments_leave_room, segments_make_lawful_orders};
-pub use run::{run_segment, run_segment_in};
+pub use run::{run_segment, run_segment_in, run_segment_with};
 pub use workroom::Workroom;

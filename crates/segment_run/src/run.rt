@@ -5,7 +5,7 @@ ghost use Rattle.call_processor.specs.declared.worked.Placed.{Placed};
 ghost use Rattle.call_processor.specs.Frames.{IsReady, IsReadyFor, engine_dimensions};
 ghost use Rattle.call_processor.specs.Keeping.{StillHolds};
 ghost use Rattle.segment_run.specs.Merging.{AddsMerged, AreApart, Keep, all_of};
-ghost use Rattle.segment_run.specs.Segment.{AddsAnswers, AreAnswered, IsChief, MayRun, Ran, RanTo, RanWhole};
+ghost use Rattle.segment_run.specs.Segment.{AddsAnswers, AreAnswered, IsAnswerOf, IsChief, MayRun, Ran, RanTo, RanWhole};
 ghost use Rattle.segment_run.specs.Segments.{events_before};
 
 use crate::answers::{SegmentAnswer, SegmentDone};
@@ -72,16 +72,50 @@ pub fn run_segment<B: Switchboard, G: Gate, C: Carrier, R: Threads + Wait + Sync
     ensures answered { IfOk result (λ a. AreAnswered C.plays (table_of trace.now.tones) (B.board board.now) (B.known seat.old) (B.known seat.new) a.answers.items) }
     ensures ready { IfOk result (λ a. IsReadyFor C.carries C.next C.external_lines C.bridge_lines C.depth (B.board board.now) (B.known seat.new) a.engine a.tool) }
 {
+    let workroom = Workroom::new(alloc, &AnswerList::new(alloc))?;
+    let (done, _) = run_segment_in(
+        rt, alloc, board, seat, trace, segment, engine, tool, workroom, gate,
+    )?;
+    Ok(done)
+}
+
+/// Runs one segment of a board's trace as [`run_segment`] does, in a workroom that is handed back for the
+/// next segment.
+///
+/// # Errors
+///
+/// [`AllocError`] for want of memory. What was done by then is in the history, and the workroom is gone.
+pub fn run_segment_in<B: Switchboard, G: Gate, C: Carrier, R: Threads + Wait + Sync>(
+    rt: &R,
+    alloc: Global,
+    board: &B,
+    seat: &mut B::Seat,
+    trace: &Trace,
+    segment: u32,
+    engine: C,
+    tool: Tool,
+    workroom: Workroom<B::Seat, AnswerList>,
+    gate: &G,
+) -> Result<(SegmentAnswer<C>, Workroom<B::Seat, AnswerList>), AllocError>
+    requires seated { B.seated board.now seat.old }
+    requires may { MayRun (B.board board.now) trace.now segment (B.known seat.old) }
+    requires ready { IsReadyFor C.carries C.next C.external_lines C.bridge_lines C.depth (B.board board.now) (B.known seat.old) engine tool }
+    ensures seated { B.seated board.now seat.new }
+    ensures chief { IsChief (turns_of (B.board board.now)) (B.known seat.new) }
+    ensures ran { Ran trace.now segment (B.known seat.old) (B.known seat.new) }
+    ensures answer { IfOk result (λ r. IsAnswerOf C.plays C.carries C.next (engine_dimensions C.external_lines C.bridge_lines C.depth) (B.board board.now)
+        trace.now segment (B.known seat.old) (B.known seat.new) r.0) }
+{
     let mut keeper = AnswerList::new(alloc);
-    let workroom = Workroom::new(alloc, &keeper)?;
-    let done = run_segment_in(
+    let done = run_segment_with(
         rt, alloc, board, seat, trace, segment, engine, tool, workroom, &mut keeper, gate,
     )?;
-    Ok(SegmentAnswer {
+    let answer = SegmentAnswer {
         answers: answers_of(alloc, &mut keeper.items)?,
         engine: done.engine,
         tool: done.tool,
-    })
+    };
+    Ok((answer, done.workroom))
 }
 
 // The answers without their places.
@@ -102,7 +136,7 @@ fn answers_of(alloc: Global, placed: &mut VecDeque<Placed>) -> Result<Vec<Answer
 ///
 /// [`AllocError`] for want of memory. What was done by then is in the history, the workroom is gone, and
 /// the keeper keeps what it kept before.
-pub fn run_segment_in<B: Switchboard, G: Gate, C: Carrier, K: Keeper, R: Threads + Wait + Sync>(
+pub fn run_segment_with<B: Switchboard, G: Gate, C: Carrier, K: Keeper, R: Threads + Wait + Sync>(
     rt: &R,
     alloc: Global,
     board: &B,

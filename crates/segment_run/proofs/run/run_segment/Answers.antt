@@ -1,15 +1,5 @@
-use Rattle.std.proofs.Common.{◌≡◌, [], map, ap, sym, subst, ◌∙◌}
-use Rattle.tone_rules.specs.Tables.{table_of}
-use Rattle.call_processor.specs.declared.worked.Placed.{Placed}
-use Rattle.segment_run.specs.Segment.{AreAnswered}
 use Rattle.segment_run.proofs.Whole.{ran_none}
 use Rattle.segment_run.proofs.run.run_segment.Goals as goal
 
 pub returns-in_err-workroom-clause-ran : goal.returns-in_err-workroom-clause-ran
 returns-in_err-workroom-clause-ran g c = ran_none c.args.trace.now c.args.segment (g.B.Switchboard.known c.args.seat.now)
-
-pub returns-clause-answered : goal.returns-clause-answered
-returns-clause-answered g c =
-    let adds = c.in_ok-done.ensures.answered [] c.new-keeper.ensures in
-    let same : c.in_ok-answers_of.field-0.items ≡ map (λ (p : Placed). p.answer) adds.answers = c.in_ok-answers_of.ensures ∙ ap (map (λ (p : Placed). p.answer)) adds.held in
-    subst (AreAnswered g.C.Carrier.plays (table_of c.args.trace.now.tones) (g.B.Switchboard.board c.args.board.now) (g.B.Switchboard.known c.args.seat.now) (g.B.Switchboard.known c.run_segment_in.new.seat)) (sym same) adds.answered

@@ -1,20 +1,17 @@
-use Rattle.std.proofs.Common.{rules, ◌-◌, IsTrue, arith}
-use Rattle.segment_run.specs.Gathered.{IsSpan}
+use Rattle.std.proofs.Common.{◌≡◌, [], map, ap, sym, subst, ◌∙◌}
+use Rattle.tone_rules.specs.Tables.{table_of}
+use Rattle.call_processor.specs.declared.worked.Placed.{Placed}
+use Rattle.segment_run.specs.Segment.{AreAnswered}
 use Rattle.segment_run.proofs.run.run_segment_in.Goals as goal
 
-pub returns-clause-whole : goal.returns-clause-whole
-returns-clause-whole g c =
-    let whole : IsTrue c.work_all-workplaces.result.whole = search rules in
-    let all = c.work_all-workplaces.ensures.done whole in
-    record { whole = all.whole; long = all.long; ready = all.ready }
-
-pub returns-clause-answered : goal.returns-clause-answered
-returns-clause-answered g c = λ kept held.
-    let whole : IsTrue c.work_all-workplaces.result.whole = search rules in
-    let all = c.work_all-workplaces.ensures.done whole in
-    let first = c.ends_of-before.ensures.before in
-    let last = c.ends_of-before.ensures.last in
-    let span : IsSpan c.args.trace.now c.args.segment c.ends_of-before.result.0 (c.ends_of-before.result.1 - c.ends_of-before.result.0) = (first, omega (arith, first, last)) in
-    let many = all.many c.ends_of-before.result.0 (c.ends_of-before.result.1 - c.ends_of-before.result.0) span in
-    let merged = c.in_ok-merge_or_cut.ensures.merged kept all.parts held all.kept all.apart (omega (arith, many)) in
-    record { answers = merged.answers; answered = all.answered merged.answers merged.merged; held = merged.held }
+pub returns-clause-answer : goal.returns-clause-answer
+returns-clause-answer g c =
+    let adds = c.in_ok-done.ensures.answered [] c.new-keeper.ensures in
+    let ran = c.in_ok-done.ensures.whole in
+    let same : c.in_ok-answers_of.field-0.items ≡ map (λ (p : Placed). p.answer) adds.answers = c.in_ok-answers_of.ensures ∙ ap (map (λ (p : Placed). p.answer)) adds.held in
+    record {
+      whole = ran.whole;
+      long = ran.long;
+      answered = subst (AreAnswered g.C.Carrier.plays (table_of c.args.trace.now.tones) (g.B.Switchboard.board c.args.board.now) (g.B.Switchboard.known c.args.seat.now) (g.B.Switchboard.known c.run_segment_with.new.seat)) (sym same) adds.answered;
+      ready = ran.ready;
+    }
