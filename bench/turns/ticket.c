@@ -1,8 +1,8 @@
-/* The same steps over a ticket lock of C11 atomics: the yardstick of bench/turns.
+/* The same steps over a ticket lock of C's atomics: the yardstick of bench/turns.
    Use: ticket SEATS STEPS */
 #include <pthread.h>
 #include <sched.h>
-#include <stdatomic.h>
+#include <stdalign.h>
 #include <stdint.h>
 #include <stdio.h>
 #include <stdlib.h>
@@ -12,19 +12,36 @@ struct entry {
     uint32_t event;
 };
 
-static atomic_uint_least64_t ticket;
-static atomic_uint_least64_t serving;
+/* In different cache lines, as the proved lock's. */
+static alignas(128) uint64_t next_ticket;
+static alignas(128) uint64_t now_serving;
 static uint64_t total;
 static struct entry *journal;
 static size_t entries;
 static size_t room;
 static uint32_t steps;
 
+/* The next in turn spins for a while; the others let threads run. */
+static void wait_for(uint64_t mine)
+{
+    uint32_t spins = 0;
+    for (;;) {
+        uint64_t ahead = mine - __atomic_load_n(&now_serving, __ATOMIC_SEQ_CST);
+        if (ahead == 0)
+            return;
+        if (ahead == 1 && spins < 200) {
+            spins += 1;
+            __builtin_ia32_pause();
+        } else {
+            sched_yield();
+        }
+    }
+}
+
 static uint64_t step(uint32_t by, uint32_t event)
 {
-    uint64_t mine = atomic_fetch_add(&ticket, 1);
-    while (atomic_load(&serving) != mine)
-        sched_yield();
+    uint64_t mine = __atomic_fetch_add(&next_ticket, 1, __ATOMIC_SEQ_CST);
+    wait_for(mine);
     total += event;
     if (entries == room)
         abort();
@@ -32,7 +49,7 @@ static uint64_t step(uint32_t by, uint32_t event)
     journal[entries].event = event;
     entries += 1;
     uint64_t reply = total;
-    atomic_fetch_add(&serving, 1);
+    __atomic_fetch_add(&now_serving, 1, __ATOMIC_SEQ_CST);
     return reply;
 }
 

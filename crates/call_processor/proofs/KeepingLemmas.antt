@@ -7,8 +7,8 @@ use Rattle.seat_history.specs.Histories.{StartsWith, before}
 use Rattle.exchange_core.specs.Boards.{Board}
 use Rattle.call_processor.specs.declared.worked.Placed.{Placed}
 use Rattle.call_processor.specs.Keeping.{HasKept, KeepsWork}
-use Rattle.call_processor.specs.Work.{Handled, IsAnswer}
-use Rattle.call_processor.proofs.Done.{Going, begins_next, going_none, going_said, next_of, works_front, works_lacking, works_whole}
+use Rattle.call_processor.specs.Work.{DidEvent, IsAnswer}
+use Rattle.call_processor.proofs.EventLemmas.{Going, begins_next, going_none, going_said, next_of, works_front, works_lacking, works_whole}
 
 pub on_ok : {A E : Type 0} {P Q : Type 0} (r : Result A E) → (P → Q) → OnOk r P → OnOk r Q
 on_ok (Ok a) f p = f p
@@ -32,7 +32,7 @@ module _ {K : Type 0} (holds : K → List Placed → Type 0) (board : Board) (oc
   pub keeps_done : (done more : List ℕ) (v w : Known) (k : K) → done ≡ more → Keeps holds board octets done v k w → Keeps holds board octets more v k w
   keeps_done done more v w k same g = subst (λ (l : List ℕ). Keeps holds board octets l v k w) same g
 
-  pub keeps_more : Stays board octets → (done : List ℕ) (v w x : Known) (n : ℕ) (k m : K) → Keeps holds board octets done v k w → Handled w n x → HasKept holds board x n (octets x) k m
+  pub keeps_more : Stays board octets → (done : List ℕ) (v w x : Known) (n : ℕ) (k m : K) → Keeps holds board octets done v k w → DidEvent w n x → HasKept holds board x n (octets x) k m
       → Keeps holds board octets (done ++ n ∷ []) v m x
   keeps_more stays done v w x n k m g h kept = record {
     answers = g.answers ++ kept.answer ∷ [];
@@ -48,7 +48,7 @@ module _ {K : Type 0} (holds : K → List Placed → Type 0) (board : Board) (oc
   keeps_front part done rest v w k front g = record { answers = g.answers; held = g.held; works = works_front board part done rest v w g.answers front g.going; said = g.said }
 
   -- the last event done was not kept
-  pub keeps_lacking : Stays board octets → (part done rest : List ℕ) (n : ℕ) (v w x : Known) (k m : K) → part ≡ (done ++ n ∷ []) ++ rest → Keeps holds board octets done v k w → Handled w n x
+  pub keeps_lacking : Stays board octets → (part done rest : List ℕ) (n : ℕ) (v w x : Known) (k m : K) → part ≡ (done ++ n ∷ []) ++ rest → Keeps holds board octets done v k w → DidEvent w n x
       → ((answers : List Placed) → holds k answers → holds m answers) → KeepsWork holds board octets part v m false x
   keeps_lacking stays part done rest n v w x k m front g h refused =
       let e = next_of w x n h in

@@ -1,6 +1,6 @@
-pub mod Segments
-pub mod Done
-pub mod FrameSteps
-pub mod Tools
-mod Handing
+pub mod PartLemmas
+pub mod EventLemmas
+pub mod FrameLemmas
+pub mod ToolLemmas
+mod HandLemmas
 mod KeepingLemmas

@@ -11,8 +11,7 @@ use Rattle.exchange_core.specs.declared.trace.Event.TheVariants.{Frame}
 use Rattle.seat_history.specs.declared.known.Known.{Known}
 use Rattle.seat_history.specs.Histories.{before}
 use Rattle.exchange_core.specs.Boards.{Board, setting_at, world_at}
-use Rattle.seat_history.specs.Histories.{Entry}
-use Rattle.exchange_core.specs.Working.{IsNumbered, IsToolFor}
+use Rattle.exchange_core.specs.Working.{Entry, IsNumbered, IsToolFor}
 use Rattle.exchange_core.specs.World.{Dimensions, World, pass}
 use Rattle.call_processor.specs.declared.worked.Placed.{Placed}
 

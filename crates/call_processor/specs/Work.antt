@@ -9,7 +9,7 @@ use Rattle.seat_history.specs.Histories.{StartsWith, before, entries_of}
 use Rattle.seat_history.specs.Seats.{after_step}
 use Rattle.exchange_core.specs.Boards.{Board, AnswersAt}
 use Rattle.exchange_core.specs.Step.{MovesAtMost}
-use Rattle.seat_history.specs.Histories.{Entry}
+use Rattle.exchange_core.specs.Working.{Entry}
 use Rattle.call_processor.specs.declared.worked.Placed.{Placed}
 use Rattle.call_processor.specs.Parts.{part_of}
 
@@ -36,7 +36,7 @@ pub record Did (v : Known) (events : List ℕ) (w : Known) : Type 0 where
   pub others : w.kept ≡ v.kept
 
 -- From v to w the seat did one event, behind a history that begins with what it had seen.
-pub record Handled (v : Known) (event : ℕ) (w : Known) : Type 0 where
+pub record DidEvent (v : Known) (event : ℕ) (w : Known) : Type 0 where
   pub place : ℕ
   pub seat : w ≡ after_step (before place w.seen) event v
   pub begins : StartsWith (before place w.seen) v.seen
@@ -53,8 +53,8 @@ pub record IsAnswer (board : Board) (seat : Known) (p : Placed) : Type 0 where
   pub keeps : p.answer.reply ≡ kept reply
 
 -- the numbers of the events that were answered
-abbrev pub answered : List Placed → List ℕ
-answered answers = map (λ (p : Placed). p.answer.event) answers
+abbrev pub answered_events : List Placed → List ℕ
+answered_events answers = map (λ (p : Placed). p.answer.event) answers
 
 -- from v to w the first events of the part were done, and all of them where the work is whole; but for the last one, if it isn't, all were
 -- answered, each behind the one before it in the history
@@ -62,8 +62,8 @@ pub record Works (board : Board) (part : List ℕ) (v : Known) (answers : List P
   pub done : List ℕ
   pub first : (rest : List ℕ) × (part ≡ done ++ rest)
   pub did : Did v done w
-  pub told : (lacking : List ℕ) × (done ≡ answered answers ++ lacking) × (length lacking ≤ 1)
+  pub told : (lacking : List ℕ) × (done ≡ answered_events answers ++ lacking) × (length lacking ≤ 1)
   pub each : All (IsAnswer board w) answers
   pub rising : AllPairs (λ (p q : Placed). p.place < q.place) answers
   pub beyond : All (λ (p : Placed). length v.seen ≤ p.place) answers
-  pub all : IsTrue whole → answered answers ≡ part
+  pub all : IsTrue whole → answered_events answers ≡ part

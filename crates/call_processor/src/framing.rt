@@ -7,7 +7,7 @@ ghost use Rattle.call_processor.specs.Frames.{IsReady, IsReadyFor, HasFrame, eng
 ghost use Rattle.call_processor.specs.Parts.{part_of};
 ghost use Rattle.call_processor.specs.declared.worked.Placed.{Placed};
 ghost use Rattle.call_processor.specs.Keeping.{HasKept, KeepsWork};
-ghost use Rattle.call_processor.specs.Work.{Handled, MayWork, Works};
+ghost use Rattle.call_processor.specs.Work.{DidEvent, MayWork, Works};
 ghost use Rattle.call_processor.specs.Workplaces.{EndsReady, FinishesReady, HasWorked};
 
 use crate::answer_list::AnswerList;
@@ -50,7 +50,7 @@ pub(crate) fn do_frame<B: Switchboard, G: Gate, C: Carrier, K: Keeper, R: Wait>(
     requires tones { tones.now ≡ (B.board board.now).trace.tones }
     requires lines { length octets.old.items ≡ (B.board board.now).trace.external }
     ensures seated { B.seated board.now seat.new }
-    ensures handled { Handled (B.known seat.old) event (B.known seat.new) }
+    ensures handled { DidEvent (B.known seat.old) event (B.known seat.new) }
     ensures ready { IsReadyFor C.carries C.next C.external_lines C.bridge_lines C.depth (B.board board.now) (B.known seat.new) engine.new desk.new.tool }
     ensures lines { length octets.new.items ≡ (B.board board.now).trace.external }
     ensures kept { OnOk result (HasKept K.holds (B.board board.now) (B.known seat.new) event (HasFrame C.plays (table_of tones.now) (B.board board.now) (B.known seat.new)) keeper.old keeper.new) }
@@ -70,7 +70,7 @@ pub(crate) fn do_frame<B: Switchboard, G: Gate, C: Carrier, K: Keeper, R: Wait>(
 }
 
 // Makes room for what so many lines send, unless there is.
-pub(crate) fn make_room(alloc: Global, octets: &mut Vec<[u8; 30]>, lines: usize) -> Result<(), AllocError>
+pub(crate) fn grow(alloc: Global, octets: &mut Vec<[u8; 30]>, lines: usize) -> Result<(), AllocError>
     ensures { OnOk result (length octets.new.items ≡ lines) }
 {
     if octets.len() != lines {
@@ -104,7 +104,7 @@ fn do_frames<B: Switchboard, G: Gate, C: Carrier, K: Keeper, R: Wait>(
 {
     keeper.clear();
     let worker = u32::from(trace.processors);
-    make_room(alloc, octets, usize::from(trace.external))?;
+    grow(alloc, octets, usize::from(trace.external))?;
     let (first, end) = numbers_of(trace, segment);
     for event in first..end {
         let Some(input) = input_of(trace, event) else {

@@ -8,11 +8,10 @@
 //!   the engine comes back carrying the frames of the history (`ready`).
 //! - [`process_at`] and [`run_frames_at`] do the same at a workplace that they are lent, so that a
 //!   worker of the next segment needs no memory of its own but for what it hands out.
-//! - [`numbers_of`] returns the numbers of a segment's events, and [`input_of`] the input of a
-//!   frame.
+//! - [`numbers_of`] returns the numbers of a segment's events, and [`processor_of`] who does one.
 //!
-//! It stands on `circuit_model`, `control_memory`, `tone_rules`, `frame_engine`, `exchange_core`
-//! and `gate`.
+//! It stands on `circuit_model`, `seat_history`, `control_memory`, `tone_rules`, `frame_engine`,
+//! `exchange_core` and `gate`.
 #![tactic(auto)]
 
 mod answer_list;
@@ -27,6 +26,6 @@ pub use answer_list::AnswerList;
 pub use framing::{run_frames, run_frames_at};
 pub use keeper::Keeper;
 pub use processing::{process, process_at};
-pub use segment::{input_of, is_of_processor, numbers_of, processor_of};
+pub use segment::{numbers_of, processor_of};
 pub use shortage::Shortage;
 pub use worked::{Finished, FinishedFrames, Framed, Placed, Worked, Workplace};

@@ -4,7 +4,7 @@ ghost use Rattle.exchange_core.specs.Orders.{IsEvent, Processor};
 ghost use Rattle.call_processor.specs.declared.worked.Placed.{Placed};
 ghost use Rattle.call_processor.specs.Keeping.{HasKept, KeepsWork, has_no_octets};
 ghost use Rattle.call_processor.specs.Parts.{is_its, part_of};
-ghost use Rattle.call_processor.specs.Work.{Handled, MayWork, Works};
+ghost use Rattle.call_processor.specs.Work.{DidEvent, MayWork, Works};
 ghost use Rattle.call_processor.specs.Workplaces.{HasWorked};
 
 use crate::answer_list::AnswerList;
@@ -35,7 +35,7 @@ pub(crate) fn do_event<B: Switchboard, G: Gate, K: Keeper, R: Wait>(
     requires turn { 0 < (B.known seat.old).left }
     requires tool { desk.old.tool ≡ Nothing }
     ensures seated { B.seated board.now seat.new }
-    ensures handled { Handled (B.known seat.old) event (B.known seat.new) }
+    ensures handled { DidEvent (B.known seat.old) event (B.known seat.new) }
     ensures tool { desk.new.tool ≡ Nothing }
     ensures kept { OnOk result (HasKept K.holds (B.board board.now) (B.known seat.new) event has_no_octets keeper.old keeper.new) }
     ensures refused { OnErr result ((answers : List Placed) → K.holds keeper.old answers → K.holds keeper.new answers) }

@@ -42,7 +42,7 @@ pub fn processor_of(processors: u8, event: &Event) -> Option<u32>
 }
 
 /// Whether the call processor does the event with this number.
-pub fn is_of_processor(trace: &Trace, processor: u32, event: u32) -> bool
+pub(crate) fn is_of_processor(trace: &Trace, processor: u32, event: u32) -> bool
     requires some { 0 < trace.now.processors }
     requires event { IsEvent trace.now event }
     ensures { result ≡ is_its trace.now (Processor processor) event }
@@ -52,7 +52,7 @@ pub fn is_of_processor(trace: &Trace, processor: u32, event: u32) -> bool
 }
 
 /// What arrives in the frame that has this number. `None` for an event that is no frame.
-pub fn input_of(trace: &Trace, event: u32) -> Option<&Input>
+pub(crate) fn input_of(trace: &Trace, event: u32) -> Option<&Input>
     requires event { IsEvent trace.now event }
     ensures its { is_some result ≡ is_its trace.now Frame_worker event }
     ensures input { IfSome result (λ input. IsNumbered trace.now event (Frame input.now)) }

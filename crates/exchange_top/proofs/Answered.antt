@@ -29,8 +29,8 @@ use Rattle.exchange_core.specs.World.{Dimensions, World, is_full, pass, seated, 
 use Rattle.exchange_core.proofs.Stepping.{world_more}
 use Rattle.tone_rules.specs.Tables.{table_of}
 use Rattle.call_processor.specs.Frames.{IsPlayed, Plays}
-use Rattle.segment_run.specs.Segment.{AreAnswered, IsAnswered, grown}
-use Rattle.segment_run.proofs.Orders.{order_grown}
+use Rattle.segment_run.specs.Segment.{AreAnswered, IsAnswered, new_events}
+use Rattle.segment_run.proofs.OrderLemmas.{order_grown}
 use Rattle.report_text.specs.Report.{answer_line, frame_line, lines_sent, octet_of, report_line}
 use Rattle.exchange_top.specs.Outcomes.{MovesFew}
 use Rattle.exchange_top.specs.Report.{Played, report, event_line, event_lines, lines_of, report_with, sent_at}
@@ -200,14 +200,14 @@ module _ (plays : Plays) (tones : Kind → List ℕ) (board : Board) (history : 
 -- ---- a run that was answered
 
 module _ (plays : Plays) (tones : Kind → List ℕ) (board : Board) (v w : Known) (answers : List Answer) (answered : AreAnswered plays tones board v w answers) (begins : StartsWith w.seen v.seen)
-    (known : All (IsEvent board.trace) (grown v w)) where
-  all_told : Told plays tones board v.seen (grown v w) answers
+    (known : All (IsEvent board.trace) (new_events v w)) where
+  all_told : Told plays tones board v.seen (new_events v w) answers
   all_told =
       let new : unseen v.seen w.seen ≡ begins.0 = ap (drop (length v.seen)) begins.1 ∙ drop-append_seam v.seen begins.0 in
       told plays tones board w.seen v.seen (unseen v.seen w.seen) answers (begins.1 ∙ ap (λ (l : List Entry). v.seen ++ l) (sym new)) known answered.events answered.each
 
   -- the lines of the answers are those of the events, in the order of the history
-  pub lines_told : lines_of answers ≡ event_lines (plays tones) (setting_at board) (world_at board v.seen) (grown v w) (events_of board.trace.events (grown v w))
+  pub lines_told : lines_of answers ≡ event_lines (plays tones) (setting_at board) (world_at board v.seen) (new_events v w) (events_of board.trace.events (new_events v w))
   lines_told = all_told.lines
 
   module _ (before_known : All (IsEvent board.trace) (order_of v.seen)) where
@@ -215,7 +215,7 @@ module _ (plays : Plays) (tones : Kind → List ℕ) (board : Board) (v w : Know
     pub report_grown : report_with (plays tones) board.slots board.trace (order_of w.seen) ≡ report_with (plays tones) board.slots board.trace (order_of v.seen) ++ lines_of answers
     report_grown =
         ap (report_with (plays tones) board.slots board.trace) (order_grown v w begins)
-        ∙ (report_append (plays tones) board.slots board.trace (order_of v.seen) (grown v w) before_known
+        ∙ (report_append (plays tones) board.slots board.trace (order_of v.seen) (new_events v w) before_known
         ∙ ap (λ (l : List ℕ). report_with (plays tones) board.slots board.trace (order_of v.seen) ++ l) (sym lines_told))
 
     -- what was told of the answers so far is a front of the report
@@ -239,15 +239,15 @@ module _ (plays : Plays) (tones : Kind → List ℕ) (board : Board) (v w : Know
 pub text_grown : (plays : Plays) (board : Board) (v w : Known) → StartsWith w.seen v.seen → All (IsEvent board.trace) (order_of v.seen)
     → report plays board.slots board.trace (order_of w.seen) ≡ report plays board.slots board.trace (order_of v.seen) ++ grown_lines plays board v w
 text_grown plays board v w begins known =
-    ap (report plays board.slots board.trace) (order_grown v w begins) ∙ report_append (plays (table_of board.trace.tones)) board.slots board.trace (order_of v.seen) (grown v w) known
+    ap (report plays board.slots board.trace) (order_grown v w begins) ∙ report_append (plays (table_of board.trace.tones)) board.slots board.trace (order_of v.seen) (new_events v w) known
 
 -- few paths were moved, also in these events
 pub few_grown : (board : Board) (v w : Known) → StartsWith w.seen v.seen → MovesFew (fabric_at board) board.trace (order_of v.seen) → GrewFew board v w → MovesFew (fabric_at board) board.trace (order_of w.seen)
 few_grown board v w begins few more =
     let s = setting_at board in
     let old = events_of board.trace.events (order_of v.seen) in
-    let new = events_of board.trace.events (grown v w) in
-    let split : events_of board.trace.events (order_of w.seen) ≡ old ++ new = ap (events_of board.trace.events) (order_grown v w begins) ∙ events_append board.trace (order_of v.seen) (grown v w) in
+    let new = events_of board.trace.events (new_events v w) in
+    let split : events_of board.trace.events (order_of w.seen) ≡ old ++ new = ap (events_of board.trace.events) (order_grown v w begins) ∙ events_append board.trace (order_of v.seen) (new_events v w) in
     subst (All (MovesAtMost board.bound)) (sym (ap (run s (start s.dimensions)) split ∙ run-append s (start s.dimensions) old new))
     (All-append (MovesAtMost board.bound) (run s (start s.dimensions) old) (run s (world_at board v.seen) new) few more)
 
@@ -261,7 +261,7 @@ pub calls_grown : (board : Board) (v w : Known) → StartsWith w.seen v.seen
 calls_grown board v w begins =
     let s = setting_at board in
     let old = events_of board.trace.events (order_of v.seen) in
-    let new = events_of board.trace.events (grown v w) in
-    let split : events_of board.trace.events (order_of w.seen) ≡ old ++ new = ap (events_of board.trace.events) (order_grown v w begins) ∙ events_append board.trace (order_of v.seen) (grown v w) in
+    let new = events_of board.trace.events (new_events v w) in
+    let split : events_of board.trace.events (order_of w.seen) ≡ old ++ new = ap (events_of board.trace.events) (order_grown v w begins) ∙ events_append board.trace (order_of v.seen) (new_events v w) in
     ap calls_ended (ap (run s (start s.dimensions)) split ∙ run-append s (start s.dimensions) old new)
     ∙ calls_append (run s (start s.dimensions) old) (run s (world_at board v.seen) new)

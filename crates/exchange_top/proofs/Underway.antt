@@ -12,9 +12,9 @@ use Rattle.exchange_core.specs.Boards.{Board, turns_of}
 use Rattle.exchange_core.specs.Sound.{IsSound}
 use Rattle.exchange_core.specs.Working.{order_of}
 use Rattle.call_processor.specs.Frames.{Plays}
-use Rattle.segment_run.specs.Segment.{IsChief, Ran, RanWhole, grown}
+use Rattle.segment_run.specs.Segment.{IsChief, Ran, RanWhole, new_events}
 use Rattle.segment_run.specs.Segments.{IsDoneBelow}
-use Rattle.segment_run.proofs.Orders.{none, one_more, cut_short, all_done, first_chief, order_grown}
+use Rattle.segment_run.proofs.OrderLemmas.{none, one_more, cut_short, all_done, first_chief, order_grown}
 use Rattle.exchange_top.specs.declared.listing.Listing.{Listing}
 use Rattle.exchange_top.specs.declared.listing.Listing.TheVariants as listing
 use Rattle.exchange_top.specs.Outcomes.{IsRunWhole, IsBegun, IsPending, MovesFew, listed}
@@ -91,7 +91,7 @@ module _ (plays : Plays) (l : Listing) (board : Board) where
       lawful = cut_short board.trace k v w so_far.done ran;
       segments = k;
       whole = order_of v.seen;
-      rest = grown v w;
+      rest = new_events v w;
       parts = order_grown v w ran.begins;
       done = so_far.done;
       text = front_of old now so_far.text.done pending _ so_far.text.written so_far.text.rest;

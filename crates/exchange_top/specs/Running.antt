@@ -5,7 +5,7 @@ use Rattle.control_memory.specs.Layout.{Layout}
 use Rattle.seat_history.specs.declared.known.Known.{Known}
 use Rattle.exchange_core.specs.Boards.{Board, setting_at, world_at}
 use Rattle.exchange_core.specs.Step.{run, events_of, MovesAtMost}
-use Rattle.segment_run.specs.Segment.{grown}
+use Rattle.segment_run.specs.Segment.{new_events}
 use Rattle.call_processor.specs.Frames.{Plays}
 use Rattle.exchange_top.specs.Outcomes.{Fabric}
 use Rattle.exchange_core.specs.declared.record.CallRecord.{CallRecord}
@@ -25,14 +25,14 @@ fabric_at board = record { slots = board.slots; most_moves = board.bound }
 
 -- the lines of the events that the history grew by, and that no path that joined in them moved more others than the board's fabric allows
 abbrev pub grown_lines : Plays → Board → Known → Known → List ℕ
-grown_lines plays board v w = event_lines (plays (table_of board.trace.tones)) (setting_at board) (world_at board v.seen) (grown v w) (events_of board.trace.events (grown v w))
+grown_lines plays board v w = event_lines (plays (table_of board.trace.tones)) (setting_at board) (world_at board v.seen) (new_events v w) (events_of board.trace.events (new_events v w))
 
 abbrev pub GrewFew : Board → Known → Known → Type 0
-GrewFew board v w = All (MovesAtMost board.bound) (run (setting_at board) (world_at board v.seen) (events_of board.trace.events (grown v w)))
+GrewFew board v w = All (MovesAtMost board.bound) (run (setting_at board) (world_at board v.seen) (events_of board.trace.events (new_events v w)))
 
 -- the calls that ended in these events
 abbrev pub grown_calls : Board → Known → Known → List CallRecord
-grown_calls board v w = calls_ended (run (setting_at board) (world_at board v.seen) (events_of board.trace.events (grown v w)))
+grown_calls board v w = calls_ended (run (setting_at board) (world_at board v.seen) (events_of board.trace.events (new_events v w)))
 
 -- meters were told so of the calls that ended in them
 abbrev pub GrowthIsTold : Telling → Board → Known → Known → Type 0

@@ -5,7 +5,7 @@ ghost use Rattle.exchange_top.specs.declared.run.RunFault.TheVariants.{Memory, W
 ghost use Rattle.exchange_core.specs.Sound.{IsSound, setting_of};
 ghost use Rattle.exchange_core.specs.Working.{order_of, world_after};
 ghost use Rattle.seat_history.specs.Seats.{first_seat};
-ghost use Rattle.shared_exchange.specs.Sharing.{IsSeated, known};
+ghost use Rattle.shared_exchange.specs.Sharing.{IsSeated};
 ghost use Rattle.call_processor.specs.Frames.{CarriesFrames, IsReady, engine_dimensions};
 ghost use Rattle.exchange_top.specs.Outcomes.{IsRunWhole, IsBegun, listed};
 ghost use Rattle.exchange_top.specs.Report.{report};
@@ -111,7 +111,7 @@ fn equipped<'t, P: PathMap + Drop, C: Carrier>(
     requires sound { IsSound trace.now }
     requires paths { IsUnused (trace.now.external + trace.now.bridges) (P.width paths) (P.depth paths) (P.layout paths) }
     ensures board { IfOk result (λ r. r.0.setting ≡ record { trace = trace.now; slots = P.depth paths; bound = P.bound paths }) }
-    ensures seat { IfOk result (λ r. IsSeated r.0 r.1 × (known r.1 ≡ first_seat (length trace.now.events))) }
+    ensures seat { IfOk result (λ r. IsSeated r.0 r.1 × (r.1.known ≡ first_seat (length trace.now.events))) }
     ensures ready { IfOk result (λ r. IsReady C.carries C.next (engine_dimensions C.external_lines C.bridge_lines C.depth) r.0.setting [] r.2.engine r.2.tool) }
 {
     let slots = paths.slots();

@@ -8,7 +8,9 @@ use Rattle.tone_rules.specs.Tables.{table_of}
 use Rattle.call_processor.specs.declared.worked.Placed.{Placed}
 use Rattle.call_processor.specs.Frames.{Carrying, Plays, IsReady}
 use Rattle.segment_run.specs.declared.working.Gathered.{Gathered}
-use Rattle.segment_run.specs.Merging.{AreApart, IsMerged, Keep, all_of}
+use Rattle.segment_run.specs.Merging.{AreApart}
+use Rattle.segment_run.specs.Merging.{IsMerged, Keep}
+use Rattle.segment_run.specs.Merging.{all_of}
 use Rattle.segment_run.specs.Rooms.{HasRoom}
 use Rattle.segment_run.specs.Segment.{AreAnswered, RanWhole}
 use Rattle.segment_run.specs.Segments.{events_before}

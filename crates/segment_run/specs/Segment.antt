@@ -31,8 +31,8 @@ pub record IsChief (turns : ℕ) (v : Known) : Type 0 where
   pub settled : Settled turns v
 
 -- the numbers of the events that the history grew by, in the order in which they were done
-abbrev pub grown : Known → Known → List ℕ
-grown v w = order_of (unseen v.seen w.seen)
+abbrev pub new_events : Known → Known → List ℕ
+new_events v w = order_of (unseen v.seen w.seen)
 
 -- those of these events that the worker does
 abbrev pub of_worker : Trace → Worker → List ℕ → List ℕ
@@ -45,14 +45,14 @@ IsOfSegment trace segment n = IsEvent trace n × (segment_of trace.segments n �
 -- the history grew by events of the segment alone, by the first of each worker's part in the order of the file, and each took a turn
 pub record Ran (trace : Trace) (segment : ℕ) (v w : Known) : Type 0 where
   pub begins : StartsWith w.seen v.seen
-  pub only : All (IsOfSegment trace segment) (grown v w)
-  pub fronts : (worker : Worker) → (rest : List ℕ) × (part_of trace segment worker ≡ of_worker trace worker (grown v w) ++ rest)
-  pub turns : w.left + length (grown v w) ≡ v.left
+  pub only : All (IsOfSegment trace segment) (new_events v w)
+  pub fronts : (worker : Worker) → (rest : List ℕ) × (part_of trace segment worker ≡ of_worker trace worker (new_events v w) ++ rest)
+  pub turns : w.left + length (new_events v w) ≡ v.left
   pub few : w.made ≤ v.made + 9
 
 -- and by each worker's whole part
 abbrev pub RanWhole : Trace → ℕ → Known → Known → Type 0
-RanWhole trace segment v w = (worker : Worker) → of_worker trace worker (grown v w) ≡ part_of trace segment worker
+RanWhole trace segment v w = (worker : Worker) → of_worker trace worker (new_events v w) ≡ part_of trace segment worker
 
 -- the answer is that of the history's event at this place: it keeps the exchange's reply after the history before it, and the octets of a frame
 -- are those that the engine plays; of another event it has none
@@ -67,7 +67,7 @@ pub record IsAnswered (plays : Plays) (tones : Kind → List ℕ) (board : Board
 
 -- the answers of what the history grew by, in its order
 pub record AreAnswered (plays : Plays) (tones : Kind → List ℕ) (board : Board) (v w : Known) (answers : List Answer) : Type 0 where
-  pub events : map (λ (a : Answer). a.event) answers ≡ grown v w
+  pub events : map (λ (a : Answer). a.event) answers ≡ new_events v w
   pub each : (i : ℕ) (a : Answer) → slice_get answers i ≡ Some a → IsAnswered plays tones board w.seen (length v.seen + i) a
 
 -- the segment may be run: seat 0 knows v, holds the baton, has numbers left for the seats of the workers, and all events before were done

@@ -55,6 +55,6 @@ pub record HasDealt (v : Known) (seats : ℕ) (w : Known) : Type 0 where
   pub made : w.made ≡ v.made + seats
 
 -- seat 0 with these seats joined, the last first
-abbrev pub joined_all : Known → List Known → Known
-joined_all v [] = v
-joined_all v (w ∷ ws) = after_join (joined_all v ws) w
+abbrev pub after_joins : Known → List Known → Known
+after_joins v [] = v
+after_joins v (w ∷ ws) = after_join (after_joins v ws) w

@@ -3,7 +3,7 @@ ghost use Rattle.seat_history.specs.Histories.{StartsWith};
 ghost use Rattle.seat_history.specs.Seats.{Settled};
 ghost use Rattle.exchange_core.specs.Boards.{turns_of};
 ghost use Rattle.segment_run.specs.Rooms.{HasRoom};
-ghost use Rattle.segment_run.specs.Team.{joined_all};
+ghost use Rattle.segment_run.specs.Team.{after_joins};
 
 use call_processor::{Finished, Keeper, Workplace};
 use exchange_core::Switchboard;
@@ -32,7 +32,7 @@ pub fn gather<B: Switchboard, K: Keeper>(
     requires few { length workers.old.items ≤ 9 }
     requires room { HasRoom used.old }
     ensures seated { B.seated board.now seat.new }
-    ensures seat { B.known seat.new ≡ joined_all (B.known seat.old) (map (λ f. B.known f.seat) workers.old.items) }
+    ensures seat { B.known seat.new ≡ after_joins (B.known seat.old) (map (λ f. B.known f.seat) workers.old.items) }
     ensures workplaces { used.new.items ≡ reverse (map (λ f. f.workplace) workers.old.items) }
     ensures begins { StartsWith (B.known seat.new).seen (B.known seat.old).seen }
     ensures fronts { All (λ f. StartsWith (B.known seat.new).seen (B.known f.seat).seen) workers.old.items }

@@ -9,8 +9,8 @@
 //! (`segments_make_lawful_orders`). `run_segment_in` does the same in a `Workroom`, which keeps the desks
 //! and lists of the workers from one segment to the next.
 //!
-//! It stands on `circuit_model`, `tone_rules`, `frame_engine`, `exchange_core`, `gate` and
-//! `call_processor`.
+//! It stands on `circuit_model`, `seat_history`, `tone_rules`, `frame_engine`, `exchange_core`,
+//! `gate` and `call_processor`.
 #![tactic(auto)]
 
 mod answers;

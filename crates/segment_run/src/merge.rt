@@ -2,7 +2,9 @@
 ghost use Rattle.std.specs.Prelude.{◌≡◌, ◌≤◌, ℕ, List, length, OnOk, OnErr, vec_capacity};
 ghost use Rattle.call_processor.specs.declared.worked.Placed.{Placed};
 ghost use Rattle.call_processor.specs.Keeping.{StillHolds};
-ghost use Rattle.segment_run.specs.Merging.{AddsMerged, AreApart, IsNextRun, Keep, all_of, first_of_two};
+ghost use Rattle.segment_run.specs.Merging.{AddsMerged, IsNextRun, Keep, first_of_two};
+ghost use Rattle.segment_run.specs.Merging.{AreApart};
+ghost use Rattle.segment_run.specs.Merging.{all_of};
 
 use call_processor::{Keeper, Workplace};
 use std::alloc::AllocError;

@@ -4,7 +4,9 @@ ghost use Rattle.tone_rules.specs.Tables.{table_of};
 ghost use Rattle.call_processor.specs.declared.worked.Placed.{Placed};
 ghost use Rattle.call_processor.specs.Frames.{IsReady, IsReadyFor, engine_dimensions};
 ghost use Rattle.call_processor.specs.Keeping.{StillHolds};
-ghost use Rattle.segment_run.specs.Merging.{AddsMerged, AreApart, Keep, all_of};
+ghost use Rattle.segment_run.specs.Merging.{AddsMerged, Keep};
+ghost use Rattle.segment_run.specs.Merging.{AreApart};
+ghost use Rattle.segment_run.specs.Merging.{all_of};
 ghost use Rattle.segment_run.specs.Segment.{AddsAnswers, AreAnswered, IsAnswerOf, IsChief, MayRun, Ran, RanTo, RanWhole};
 ghost use Rattle.segment_run.specs.Segments.{events_before};
 

@@ -7,11 +7,13 @@
 //! - [`SharedExchange`] is a `Switchboard`: `handle` replies as the exchange does after the whole
 //!   history before it, whoever made that history (`reply`), and a frame's control memory shows
 //!   that world (`shows`). The seat with the baton had seen every frame of it (`frames`).
+//! - Where all other seats are joined, seat 0 knows after each step that nobody stepped between
+//!   (`settled`, `alone`).
 //! - `close` gives the core back, with the whole history as its journal (`journal`).
 //!
 //! That a waiting caller is ever served is not promised.
 //!
-//! It stands on `control_memory`, `exchange_core` and `turn_lock`.
+//! It stands on `seat_history`, `control_memory`, `exchange_core` and `turn_lock`.
 #![tactic(auto)]
 
 mod shared;

@@ -1,5 +1,5 @@
-pub mod Histories
-pub mod Views
-pub mod Numbers
-pub mod Facts
-pub mod Keeps
+pub mod ViewLemmas
+pub mod NumberLemmas
+pub mod RuleFacts
+pub mod MoveLemmas
+pub mod WaitingLemmas

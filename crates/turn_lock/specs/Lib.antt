@@ -3,3 +3,4 @@ pub mod Views
 pub mod Rule
 pub mod Locks
 pub mod Moves
+pub mod Waiting

@@ -36,6 +36,10 @@ module _ {C : Type 0} where
   abbrev pub view_after_meet : View C → View C
   view_after_meet v = record v { first = []; second = [] }
 
+  -- draw: one turn less, a ticket, and the event that it is for
+  abbrev pub view_after_draw : ℕ → ℕ → View C → View C
+  view_after_draw t event v = record v { known = record v.known { left = v.known.left - 1 }; stage = Waits t; event = event }
+
   -- pass: the call's entry joins what the seat has seen, and its own entries
   abbrev pub view_after_pass : View C → View C
   view_after_pass v = record v { known = record v.known { seen = v.known.seen ++ (v.known.number, v.event) ∷ []; own = v.known.own ++ (v.known.number, v.event) ∷ [] }; stage = Idle }
@@ -62,7 +66,7 @@ module _ {S C : Type 0} (setting : S → C) (journal : S → List Entry) (room :
 module _ {S C : Type 0} (setting : S → C) (journal : S → List Entry) (room : S → ℕ) (reserved : C → ℕ → Type 0) where
   -- draw: one turn less, the ticket that was found, and its event
   abbrev pub IsDraw : ℕ → Step (Option S) → Me (Option S) (View C) → ℕ → Me (Option S) (View C) → Type 0
-  IsDraw event st m n m' = (m'.0 ≡ record m.0 { known = record m.0.known { left = m.0.known.left - 1 }; stage = Waits n; event = event }) × (m'.1 ≡ m.1)
+  IsDraw event st m n m' = (m'.0 ≡ view_after_draw n event m.0) × (m'.1 ≡ m.1)
 
   -- look, where the turn has come: the seat has seen the whole history, and has the slot with the state at that history
   pub record Gets (t : ℕ) (m m' : Me (Option S) (View C)) : Type 0 where

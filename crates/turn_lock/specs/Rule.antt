@@ -3,28 +3,28 @@
 -- scalable synchronization on shared-memory multiprocessors", ACM Transactions on Computer Systems 9 (1), 1991, section 2.2.
 use Rattle.std.specs.Prelude.{◌≡◌, ◌≢◌, ℕ, ◌+◌, ◌<◌, ◌≤◌, ◌^◌, IsTrue, List, length, Option, Some}
 use Rattle.std.specs.List.{AllByRecursion as Every}
-use mathlib.Core.Option.{some}
+use mathlib.Core.Option.{none, some}
 use lib.ListN.{get_elem?}
 use Rattle.atomic_table.specs.Table.{State}
 use Rattle.seat_history.specs.declared.known.JoinedSeat.{JoinedSeat}
 use Rattle.seat_history.specs.Histories.{Entry, StartsWith, unseen}
 use Rattle.turn_lock.specs.declared.board.View.{View}
 use Rattle.turn_lock.specs.Entries.{Once, IsWhole}
-use Rattle.turn_lock.specs.Views.{HoldsTicket, IsServed, tickets_of, Under, Sits, Each, Pairs, total, NoneServed, ticket, serving}
+use Rattle.turn_lock.specs.Views.{HoldsTicket, IsServed, tickets_of, Under, Sits, Each, Pairs, total, NoneServed, next_ticket, now_serving}
 
 module _ {X C : Type 0} where
-  -- 1. One history. Some seat has seen all of it, what each seat has seen begins it, and `serving` is its length.
+  -- 1. One history. Some seat has seen all of it, what each seat has seen begins it, and `now_serving` is its length.
   pub record OneHistory (log : List Entry) (s : State X (View C)) : Type 0 where
-    pub length_is : serving s ≡ length log
+    pub length_is : now_serving s ≡ length log
     pub longest : (j : ℕ) × (v : View C) × Sits s.views j v × (v.known.seen ≡ log)
     pub begun : Each s.views (λ v. StartsWith log v.known.seen)
 
-  -- 2. Tickets. Those that were drawn and the turns left make up the budget. The tickets held are the numbers from `serving` up to `ticket`,
+  -- 2. Tickets. Those that were drawn and the turns left make up the budget. The tickets held are the numbers from `now_serving` up to `next_ticket`,
   -- each held by one seat.
   pub record Tickets (budget : ℕ) (s : State X (View C)) : Type 0 where
-    pub budget_is : ticket s + total (λ (v : View C). v.known.left) s.views ≡ budget
-    pub held : serving s + total (λ (v : View C). tickets_of v.stage) s.views ≡ ticket s
-    pub between : Each s.views (λ v. (t : ℕ) → HoldsTicket v.stage t → (serving s ≤ t) × (t < ticket s))
+    pub budget_is : next_ticket s + total (λ (v : View C). v.known.left) s.views ≡ budget
+    pub held : now_serving s + total (λ (v : View C). tickets_of v.stage) s.views ≡ next_ticket s
+    pub between : Each s.views (λ v. (t : ℕ) → HoldsTicket v.stage t → (now_serving s ≤ t) × (t < next_ticket s))
     pub one_each : Pairs (λ v w. (t : ℕ) → HoldsTicket v.stage t → HoldsTicket w.stage t → ⊥) s.views
 
 module _ {C : Type 0} where
@@ -49,12 +49,13 @@ module _ {S C : Type 0} (setting : S → C) (journal : S → List Entry) (room :
     pub journal_is : journal x ≡ log
     pub roomy : budget ≤ room x + length log
 
-  -- 4. The slot's way. It is out with the one seat whose turn it is: that seat's ticket is `serving`, and the seat has seen the whole history.
-  -- Where it is no seat's turn, the slot is at home and holds the state, whose journal is the history. Every view has the setting and the budget
-  -- of the opening, and no move changes these.
+  -- 4. The slot's way. It is out with the one seat whose turn it is: that seat's ticket is `now_serving`, and the seat has seen the whole history.
+  -- Where it is no seat's turn, the slot is at home and holds the state, whose journal is the history; where a seat is served, it is not at home. Every
+  -- view has the setting and the budget of the opening, and no move changes these.
   pub record SlotsWay (opening : C) (budget : ℕ) (log : List Entry) (s : State (Option S) (View C)) : Type 0 where
-    pub turn : Each s.views (λ v. IsServed v.stage → HoldsTicket v.stage (serving s) × (v.known.seen ≡ log))
+    pub turn : Each s.views (λ v. IsServed v.stage → HoldsTicket v.stage (now_serving s) × (v.known.seen ≡ log))
     pub home : NoneServed s.views → (x : S) × (get_elem? s.homes 0 ≡ some (some (Some x))) × IsAt (Some opening) budget log x
+    pub out : Each s.views (λ v. IsServed v.stage → get_elem? s.homes 0 ≡ some none)
     pub opened : Each s.views (λ v. (v.setting ≡ Some opening) × (v.budget ≡ budget))
 
 module _ {C : Type 0} (reserved : C → ℕ → Type 0) where
@@ -86,7 +87,7 @@ module _ {S C : Type 0} (setting : S → C) (journal : S → List Entry) (room :
     pub log : List Entry
     pub made : ℕ
     pub small : budget < 2 ^ 32
-    pub words : length s.words ≡ 2
+    pub words : length s.words ≡ 17
     pub slots : length s.homes ≡ 1
     pub one_history : OneHistory log s
     pub tickets : Tickets budget s

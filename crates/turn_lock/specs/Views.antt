@@ -64,9 +64,9 @@ module _ {C : Type 0} where
 
 module _ {X V : Type 0} where
   -- the word with the next ticket that is drawn
-  abbrev pub ticket : State X V → ℕ
-  ticket s = slice_index s.words 0
+  abbrev pub next_ticket : State X V → ℕ
+  next_ticket s = slice_index s.words 0
 
-  -- the word with the ticket whose turn it is
-  abbrev pub serving : State X V → ℕ
-  serving s = slice_index s.words 1
+  -- The word with the ticket whose turn it is. The words between the two are padding, so that they are not in one cache line.
+  abbrev pub now_serving : State X V → ℕ
+  now_serving s = slice_index s.words 16

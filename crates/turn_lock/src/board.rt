@@ -1,5 +1,5 @@
 //! What the seats of a lock know, and the rule of the table that they share.
-//! Word 0 is the next ticket that is drawn, word 1 the ticket whose turn it is, and slot 0 holds the state.
+//! Word 0 is the next ticket that is drawn, word 16 the ticket whose turn it is, and slot 0 holds the state.
 ghost use Rattle.std.specs.Prelude.{ℕ, Bool, false};
 
 use crate::stepper::Stepper;

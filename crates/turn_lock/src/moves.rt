@@ -1,11 +1,33 @@
 //! The moves of the lock, each one step on a word of its table or on its slot.
+//!
+//! A *ticket lock* works as the counter of a shop does. There are two numbers on the wall: the next
+//! ticket that is drawn, and the ticket whose turn it is. Who wants to be served draws a ticket, so
+//! that the first number rises by one, waits until the second number is that of the ticket, is
+//! served, and lets the second number rise by one. (J. M. Mellor-Crummey and M. L. Scott, "Algorithms
+//! for scalable synchronization on shared-memory multiprocessors", ACM Transactions on Computer
+//! Systems 9 (1), 1991, section 2.2; an older relative is L. Lamport's bakery algorithm,
+//! Communications of the ACM 17 (8), 1974.) Each call is a row of moves:
+//!
+//! | Call | Move | One step on | What it does | Do other threads see it? |
+//! |---|---|---|---|---|
+//! | `split` | split | a load of the next ticket | turns go over to a new seat, and the baton where asked | no |
+//! | `join` | join | a load of the next ticket | seat 0 has the longer of two histories, and keeps the other's entries | no |
+//! | | meet | a load of the next ticket | seat 0 learns that both histories begin what it has seen | no |
+//! | `step` | draw | an addition to the next ticket | one turn less; the seat has a ticket for its event | yes: the next one draws a later ticket |
+//! | | look | a load of the ticket whose turn it is | where it is the seat's, it has seen the whole history and has the slot | no |
+//! | | take | an exchange of that slot | the state leaves it, and is stepped | no: the slot is the seat's |
+//! | | give | an exchange of that slot | the state comes back | no |
+//! | | pass | an addition to the ticket whose turn it is | the entry is part of the history, and the slot is no seat's | yes: the next ticket's turn has come |
+//!
+//! A seat that waits looks again and again. No other move is ever repeated. A seat that is dropped
+//! keeps its turns, and then the lock cannot be closed.
 ghost use Rattle.std.specs.Prelude.{◌≡◌, ℕ, ◌+◌, ◌-◌, ◌<◌, ◌++◌, [], ◌∷◌, ◌≤◌, length, Some, None, IfOk, IfErr, IsTrue};
 ghost use Rattle.turn_lock.specs.declared.board.Stage.TheVariants.{Idle, Waits, Served};
 ghost use Rattle.seat_history.specs.Histories.{StartsWith};
 ghost use Rattle.seat_history.specs.Seats.{HasJoinedAll};
 ghost use Rattle.turn_lock.specs.Views.{IsLive, Under};
 ghost use Rattle.turn_lock.specs.Rule.{Reserves};
-ghost use Rattle.turn_lock.specs.Moves.{Gets, HoldsState, IsFree, IsEnd, KnowsAll, IsStep, first_view, view_after_split, new_view, view_after_join, view_after_meet, view_after_pass};
+ghost use Rattle.turn_lock.specs.Moves.{Gets, HoldsState, IsFree, IsEnd, KnowsAll, IsStep, first_view, view_after_draw, view_after_split, new_view, view_after_join, view_after_meet, view_after_pass};
 
 use crate::board::{Aim, Gift, Opening, Token, Turns, View};
 use crate::plays::{Cut, Draw, Glue, Look, Meet, Pass};
@@ -15,13 +37,24 @@ use std::alloc::{AllocError, AllocFailed, Global};
 use std::marker::Brand;
 use std::snapshot::Snapshot;
 use std::sync::Wait;
-use std::thread;
+use std::{hint, thread};
 
-/// The table of a lock: two words and one slot.
+// The words: the next ticket that is drawn, and the ticket whose turn it is. Between them are words that no move
+// touches, so that the two are not in one cache line: who draws doesn't disturb those who look.
+const NEXT_TICKET: usize = 0;
+
+const NOW_SERVING: usize = 16;
+
+const WORDS: usize = 17;
+
+// How often the next in turn spins before it lets other threads run.
+const MOST_SPINS: u32 = 200;
+
+/// The table of a lock: its words and one slot.
 #[derive(Drop)]
 pub struct Board<S: Stepper> {
     table: Table<Option<S>, View<S::Setting>, Opening<S>, Turns<S>, Global>,
-    ghost sized: { (table.shared.table_id.words ≡ 2) × (table.shared.table_id.slots ≡ 1) },
+    ghost sized: { (table.shared.table_id.words ≡ 17) × (table.shared.table_id.slots ≡ 1) },
 }
 
 impl<S: Stepper> Board<S> {
@@ -46,7 +79,7 @@ impl<S: Stepper> Board<S> {
             Ok(slots) => slots,
             Err(state) => return Err((state, AllocError)),
         };
-        match Table::new(alloc, &[0, 0], slots, &opening) {
+        match Table::new(alloc, &[0; WORDS], slots, &opening) {
             Ok((table, seat)) => Ok((Board { table }, seat)),
             Err(Refused { slots }) => Err((only(slots), AllocError)),
         }
@@ -91,7 +124,7 @@ impl<S: Stepper> Board<S> {
         ensures within { seat.new.me.0.known.left ≤ seat.new.me.0.budget }
     {
         self.table.shared.join_seat::<Glue>(seat, other);
-        self.table.shared.load::<Meet<S>>(seat, 0);
+        self.table.shared.load::<Meet<S>>(seat, NEXT_TICKET);
     }
 
     // Draw: a ticket for the event that `E` names.
@@ -100,10 +133,12 @@ impl<S: Stepper> Board<S> {
         requires turn { IsFree seat.old.me × (0 < seat.old.me.0.known.left) }
         requires baton { Reserves S.reserved seat.old.me.0.setting E.event → IsTrue seat.old.me.0.known.baton }
         ensures lock { seat.new.table_id ≡ seat.old.table_id }
-        ensures view { seat.new.me.0 ≡ record seat.old.me.0 { known = record seat.old.me.0.known { left = seat.old.me.0.known.left - 1 }; stage = Waits result; event = E.event } }
+        ensures view { seat.new.me.0 ≡ view_after_draw result E.event seat.old.me.0 }
         ensures slots { seat.new.me.1 ≡ seat.old.me.1 }
     {
-        self.table.shared.fetch_add::<Draw<S, E>>(seat, 0, 1)
+        self.table
+            .shared
+            .fetch_add::<Draw<S, E>>(seat, NEXT_TICKET, 1)
     }
 
     // Draw: a ticket for an event.
@@ -113,7 +148,7 @@ impl<S: Stepper> Board<S> {
         requires aim { E.event ≡ event }
         requires baton { Reserves S.reserved seat.old.me.0.setting E.event → IsTrue seat.old.me.0.known.baton }
         ensures lock { seat.new.table_id ≡ seat.old.table_id }
-        ensures view { seat.new.me.0 ≡ record seat.old.me.0 { known = record seat.old.me.0.known { left = seat.old.me.0.known.left - 1 }; stage = Waits result; event = event } }
+        ensures view { seat.new.me.0 ≡ view_after_draw result event seat.old.me.0 }
         ensures slots { seat.new.me.1 ≡ seat.old.me.1 }
     {
         self.draw::<E>(seat)
@@ -126,11 +161,13 @@ impl<S: Stepper> Board<S> {
         ensures lock { seat.new.table_id ≡ seat.old.table_id }
         ensures gets { Gets S.setting S.journal S.room S.reserved ticket seat.old.me seat.new.me }
     {
+        let mut spins = 0;
         for _ in rt.forever() {
-            if self.table.shared.load::<Look<S>>(seat, 1) == ticket {
+            let serving = self.table.shared.load::<Look<S>>(seat, NOW_SERVING);
+            if serving == ticket {
                 return;
             }
-            thread::yield_now();
+            spins = pause(ticket.wrapping_sub(serving), spins);
         }
         unreachable!()
     }
@@ -166,7 +203,7 @@ impl<S: Stepper> Board<S> {
         ensures view { seat.new.me ≡ (view_after_pass seat.old.me.0, []) }
         ensures settled { seat.old.me.0.known.number ≡ 0 → KnowsAll seat.new.me.0 }
     {
-        self.table.shared.fetch_add::<Pass<S>>(seat, 1, 1);
+        self.table.shared.fetch_add::<Pass<S>>(seat, NOW_SERVING, 1);
     }
 
     // The five moves of a step. It answers the ticket, which is the place in the history, and the reply.
@@ -210,6 +247,17 @@ impl<S: Stepper> Board<S> {
             None => unreachable!(),
         }
     }
+}
+
+// Passes some time between two looks, where so many turns come before the seat's. The next one spins, since a
+// turn is shorter than a call of the system; it has spun so often already. The others let threads run.
+fn pause(ahead: u64, spins: u32) -> u32 {
+    if ahead == 1 && spins < MOST_SPINS {
+        hint::spin_loop();
+        return spins + 1;
+    }
+    thread::yield_now();
+    spins
 }
 
 // A list of the one state.

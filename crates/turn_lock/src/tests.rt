@@ -98,21 +98,28 @@ fn has_all(journal: &[(u32, u32)], seats: u32, count: u32) -> bool {
     Some(journal.len()) == (seats as usize).checked_mul(count as usize)
 }
 
-#[test]
-fn a_sum_is_stepped_in_turn(rt: HostRuntime) -> Result<(), Fail> {
-    let steps = [(0, 5), (1, 7), (0, 1)];
-    let run = three_seats(&rt, rt.alloc(), [2, 2, 0], &steps, false).ok_or("no run")?;
-    assert_eq!(rt;
-        run.answers.as_slice(),
-        [(0, 5), (1, 12), (2, 13)].as_slice()
-    );
-    assert_eq!(rt; run.left, 1);
-    assert_eq!(rt; run.journal.as_slice(), [(0, 5), (1, 7), (0, 1)].as_slice());
-    Ok(())
+// Whether these steps are answered so, stand in the journal in their order, and leave seat 0 so many turns and the baton. None answered: a step
+// finds no turn or no baton.
+fn comes_out<R: Wait>(
+    rt: &R,
+    alloc: Global,
+    turns: [u32; 3],
+    steps: &[(u32, u32)],
+    swapped: bool,
+    answers: &[(u32, u64)],
+    left: u32,
+) -> bool {
+    let Some(run) = three_seats(rt, alloc, turns, steps, swapped) else {
+        return answers.is_empty();
+    };
+    run.answers.as_slice() == answers
+        && run.journal.as_slice() == steps
+        && run.left == left
+        && run.baton
 }
 
-#[test]
-fn three_seats_in_every_order(rt: HostRuntime) -> Result<(), Fail> {
+// Three seats step a sum in every order, and the other two are joined in either order.
+fn in_every_order<R: Wait>(rt: &R, alloc: Global) -> bool {
     let orders = [
         [0, 1, 2],
         [0, 2, 1],
@@ -121,27 +128,29 @@ fn three_seats_in_every_order(rt: HostRuntime) -> Result<(), Fail> {
         [2, 0, 1],
         [2, 1, 0],
     ];
+    let answers = [(0, 3), (1, 7), (2, 12)];
     for [a, b, c] in orders {
+        let steps = [(a, 3), (b, 4), (c, 5)];
         for swapped in [false, true] {
-            let steps = [(a, 3), (b, 4), (c, 5)];
-            let run = three_seats(&rt, rt.alloc(), [1, 1, 2], &steps, swapped).ok_or("no run")?;
-            assert_eq!(rt;
-                run.answers.as_slice(),
-                [(0, 3), (1, 7), (2, 12)].as_slice()
-            );
-            assert_eq!(rt; run.journal.as_slice(), [(a, 3), (b, 4), (c, 5)].as_slice());
-            assert_eq!(rt; (run.left, run.baton), (1, true), "at {a} {b} {c}");
+            if !comes_out(rt, alloc, [1, 1, 2], &steps, swapped, &answers, 1) {
+                return false;
+            }
         }
     }
-    Ok(())
+    true
 }
 
 #[test]
-fn the_baton_goes_over(rt: HostRuntime) -> Result<(), Fail> {
-    let run = three_seats(&rt, rt.alloc(), [1, 1, 1], &[(2, 0)], false).ok_or("no run")?;
-    assert_eq!(rt; run.journal.as_slice(), [(2, 0)].as_slice());
-    assert!(rt; three_seats(&rt, rt.alloc(), [1, 1, 1], &[(0, 0)], false).is_none());
-    assert!(rt; three_seats(&rt, rt.alloc(), [1, 1, 1], &[(1, 4), (1, 4)], false).is_none());
+fn seats_step_in_turn(rt: HostRuntime) -> Result<(), Fail> {
+    let steps = [(0, 5), (1, 7), (0, 1)];
+    let answers = [(0, 5), (1, 12), (2, 13)];
+    assert!(rt; comes_out(&rt, rt.alloc(), [2, 2, 0], &steps, false, &answers, 1));
+    // The baton is seat 2's, who steps the reserved event; seat 0 may not.
+    assert!(rt; comes_out(&rt, rt.alloc(), [1, 1, 1], &[(2, 0)], false, &[(0, 0)], 2));
+    assert!(rt; comes_out(&rt, rt.alloc(), [1, 1, 1], &[(0, 0)], false, &[], 0));
+    // A second step of one turn.
+    assert!(rt; comes_out(&rt, rt.alloc(), [1, 1, 1], &[(1, 4), (1, 4)], false, &[], 0));
+    assert!(rt; in_every_order(&rt, rt.alloc()));
     Ok(())
 }
 

@@ -6,8 +6,8 @@ use Rattle.exchange_core.specs.Boards.{world_at, setting_at}
 use Rattle.exchange_core.specs.World.{Dimensions}
 use Rattle.frame_engine.specs.Frames.{PlaysOut}
 use Rattle.tone_rules.specs.Tables.{table_of}
-use Rattle.call_processor.proofs.Done.{Next, answer_next}
-use Rattle.call_processor.proofs.FrameSteps.{asked, boundary, frames_few, input_whole, made_at, next_frame, one_input, played_here, ready_after, same_frames, still_carried, written_whole}
+use Rattle.call_processor.proofs.EventLemmas.{Next, answer_next}
+use Rattle.call_processor.proofs.FrameLemmas.{frame_asks, boundary, frames_few, input_whole, made_at, next_frame, one_input, played_here, ready_after, same_frames, still_carried, written_whole}
 use Rattle.exchange_core.proofs.Given.{sounds_given}
 use Rattle.call_processor.specs.Frames.{engine_dimensions}
 use Rattle.call_processor.specs.Keeping.{placed}
@@ -21,7 +21,7 @@ frame-requires-clause-frame g c =
     let board = g.B.Switchboard.board c.args.board.now in
     let history = before c.work-place.result.0 (K c.work-place.new.seat).seen in
     let same = same_frames board (K c.args.seat.now).seen history c.work-place.ensures.begins (c.work-place.ensures.frames c.requires.baton) in
-    let a = asked board history c.args.event c.args.input.now c.work-place.new.desk.tool c.in-Image.image c.work-place.ensures.sound c.requires.frame c.in-Image.is c.work-place.ensures.shows c.work-place.ensures.tool in
+    let a = frame_asks board history c.args.event c.args.input.now c.work-place.new.desk.tool c.in-Image.image c.work-place.ensures.sound c.requires.frame c.in-Image.is c.work-place.ensures.shows c.work-place.ensures.tool in
     a.shows.1.frame ∙ (same.next ∙ sym c.requires.ready.number)
 
 pub frame-requires-clause-last : goal.frame-requires-clause-last
@@ -46,7 +46,7 @@ frame-requires-clause-tones g c = λ at line place kind since sounds.
     let K = g.B.Switchboard.known in
     let board = g.B.Switchboard.board c.args.board.now in
     let history = before c.work-place.result.0 (K c.work-place.new.seat).seen in
-    let a = asked board history c.args.event c.args.input.now c.work-place.new.desk.tool c.in-Image.image c.work-place.ensures.sound c.requires.frame c.in-Image.is c.work-place.ensures.shows c.work-place.ensures.tool in
+    let a = frame_asks board history c.args.event c.args.input.now c.work-place.new.desk.tool c.in-Image.image c.work-place.ensures.sound c.requires.frame c.in-Image.is c.work-place.ensures.shows c.work-place.ensures.tool in
     rw c.requires.tones (sounds_given _ c.in-Image.image _ _ _ (made_at board history c.work-place.ensures.sound).sounding a.shows at line place kind since sounds)
 
 pub returns-clause-ready : goal.returns-clause-ready
@@ -58,7 +58,7 @@ returns-clause-ready g c =
     let n = c.args.event in
     let input = c.args.input.now in
     let same = same_frames board (K c.args.seat.now).seen history c.work-place.ensures.begins (c.work-place.ensures.frames c.requires.baton) in
-    let a = asked board history n input c.work-place.new.desk.tool c.in-Image.image c.work-place.ensures.sound c.requires.frame c.in-Image.is c.work-place.ensures.shows c.work-place.ensures.tool in
+    let a = frame_asks board history n input c.work-place.new.desk.tool c.in-Image.image c.work-place.ensures.sound c.requires.frame c.in-Image.is c.work-place.ensures.shows c.work-place.ensures.tool in
     let carried = still_carried g.C.Carrier.carries g.C.Carrier.next (engine_dimensions g.C.Carrier.external_lines g.C.Carrier.bridge_lines g.C.Carrier.depth) board (world_at board (K c.args.seat.now).seen) w c.args.engine.now same c.requires.ready.carried in
     let more = c.frame.ensures.carries (boundary w) (next_frame (g.C.Carrier.carries c.args.engine.now) c.in-Image.image (setting_at board).dimensions w a carried) in
     ready_after g.C.Carrier.carries g.C.Carrier.next (engine_dimensions g.C.Carrier.external_lines g.C.Carrier.bridge_lines g.C.Carrier.depth) board history (K c.work-place.new.seat).seen (K c.args.seat.now).number n input c.frame.new.self c.in-Image.image c.frame.new.image
@@ -86,7 +86,7 @@ returns-clause-kept g c =
     let n = c.args.event in
     let input = c.args.input.now in
     let same = same_frames board (K c.args.seat.now).seen history c.work-place.ensures.begins (c.work-place.ensures.frames c.requires.baton) in
-    let a = asked board history n input c.work-place.new.desk.tool c.in-Image.image c.work-place.ensures.sound c.requires.frame c.in-Image.is c.work-place.ensures.shows c.work-place.ensures.tool in
+    let a = frame_asks board history n input c.work-place.new.desk.tool c.in-Image.image c.work-place.ensures.sound c.requires.frame c.in-Image.is c.work-place.ensures.shows c.work-place.ensures.tool in
     let carried = still_carried g.C.Carrier.carries g.C.Carrier.next (engine_dimensions g.C.Carrier.external_lines g.C.Carrier.bridge_lines g.C.Carrier.depth) board (world_at board (K c.args.seat.now).seen) w c.args.engine.now same c.requires.ready.carried in
     let played = c.frame.ensures.plays (boundary w) (next_frame (g.C.Carrier.carries c.args.engine.now) c.in-Image.image (setting_at board).dimensions w a carried) in
     let size : length c.frame.new.out ≡ length c.args.octets.now.items = search rules in

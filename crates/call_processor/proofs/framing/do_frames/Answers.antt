@@ -5,9 +5,9 @@ use Rattle.exchange_core.specs.Orders.{Frame_worker, IsEvent}
 use Rattle.call_processor.specs.Frames.{HasFrame}
 use Rattle.call_processor.specs.Keeping.{KeepsWork}
 use Rattle.call_processor.specs.Parts.{is_its, part_of}
-use Rattle.call_processor.proofs.Done.{frames_stay}
+use Rattle.call_processor.proofs.EventLemmas.{frames_stay}
 use Rattle.call_processor.proofs.KeepingLemmas.{keeps_done, keeps_front, keeps_lacking, keeps_more}
-use Rattle.call_processor.proofs.Segments.{up_to, rest_from, next_not, next_its, front_here, front_next, turn_left}
+use Rattle.call_processor.proofs.PartLemmas.{up_to, rest_from, next_not, next_its, front_here, front_next, turn_left}
 use Rattle.call_processor.proofs.framing.do_frames.Goals as goal
 
 pub input_of-requires : goal.input_of-requires

@@ -3,7 +3,7 @@ use Rattle.tone_rules.specs.Tables.{table_of}
 use Rattle.exchange_core.specs.Orders.{Frame_worker}
 use Rattle.call_processor.specs.Frames.{IsReady, HasFrame, engine_dimensions}
 use Rattle.call_processor.proofs.KeepingLemmas.{Keeps}
-use Rattle.call_processor.proofs.Segments.{up_to}
+use Rattle.call_processor.proofs.PartLemmas.{up_to}
 use Rattle.call_processor.proofs.framing.do_frames.Given as goal
 
 abbrev pub invariant-loop-event : goal.invariant-loop-event

@@ -3,7 +3,7 @@ use Rattle.exchange_core.specs.Responses.{reply_of}
 use Rattle.seat_history.specs.Histories.{before}
 use Rattle.call_processor.specs.declared.worked.Placed.{Placed}
 use Rattle.call_processor.specs.Keeping.{placed}
-use Rattle.call_processor.proofs.Done.{Next, answer_next}
+use Rattle.call_processor.proofs.EventLemmas.{Next, answer_next}
 use Rattle.call_processor.proofs.KeepingLemmas.{on_ok}
 use Rattle.call_processor.proofs.processing.do_event.Goals as goal
 

@@ -4,7 +4,7 @@ use Rattle.exchange_core.specs.Orders.{Processor, IsEvent}
 use Rattle.call_processor.specs.Keeping.{KeepsWork, has_no_octets}
 use Rattle.call_processor.specs.Parts.{is_its, part_of}
 use Rattle.call_processor.proofs.KeepingLemmas.{keeps_done, keeps_front, keeps_lacking, keeps_more}
-use Rattle.call_processor.proofs.Segments.{up_to, rest_from, next_not, next_its, front_here, front_next, turn_left}
+use Rattle.call_processor.proofs.PartLemmas.{up_to, rest_from, next_not, next_its, front_here, front_next, turn_left}
 use Rattle.call_processor.proofs.processing.do_events.Goals as goal
 
 pub is_of_processor-requires-clause-event : goal.is_of_processor-requires-clause-event

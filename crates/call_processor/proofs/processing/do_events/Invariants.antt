@@ -3,7 +3,7 @@ use Rattle.exchange_core.specs.declared.tool.Tool.TheVariants.{Nothing}
 use Rattle.exchange_core.specs.Orders.{Processor}
 use Rattle.call_processor.specs.Keeping.{has_no_octets}
 use Rattle.call_processor.proofs.KeepingLemmas.{Keeps}
-use Rattle.call_processor.proofs.Segments.{up_to}
+use Rattle.call_processor.proofs.PartLemmas.{up_to}
 use Rattle.call_processor.proofs.processing.do_events.Given as goal
 
 abbrev pub invariant-loop-event : goal.invariant-loop-event

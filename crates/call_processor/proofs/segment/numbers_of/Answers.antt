@@ -1,5 +1,5 @@
 use Rattle.std.proofs.Common.{rules, ℕ, ◌+◌, ◌-◌, List, get_or, length, sym, ap, ◌∙◌, arith}
-use Rattle.call_processor.proofs.Segments.{part_at, first_of_all, first_later, order_of_ends}
+use Rattle.call_processor.proofs.PartLemmas.{part_at, first_of_all, first_later, order_of_ends}
 use Rattle.call_processor.proofs.segment.numbers_of.Goals as goal
 
 pub returns-then-segment-eq0-clause-parts : goal.returns-then-segment-eq0-clause-parts

@@ -3,8 +3,8 @@ use Rattle.std.specs.Prelude.{All}
 use Rattle.tone_rules.specs.Tables.{table_of}
 use Rattle.exchange_core.specs.declared.trace.Trace.{Trace}
 use Rattle.exchange_core.specs.Orders.{IsEvent}
-use Rattle.segment_run.specs.Segment.{AreAnswered, grown}
-use Rattle.segment_run.proofs.Orders.{grown_known, numbers_left, seen_done}
+use Rattle.segment_run.specs.Segment.{AreAnswered, new_events}
+use Rattle.segment_run.proofs.OrderLemmas.{grown_known, numbers_left, seen_done}
 use Rattle.exchange_top.specs.Outcomes.{listed}
 use Rattle.exchange_top.specs.Report.{lines_of}
 use Rattle.exchange_top.specs.Telling.{AreTold, AreToldFront, calls_answered}
@@ -37,7 +37,7 @@ returns-in_err-tell-clause-told_front g c =
     let v = K c.args.seat.now in
     let w = K c.run_segment_in.new.seat in
     let ran = c.run_segment_in.ensures.ran in
-    let known = subst (λ (t : Trace). All (IsEvent t) (grown v w)) c.requires.trace (grown_known c.args.trace.now c.args.segment v w ran) in
+    let known = subst (λ (t : Trace). All (IsEvent t) (new_events v w)) c.requires.trace (grown_known c.args.trace.now c.args.segment v w ran) in
     let answered = subst (λ (t : Trace). AreAnswered g.C.Carrier.plays (table_of t.tones) board v w c.in_ok-done.done.answers.items) c.requires.trace c.in_ok-done.ensures.answer.answered in
     on_err c.from_residual-in_err-tell.result
     (subst (AreToldFront _ _ c.args.meters.now.items c.tell.new.meters.items) (ap calls_answered c.as_slice-2.ensures.value ∙ calls_told_of g.C.Carrier.plays (table_of board.trace.tones) board v w c.in_ok-done.done.answers.items answered ran.begins known)
@@ -50,7 +50,7 @@ returns-clause-lines g c =
     let v = K c.args.seat.now in
     let w = K c.run_segment_in.new.seat in
     let ran = c.run_segment_in.ensures.ran in
-    let known = subst (λ (t : Trace). All (IsEvent t) (grown v w)) c.requires.trace (grown_known c.args.trace.now c.args.segment v w ran) in
+    let known = subst (λ (t : Trace). All (IsEvent t) (new_events v w)) c.requires.trace (grown_known c.args.trace.now c.args.segment v w ran) in
     let answered = subst (λ (t : Trace). AreAnswered g.C.Carrier.plays (table_of t.tones) board v w c.in_ok-done.done.answers.items) c.requires.trace c.in_ok-done.ensures.answer.answered in
     c.in_ok-append_answers.ensures.lines
     ∙ ap (λ (l : List _). c.args.out.now.items ++ listed c.args.listing l) (ap lines_of c.as_slice.ensures.value ∙ lines_told g.C.Carrier.plays (table_of board.trace.tones) board v w c.in_ok-done.done.answers.items answered ran.begins known)
@@ -62,7 +62,7 @@ returns-clause-few g c =
     let v = K c.args.seat.now in
     let w = K c.run_segment_in.new.seat in
     let ran = c.run_segment_in.ensures.ran in
-    let known = subst (λ (t : Trace). All (IsEvent t) (grown v w)) c.requires.trace (grown_known c.args.trace.now c.args.segment v w ran) in
+    let known = subst (λ (t : Trace). All (IsEvent t) (new_events v w)) c.requires.trace (grown_known c.args.trace.now c.args.segment v w ran) in
     let answered = subst (λ (t : Trace). AreAnswered g.C.Carrier.plays (table_of t.tones) board v w c.in_ok-done.done.answers.items) c.requires.trace c.in_ok-done.ensures.answer.answered in
     few_told g.C.Carrier.plays (table_of board.trace.tones) board v w c.in_ok-done.done.answers.items answered ran.begins known
 
@@ -73,7 +73,7 @@ returns-clause-told g c =
     let v = K c.args.seat.now in
     let w = K c.run_segment_in.new.seat in
     let ran = c.run_segment_in.ensures.ran in
-    let known = subst (λ (t : Trace). All (IsEvent t) (grown v w)) c.requires.trace (grown_known c.args.trace.now c.args.segment v w ran) in
+    let known = subst (λ (t : Trace). All (IsEvent t) (new_events v w)) c.requires.trace (grown_known c.args.trace.now c.args.segment v w ran) in
     let answered = subst (λ (t : Trace). AreAnswered g.C.Carrier.plays (table_of t.tones) board v w c.in_ok-done.done.answers.items) c.requires.trace c.in_ok-done.ensures.answer.answered in
     subst (AreTold _ _ c.args.meters.now.items c.tell.new.meters.items) (ap calls_answered c.as_slice-2.ensures.value ∙ calls_told_of g.C.Carrier.plays (table_of board.trace.tones) board v w c.in_ok-done.done.answers.items answered ran.begins known)
     c.in_ok-tell.ensures.told

@@ -3,7 +3,7 @@ use Rattle.exchange_core.specs.declared.trace.Trace.{Trace}
 use Rattle.exchange_core.specs.Sound.{IsSound}
 use Rattle.exchange_core.specs.Working.{order_of}
 use Rattle.segment_run.specs.Segment.{Ran, RanWhole}
-use Rattle.segment_run.proofs.Orders.{few_segments}
+use Rattle.segment_run.proofs.OrderLemmas.{few_segments}
 use Rattle.std.specs.Io.KnownBytes.{Appends}
 use Rattle.ex_io.specs.Ends.{Rose}
 use Rattle.exchange_top.specs.Outcomes.{IsBegun, IsRunWhole, listed}

@@ -7,8 +7,8 @@ use Rattle.std.proofs.lemmas.List.Elements.{All-push}
 use Rattle.call_processor.specs.declared.worked.Finished.{Finished}
 use Rattle.segment_run.specs.declared.dealing.Job.{Job}
 use Rattle.segment_run.specs.Jobs.{HasProcessed, MayProcess}
-use Rattle.segment_run.proofs.Lists.{all_front, all_last}
-use Rattle.segment_run.proofs.Runs.{zip_more}
+use Rattle.segment_run.proofs.ListLemmas.{all_front, all_last}
+use Rattle.segment_run.proofs.RunLemmas.{zip_more}
 use Rattle.segment_run.proofs.crew.+call_processors+fn-call_processors-join+arg3.Goals as goal
 
 pub join-mine-requires-after_bounds : goal.join-mine-requires-after_bounds

@@ -6,7 +6,7 @@ use Rattle.std.specs.declared.vec.Vec.{Vec}
 use Rattle.std.proofs.lemmas.List.Elements.{All-push}
 use Rattle.seat_history.specs.declared.known.Known.{Known}
 use Rattle.segment_run.specs.declared.dealing.Job.{Job}
-use Rattle.segment_run.proofs.Dealt.{Dealing, enough, none_dealt, none_yet, one_dealt}
+use Rattle.segment_run.proofs.DealLemmas.{Dealing, enough, none_dealt, none_yet, one_dealt}
 use Rattle.segment_run.proofs.dealing.deal.Goals.{then-turns-gt0+in-Some, else-turns-gt0}
 use Rattle.segment_run.proofs.dealing.deal.Goals as goal
 

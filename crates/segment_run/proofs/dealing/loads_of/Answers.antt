@@ -2,8 +2,8 @@ use Rattle.std.proofs.Common.{rules, ◌≡◌, ◌<◌, ◌+◌, ◌-◌, lengt
 use Rattle.std.proofs.lemmas.List.{length-set}
 use Rattle.exchange_core.specs.declared.trace.Event.{Event}
 use Rattle.segment_run.specs.Team.{worker_numbered}
-use Rattle.segment_run.proofs.Lists.{got_read}
-use Rattle.segment_run.proofs.Counting.{up_to_few, number_is, counted_more}
+use Rattle.segment_run.proofs.ListLemmas.{got_read}
+use Rattle.segment_run.proofs.CountLemmas.{up_to_few, number_is, counted_more}
 use Rattle.segment_run.proofs.dealing.loads_of.Goals as goal
 
 pub overflow_add-loads : goal.overflow_add-loads

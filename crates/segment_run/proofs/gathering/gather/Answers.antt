@@ -5,9 +5,9 @@ use Rattle.seat_history.specs.declared.known.Known.{Known}
 use Rattle.seat_history.specs.Histories.{StartsWith}
 use Rattle.call_processor.specs.declared.worked.Finished.{Finished}
 use Rattle.call_processor.specs.declared.worked.Workplace.{Workplace}
-use Rattle.segment_run.specs.Team.{joined_all}
-use Rattle.segment_run.proofs.Gathers.{joined_more, lists_more, starts_on}
-use Rattle.segment_run.proofs.Lists.{all_front}
+use Rattle.segment_run.specs.Team.{after_joins}
+use Rattle.segment_run.proofs.JoinLemmas.{joined_more, lists_more, starts_on}
+use Rattle.segment_run.proofs.ListLemmas.{all_front}
 use Rattle.segment_run.proofs.gathering.gather.Goals as goal
 
 pub loop-finished-preserved : goal.loop-finished-preserved
@@ -26,7 +26,7 @@ loop-finished-preserved g c =
       room = search rules;
       kept = search rules;
       capacity = search rules;
-      seat = ap (λ (k : Known). joined_all k (map f ps)) c.join.ensures.seat ∙ (sym (joined_more f (K c.loop-finished.seat) ps w) ∙ (ap (λ (l : List (Finished _ _)). joined_all (K c.loop-finished.seat) (map f l)) (sym items) ∙ c.loop-finished.invariant.seat));
+      seat = ap (λ (k : Known). after_joins k (map f ps)) c.join.ensures.seat ∙ (sym (joined_more f (K c.loop-finished.seat) ps w) ∙ (ap (λ (l : List (Finished _ _)). after_joins (K c.loop-finished.seat) (map f l)) (sym items) ∙ c.loop-finished.invariant.seat));
       workplaces = ap (λ (l : List (Workplace _)). l ++ reverse (map h ps)) c.push_reserved.ensures.items ∙ (lists_more h c.loop-finished.used.items ps w ∙ (ap (λ (l : List (Finished _ _)). c.loop-finished.used.items ++ reverse (map h l)) (sym items) ∙ c.loop-finished.invariant.workplaces));
       fronts = λ history s a.
           let F : Finished _ _ → Type 0 = λ u. StartsWith history (K u.seat).seen in

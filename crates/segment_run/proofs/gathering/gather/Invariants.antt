@@ -5,7 +5,7 @@ use Rattle.seat_history.specs.Histories.{StartsWith}
 use Rattle.seat_history.specs.Seats.{Settled}
 use Rattle.exchange_core.specs.Boards.{turns_of}
 use Rattle.exchange_core.specs.Working.{Entry}
-use Rattle.segment_run.specs.Team.{joined_all}
+use Rattle.segment_run.specs.Team.{after_joins}
 use Rattle.segment_run.proofs.gathering.gather.Given as goal
 
 abbrev pub invariant-loop-finished : goal.invariant-loop-finished
@@ -16,7 +16,7 @@ invariant-loop-finished g l = record {
   room : vec_len l.used + vec_len l.workers ≤ vec_capacity l.used;
   kept : vec_capacity l.used ≡ vec_capacity l.fn.used;
   capacity : vec_capacity l.workers ≡ vec_capacity l.fn.workers;
-  seat : joined_all (g.B.Switchboard.known l.seat) (map (λ w. g.B.Switchboard.known w.seat) l.workers.items) ≡ joined_all (g.B.Switchboard.known l.fn.seat) (map (λ w. g.B.Switchboard.known w.seat) l.fn.workers.items);
+  seat : after_joins (g.B.Switchboard.known l.seat) (map (λ w. g.B.Switchboard.known w.seat) l.workers.items) ≡ after_joins (g.B.Switchboard.known l.fn.seat) (map (λ w. g.B.Switchboard.known w.seat) l.fn.workers.items);
   workplaces : l.used.items ++ reverse (map (λ w. w.workplace) l.workers.items) ≡ reverse (map (λ w. w.workplace) l.fn.workers.items);
   fronts : (history : List Entry) → StartsWith history (g.B.Switchboard.known l.seat).seen → All (λ w. StartsWith history (g.B.Switchboard.known w.seat).seen) l.workers.items → All (λ w. StartsWith history (g.B.Switchboard.known w.seat).seen) l.fn.workers.items;
   settled : length l.workers.items < length l.fn.workers.items → Settled (turns_of (g.B.Switchboard.board l.board)) (g.B.Switchboard.known l.seat);

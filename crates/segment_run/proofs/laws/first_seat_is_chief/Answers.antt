@@ -1,4 +1,4 @@
-use Rattle.segment_run.proofs.Orders.{first_chief}
+use Rattle.segment_run.proofs.OrderLemmas.{first_chief}
 use Rattle.segment_run.proofs.laws.first_seat_is_chief.Goals as goal
 
 pub returns : goal.returns

@@ -1,4 +1,4 @@
-use Rattle.segment_run.proofs.Orders.{seen_done, numbers_left}
+use Rattle.segment_run.proofs.OrderLemmas.{seen_done, numbers_left}
 use Rattle.segment_run.proofs.laws.segments_leave_room.Goals as goal
 
 pub returns-clause-long : goal.returns-clause-long

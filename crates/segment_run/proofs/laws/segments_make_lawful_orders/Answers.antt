@@ -1,4 +1,4 @@
-use Rattle.segment_run.proofs.Orders.{none, one_more, cut_short, all_done}
+use Rattle.segment_run.proofs.OrderLemmas.{none, one_more, cut_short, all_done}
 use Rattle.segment_run.proofs.laws.segments_make_lawful_orders.Goals as goal
 
 pub returns-clause-none : goal.returns-clause-none

@@ -1,7 +1,7 @@
 use Rattle.std.proofs.Common.{rules, ◌≡◌, ◌++◌, length, subst, refl, Some, None, slice_get}
 use Rattle.segment_run.specs.Merging.{IsNextRun}
-use Rattle.segment_run.proofs.Lists.{got_read}
-use Rattle.segment_run.proofs.Merges.{done_when_many, done_when_none, on_err, run_more, still_more, underway}
+use Rattle.segment_run.proofs.ListLemmas.{got_read}
+use Rattle.segment_run.proofs.MergeLemmas.{done_when_many, done_when_none, on_err, run_more, still_more, underway}
 use Rattle.segment_run.proofs.merge.merge.Goals as goal
 
 pub loop-init : goal.loop-init

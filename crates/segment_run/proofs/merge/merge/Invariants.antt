@@ -1,8 +1,9 @@
 use Rattle.std.proofs.Common.{◌≡◌, List, length}
 use Rattle.std.specs.Prelude.{vec_capacity}
 use Rattle.call_processor.specs.declared.worked.Placed.{Placed}
-use Rattle.segment_run.specs.Merging.{AreApart, Keep}
-use Rattle.segment_run.proofs.Merges.{Underway}
+use Rattle.segment_run.specs.Merging.{AreApart}
+use Rattle.segment_run.specs.Merging.{Keep}
+use Rattle.segment_run.proofs.MergeLemmas.{Underway}
 use Rattle.segment_run.proofs.merge.merge.Given as goal
 
 abbrev pub invariant-loop : goal.invariant-loop

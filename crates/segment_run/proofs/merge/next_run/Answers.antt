@@ -1,8 +1,8 @@
 use Rattle.std.proofs.Common.{rules, ◌+◌, sym, subst, ap, ◌∙◌, Some}
 use Rattle.segment_run.specs.Merging.{IsNextRun}
 use Rattle.call_processor.specs.declared.worked.Workplace.{Workplace}
-use Rattle.segment_run.proofs.Lists.{got_read}
-use Rattle.segment_run.proofs.Merges.{next_more, next_same}
+use Rattle.segment_run.proofs.ListLemmas.{got_read}
+use Rattle.segment_run.proofs.MergeLemmas.{next_more, next_same}
 use Rattle.segment_run.proofs.merge.next_run.Goals.{in-Some, in_default}
 use Rattle.segment_run.proofs.merge.next_run.Goals as goal
 

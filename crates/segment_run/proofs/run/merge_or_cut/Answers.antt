@@ -1,5 +1,5 @@
 use Rattle.std.proofs.Common.{sym}
-use Rattle.segment_run.proofs.Merges.{if_err}
+use Rattle.segment_run.proofs.MergeLemmas.{if_err}
 use Rattle.segment_run.proofs.run.merge_or_cut.Goals as goal
 
 pub returns-then-is_err-clause-kept : goal.returns-then-is_err-clause-kept

@@ -1,4 +1,4 @@
-use Rattle.segment_run.proofs.Whole.{ran_none}
+use Rattle.segment_run.proofs.WholeRunLemmas.{ran_none}
 use Rattle.segment_run.proofs.run.run_segment.Goals as goal
 
 pub returns-in_err-workroom-clause-ran : goal.returns-in_err-workroom-clause-ran

@@ -5,8 +5,8 @@ use Rattle.call_processor.specs.declared.worked.Finished.{Finished}
 use Rattle.tone_rules.specs.Tables.{table_of}
 use Rattle.call_processor.specs.Frames.{IsReady, engine_dimensions}
 use Rattle.segment_run.specs.declared.dealing.Job.{Job}
-use Rattle.segment_run.proofs.Beside.{processors_may, frames_may, they_may, kept_frames, kept_numbered, no_frames, zip_last}
-use Rattle.segment_run.proofs.Lists.{all_front, all_last}
+use Rattle.segment_run.proofs.TeamLemmas.{processors_may, frames_may, they_may, kept_frames, kept_numbered, no_frames, zip_last}
+use Rattle.segment_run.proofs.ListLemmas.{all_front, all_last}
 use Rattle.segment_run.proofs.team.side_by_side.Goals as goal
 
 pub call_processors-crew-requires-clause-may : goal.call_processors-crew-requires-clause-may

@@ -4,7 +4,7 @@ use denote.Exit.{no}
 use denote.Param.Send.{param_send, param_sync, arg_send, arg_sync}
 use Rattle.segment_run.specs.declared.dealing.Job.{Job}
 use Rattle.segment_run.specs.Jobs.{MayProcess}
-use Rattle.segment_run.proofs.Lists.{all_front, all_last}
+use Rattle.segment_run.proofs.ListLemmas.{all_front, all_last}
 use Rattle.segment_run.proofs.team.with_frames.Goals as goal
 
 pub join-requires-after_bounds : goal.join-requires-after_bounds

@@ -9,12 +9,12 @@ use Rattle.call_processor.specs.Frames.{IsReady, engine_dimensions}
 use Rattle.segment_run.specs.declared.dealing.Job.{Job}
 use Rattle.segment_run.specs.Jobs.{HasItsOctets}
 use Rattle.segment_run.specs.Merging.{Keep}
-use Rattle.segment_run.specs.Team.{joined_all, part_numbered}
+use Rattle.segment_run.specs.Team.{after_joins, part_numbered}
 use Rattle.seat_history.specs.Histories.{StartsWith}
 use Rattle.call_processor.specs.declared.worked.Placed.{Placed}
 use Rattle.call_processor.specs.declared.worked.Workplace.{Workplace}
-use Rattle.segment_run.proofs.Pairing.{pairs, pairs_all, pairs_keep, pairs_long, pairs_map, pairs_said, pairs_work, pairs_zip}
-use Rattle.segment_run.proofs.Whole.{Run, each_at, enough_turns, run_answered, run_apart, run_chief, run_long, run_many, run_ran, run_ready, run_whole}
+use Rattle.segment_run.proofs.PairLemmas.{pairs, pairs_all, pairs_keep, pairs_long, pairs_map, pairs_said, pairs_work, pairs_zip}
+use Rattle.segment_run.proofs.WholeRunLemmas.{Run, each_at, enough_turns, run_answered, run_apart, run_chief, run_long, run_many, run_ran, run_ready, run_whole}
 use Rattle.segment_run.proofs.working.work_all.Goals as goal
 
 pub deal-jobs-requires-clause-turns : goal.deal-jobs-requires-clause-turns
@@ -73,7 +73,7 @@ returns-clause-chief g c =
       octets = pairs_said g.K.Keeper.holds board octets part known seat place done jobs workers z;
       readies = pairs_zip g.K.Keeper.holds board octets part known seat place done (λ j f. j.worker ≡ trace.processors → IsReady g.C.Carrier.carries g.C.Carrier.next sizes board (K f.seat).seen c.side_by_side-crew.result.engine c.side_by_side-crew.result.tool) jobs workers z c.side_by_side-crew.ensures.ready;
       idles = c.side_by_side-crew.ensures.idle;
-      joins = c.gather.ensures.seat ∙ ap (joined_all dealt) (sym (pairs_map g.K.Keeper.holds board octets part known seat place done seat jobs workers z));
+      joins = c.gather.ensures.seat ∙ ap (after_joins dealt) (sym (pairs_map g.K.Keeper.holds board octets part known seat place done seat jobs workers z));
       begins = c.gather.ensures.begins;
       fronts = pairs_all g.K.Keeper.holds board octets part known seat place done (λ f. StartsWith k.seen (K f.seat).seen) jobs workers z c.gather.ensures.fronts;
       settled = λ some. c.gather.ensures.settled (subst (λ (n : ℕ). 0 < n) (pairs_long g.K.Keeper.holds board octets part known seat place done jobs workers z) some);
@@ -124,7 +124,7 @@ returns-clause-ran g c =
       octets = pairs_said g.K.Keeper.holds board octets part known seat place done jobs workers z;
       readies = pairs_zip g.K.Keeper.holds board octets part known seat place done (λ j f. j.worker ≡ trace.processors → IsReady g.C.Carrier.carries g.C.Carrier.next sizes board (K f.seat).seen c.side_by_side-crew.result.engine c.side_by_side-crew.result.tool) jobs workers z c.side_by_side-crew.ensures.ready;
       idles = c.side_by_side-crew.ensures.idle;
-      joins = c.gather.ensures.seat ∙ ap (joined_all dealt) (sym (pairs_map g.K.Keeper.holds board octets part known seat place done seat jobs workers z));
+      joins = c.gather.ensures.seat ∙ ap (after_joins dealt) (sym (pairs_map g.K.Keeper.holds board octets part known seat place done seat jobs workers z));
       begins = c.gather.ensures.begins;
       fronts = pairs_all g.K.Keeper.holds board octets part known seat place done (λ f. StartsWith k.seen (K f.seat).seen) jobs workers z c.gather.ensures.fronts;
       settled = λ some. c.gather.ensures.settled (subst (λ (n : ℕ). 0 < n) (pairs_long g.K.Keeper.holds board octets part known seat place done jobs workers z) some);
@@ -176,7 +176,7 @@ returns-clause-done g c =
       octets = pairs_said g.K.Keeper.holds board octets part known seat place done jobs workers z;
       readies = pairs_zip g.K.Keeper.holds board octets part known seat place done (λ j f. j.worker ≡ trace.processors → IsReady g.C.Carrier.carries g.C.Carrier.next sizes board (K f.seat).seen c.side_by_side-crew.result.engine c.side_by_side-crew.result.tool) jobs workers z c.side_by_side-crew.ensures.ready;
       idles = c.side_by_side-crew.ensures.idle;
-      joins = c.gather.ensures.seat ∙ ap (joined_all dealt) (sym (pairs_map g.K.Keeper.holds board octets part known seat place done seat jobs workers z));
+      joins = c.gather.ensures.seat ∙ ap (after_joins dealt) (sym (pairs_map g.K.Keeper.holds board octets part known seat place done seat jobs workers z));
       begins = c.gather.ensures.begins;
       fronts = pairs_all g.K.Keeper.holds board octets part known seat place done (λ f. StartsWith k.seen (K f.seat).seen) jobs workers z c.gather.ensures.fronts;
       settled = λ some. c.gather.ensures.settled (subst (λ (n : ℕ). 0 < n) (pairs_long g.K.Keeper.holds board octets part known seat place done jobs workers z) some);

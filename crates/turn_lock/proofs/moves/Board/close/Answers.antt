@@ -1,6 +1,6 @@
 use Rattle.std.proofs.Common.{sym, ap, subst}
 use Rattle.turn_lock.specs.Moves.{IsEnd}
-use Rattle.turn_lock.proofs.Keeps.{close_gives, state_in}
+use Rattle.turn_lock.proofs.MoveLemmas.{close_gives, state_in}
 use Rattle.turn_lock.proofs.moves.Board.close.Goals as goal
 
 pub unreachable-requires : goal.unreachable-requires

@@ -1,5 +1,5 @@
 use Rattle.std.proofs.Common.{rules, sym, ◌∙◌}
-use Rattle.turn_lock.proofs.Keeps.{split_keeps}
+use Rattle.turn_lock.proofs.MoveLemmas.{split_keeps}
 use Rattle.turn_lock.proofs.moves.Board.cut.Goals as goal
 
 pub split_seat-requires : goal.split_seat-requires

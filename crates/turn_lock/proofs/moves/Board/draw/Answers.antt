@@ -1,5 +1,5 @@
 use Rattle.std.proofs.Common.{rules}
-use Rattle.turn_lock.proofs.Keeps.{draw_keeps}
+use Rattle.turn_lock.proofs.MoveLemmas.{draw_keeps}
 use Rattle.turn_lock.proofs.moves.Board.draw.Goals as goal
 
 pub fetch_add-requires : goal.fetch_add-requires

@@ -1,6 +1,6 @@
 use Rattle.std.proofs.Common.{rules, sym, subst}
 use Rattle.turn_lock.specs.Moves.{KnowsAll}
-use Rattle.turn_lock.proofs.Keeps.{join_keeps, meet_keeps}
+use Rattle.turn_lock.proofs.MoveLemmas.{join_keeps, meet_keeps}
 use Rattle.turn_lock.proofs.moves.Board.join.Goals as goal
 
 pub join_seat-requires : goal.join_seat-requires

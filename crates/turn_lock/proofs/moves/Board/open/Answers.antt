@@ -1,5 +1,5 @@
 use Rattle.std.proofs.Common.{rules, sym, ap}
-use Rattle.turn_lock.proofs.Keeps.{open_keeps}
+use Rattle.turn_lock.proofs.MoveLemmas.{open_keeps}
 use Rattle.turn_lock.proofs.moves.Board.open.Goals as goal
 
 pub new-requires : goal.new-requires

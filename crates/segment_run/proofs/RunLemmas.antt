@@ -5,6 +5,7 @@ use Rattle.std.specs.List.{All, AllZip}
 use Rattle.std.proofs.lemmas.Bool.{cases_lt}
 use Rattle.exchange_core.specs.declared.trace.Trace.{Trace}
 use Rattle.exchange_core.specs.Orders.{Worker, Processor, Frame_worker}
+use Rattle.seat_history.proofs.HistoryLemmas.{unseen_front}
 use Rattle.seat_history.specs.declared.known.Known.{Known}
 use Rattle.seat_history.specs.declared.known.JoinedSeat.{JoinedSeat}
 use Rattle.seat_history.specs.Histories.{StartsWith, unseen}
@@ -13,11 +14,11 @@ use Rattle.exchange_core.specs.Boards.{Board}
 use Rattle.exchange_core.specs.Working.{Entry, order_of}
 use Rattle.call_processor.specs.declared.worked.Placed.{Placed}
 use Rattle.call_processor.specs.Parts.{is_its, is_worker, part_of}
-use Rattle.call_processor.specs.Work.{Works, answered, entries_for}
-use Rattle.segment_run.specs.Segment.{IsChief, Ran, RanWhole, IsOfSegment, grown}
-use Rattle.segment_run.specs.Team.{AreDealt, HasDealt, any_baton, joined_all, load, part_numbered, turns_left, worker_numbered}
-use Rattle.segment_run.proofs.Lists.{In, all_in, in_all, map_in, length_of_map}
-use Rattle.segment_run.proofs.Doers.{Doer, Joined, seat_of, its_of, of_doer, of_other, found, is_itself, no_part, numbered_frames, numbered_processor}
+use Rattle.call_processor.specs.Work.{Works, answered_events, entries_for}
+use Rattle.segment_run.specs.Segment.{IsChief, Ran, RanWhole, IsOfSegment, new_events}
+use Rattle.segment_run.specs.Team.{AreDealt, HasDealt, any_baton, after_joins, load, part_numbered, turns_left, worker_numbered}
+use Rattle.segment_run.proofs.ListLemmas.{In, all_in, in_all, map_in, length_of_map}
+use Rattle.segment_run.proofs.DoerLemmas.{Doer, Joined, seat_of, its_of, of_doer, of_other, found, is_itself, no_part, numbered_frames, numbered_processor}
 
 -- ---- lists side by side
 
@@ -55,7 +56,7 @@ module _ {A B : Type 0} (R : A → B → Type 0) where
 
 -- ---- seat 0 with seats joined
 
-pub joined_kept : (c : Known) (ws : List Known) → (joined_all c ws).kept ≡ map kept_of ws ++ c.kept
+pub joined_kept : (c : Known) (ws : List Known) → (after_joins c ws).kept ≡ map kept_of ws ++ c.kept
 joined_kept c [] = refl
 joined_kept c (w ∷ ws) = ap (λ (l : List JoinedSeat). kept_of w ∷ l) (joined_kept c ws)
 
@@ -63,7 +64,7 @@ abbrev pub sum_left : List Known → ℕ
 sum_left [] = 0
 sum_left (w ∷ ws) = w.left + sum_left ws
 
-joined_left : (c : Known) (ws : List Known) → (joined_all c ws).left ≡ c.left + sum_left ws
+joined_left : (c : Known) (ws : List Known) → (after_joins c ws).left ≡ c.left + sum_left ws
 joined_left c [] = omega arith
 joined_left c (w ∷ ws) = let h = joined_left c ws in omega (arith, h)
 
@@ -72,7 +73,7 @@ record Unchanged (c k : Known) : Type 0 where
   own : k.own ≡ c.own
   made : k.made ≡ c.made
 
-joined_rest : (c : Known) (ws : List Known) → Unchanged c (joined_all c ws)
+joined_rest : (c : Known) (ws : List Known) → Unchanged c (after_joins c ws)
 joined_rest c [] = record { number = refl; own = refl; made = refl }
 joined_rest c (w ∷ ws) = let r = joined_rest c ws in record { number = r.number; own = r.own; made = r.made }
 
@@ -83,10 +84,6 @@ or_false false = refl
 or_true : (b : Bool) → (b || true) ≡ true
 or_true true = refl
 or_true false = refl
-
-dropped : (xs ys : List Entry) → unseen xs (xs ++ ys) ≡ ys
-dropped [] ys = refl
-dropped (x ∷ xs) ys = dropped xs ys
 
 no_length : {X : Type 0} (xs : List X) → length xs ≡ 0 → xs ≡ []
 no_length [] h = refl
@@ -145,19 +142,19 @@ module _ {J U : Type 0} (board : Board) (trace : Trace) (segment : ℕ) (wj : J 
       let r = pair_of js us z.1 t more in
       record { j = r.j; u = r.u; job = inr r.job; out = inr r.out; each = r.each; is = r.is }
 
-  batons : (c : Known) (js : List J) (us : List U) → AllZip Each js us → (c.baton || any_baton (seats js)) ≡ true → (joined_all c (map ku us)).baton ≡ true
+  batons : (c : Known) (js : List J) (us : List U) → AllZip Each js us → (c.baton || any_baton (seats js)) ≡ true → (after_joins c (map ku us)).baton ≡ true
   batons c [] [] z e = sym (or_false c.baton) ∙ e
   batons c [] (u ∷ us) z e = absurd z
   batons c (j ∷ js) [] z e = absurd z
   batons c (j ∷ js) (u ∷ us) z e = go (batons c js us z.1) (kj j).baton (ku u).baton z.0.0.did.baton e
     where
-      go : ((c.baton || any_baton (seats js)) ≡ true → (joined_all c (map ku us)).baton ≡ true) → (a b : Bool) → b ≡ a → (c.baton || (a || any_baton (seats js))) ≡ true → ((joined_all c (map ku us)).baton || b) ≡ true
-      go tail true b same e = ap (λ (x : Bool). (joined_all c (map ku us)).baton || x) same ∙ or_true (joined_all c (map ku us)).baton
-      go tail false b same e = ap (λ (x : Bool). (joined_all c (map ku us)).baton || x) same ∙ (or_false (joined_all c (map ku us)).baton ∙ tail e)
+      go : ((c.baton || any_baton (seats js)) ≡ true → (after_joins c (map ku us)).baton ≡ true) → (a b : Bool) → b ≡ a → (c.baton || (a || any_baton (seats js))) ≡ true → ((after_joins c (map ku us)).baton || b) ≡ true
+      go tail true b same e = ap (λ (x : Bool). (after_joins c (map ku us)).baton || x) same ∙ or_true (after_joins c (map ku us)).baton
+      go tail false b same e = ap (λ (x : Bool). (after_joins c (map ku us)).baton || x) same ∙ (or_false (after_joins c (map ku us)).baton ∙ tail e)
 
   module _ (turns : ℕ) (v c k : Known) (js : List J) (us : List U) (z : AllZip Each js us) (chief : IsChief turns v) (dealt : HasDealt v (length js) c)
       (seated : AreDealt trace segment v (v.made + 1) 0 (seats js)) (baton : IsTrue (c.baton || any_baton (seats js))) (left : c.left + turns_left (seats js) ≡ v.left)
-      (is : k ≡ joined_all c (map ku us)) (begins : StartsWith k.seen c.seen) (settled : 0 < length us → Settled turns k) (few : length js ≤ 9) where
+      (is : k ≡ after_joins c (map ku us)) (begins : StartsWith k.seen c.seen) (settled : 0 < length us → Settled turns k) (few : length js ≤ 9) where
     abbrev pub ts : List Doer
     ts = doers js us z
 
@@ -178,7 +175,7 @@ module _ {J U : Type 0} (board : Board) (trace : Trace) (segment : ℕ) (wj : J 
             let no_us : length us ≡ 0 = ap length none in
             let no_js : js ≡ [] = no_length js (omega (arith, no_us, long)) in
             let zero_js : length js ≡ 0 = ap length no_js in
-            let same : joined_all c [] ≡ k = sym (is ∙ ap (λ (l : List U). joined_all c (map ku l)) none) in
+            let same : after_joins c [] ≡ k = sym (is ∙ ap (λ (l : List U). after_joins c (map ku l)) none) in
             let nothing_left : turns_left (seats js) ≡ 0 = ap (λ (l : List J). turns_left (seats l)) no_js in
             subst (Settled turns) same (settled_same turns v c (subst (λ (n : ℕ). HasDealt v n c) zero_js dealt) (omega (arith, left, nothing_left)) chief.settled)
         go (w ∷ ws) some_one = let n = ap length some_one in settled (omega (arith, n))
@@ -213,8 +210,8 @@ module _ {J U : Type 0} (board : Board) (trace : Trace) (segment : ℕ) (wj : J 
       fronts = λ t i. let p = pair_of js us z t i in subst (λ (x : Doer). (more : List ℕ) × (part_numbered trace segment x.worker ≡ x.done ++ more)) (sym p.is) p.each.0.first;
     }
 
-    pub grown_is : grown v k ≡ order_of rest
-    grown_is = ap (λ (l : List Entry). order_of (unseen v.seen l)) grew ∙ ap order_of (dropped v.seen rest)
+    pub grown_is : new_events v k ≡ order_of rest
+    grown_is = ap (λ (l : List Entry). order_of (unseen v.seen l)) grew ∙ ap order_of (unseen_front v.seen rest)
 
     pub turns_are : k.left + length rest ≡ v.left
     turns_are =
@@ -266,7 +263,7 @@ module _ {J U : Type 0} (board : Board) (trace : Trace) (segment : ℕ) (wj : J 
           let yes_it = all_in (λ (u : U). IsTrue (bu u)) us all_whole p.u p.out in
           let given = w.all yes_it in
           let a = ap length w.told.1 in
-          let b = length-append (answered (au p.u)) w.told.0 in
+          let b = length-append (answered_events (au p.u)) w.told.0 in
           let d = ap length w.first.1 in
           let e = length-append w.done w.first.0 in
           let f = ap length given in

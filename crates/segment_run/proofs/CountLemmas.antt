@@ -8,10 +8,10 @@ use Rattle.exchange_core.specs.declared.trace.Event.{Event}
 use Rattle.exchange_core.specs.declared.trace.Trace.{Trace}
 use Rattle.exchange_core.specs.Orders.{Worker, Processor, Frame_worker, worker_of}
 use Rattle.call_processor.specs.Parts.{does, is_its, is_worker, worker_at}
-use Rattle.call_processor.proofs.Segments.{up_to, next_its, next_not}
+use Rattle.call_processor.proofs.PartLemmas.{up_to, next_its, next_not}
 use Rattle.segment_run.specs.Team.{worker_numbered}
-use Rattle.segment_run.proofs.Doers.{is_itself, numbered_frames, numbered_processor, other_worker}
-use Rattle.segment_run.proofs.Loads.{worker_is}
+use Rattle.segment_run.proofs.DoerLemmas.{is_itself, numbered_frames, numbered_processor, other_worker}
+use Rattle.segment_run.proofs.LoadLemmas.{worker_is}
 
 filter_few : (p : ℕ → Bool) (xs : List ℕ) → length (filter p xs) ≤ length xs
 filter_few p [] = omega arith

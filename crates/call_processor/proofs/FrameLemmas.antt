@@ -17,14 +17,14 @@ use Rattle.exchange_core.specs.declared.trace.Event.TheVariants.{Nail, Seat, Fre
 use Rattle.exchange_core.specs.declared.trace.Trace.{Trace}
 use Rattle.exchange_core.specs.declared.tool.Tool.{Tool}
 use Rattle.exchange_core.specs.declared.tool.Tool.TheVariants.{Image}
+use Rattle.seat_history.proofs.HistoryLemmas.{unseen_front}
 use Rattle.seat_history.specs.Histories.{StartsWith, unseen}
 use Rattle.exchange_core.specs.Boards.{Board, IsFrame, NoFrames, IsToolAt, ShowsAt, setting_at, world_at}
 use Rattle.exchange_core.specs.Setup.{Setting}
 use Rattle.exchange_core.specs.Sound.{Fits, IsSound}
 use Rattle.exchange_core.specs.Standing.{IsMade}
 use Rattle.exchange_core.specs.Step.{next, world, events_of}
-use Rattle.seat_history.specs.Histories.{Entry}
-use Rattle.exchange_core.specs.Working.{IsNumbered, IsOfSize, IsToolFor, ShowsWorld, order_of}
+use Rattle.exchange_core.specs.Working.{Entry, IsNumbered, IsOfSize, IsToolFor, ShowsWorld, order_of}
 use Rattle.exchange_core.specs.World.{Dimensions, World, start, pass}
 use Rattle.exchange_core.proofs.Histories.{made, made_pass}
 use Rattle.exchange_core.proofs.Quiet.{SameFrames, same_self, then_same as same_then, quiet}
@@ -65,17 +65,13 @@ world_append : (s : Setting) (w : World) (es fs : List Event) → world s w (es 
 world_append s w [] fs = refl
 world_append s w (e ∷ es) fs = world_append s (next s w e) es fs
 
-dropped : (xs ys : List Entry) → drop (length xs) (xs ++ ys) ≡ ys
-dropped [] ys = refl
-dropped (x ∷ xs) ys = dropped xs ys
-
 -- what comes behind what was seen holds no frame, so the frames are the same
 pub same_frames : (board : Board) (seen history : List Entry) → StartsWith history seen → NoFrames board.trace (unseen seen history) → SameFrames (world_at board seen) (world_at board history)
 same_frames board seen history begins none =
     let s = setting_at board in
     let rest = begins.0 in
     let events = board.trace.events in
-    let still : NoFrames board.trace rest = subst (NoFrames board.trace) (ap (drop (length seen)) begins.1 ∙ dropped seen rest) none in
+    let still : NoFrames board.trace rest = subst (NoFrames board.trace) (ap (drop (length seen)) begins.1 ∙ unseen_front seen rest) none in
     let longer : world_at board history ≡ world s (world_at board seen) (events_of events (order_of rest)) =
     ap (world_at board) begins.1
     ∙ (ap (λ (order : List ℕ). world s (start s.dimensions) (events_of events order)) (map-append (λ (e : Entry). e.1) seen rest)
@@ -143,15 +139,15 @@ come d tones w is = let m = made_pass d tones w is [] in record { commands = m.c
 abbrev pub boundary : World → Boundary
 boundary w = record { inputs = w.inputs; held = w.held; ports = w.seated; circuits = w.holding.circuits; seats = w.ports }
 
--- what an engine is asked for a frame: its control memory, of the exchange's size, shows the circuits and ports at the frame's boundary
+-- what an engine is frame_asks for a frame: its control memory, of the exchange's size, shows the circuits and ports at the frame's boundary
 pub record Asked (image : Control) (d : Dimensions) (w : World) : Type 0 where
   pub size : IsOfSize d image
   pub shows : Shows image w.holding.circuits w.ports w.holding.next
   pub came : Come image.external image.bridges (w.held ++ w.holding.circuits ∷ []) (w.seated ++ w.ports ∷ [])
 
-pub asked : (board : Board) (history : List Entry) (n : ℕ) (input : Input) (tool : Tool) (image : Control) → IsSound board.trace → IsNumbered board.trace n (Frame input) → tool ≡ Image image
+pub frame_asks : (board : Board) (history : List Entry) (n : ℕ) (input : Input) (tool : Tool) (image : Control) → IsSound board.trace → IsNumbered board.trace n (Frame input) → tool ≡ Image image
     → ShowsAt board history n tool → IsToolAt board n tool → Asked image (setting_at board).dimensions (world_at board history)
-asked board history n input tool image sound number is shows sized =
+frame_asks board history n input tool image sound number is shows sized =
     let d = (setting_at board).dimensions in
     let w = world_at board history in
     let size : IsOfSize d image = subst (λ (t : Tool). IsToolFor d (Frame input) t) is (sized (Frame input) number) in

@@ -14,9 +14,9 @@ use Rattle.circuit_model.specs.declared.circuit.Kind.{Kind}
 use Rattle.segment_run.specs.Jobs.{HasItsOctets}
 use Rattle.call_processor.specs.Work.{MayWork, Works}
 use Rattle.segment_run.specs.Team.{AreDealt, load, worker_numbered}
-use Rattle.segment_run.proofs.Lists.{In, all_in, in_all, in_left, in_right}
-use Rattle.segment_run.proofs.Doers.{numbered_frames, numbered_processor}
-use Rattle.segment_run.proofs.Runs.{zip_map, zip_more}
+use Rattle.segment_run.proofs.ListLemmas.{In, all_in, in_all, in_left, in_right}
+use Rattle.segment_run.proofs.DoerLemmas.{numbered_frames, numbered_processor}
+use Rattle.segment_run.proofs.RunLemmas.{zip_map, zip_more}
 
 module _ {J : Type 0} (trace : Trace) (segment : ℕ) (worker : J → ℕ) (known : J → Known) where
   abbrev pub dealt_to : List J → List (ℕ × Known)

@@ -10,8 +10,8 @@ use Rattle.exchange_core.specs.declared.trace.Trace.{Trace}
 use Rattle.seat_history.specs.declared.known.Known.{Known}
 use Rattle.seat_history.specs.Seats.{after_split, new_seat}
 use Rattle.segment_run.specs.Team.{AreDealt, HasDealt, IsNew, any_baton, load, loads_below, turns_left}
-use Rattle.segment_run.proofs.Lists.{all_front, all_last}
-use Rattle.segment_run.proofs.Loads.{loads_grow, loads_more, loads_none}
+use Rattle.segment_run.proofs.ListLemmas.{all_front, all_last}
+use Rattle.segment_run.proofs.LoadLemmas.{loads_grow, loads_more, loads_none}
 
 turns_more : (js : List (ℕ × Known)) (i : ℕ) (w : Known) → turns_left (js ++ (i, w) ∷ []) ≡ turns_left js + w.left
 turns_more [] i w = omega arith

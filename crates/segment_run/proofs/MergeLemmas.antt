@@ -10,8 +10,10 @@ use Rattle.seat_history.specs.Histories.{Entry}
 use Rattle.call_processor.specs.declared.worked.Placed.{Placed}
 use Rattle.call_processor.specs.declared.worked.Workplace.{Workplace}
 use Rattle.call_processor.specs.Keeping.{HandsOn, StillHolds, first_place}
-use Rattle.segment_run.specs.Merging.{AddsMerged, AreApart, IsNextRun, IsRising, Keep, all_of, first_of_two}
-use Rattle.segment_run.proofs.Lists.{In, all_in, in_all, in_either, in_left, in_right}
+use Rattle.segment_run.specs.Merging.{AddsMerged, IsNextRun, Keep, first_of_two}
+use Rattle.segment_run.specs.Merging.{AreApart}
+use Rattle.segment_run.specs.Merging.{IsRising, all_of}
+use Rattle.segment_run.proofs.ListLemmas.{In, all_in, in_all, in_either, in_left, in_right}
 
 pub on_err : {T E P : Type 0} (r : Result T E) → P → OnErr r P
 on_err (Ok x) p = tt

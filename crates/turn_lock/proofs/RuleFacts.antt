@@ -1,6 +1,6 @@
 -- The rule of the lock, seat by seat: the form in which the lemmas on the moves take it and give it. It says the same as the seven parts.
 use Rattle.std.proofs.Common.{◌≡◌, ◌≢◌, ℕ, ◌+◌, ◌<◌, ◌≤◌, ◌^◌, IsTrue, List, [], ◌∷◌, ◌++◌, length, drop, slice_index, sym, refl, ap, ◌∙◌, subst, arith, Option, Some}
-use mathlib.Core.Option.{some}
+use mathlib.Core.Option.{none, some}
 use lib.ListN.{get_elem?}
 use Rattle.atomic_table.specs.Table.{State}
 use Rattle.std.specs.List.{AllByRecursion as Every}
@@ -10,10 +10,10 @@ use Rattle.turn_lock.specs.declared.board.View.{View}
 use Rattle.turn_lock.specs.declared.board.Stage.{Stage}
 use Rattle.turn_lock.specs.declared.board.Stage.TheVariants.{Idle, Waits, Served}
 use Rattle.turn_lock.specs.Entries.{Once}
-use Rattle.turn_lock.specs.Views.{HoldsTicket, IsServed, tickets_of, Sits, Pairs, total, NoneServed, ticket, serving}
+use Rattle.turn_lock.specs.Views.{HoldsTicket, IsServed, tickets_of, Sits, Pairs, total, NoneServed, next_ticket, now_serving}
 use Rattle.turn_lock.specs.Rule.{Reserves, IsAt, TurnRule}
 use Rattle.turn_lock.specs.Moves.{Foreign}
-use Rattle.turn_lock.proofs.Histories.{every_map, every_both, every_swap, unseen_front}
+use Rattle.seat_history.proofs.HistoryLemmas.{every_map, every_both, every_swap, unseen_front}
 
 -- one of the made seats that were joined
 pub record IsPast (log : List Entry) (number made : ℕ) (k : JoinedSeat) : Type 0 where
@@ -65,7 +65,7 @@ module _ {C : Type 0} (reserved : C → ℕ → Type 0) where
   ticket_below log next v (Waits u) t k h = let a = k.0 in let b = k.1 in (omega arith, omega arith)
   ticket_below log next v (Served u) t k h = let a = k.0 in let b = k.1 in (omega arith, omega arith)
 
-  turn_known : (log : List Entry) (next now : ℕ) (v : View C) (st : Stage) → now ≡ length log → Knows log next v st → IsServed st → HoldsTicket st now × (v.known.seen ≡ log)
+  pub turn_known : (log : List Entry) (next now : ℕ) (v : View C) (st : Stage) → now ≡ length log → Knows log next v st → IsServed st → HoldsTicket st now × (v.known.seen ≡ log)
   turn_known log next now v Idle is k h = absurd h
   turn_known log next now v (Waits u) is k h = absurd h
   turn_known log next now v (Served u) is k h = (sym k.0 ∙ sym is, k.3)
@@ -87,9 +87,9 @@ module _ {S C : Type 0} (setting : S → C) (journal : S → List Entry) (room :
     pub log : List Entry
     pub made : ℕ
     pub small : budget < 2 ^ 32
-    pub wide : length s.words ≡ 2
+    pub wide : length s.words ≡ 17
     pub deep : length s.homes ≡ 1
-    pub serving : slice_index s.words 1 ≡ length log
+    pub serving : slice_index s.words 16 ≡ length log
     pub held : length log + total (λ (v : View C). tickets_of v.stage) s.views ≡ slice_index s.words 0
     pub given : slice_index s.words 0 + total (λ (v : View C). v.known.left) s.views ≡ budget
     pub seats : (j : ℕ) (v : View C) → Sits s.views j v → SeatOk reserved opening budget log made v
@@ -98,6 +98,7 @@ module _ {S C : Type 0} (setting : S → C) (journal : S → List Entry) (room :
     pub born : Every (λ (e : Entry). e.0 ≤ made) log
     pub count : total (λ (v : View C). 1) s.views + total (λ (v : View C). length v.known.kept) s.views ≡ made + 1
     pub longest : (j : ℕ) × (v : View C) × Sits s.views j v × (v.known.seen ≡ log)
+    pub out : (j : ℕ) (v : View C) → Sits s.views j v → IsServed v.stage → get_elem? s.homes 0 ≡ some none
     pub home : NoneServed s.views → (x : S) × (get_elem? s.homes 0 ≡ some (some (Some x))) × IsAt setting journal room (Some opening) budget log x
 
   behind : (log : List Entry) (v : View C) (rest : List Entry) → log ≡ v.known.seen ++ rest → unseen v.known.seen log ≡ rest
@@ -126,8 +127,8 @@ module _ {S C : Type 0} (setting : S → C) (journal : S → List Entry) (room :
         plain = r.how_many.keeps j v sit;
       }
 
-  pub facts : (s : State (Option S) (View C)) → TurnRule setting journal room reserved opening budget s → Facts s
-  facts s r =
+  pub facts_of : (s : State (Option S) (View C)) → TurnRule setting journal room reserved opening budget s → Facts s
+  facts_of s r =
       let one = r.one_history in
       let own = r.own_entries in
       let cards = r.tickets in
@@ -142,18 +143,19 @@ module _ {S C : Type 0} (setting : S → C) (journal : S → List Entry) (room :
         held = let e = one.length_is in let h = cards.held in omega arith;
         given = cards.budget_is;
         seats = seat_of s r;
-        knows = λ j v sit. knows_of reserved r.log (ticket s) (serving s) v v.stage one.length_is (cards.between j v sit) (r.slots_way.turn j v sit) (stick.asked j v sit);
+        knows = λ j v sit. knows_of reserved r.log (next_ticket s) (now_serving s) v v.stage one.length_is (cards.between j v sit) (r.slots_way.turn j v sit) (stick.asked j v sit);
         apart = λ i j v w a b far. record { number = own.differ i j v w a b far; ticket = cards.one_each i j v w a b far; baton = stick.one i j v w a b far; gone = own.gone i j v w a b far };
         born = own.entries_made;
         count = r.how_many.count;
         longest = one.longest;
+        out = r.slots_way.out;
         home = r.slots_way.home;
       }
 
-  pub ruled : (s : State (Option S) (View C)) → Facts s → TurnRule setting journal room reserved opening budget s
-  ruled s f =
+  pub rule_of : (s : State (Option S) (View C)) → Facts s → TurnRule setting journal room reserved opening budget s
+  rule_of s f =
       let back : (j : ℕ) (v : View C) (sit : Sits s.views j v) → (f.seats j v sit).rest ≡ unseen v.known.seen f.log = λ j v sit. let o = f.seats j v sit in sym (behind f.log v o.rest o.whole) in
-      let between : (j : ℕ) (v : View C) → Sits s.views j v → (t : ℕ) → HoldsTicket v.stage t → (serving s ≤ t) × (t < ticket s) = λ j v sit t h. let b = ticket_below reserved f.log (ticket s) v v.stage t (f.knows j v sit) h in let e = f.serving in let lo = b.0 in (omega arith, b.1) in
+      let between : (j : ℕ) (v : View C) → Sits s.views j v → (t : ℕ) → HoldsTicket v.stage t → (now_serving s ≤ t) × (t < next_ticket s) = λ j v sit t h. let b = ticket_below reserved f.log (next_ticket s) v v.stage t (f.knows j v sit) h in let e = f.serving in let lo = b.0 in (omega arith, b.1) in
       record {
         log = f.log;
         made = f.made;
@@ -174,10 +176,10 @@ module _ {S C : Type 0} (setting : S → C) (journal : S → List Entry) (room :
           kept_made = λ j v sit. let o = f.seats j v sit in every_map v.known.kept (λ k p. p.made_so) o.kept_is;
           entries_made = f.born;
         };
-        slots_way = record { turn = λ j v sit. turn_known reserved f.log (ticket s) (serving s) v v.stage f.serving (f.knows j v sit); home = f.home; opened = λ j v sit. let o = f.seats j v sit in (o.setting_is, o.budget_is) };
+        slots_way = record { turn = λ j v sit. turn_known reserved f.log (next_ticket s) (now_serving s) v v.stage f.serving (f.knows j v sit); home = f.home; out = f.out; opened = λ j v sit. let o = f.seats j v sit in (o.setting_is, o.budget_is) };
         baton = record {
           one = λ i j v w a b far. (f.apart i j v w a b far).baton;
-          asked = λ j v sit t h. baton_known reserved f.log (ticket s) v v.stage t (f.knows j v sit) h;
+          asked = λ j v sit t h. baton_known reserved f.log (next_ticket s) v v.stage t (f.knows j v sit) h;
           seen = λ j v sit on. let o = f.seats j v sit in subst (Every (λ (e : Entry). Reserves reserved v.setting e.1 → ⊥)) (back j v sit) (every_map o.rest (λ e g. let p = g.plain in p on) o.foreign);
         };
         how_many = record { count = f.count; counts = λ j v sit. (f.seats j v sit).chief; keeps = λ j v sit. (f.seats j v sit).plain };

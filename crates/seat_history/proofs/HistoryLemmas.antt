@@ -2,12 +2,8 @@
 use Rattle.std.proofs.Common.{◌≡◌, ◌≢◌, ℕ, eqb, ◌≤◌, ltb, cond, Bool, true, false, List, [], ◌∷◌, ◌++◌, length, sym, refl, ap, ◌∙◌, subst, arith, append-nil, append_assoc, length-append, eq-eqb, ne_eqb}
 use Rattle.std.proofs.lemmas.Bool.Decides.{nat_tests}
 use Rattle.std.proofs.lemmas.List.Elements.{All-from_recursion, filter-append}
-use Rattle.std.proofs.lemmas.List.Kept.{AllPairs-cons}
-use Rattle.std.specs.Prelude.{AllPairs}
 use Rattle.std.specs.List.{AllByRecursion as Every}
-use Rattle.seat_history.specs.declared.known.JoinedSeat.{JoinedSeat}
 use Rattle.seat_history.specs.Histories.{Entry, HasNone, StartsWith, unseen, before, longer, entries_of}
-use Rattle.turn_lock.specs.Entries.{Once}
 
 module _ {X : Type 0} where
   pub every_more : (P : X → Type 0) (xs ys : List X) → Every P xs → Every P ys → Every P (xs ++ ys)
@@ -75,9 +71,9 @@ both_begin P Q log a b ra rb p q f g = go (ltb (length a) (length b)) refl
     go false h = let s = shorter log b a rb ra (grind (arith, nat_tests)) q p in (ra, p, f, every_right _ s.0 ra (subst (Every Q) s.2 g), starts_same a, (s.0, s.1))
 
 -- a beginning of the history that begins with all of it is all of it
-pub squeezed : (log seen x rest : List Entry) → log ≡ seen ++ rest → seen ≡ log ++ x → seen ≡ log
-squeezed log seen x [] p q = sym (p ∙ append-nil seen)
-squeezed log seen x (y ∷ ys) p q = let a = ap length p in let b = ap length q in absurd (omega (arith, length-append seen (y ∷ ys), length-append log x))
+pub is_all : (log seen x rest : List Entry) → log ≡ seen ++ rest → seen ≡ log ++ x → seen ≡ log
+is_all log seen x [] p q = sym (p ∙ append-nil seen)
+is_all log seen x (y ∷ ys) p q = let a = ap length p in let b = ap length q in absurd (omega (arith, length-append seen (y ∷ ys), length-append log x))
 
 -- what is unseen is what comes behind
 pub unseen_front : (seen rest : List Entry) → unseen seen (seen ++ rest) ≡ rest
@@ -92,11 +88,6 @@ before_front (x ∷ log) more = ap (λ (l : List Entry). x ∷ l) (before_front 
 pub nothing_behind : (seen rest : List Entry) → seen ≡ seen ++ rest → rest ≡ []
 nothing_behind seen [] same = refl
 nothing_behind seen (x ∷ rest) same = let l = ap length same in absurd (omega (arith, length-append seen (x ∷ rest)))
-
--- the same in the words of callers
-pub all_once : (ks : List JoinedSeat) → Once ks → AllPairs (λ (k m : JoinedSeat). m.number ≢ k.number) ks
-all_once [] a = λ i j d lt within. absurd (omega arith)
-all_once (k ∷ ks) a = AllPairs-cons (λ (i j : JoinedSeat). j.number ≢ i.number) k ks (All-from_recursion (λ (m : JoinedSeat). m.number ≢ k.number) ks a.0) (all_once ks a.1)
 
 -- where none of what came between has the property, none of what was unseen has
 pub has_none_between : (P : ℕ → Type 0) (seen rest more : List Entry) (place : ℕ) → place ≡ length (seen ++ rest) → Every (λ (e : Entry). P e.1 → ⊥) rest → HasNone P (unseen seen (before place ((seen ++ rest) ++ more)))

@@ -4,6 +4,9 @@ use mathlib.Core.Logic.{dite}
 use native.Mathlib.Decide.{ℕ_discrete}
 use Rattle.std.proofs.lemmas.Map.Steps.{length-le_from_distinct_below}
 use Rattle.std.specs.List.{list_any, IsDistinct, AllByRecursion as Every}
+use Rattle.std.specs.Prelude.{AllPairs}
+use Rattle.std.proofs.lemmas.List.Elements.{All-from_recursion}
+use Rattle.std.proofs.lemmas.List.Kept.{AllPairs-cons}
 use Rattle.seat_history.specs.declared.known.JoinedSeat.{JoinedSeat}
 use Rattle.turn_lock.specs.Entries.{Once}
 
@@ -65,3 +68,8 @@ all_kept number made ks first all others once n low = dite (ℕ_discrete n numbe
         (two_more number n (numbers ks) (ne_eqb number n (λ e. other (sym e)), not_mine number made ks others) (none_any n (numbers ks) h) (distinct ks once))
         (λ q any. let k = any_within q made (number ∷ n ∷ numbers ks) (omega arith, (low, made_within number made ks others)) any in omega arith) in
         absurd (omega (arith, length_numbers ks))
+
+-- the same in the words of callers
+pub all_once : (ks : List JoinedSeat) → Once ks → AllPairs (λ (k m : JoinedSeat). m.number ≢ k.number) ks
+all_once [] a = λ i j d lt within. absurd (omega arith)
+all_once (k ∷ ks) a = AllPairs-cons (λ (i j : JoinedSeat). j.number ≢ i.number) k ks (All-from_recursion (λ (m : JoinedSeat). m.number ≢ k.number) ks a.0) (all_once ks a.1)

@@ -20,8 +20,8 @@ use Rattle.seat_history.specs.Seats.{Accounts, first_seat}
 use Rattle.exchange_core.specs.Sound.{IsSound, last_of}
 use Rattle.exchange_core.specs.Working.{Entry, order_of}
 use Rattle.call_processor.specs.Parts.{is_worker, does, is_its, part_of}
-use Rattle.call_processor.proofs.Segments.{at_least, at_most, rises, below_last}
-use Rattle.segment_run.specs.Segment.{grown, of_worker, IsChief, IsOfSegment, Ran, RanWhole}
+use Rattle.call_processor.proofs.PartLemmas.{at_least, at_most, rises, below_last}
+use Rattle.segment_run.specs.Segment.{new_events, of_worker, IsChief, IsOfSegment, Ran, RanWhole}
 use Rattle.segment_run.specs.Segments.{IsDoneBelow, events_before}
 
 -- ---- lists of numbers that rise
@@ -87,8 +87,8 @@ module _ (p : ℕ → Bool) where
   filter_at xs k n d within is passes =
       ap (filter p) (split_at xs k d within ∙ ap (λ (m : ℕ). take k xs ++ m ∷ drop (suc k) xs) is) ∙ filter_split (take k xs) (drop (suc k) xs) n passes
 
-  passed : (xs : List ℕ) (n : ℕ) → Contains (filter p xs) n → Contains xs n
-  passed xs n at = All-contains (Contains xs) (filter p xs) n (All-filter p (Contains xs) xs (All-contains_itself xs)) at
+  filter_within : (xs : List ℕ) (n : ℕ) → Contains (filter p xs) n → Contains xs n
+  filter_within xs n at = All-contains (Contains xs) (filter p xs) n (All-filter p (Contains xs) xs (All-contains_itself xs)) at
 
   passes_on : (xs : List ℕ) (n : ℕ) → p n ≡ true → Contains xs n → Contains (filter p xs) n
   passes_on xs n passes at =
@@ -180,7 +180,7 @@ module _ (trace : Trace) (k : ℕ) (order more : List ℕ) (below : IsDoneBelow 
       f.1 ∙ (ap (λ (l : List ℕ). l ++ f.0) split ∙ append_assoc (filter p (take j more)) (n ∷ filter p (drop (suc j) more)) f.0) in
       let at : Contains (part_of trace k worker) m = in_part trace k m worker (is, same.0 ∙ here) m_its in
       Contains-append_right order (take j more) m (elim (Contains-append_cases (filter p (take j more)) (n ∷ (filter p (drop (suc j) more) ++ f.0)) m (subst (λ (l : List ℕ). Contains l m) whole at)) [
-        | inl early ↦ passed p (take j more) m early
+        | inl early ↦ filter_within p (take j more) m early
         | inr late ↦
             let not_less = not_smaller_after (filter p (take j more)) (filter p (drop (suc j) more) ++ f.0) m n (subst Rises whole (rises_part trace k worker)) late in
             let less = same.1 in
@@ -219,22 +219,22 @@ module _ (trace : Trace) (k : ℕ) (order more : List ℕ) (below : IsDoneBelow 
           let w = worker_for trace n is in
           let here : segment_of trace.segments n ≡ k = omega (arith, less, not_earlier) in
           let at : Contains (part_of trace k w.0) n = in_part trace k n w.0 (is, here) w.1 in
-          Contains-append_right order more n (passed (is_its trace w.0) more n (subst (λ (l : List ℕ). Contains l n) (sym (whole w.0)) at))
+          Contains-append_right order more n (filter_within (is_its trace w.0) more n (subst (λ (l : List ℕ). Contains l n) (sym (whole w.0)) at))
     ];
   }
 
 -- ---- a run of a segment
 
 -- what a run adds to the order
-pub order_grown : (v w : Known) → StartsWith w.seen v.seen → order_of w.seen ≡ order_of v.seen ++ grown v w
+pub order_grown : (v w : Known) → StartsWith w.seen v.seen → order_of w.seen ≡ order_of v.seen ++ new_events v w
 order_grown v w begins =
     let new : unseen v.seen w.seen ≡ begins.0 = ap (drop (length v.seen)) begins.1 ∙ drop-append_seam v.seen begins.0 in
     ap order_of begins.1
     ∙ (map-append (λ (e : Entry). e.1) v.seen begins.0 ∙ ap (λ (l : List Entry). order_of v.seen ++ order_of l) (sym new))
 
 -- what it adds are events of the trace
-pub grown_known : (trace : Trace) (k : ℕ) (v w : Known) → Ran trace k v w → All (IsEvent trace) (grown v w)
-grown_known trace k v w ran = All-weaker (IsOfSegment trace k) (IsEvent trace) (λ n is. is.0) (grown v w) ran.only
+pub grown_known : (trace : Trace) (k : ℕ) (v w : Known) → Ran trace k v w → All (IsEvent trace) (new_events v w)
+grown_known trace k v w ran = All-weaker (IsOfSegment trace k) (IsEvent trace) (λ n is. is.0) (new_events v w) ran.only
 
 -- before the first segment nothing was done
 pub none : (trace : Trace) → IsDoneBelow trace 0 []
@@ -251,12 +251,12 @@ none trace = record {
 -- a segment was run whole
 pub one_more : (trace : Trace) (k : ℕ) (v w : Known) → IsDoneBelow trace k (order_of v.seen) → Ran trace k v w → RanWhole trace k v w → IsDoneBelow trace (k + 1) (order_of w.seen)
 one_more trace k v w below ran whole =
-    subst (IsDoneBelow trace (k + 1)) (sym (order_grown v w ran.begins)) (done_more trace k (order_of v.seen) (grown v w) below ran.only ran.fronts whole)
+    subst (IsDoneBelow trace (k + 1)) (sym (order_grown v w ran.begins)) (done_more trace k (order_of v.seen) (new_events v w) below ran.only ran.fronts whole)
 
 -- a segment was run, and cut short
 pub cut_short : (trace : Trace) (k : ℕ) (v w : Known) → IsDoneBelow trace k (order_of v.seen) → Ran trace k v w → IsLawfulPrefix trace (order_of w.seen)
 cut_short trace k v w below ran =
-    subst (IsLawfulPrefix trace) (sym (order_grown v w ran.begins)) (lawful_more trace k (order_of v.seen) (grown v w) below ran.only ran.fronts)
+    subst (IsLawfulPrefix trace) (sym (order_grown v w ran.begins)) (lawful_more trace k (order_of v.seen) (new_events v w) below ran.only ran.fronts)
 
 -- ---- all segments
 

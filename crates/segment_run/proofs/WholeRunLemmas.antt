@@ -8,6 +8,7 @@ use Rattle.circuit_model.specs.declared.circuit.Kind.{Kind}
 use Rattle.exchange_core.specs.declared.tool.Tool.{Tool}
 use Rattle.exchange_core.specs.declared.trace.Trace.{Trace}
 use Rattle.exchange_core.specs.Orders.{Worker, Frame_worker}
+use Rattle.seat_history.proofs.HistoryLemmas.{unseen_front}
 use Rattle.seat_history.specs.declared.known.Known.{Known}
 use Rattle.seat_history.specs.declared.known.JoinedSeat.{JoinedSeat}
 use Rattle.seat_history.specs.Histories.{StartsWith, entries_of, unseen}
@@ -19,17 +20,19 @@ use Rattle.exchange_core.specs.World.{Dimensions}
 use Rattle.call_processor.specs.declared.worked.Placed.{Placed}
 use Rattle.call_processor.specs.Frames.{Carrying, Plays, IsReady}
 use Rattle.call_processor.specs.Parts.{does, is_its, is_worker, part_of}
-use Rattle.call_processor.specs.Work.{Works, answered}
-use Rattle.call_processor.proofs.FrameSteps.{same_frames, still_carried}
-use Rattle.segment_run.specs.Merging.{AreApart, IsMerged, all_of}
-use Rattle.segment_run.specs.Segment.{AreAnswered, IsChief, IsOfSegment, Ran, RanWhole, grown}
+use Rattle.call_processor.specs.Work.{Works, answered_events}
+use Rattle.call_processor.proofs.FrameLemmas.{same_frames, still_carried}
+use Rattle.segment_run.specs.Merging.{AreApart}
+use Rattle.segment_run.specs.Merging.{IsMerged}
+use Rattle.segment_run.specs.Merging.{all_of}
+use Rattle.segment_run.specs.Segment.{AreAnswered, IsChief, IsOfSegment, Ran, RanWhole, new_events}
 use Rattle.segment_run.specs.Segments.{events_before}
-use Rattle.segment_run.specs.Team.{AreDealt, HasDealt, any_baton, joined_all, load, loads_below, part_numbered, turns_left, worker_numbered}
-use Rattle.segment_run.proofs.Lists.{In, all_in, in_all, in_filter, in_left, in_right, in_map, filter_none, none_behind}
-use Rattle.segment_run.proofs.Doers.{Doer, Joined, dealt_in, alike, entries_split, found, numbered_frames, numbered_processor, one_worker, its_of}
-use Rattle.segment_run.proofs.Loads.{ends_are, loads_all}
-use Rattle.segment_run.proofs.Runs.{zip_and, sum_left, still_chief, ran, ran_whole, turns_are, grown_is, grew, ts, pair_of, joined, after as settled_after, doer, doers}
-use Rattle.segment_run.proofs.Answered.{Octets, apart, are_answered, as_many, lists}
+use Rattle.segment_run.specs.Team.{AreDealt, HasDealt, any_baton, after_joins, load, loads_below, part_numbered, turns_left, worker_numbered}
+use Rattle.segment_run.proofs.ListLemmas.{In, all_in, in_all, in_filter, in_left, in_right, in_map, filter_none, none_behind}
+use Rattle.segment_run.proofs.DoerLemmas.{Doer, Joined, dealt_in, alike, entries_split, found, numbered_frames, numbered_processor, one_worker, its_of}
+use Rattle.segment_run.proofs.LoadLemmas.{ends_are, loads_all}
+use Rattle.segment_run.proofs.RunLemmas.{zip_and, sum_left, still_chief, ran, ran_whole, turns_are, grown_is, grew, ts, pair_of, joined, after as settled_after, doer, doers}
+use Rattle.segment_run.proofs.AnswerLemmas.{Octets, apart, are_answered, as_many, lists}
 
 -- ---- a run that did nothing
 
@@ -39,7 +42,7 @@ over (x ∷ xs) = over xs
 
 pub ran_none : (trace : Trace) (segment : ℕ) (v : Known) → Ran trace segment v v
 ran_none trace segment v =
-    let none : grown v v ≡ [] = ap order_of (over v.seen) in
+    let none : new_events v v ≡ [] = ap order_of (over v.seen) in
     record {
       begins = ([], sym (append-nil v.seen));
       only = subst (All (IsOfSegment trace segment)) (sym none) (in_all (IsOfSegment trace segment) [] (λ x i. absurd i));
@@ -50,15 +53,11 @@ ran_none trace segment v =
 
 -- ---- an engine stays ready where no frame comes
 
-dropped : (xs ys : List Entry) → unseen xs (xs ++ ys) ≡ ys
-dropped [] ys = refl
-dropped (x ∷ xs) ys = dropped xs ys
-
 module _ {E : Type 0} (carries : Carrying E) (next : E → ℕ) (sizes : E → Dimensions) (board : Board) where
   still_ready : (seen history : List Entry) (engine : E) (tool : Tool) (begins : StartsWith history seen) → NoFrames board.trace begins.0
       → IsReady carries next sizes board seen engine tool → IsReady carries next sizes board history engine tool
   still_ready seen history engine tool begins none r =
-      let unseen_is : unseen seen history ≡ begins.0 = ap (unseen seen) begins.1 ∙ dropped seen begins.0 in
+      let unseen_is : unseen seen history ≡ begins.0 = ap (unseen seen) begins.1 ∙ unseen_front seen begins.0 in
       let same = same_frames board seen history begins (subst (NoFrames board.trace) (sym unseen_is) none) in
       record {
         carried = still_carried carries next sizes board (world_at board seen) (world_at board history) engine same r.carried;
@@ -71,7 +70,7 @@ module _ {E : Type 0} (carries : Carrying E) (next : E → ℕ) (sizes : E → D
 frame_its : (trace : Trace) (n : ℕ) → IsFrame trace n → is_its trace Frame_worker n ≡ true
 frame_its trace n frame = ap (does trace.processors Frame_worker) frame.1
 
-left_all : (c : Known) (ws : List Known) → (joined_all c ws).left ≡ c.left + sum_left ws
+left_all : (c : Known) (ws : List Known) → (after_joins c ws).left ≡ c.left + sum_left ws
 left_all c [] = omega arith
 left_all c (w ∷ ws) = let h = left_all c ws in omega (arith, h)
 
@@ -114,7 +113,7 @@ module _ (turns : ℕ) (trace : Trace) (segment : ℕ) (v k : Known) (rest : Lis
       let no_more : entries_of n s.0 ≡ [] = none_behind (entries_of n t.to.seen) (entries_of n k.seen) (entries_of n s.0) (sym mine ∙ all_mine) (ap (entries_of n) s.1 ∙ entries_split n t.to.seen s.0) in
       let from_v : t.to.seen ≡ v.seen ++ begins.0 = begins.1 ∙ ap (λ (l : List Entry). l ++ begins.0) d.is.seen_is in
       let longer : k.seen ≡ v.seen ++ (begins.0 ++ s.0) = s.1 ∙ (ap (λ (l : List Entry). l ++ s.0) from_v ∙ append_assoc v.seen begins.0 s.0) in
-      let rest_is : begins.0 ++ s.0 ≡ rest = sym (dropped v.seen (begins.0 ++ s.0)) ∙ (ap (unseen v.seen) (sym longer ∙ j.grew) ∙ dropped v.seen rest) in
+      let rest_is : begins.0 ++ s.0 ≡ rest = sym (unseen_front v.seen (begins.0 ++ s.0)) ∙ (ap (unseen v.seen) (sym longer ∙ j.grew) ∙ unseen_front v.seen rest) in
       in_all (λ (e : Entry). IsFrame trace e.1 → ⊥) s.0 (λ e h frame.
       let there : In e rest = subst (λ (l : List Entry). In e l) rest_is (in_right begins.0 s.0 e h) in
       let f = frame_by e there frame in
@@ -161,7 +160,7 @@ module _ {J U E : Type 0} (board : Board) (trace : Trace) (segment : ℕ) (wj : 
     pub octets : AllZip Has_octets js us
     pub readies : AllZip (Is_ready after later) js us
     pub idles : All (λ (j : J). wj j < trace.processors) js → (after ≡ engine) × (later ≡ tool)
-    pub joins : k ≡ joined_all c (map ku us)
+    pub joins : k ≡ after_joins c (map ku us)
     pub begins : StartsWith k.seen c.seen
     pub fronts : All (λ (u : U). StartsWith k.seen (ku u).seen) us
     pub settled : 0 < length us → Settled (turns_of board) k
@@ -188,7 +187,7 @@ module _ {J U E : Type 0} (board : Board) (trace : Trace) (segment : ℕ) (wj : 
     it_grew : k.seen ≡ v.seen ++ growth
     it_grew = grew board trace segment wj kj ku au bu Extra (turns_of board) v c k js us z r.chief r.seat r.dealt r.baton r.turns r.joins r.begins r.settled r.few
 
-    it_grew_by : grown v k ≡ order_of growth
+    it_grew_by : new_events v k ≡ order_of growth
     it_grew_by = grown_is board trace segment wj kj ku au bu Extra (turns_of board) v c k js us z r.chief r.seat r.dealt r.baton r.turns r.joins r.begins r.settled r.few
 
     turns_taken : k.left + length growth ≡ v.left
@@ -264,7 +263,7 @@ module _ {J U E : Type 0} (board : Board) (trace : Trace) (segment : ℕ) (wj : 
         let w = y.0 in
         let given = ap length (w.all (whole 0 u (omega arith))) in
         let told = ap length w.told.1 in
-        let told_long = length-append (answered (au u)) w.told.0 in
+        let told_long = length-append (answered_events (au u)) w.told.0 in
         let first = ap length w.first.1 in
         let first_long = length-append w.done w.first.0 in
         let turns = w.did.turns in

@@ -18,7 +18,7 @@ use Rattle.exchange_core.specs.Working.{Entry, order_of}
 use Rattle.call_processor.specs.Parts.{is_its, is_worker, does, part_of}
 use Rattle.call_processor.specs.Work.{entries_for}
 use Rattle.segment_run.specs.Team.{AreDealt, IsNew, load, part_numbered, worker_numbered}
-use Rattle.segment_run.proofs.Lists.{In, all_in, in_either, in_left, in_filter, filter_in, filter_alike, filter_none, none_behind, in_map, map_in, filter_map_of, range_in, both, any_in}
+use Rattle.segment_run.proofs.ListLemmas.{In, all_in, in_either, in_left, in_filter, filter_in, filter_alike, filter_none, none_behind, in_map, map_in, filter_map_of, range_in, both, any_in}
 
 -- ---- workers
 

@@ -1,8 +1,8 @@
 -- Each step keeps the rule of the lock.
-use Rattle.std.proofs.Common.{◌≡◌, ◌≢◌, ℕ, zero, suc, ◌+◌, ◌-◌, ◌%◌, ◌^◌, ◌<◌, ◌≤◌, Bool, true, false, cond, ◌||◌, IsTrue, true≢false, List, [], ◌∷◌, ◌++◌, length, get_or, set, sym, refl, ap, ◌∙◌, subst, ◌⊎◌, inl, inr, ⊎_elim, arith, Option, Some, None, length-append, append_assoc, append-nil, length-set, get_or-set_other, get_or-set_same}
+use Rattle.std.proofs.Common.{◌≡◌, ◌≢◌, ℕ, zero, suc, ◌+◌, ◌-◌, ◌%◌, ◌^◌, ◌<◌, ◌≤◌, Bool, true, false, cond, ◌||◌, IsTrue, true≢false, List, [], ◌∷◌, ◌++◌, length, replicate, get_or, set, sym, refl, ap, ◌∙◌, subst, ◌⊎◌, inl, inr, ⊎_elim, arith, Option, Some, None, length-append, append_assoc, append-nil, length-set, get_or-set_other, get_or-set_same}
 use mathlib.Core.Logic.{dite}
 use mathlib.Core.Path.{Path}
-use mathlib.Core.Option.{none, some, some-injective, some-ne-none}
+use mathlib.Core.Option.{Option as Home, none, some, some-injective, some-ne-none}
 use native.Mathlib.Decide.{ℕ_discrete}
 use lib.ListN.{get_elem?}
 use lib.Seq.{set-get_or}
@@ -19,10 +19,10 @@ use Rattle.turn_lock.specs.declared.board.Stage.TheVariants.{Idle, Waits, Served
 use Rattle.turn_lock.specs.Views.{HoldsTicket, IsServed, tickets_of, IsLive, Sits, Pairs, NoneServed}
 use Rattle.turn_lock.specs.Rule.{Reserves, IsAt, TurnRule}
 use Rattle.turn_lock.specs.Moves.{Foreign, first_view, spent_view, view_after_split, new_view, view_after_join, view_after_meet, view_after_pass, IsDraw, Gets, IsLook, IsPass, IsMeet, KnowsAll, IsEnd}
-use Rattle.turn_lock.proofs.Facts.{IsPast, Apart, Knows, SeatOk, Facts, facts, ruled, ticket_below}
-use Rattle.turn_lock.proofs.Numbers.{all_kept}
-use Rattle.turn_lock.proofs.Histories.{every_more, every_left, every_right, every_map, every_both, every_swap, entries_none, entries_same, entries_else, entries_front, starts_more, starts_same, both_begin, nothing_behind, squeezed, all_once}
-use Rattle.turn_lock.proofs.Views.{total_set, total_spent, total_one, total_two, total_more, total_alone, set_at, seats_set, seats_more, seats_spent, sits_else, pairs_at, pairs_set, pairs_spent, pairs_more}
+use Rattle.turn_lock.proofs.RuleFacts.{IsPast, Apart, Knows, SeatOk, Facts, facts_of, rule_of, ticket_below, turn_known}
+use Rattle.turn_lock.proofs.NumberLemmas.{all_kept, all_once}
+use Rattle.seat_history.proofs.HistoryLemmas.{every_more, every_left, every_right, every_map, every_both, every_swap, entries_none, entries_same, entries_else, entries_front, starts_more, starts_same, both_begin, nothing_behind, is_all}
+use Rattle.turn_lock.proofs.ViewLemmas.{total_set, total_spent, total_one, total_two, total_more, total_alone, set_at, seats_set, seats_more, seats_spent, sits_else, pairs_at, pairs_set, pairs_spent, pairs_more}
 
 unless : (b c : Bool) → IsTrue (cond b false c) → IsTrue c
 unless true c h = absurd (true≢false (sym h))
@@ -117,11 +117,15 @@ module _ {S C : Type 0} (setting : S → C) (journal : S → List Entry) (room :
   abbrev Full : St → Type 0
   Full = Facts setting journal room reserved opening' budget
 
+  -- the slot is not at home
+  abbrev Out : List (Home (Option S)) → Type 0
+  Out homes = get_elem? homes 0 ≡ some none
+
   in_full : (s : St) → Rule s → Full s
-  in_full s r = facts setting journal room reserved opening' budget s r
+  in_full s r = facts_of setting journal room reserved opening' budget s r
 
   in_rule : (s : St) → Full s → Rule s
-  in_rule s r = ruled setting journal room reserved opening' budget s r
+  in_rule s r = rule_of setting journal room reserved opening' budget s r
 
   abbrev Ok : List Entry → ℕ → V → Type 0
   Ok = SeatOk reserved opening' budget
@@ -190,7 +194,7 @@ module _ {S C : Type 0} (setting : S → C) (journal : S → List Entry) (room :
           small = r.small;
           wide = length-set s.words 0 ((n + 1) % 2 ^ 64) ∙ r.wide;
           deep = r.deep;
-          serving = get_or-set_other s.words 0 1 ((n + 1) % 2 ^ 64) 0 (λ e. omega arith) ∙ r.serving;
+          serving = get_or-set_other s.words 0 16 ((n + 1) % 2 ^ 64) 0 (λ e. omega arith) ∙ r.serving;
           held = omega arith;
           given = omega arith;
           seats = seats_set s.views (λ _ v. Ok r.log r.made v) id w
@@ -206,15 +210,16 @@ module _ {S C : Type 0} (setting : S → C) (journal : S → List Entry) (room :
           born = r.born;
           count = omega arith;
           longest = longest_set r.log s.views id me.0 w sits live (λ h. h) r.longest;
+          out = seats_set s.views (λ _ v. IsServed v.stage → Out s.homes) id w (λ h. absurd h) (λ j v _ sit. r.out j v sit);
           home = λ unserved. r.home (none_before s.views id me.0 w sits unserved (λ served. subst IsServed idle served));
         },
         (refl, refl),
       )
 
-  pub look_keeps : (slots id : ℕ) (me : M) (t : ℕ) → IsLive me.0.setting → me.0.stage ≡ Waits t → me.1 ≡ [] → Allows Rule slots id me 1 (λ n. n) (IsLook setting journal room reserved (step slots 1 0 0 none) me)
+  pub look_keeps : (slots id : ℕ) (me : M) (t : ℕ) → IsLive me.0.setting → me.0.stage ≡ Waits t → me.1 ≡ [] → Allows Rule slots id me 16 (λ n. n) (IsLook setting journal room reserved (step slots 16 0 0 none) me)
   look_keeps slots id me t live waits empty s ru deep at small =
       let r : Full s = in_full s ru in
-      let n : ℕ = get_or s.words 1 0 in
+      let n : ℕ = get_or s.words 16 0 in
       let sits : Sits s.views id me.0 = (at, live) in
       let ok = r.seats id me.0 sits in
       dite (ℕ_discrete n t)
@@ -230,7 +235,7 @@ module _ {S C : Type 0} (setting : S → C) (journal : S → List Entry) (room :
         w,
         takes 0 (Some state.0),
         state.1,
-        subst (λ (ws : List ℕ). Rule record { words = ws; homes = set s.homes 0 none; views = set s.views id w }) (sym (set-get_or s.words 1 0)) (in_rule record { words = s.words; homes = set s.homes 0 none; views = set s.views id w } record {
+        subst (λ (ws : List ℕ). Rule record { words = ws; homes = set s.homes 0 none; views = set s.views id w }) (sym (set-get_or s.words 16 0)) (in_rule record { words = s.words; homes = set s.homes 0 none; views = set s.views id w } record {
           log = r.log;
           made = r.made;
           small = r.small;
@@ -250,6 +255,7 @@ module _ {S C : Type 0} (setting : S → C) (journal : S → List Entry) (room :
           born = r.born;
           count = let m = total_set one_of s.views id me.0 w sits live in let k = total_set kept_count s.views id me.0 w sits live in let c = r.count in omega arith;
           longest = (id, w, (set_at s.views id me.0 w at, live), sym ok.whole);
+          out = λ j v sit h. set_here s.homes 0 none (let d = r.deep in omega arith);
           home = λ unserved. absurd (unserved id w (set_at s.views id me.0 w at, live) tt);
         }),
         λ u is. let same : t ≡ u = ap (ticket_or 0) (sym waits ∙ is) in
@@ -277,7 +283,7 @@ module _ {S C : Type 0} (setting : S → C) (journal : S → List Entry) (room :
         me.0,
         keeps,
         tt,
-        subst (λ (z : List ℕ × List V). Rule record { words = z.0; homes = s.homes; views = z.1 }) (λ i. (sym (set-get_or s.words 1 0) i, sym (set_again s.views id me.0 at) i)) ru,
+        subst (λ (z : List ℕ × List V). Rule record { words = z.0; homes = s.homes; views = z.1 }) (λ i. (sym (set-get_or s.words 16 0) i, sym (set_again s.views id me.0 at) i)) ru,
         λ u is. ((λ same. absurd (miss (same ∙ ap (ticket_or 0) (sym is ∙ waits)))), λ _. refl),
       ))
 
@@ -327,10 +333,10 @@ module _ {S C : Type 0} (setting : S → C) (journal : S → List Entry) (room :
 
   pub pass_keeps : (slots id : ℕ) (me : M) (t : ℕ) (x : S) → IsLive me.0.setting → me.0.stage ≡ Served t → me.1 ≡ (0, Some x) ∷ []
       → IsAt setting journal room me.0.setting me.0.budget (me.0.known.seen ++ (me.0.known.number, me.0.event) ∷ []) x
-      → Allows Rule slots id me 1 (λ n. (n + 1) % 2 ^ 64) (IsPass (step slots 1 1 0 none) me)
+      → Allows Rule slots id me 16 (λ n. (n + 1) % 2 ^ 64) (IsPass (step slots 16 1 0 none) me)
   pass_keeps slots id me t x live served has fits s ru deep at small =
       let r : Full s = in_full s ru in
-      let n : ℕ = get_or s.words 1 0 in
+      let n : ℕ = get_or s.words 16 0 in
       let sits : Sits s.views id me.0 = (at, live) in
       let ok = r.seats id me.0 sits in
       let known = subst (Knows reserved r.log (get_or s.words 0 0) me.0) served (r.knows id me.0 sits) in
@@ -343,18 +349,18 @@ module _ {S C : Type 0} (setting : S → C) (journal : S → List Entry) (room :
       let below : t < get_or s.words 0 0 = known.1 in
       let g = r.given in let h = r.held in let b = r.small in let wide = r.wide in let serving : n ≡ length r.log = r.serving in
       let next : (n + 1) % 2 ^ 64 ≡ n + 1 = omega arith in
-      let ws : List ℕ = set s.words 1 ((n + 1) % 2 ^ 64) in
-      let same : get_or ws 0 0 ≡ get_or s.words 0 0 = get_or-set_other s.words 1 0 ((n + 1) % 2 ^ 64) 0 (λ e. omega arith) in
+      let ws : List ℕ = set s.words 16 ((n + 1) % 2 ^ 64) in
+      let same : get_or ws 0 0 ≡ get_or s.words 0 0 = get_or-set_other s.words 16 0 ((n + 1) % 2 ^ 64) 0 (λ e. omega arith) in
       let mine : HoldsTicket me.0.stage (length r.log) = subst (λ st. HoldsTicket st (length r.log)) (sym served) (sym len) in
       let held_one : tickets_of me.0.stage ≡ 1 = ap tickets_of served in
-      let after : St = stepped s 1 ((n + 1) % 2 ^ 64) id ((0, Some x) ∷ []) w gives in
+      let after : St = stepped s 16 ((n + 1) % 2 ^ 64) id ((0, Some x) ∷ []) w gives in
       let full : Full after = record {
         log = log';
         made = r.made;
         small = r.small;
-        wide = length-set s.words 1 ((n + 1) % 2 ^ 64) ∙ r.wide;
+        wide = length-set s.words 16 ((n + 1) % 2 ^ 64) ∙ r.wide;
         deep = length-set s.homes 0 (some (Some x)) ∙ r.deep;
-        serving = get_or-set_same s.words 1 ((n + 1) % 2 ^ 64) 0 (omega arith) ∙ (next ∙ (omega arith));
+        serving = get_or-set_same s.words 16 ((n + 1) % 2 ^ 64) 0 (omega arith) ∙ (next ∙ (omega arith));
         held = let m = total_set held_of s.views id me.0 w sits live in omega arith;
         given = let m = total_set left_of s.views id me.0 w sits live in omega arith;
         seats = seats_set s.views (λ _ v. Ok log' r.made v) id w (own_seat r.log r.made me.0 known.3 ok)
@@ -368,6 +374,8 @@ module _ {S C : Type 0} (setting : S → C) (journal : S → List Entry) (room :
         born = every_more (λ (e : Entry). e.0 ≤ r.made) r.log (e ∷ []) r.born (ok.made_so, tt);
         count = let m = total_set one_of s.views id me.0 w sits live in let k = total_set kept_count s.views id me.0 w sits live in let c = r.count in omega arith;
         longest = (id, w, (set_at s.views id me.0 w at, live), seen_is);
+        out = seats_set s.views (λ _ v. IsServed v.stage → Out after.homes) id w (λ h. absurd h)
+            (λ j v other sit h. absurd ((r.apart j id v me.0 sit sits other).ticket (length r.log) (turn_known reserved r.log (get_or s.words 0 0) (length r.log) v v.stage refl (r.knows j v sit) h).0 mine));
         home = λ _. (
           x,
           set_here s.homes 0 (some (Some x)) (let d = r.deep in omega arith),
@@ -377,12 +385,12 @@ module _ {S C : Type 0} (setting : S → C) (journal : S → List Entry) (room :
         w,
         gives,
         tt,
-        subst (λ (c : List (ℕ × Option S)). Rule (stepped s 1 ((n + 1) % 2 ^ 64) id c w gives)) (sym has) (in_rule after full),
+        subst (λ (c : List (ℕ × Option S)). Rule (stepped s 16 ((n + 1) % 2 ^ 64) id c w gives)) (sym has) (in_rule after full),
         ((λ i. (w, rest (has i))), λ first. settles after full id w (set_at s.views id me.0 w at, live) refl first),
       )
 
-  pub open_keeps : (x : S) → setting x ≡ opening' → journal x ≡ [] → budget ≤ room x → budget < 2 ^ 32 → Rule (opening (0 ∷ 0 ∷ []) (Some x ∷ []) (first_view opening' budget))
-  open_keeps x is empty roomy small = in_rule (opening (0 ∷ 0 ∷ []) (Some x ∷ []) (first_view opening' budget)) record {
+  pub open_keeps : (x : S) → setting x ≡ opening' → journal x ≡ [] → budget ≤ room x → budget < 2 ^ 32 → Rule (opening (replicate 17 0) (Some x ∷ []) (first_view opening' budget))
+  open_keeps x is empty roomy small = in_rule (opening (replicate 17 0) (Some x ∷ []) (first_view opening' budget)) record {
     log = [];
     made = 0;
     small = small;
@@ -397,6 +405,7 @@ module _ {S C : Type 0} (setting : S → C) (journal : S → List Entry) (room :
     born = tt;
     count = refl;
     longest = (0, first, (refl, refl), refl);
+    out = λ j v sit. subst (λ (v : V). IsServed v.stage → Out (some (Some x) ∷ [])) (only j v sit).1 (λ h. absurd h);
     home = λ _. (x, refl, record { setting_is = ap Some (sym is); journal_is = empty; roomy = omega arith });
   }
     where
@@ -493,6 +502,7 @@ module _ {S C : Type 0} (setting : S → C) (journal : S → List Entry) (room :
         born = every_map r.log (λ e le. omega arith) r.born;
         count = let m = total_set one_of s.views id v given sits live in let k = total_more one_of vs new live in let m2 = total_set kept_count s.views id v given sits live in let k2 = total_more kept_count vs new live in let c = r.count in omega arith;
         longest = let l = longest_set r.log s.views id v given sits live (λ h. h) r.longest in (l.0, l.1, (at_longer vs (new ∷ []) l.0 l.1 l.2.0, l.2.1), l.3);
+        out = seats_more vs (λ _ u. IsServed u.stage → Out s.homes) new (λ _ h. absurd h) (seats_set s.views (λ _ u. IsServed u.stage → Out s.homes) id given (λ h. absurd (subst IsServed idle h)) (λ j u _ sit. r.out j u sit));
         home = λ unserved. r.home (none_before s.views id v given sits (λ j u sit. unserved j u (at_longer vs (new ∷ []) j u sit.0, sit.1)) (λ served. subst IsServed idle served));
       }
 
@@ -552,10 +562,11 @@ module _ {S C : Type 0} (setting : S → C) (journal : S → List Entry) (room :
         born = r.born;
         count = let m = total_set one_of s.views id v both sits live in let k = total_spent one_of mid other w (there, live') in let m2 = total_set kept_count s.views id v both sits live in let k2 = total_spent kept_count mid other w (there, live') in let c = r.count in omega arith;
         longest = let l = r.longest in dite (ℕ_discrete l.0 id)
-            (λ (e : l.0 ≡ id). (id, both, there_still, squeezed r.log both.known.seen fits.4.0 fits.0 fits.1 (fits.4.1 ∙ ap (λ (h : List Entry). h ++ fits.4.0) (ap (λ (z : V). z.known.seen) (some-injective v l.1 (sym at ∙ (sym (ap (get_elem? s.views) e) ∙ l.2.0))) ∙ l.3))))
+            (λ (e : l.0 ≡ id). (id, both, there_still, is_all r.log both.known.seen fits.4.0 fits.0 fits.1 (fits.4.1 ∙ ap (λ (h : List Entry). h ++ fits.4.0) (ap (λ (z : V). z.known.seen) (some-injective v l.1 (sym at ∙ (sym (ap (get_elem? s.views) e) ∙ l.2.0))) ∙ l.3))))
             (λ far. dite (ℕ_discrete l.0 other)
-            (λ (e : l.0 ≡ other). (id, both, there_still, squeezed r.log both.known.seen fits.5.0 fits.0 fits.1 (fits.5.1 ∙ ap (λ (h : List Entry). h ++ fits.5.0) (ap (λ (z : V). z.known.seen) (some-injective w l.1 (sym there' ∙ (sym (ap (get_elem? s.views) e) ∙ l.2.0))) ∙ l.3))))
+            (λ (e : l.0 ≡ other). (id, both, there_still, is_all r.log both.known.seen fits.5.0 fits.0 fits.1 (fits.5.1 ∙ ap (λ (h : List Entry). h ++ fits.5.0) (ap (λ (z : V). z.known.seen) (some-injective w l.1 (sym there' ∙ (sym (ap (get_elem? s.views) e) ∙ l.2.0))) ∙ l.3))))
             (λ away. (l.0, l.1, sits_else mid other spent_view l.0 l.1 away (sits_else s.views id both l.0 l.1 far l.2), l.3)));
+        out = seats_spent mid (λ _ u. IsServed u.stage → Out s.homes) other (λ j u _ sit. seats_set s.views (λ _ u. IsServed u.stage → Out s.homes) id both (λ h. absurd (subst IsServed idle h)) (λ i x _ e. r.out i x e) j u sit);
         home = λ unserved. r.home (λ j u sit served. dite (ℕ_discrete j id)
             (λ (e : j ≡ id). idles v idle u (some-injective v u (sym at ∙ (sym (ap (get_elem? s.views) e) ∙ sit.0))) served)
             (λ far. dite (ℕ_discrete j other)
@@ -592,6 +603,7 @@ module _ {S C : Type 0} (setting : S → C) (journal : S → List Entry) (room :
           born = r.born;
           count = let m = total_set one_of s.views id me.0 w sits live in let k = total_set kept_count s.views id me.0 w sits live in let c = r.count in omega arith;
           longest = longest_set r.log s.views id me.0 w sits live (λ h. h) r.longest;
+          out = seats_set s.views (λ _ v. IsServed v.stage → Out s.homes) id w (r.out id me.0 sits) (λ j v _ sit. r.out j v sit);
           home = λ unserved. r.home (none_after s.views id me.0 w sits live (λ h. h) unserved);
         }),
         (refl, ok.olds.0, ok.olds.1, settles s r id me.0 sits idle first),

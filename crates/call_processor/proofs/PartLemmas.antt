@@ -14,8 +14,8 @@ use Rattle.call_processor.specs.Parts.{is_its, part_of}
 abbrev ended_before : ℕ → ℕ → ℕ
 ended_before n last = cond (nat_lt last n) 1 0
 
-ended : (n last : ℕ) → last < n → ended_before n last ≡ 1
-ended n last h = let yes : nat_lt last n ≡ true = le-leb (suc last) n (omega (arith, h)) in ap (λ (b : Bool). cond b 1 0) yes
+end_before : (n last : ℕ) → last < n → ended_before n last ≡ 1
+end_before n last h = let yes : nat_lt last n ≡ true = le-leb (suc last) n (omega (arith, h)) in ap (λ (b : Bool). cond b 1 0) yes
 
 not_ended : (n last : ℕ) → n ≤ last → ended_before n last ≡ 0
 not_ended n last h = let no_end : nat_lt last n ≡ false = grind (arith, nat_tests) in ap (λ (b : Bool). cond b 1 0) no_end
@@ -32,7 +32,7 @@ pub at_least : (ends : List ℕ) (n k : ℕ) → k ≤ length ends → ((i : ℕ
 at_least ends n zero within h = omega arith
 at_least [] n (suc k) within h = absurd (omega arith)
 at_least (last ∷ ends) n (suc k) within h =
-    let one = ended n last (h 0 (omega arith)) in
+    let one = end_before n last (h 0 (omega arith)) in
     let rest = at_least ends n k (omega arith) (λ i lt. h (suc i) (omega arith)) in
     omega (arith, sum_by-cons (ended_before n) last ends, one, rest)
 

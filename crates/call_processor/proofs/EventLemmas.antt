@@ -13,10 +13,10 @@ use Rattle.seat_history.specs.Histories.{StartsWith, before, entries_of}
 use Rattle.seat_history.specs.Seats.{after_step}
 use Rattle.exchange_core.specs.Boards.{Board, AnswersAt, world_at}
 use Rattle.exchange_core.specs.Step.{MovesAtMost}
-use Rattle.seat_history.specs.Histories.{Entry}
+use Rattle.exchange_core.specs.Working.{Entry}
 use Rattle.call_processor.specs.declared.worked.Placed.{Placed}
 use Rattle.call_processor.specs.Frames.{Plays, HasFrame, IsPlayed}
-use Rattle.call_processor.specs.Work.{Did, Handled, IsAnswer, Works, answered, entries_for}
+use Rattle.call_processor.specs.Work.{Did, DidEvent, IsAnswer, Works, answered_events, entries_for}
 
 pub starts_same : (v : Known) → StartsWith v.seen v.seen
 starts_same v = ([], sym (append-nil v.seen))
@@ -132,7 +132,7 @@ pairs_push R xs x pairs each i j d lt within =
 -- where all that was done so far was answered
 pub record Going (board : Board) (done : List ℕ) (v : Known) (answers : List Placed) (w : Known) : Type 0 where
   pub did : Did v done w
-  pub told : answered answers ≡ done
+  pub told : answered_events answers ≡ done
   pub each : All (IsAnswer board w) answers
   pub rising : AllPairs (λ (p q : Placed). p.place < q.place) answers
   pub beyond : All (λ (p : Placed). length v.seen ≤ p.place) answers
@@ -140,7 +140,7 @@ pub record Going (board : Board) (done : List ℕ) (v : Known) (answers : List P
 pub going_none : (board : Board) (v : Known) (answers : List Placed) → answers ≡ [] → Going board [] v answers v
 going_none board v answers none = record {
   did = nothing_done v;
-  told = ap answered none;
+  told = ap answered_events none;
   each = subst (All (IsAnswer board v)) (sym none) (All-nil (IsAnswer board v));
   rising = subst (AllPairs (λ (p q : Placed). p.place < q.place)) (sym none) (λ i j d lt within. absurd (omega (arith, within)));
   beyond = subst (All (λ (p : Placed). length v.seen ≤ p.place)) (sym none) (All-nil (λ (p : Placed). length v.seen ≤ p.place));
@@ -182,7 +182,7 @@ going_with board history done v w x answers p r n place is at g e given few keep
     (subst (λ (m : ℕ). AnswersAt board history m r) (sym is) given) few keeps)
 
 -- the same, where the call's own contract says all of it
-pub next_of : (v w : Known) (n : ℕ) (h : Handled v n w) → Next (before h.place w.seen) n h.place v w
+pub next_of : (v w : Known) (n : ℕ) (h : DidEvent v n w) → Next (before h.place w.seen) n h.place v w
 next_of v w n h = record {
   seat = h.seat;
   begins = h.begins;
@@ -191,7 +191,7 @@ next_of v w n h = record {
   exact = h.exact;
 }
 
-pub going_said : (board : Board) (done : List ℕ) (v w x : Known) (answers : List Placed) (p : Placed) (n : ℕ) → Going board done v answers w → Handled w n x
+pub going_said : (board : Board) (done : List ℕ) (v w x : Known) (answers : List Placed) (p : Placed) (n : ℕ) → Going board done v answers w → DidEvent w n x
     → length x.seen ≡ p.place + 1 → p.answer.event ≡ n → IsAnswer board x p → Going board (done ++ n ∷ []) v (answers ++ p ∷ []) x
 going_said board done v w x answers p n g h last event a =
     let e = next_of w x n h in
@@ -230,7 +230,7 @@ works_whole board part v w answers g = record {
   done = part;
   first = ([], sym (append-nil part));
   did = g.did;
-  told = ([], sym g.told ∙ sym (append-nil (answered answers)), omega arith);
+  told = ([], sym g.told ∙ sym (append-nil (answered_events answers)), omega arith);
   each = g.each;
   rising = g.rising;
   beyond = g.beyond;
@@ -242,7 +242,7 @@ works_front board part done rest v w answers front g = record {
   done = done;
   first = (rest, front);
   did = g.did;
-  told = ([], sym g.told ∙ sym (append-nil (answered answers)), omega arith);
+  told = ([], sym g.told ∙ sym (append-nil (answered_events answers)), omega arith);
   each = g.each;
   rising = g.rising;
   beyond = g.beyond;

@@ -9,11 +9,11 @@ use Rattle.exchange_core.specs.declared.trace.Trace.{Trace}
 use Rattle.exchange_core.specs.Orders.{Worker, IsEvent, worker_of}
 use Rattle.exchange_core.specs.Sound.{AreSegments}
 use Rattle.call_processor.specs.Parts.{does, is_its, is_worker}
-use Rattle.call_processor.proofs.Segments.{part_is, order_of_ends}
+use Rattle.call_processor.proofs.PartLemmas.{part_is, order_of_ends}
 use Rattle.segment_run.specs.Team.{load, loads_below, worker_numbered}
 use Rattle.segment_run.specs.Segments.{events_before}
-use Rattle.segment_run.proofs.Lists.{In, got_there, range_in}
-use Rattle.segment_run.proofs.Doers.{is_itself, numbered_frames, numbered_processor, other_worker}
+use Rattle.segment_run.proofs.ListLemmas.{In, got_there, range_in}
+use Rattle.segment_run.proofs.DoerLemmas.{is_itself, numbered_frames, numbered_processor, other_worker}
 
 -- ---- one event has one worker
 
@@ -21,9 +21,9 @@ abbrev one_if : Bool → ℕ
 one_if b = cond b 1 0
 
 -- how many of the first so many workers do the event
-abbrev doing : Trace → ℕ → ℕ → ℕ
-doing trace x zero = 0
-doing trace x (suc n) = doing trace x n + one_if (is_its trace (worker_numbered trace.processors n) x)
+abbrev count_doers : Trace → ℕ → ℕ → ℕ
+count_doers trace x zero = 0
+count_doers trace x (suc n) = count_doers trace x n + one_if (is_its trace (worker_numbered trace.processors n) x)
 
 pub worker_is : (trace : Trace) → 0 < trace.processors → (event : Event) → (i : ℕ) × (i ≤ trace.processors) × (worker_numbered trace.processors i ≡ worker_of trace.processors event)
 worker_is trace some_one (Nail x y) = let h = mod_below x.line trace.processors some_one in (x.line % trace.processors, omega (arith, h), numbered_processor trace.processors (x.line % trace.processors) h)
@@ -33,14 +33,14 @@ worker_is trace some_one (Message line octets) = let h = mod_below line trace.pr
 worker_is trace some_one (Frame input) = (trace.processors, omega arith, numbered_frames trace.processors trace.processors (omega arith))
 
 module _ (trace : Trace) (x i : ℕ) (le : i ≤ trace.processors) (its : (w : Worker) → is_its trace w x ≡ is_worker (worker_numbered trace.processors i) w) where
-  doing_before : (n : ℕ) → n ≤ i → doing trace x n ≡ 0
+  doing_before : (n : ℕ) → n ≤ i → count_doers trace x n ≡ 0
   doing_before zero h = refl
   doing_before (suc n) h =
       let a = doing_before n (omega (arith, h)) in
       let b = ap one_if (its (worker_numbered trace.processors n) ∙ (other_worker trace.processors n i (omega (arith, h)) le).1) in
       omega (arith, a, b)
 
-  doing_after : (n : ℕ) → i < n → n ≤ trace.processors + 1 → doing trace x n ≡ 1
+  doing_after : (n : ℕ) → i < n → n ≤ trace.processors + 1 → count_doers trace x n ≡ 1
   doing_after zero h m = absurd (omega (arith, h))
   doing_after (suc n) h m =
       elim (cases_lt i n) [
@@ -56,7 +56,7 @@ module _ (trace : Trace) (x i : ℕ) (le : i ≤ trace.processors) (its : (w : W
             omega (arith, a, b)
       ]
 
-doing_one : (trace : Trace) → 0 < trace.processors → (x : ℕ) → IsEvent trace x → doing trace x (trace.processors + 1) ≡ 1
+doing_one : (trace : Trace) → 0 < trace.processors → (x : ℕ) → IsEvent trace x → count_doers trace x (trace.processors + 1) ≡ 1
 doing_one trace some_one x event =
     let low = event.0 in
     let high = event.1 in
@@ -73,7 +73,7 @@ sums_none : (trace : Trace) (n : ℕ) → sums trace [] n ≡ 0
 sums_none trace zero = refl
 sums_none trace (suc n) = let a = sums_none trace n in omega (arith, a)
 
-sums_cons : (trace : Trace) (x : ℕ) (xs : List ℕ) (n : ℕ) → sums trace (x ∷ xs) n ≡ doing trace x n + sums trace xs n
+sums_cons : (trace : Trace) (x : ℕ) (xs : List ℕ) (n : ℕ) → sums trace (x ∷ xs) n ≡ count_doers trace x n + sums trace xs n
 sums_cons trace x xs zero = omega arith
 sums_cons trace x xs (suc n) =
     let a = sums_cons trace x xs n in

@@ -19,15 +19,17 @@ use Rattle.exchange_core.specs.Working.{Entry, IsNumbered, order_of}
 use Rattle.call_processor.specs.declared.worked.Placed.{Placed}
 use Rattle.call_processor.specs.Frames.{Plays, IsPlayed}
 use Rattle.call_processor.specs.Parts.{does, is_its}
-use Rattle.call_processor.specs.Work.{IsAnswer, Works, answered}
+use Rattle.call_processor.specs.Work.{IsAnswer, Works, answered_events}
 use Rattle.segment_run.specs.Jobs.{HasItsOctets}
-use Rattle.segment_run.specs.Merging.{AreApart, IsMerged, all_of}
-use Rattle.segment_run.specs.Segment.{IsAnswered, AreAnswered, grown}
+use Rattle.segment_run.specs.Merging.{AreApart}
+use Rattle.segment_run.specs.Merging.{IsMerged}
+use Rattle.segment_run.specs.Merging.{all_of}
+use Rattle.segment_run.specs.Segment.{IsAnswered, AreAnswered, new_events}
 use Rattle.segment_run.specs.Team.{AreDealt, load, part_numbered, turns_left, worker_numbered}
-use Rattle.segment_run.proofs.Lists.{In, all_in, in_either, in_left, in_map, filter_in, length_of_map, range_in, both, got_in, got_left, got_behind, got_within}
-use Rattle.segment_run.proofs.Doers.{numbered_frames, numbered_processor}
-use Rattle.segment_run.proofs.Merges.{all_of_last, all_of_none, apart_last, each_place, events_are}
-use Rattle.segment_run.proofs.Runs.{zip_right}
+use Rattle.segment_run.proofs.ListLemmas.{In, all_in, in_either, in_left, in_map, filter_in, length_of_map, range_in, both, got_in, got_left, got_behind, got_within}
+use Rattle.segment_run.proofs.DoerLemmas.{numbered_frames, numbered_processor}
+use Rattle.segment_run.proofs.MergeLemmas.{all_of_last, all_of_none, apart_last, each_place, events_are}
+use Rattle.segment_run.proofs.RunLemmas.{zip_right}
 
 reverse_cons : {X : Type 0} (x : X) (xs : List X) → reverse (x ∷ xs) ≡ reverse xs ++ x ∷ []
 reverse_cons x xs = reverse-append (x ∷ []) xs
@@ -65,8 +67,8 @@ module _ {J U : Type 0} (plays : Plays) (tones : Kind → List ℕ) (board : Boa
   abbrev pub Answers : J → U → Type 0
   Answers j u = Works board (part_numbered trace segment (wj j)) (kj j) (au u) (bu u) (ku u) × Octets j u
 
-  abbrev pub seated : List J → List (ℕ × Known)
-  seated js = map (λ (j : J). (wj j, kj j)) js
+  abbrev pub rows_of : List J → List (ℕ × Known)
+  rows_of js = map (λ (j : J). (wj j, kj j)) js
 
   -- what holds of a worker's answer once seat 0 knows k
   record Good (lo : ℕ) (k : Known) (n : ℕ) (p : Placed) : Type 0 where
@@ -85,8 +87,8 @@ module _ {J U : Type 0} (plays : Plays) (tones : Kind → List ℕ) (board : Boa
         let beyond = all_in (λ (q : Placed). length (kj j).seen ≤ q.place) (au u) w.beyond p i in
         let long = ap length started in
         let part = part_numbered trace segment (wj j) in
-        let said : In p.answer.event (answered (au u)) = in_map (λ (q : Placed). q.answer.event) (au u) p i in
-        let done : In p.answer.event w.done = subst (λ (l : List ℕ). In p.answer.event l) (sym w.told.1) (in_left (answered (au u)) w.told.0 p.answer.event said) in
+        let said : In p.answer.event (answered_events (au u)) = in_map (λ (q : Placed). q.answer.event) (au u) p i in
+        let done : In p.answer.event w.done = subst (λ (l : List ℕ). In p.answer.event l) (sym w.told.1) (in_left (answered_events (au u)) w.told.0 p.answer.event said) in
         let its : In p.answer.event part = subst (λ (l : List ℕ). In p.answer.event l) (sym w.first.1) (in_left w.done w.first.0 p.answer.event done) in
         let worker = worker_numbered trace.processors (wj j) in
         let f = filter_in (λ (m : ℕ). nat_eq (segment_of trace.segments m) segment && is_its trace worker m) _ p.answer.event its in
@@ -144,7 +146,7 @@ module _ {J U : Type 0} (plays : Plays) (tones : Kind → List ℕ) (board : Boa
       started : (kj j).seen ≡ v.seen
       turns : (kj j).left ≡ load trace segment (wj j)
 
-    since_in : (n low : ℕ) (js : List J) → AreDealt trace segment v n low (seated js) → (j : J) → In j js → Since n j
+    since_in : (n low : ℕ) (js : List J) → AreDealt trace segment v n low (rows_of js) → (j : J) → In j js → Since n j
     since_in n low [] d j i = absurd i
     since_in n low (x ∷ js) d j (inl e) = let is = d.2.number_is in subst (Since n) e (record { number = omega (arith, is); few = d.1; started = d.2.seen_is; turns = d.2.turns_are })
     since_in n low (x ∷ js) d j (inr more) =
@@ -161,7 +163,7 @@ module _ {J U : Type 0} (plays : Plays) (tones : Kind → List ℕ) (board : Boa
       good : Good (length v.seen) k number p
 
     -- each answer of these workers is a good one
-    one_good : (n low : ℕ) (js : List J) (us : List U) → AllZip Answers js us → AreDealt trace segment v n low (seated js) → All Seen us → (p : Placed) → In p (all_of (lists us)) → Known_answer n p
+    one_good : (n low : ℕ) (js : List J) (us : List U) → AllZip Answers js us → AreDealt trace segment v n low (rows_of js) → All Seen us → (p : Placed) → In p (all_of (lists us)) → Known_answer n p
     one_good n low js us z d seen p i =
         let q = in_lists us p i in
         let u = q.0 in
@@ -169,7 +171,7 @@ module _ {J U : Type 0} (plays : Plays) (tones : Kind → List ℕ) (board : Boa
         let since = since_in n low js d r.0 r.1 in
         record { number = (kj r.0).number; high = since.number; good = good r.0 u r.2 since.few since.started (all_in Seen us seen u q.1) p q.2 }
 
-    pub apart : (n low : ℕ) (js : List J) (us : List U) → AllZip Answers js us → AreDealt trace segment v n low (seated js) → All Seen us → AreApart (lists us)
+    pub apart : (n low : ℕ) (js : List J) (us : List U) → AllZip Answers js us → AreDealt trace segment v n low (rows_of js) → All Seen us → AreApart (lists us)
     apart n low [] [] z d seen = tt
     apart n low [] (u ∷ us) z d seen = absurd z
     apart n low (j ∷ js) [] z d seen = absurd z
@@ -187,7 +189,7 @@ module _ {J U : Type 0} (plays : Plays) (tones : Kind → List ℕ) (board : Boa
         omega (arith, numbers, high, is)))
 
     -- where all is whole, there are as many answers as turns were given
-    pub as_many : (n low : ℕ) (js : List J) (us : List U) → AllZip Answers js us → AreDealt trace segment v n low (seated js) → All (λ (u : U). IsTrue (bu u)) us → length (all_of (lists us)) ≡ turns_left (seated js)
+    pub as_many : (n low : ℕ) (js : List J) (us : List U) → AllZip Answers js us → AreDealt trace segment v n low (rows_of js) → All (λ (u : U). IsTrue (bu u)) us → length (all_of (lists us)) ≡ turns_left (rows_of js)
     as_many n low [] [] z d whole = ap length all_of_none
     as_many n low [] (u ∷ us) z d whole = absurd z
     as_many n low (j ∷ js) [] z d whole = absurd z
@@ -200,7 +202,7 @@ module _ {J U : Type 0} (plays : Plays) (tones : Kind → List ℕ) (board : Boa
         let turns = d.2.turns_are in
         omega (arith, a, b, c, told, e, turns)
 
-    module _ (rest : List Entry) (grew : k.seen ≡ v.seen ++ rest) (grown_is : grown v k ≡ order_of rest) (n low : ℕ) (js : List J) (us : List U) (z : AllZip Answers js us) (d : AreDealt trace segment v n low (seated js)) (seen : All Seen us) where
+    module _ (rest : List Entry) (grew : k.seen ≡ v.seen ++ rest) (grown_is : new_events v k ≡ order_of rest) (n low : ℕ) (js : List J) (us : List U) (z : AllZip Answers js us) (d : AreDealt trace segment v n low (rows_of js)) (seen : All Seen us) where
       within : (p : Placed) → In p (all_of (lists us)) → (length v.seen ≤ p.place) × (p.place < length v.seen + length rest)
       within p i =
           let g = (one_good n low js us z d seen p i).good in
