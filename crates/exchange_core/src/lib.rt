@@ -11,8 +11,8 @@
 //! - [`Switchboard`] is the interface of an exchange that many callers share; `shared_exchange`
 //!   implements it.
 //!
-//! It stands on `circuit_model`, `control_memory`, `circuit_map`, `q931_elements`, `q931_codec`,
-//! `call_states`, `clearing_rules` and `number_plan`, and on the kit's `arrayvec`.
+//! It stands on `circuit_model`, `seat_history`, `control_memory`, `circuit_map`, `q931_elements`,
+//! `q931_codec`, `call_states`, `clearing_rules` and `number_plan`, and on the kit's `arrayvec`.
 #![tactic(auto)]
 
 mod acts;

@@ -1,13 +1,16 @@
 -- A generated trace that is run and summed up, and a run on another board.
-use Rattle.std.proofs.Common.{rules, ◌≡◌, ◌≢◌, ◌⊎◌, ℕ, ◌≤◌, List, [], ◌++◌, Option, Some, None, refl, sym, ap, subst, ◌∙◌, inl, inr, arith}
+use Rattle.std.proofs.Common.{rules, ◌≡◌, ◌≢◌, ◌⊎◌, ℕ, ◌+◌, ◌≤◌, List, [], ◌++◌, length, Option, Some, None, refl, sym, ap, subst, ◌∙◌, inl, inr, arith}
 use Rattle.std.specs.Io.KnownBytes.{Appends, Keeps}
 use Rattle.std.proofs.KnownBytes.{Appends-nil, Appends-trans}
 use Rattle.ex_io.specs.Ends.{Rose}
 use Rattle.exchange_core.specs.declared.trace.Trace.{Trace}
+use Rattle.seat_history.specs.declared.known.Known.{Known}
+use Rattle.seat_history.specs.Histories.{Entry}
 use Rattle.exchange_core.specs.Boards.{Board}
 use Rattle.generated_trace.specs.Generated.{IsTrafficOf}
 use Rattle.exchange_top.specs.declared.listing.Listing.TheVariants as listing
 use Rattle.exchange_top.specs.Commands.{Handing, Parties, Runs, Whole, Unwritten_from, No_memory_from, Sums, Summed, Sum_unwritten, Sum_no_memory, In_run, In_summary, IsHandedOut}
+use Rattle.segment_run.specs.Segment.{IsChief}
 use Rattle.exchange_top.specs.Streams.{AppendsFront}
 use Rattle.exchange_top.specs.Summary.{summary_text}
 
@@ -59,3 +62,7 @@ module _ (x : Parties) (seed calls : ℕ) (t : Trace) (is : IsTrafficOf seed cal
       ]
   sums_up h status status' order order' old mid new faults middle then zero (Unwritten_from s rose b) steady same done unwritten unsaid ends = absurd (omega (arith, s, zero))
   sums_up h status status' order order' old mid new faults middle then zero (No_memory_from s b) steady same done unwritten unsaid ends = absurd (omega (arith, s, zero))
+
+-- seat 0's history has an entry for each event at the most
+pub fits_order : (order : List ℕ) (journal : List Entry) (seat : Known) (turns events room : ℕ) → order ≡ [] → journal ≡ seat.seen → IsChief turns seat → turns ≡ events → events ≤ room → length order + length journal ≤ room
+fits_order order journal seat turns events room none is chief same fits = let whole = chief.settled.whole chief.joined in let a = ap length none in let b = ap length is in omega arith

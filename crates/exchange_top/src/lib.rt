@@ -14,7 +14,7 @@
 //!   other status hides one (`reads`, `writes`). With 4 and 5 a front of the text was written
 //!   (`cut_short`).
 //!
-//! It stands on `ex_io`, `circuit_model`, `control_memory`, `tone_rules`, `fabric_map`,
+//! It stands on `ex_io`, `circuit_model`, `seat_history`, `control_memory`, `tone_rules`, `fabric_map`,
 //! `frame_engine`, `exchange_core`, `shared_exchange`, `gate`, `call_processor`, `segment_run`,
 //! `trace_text`, `report_text`, `generated_trace`, `command_words` and `meters`, and on the kit's `itoa`.
 #![tactic(auto)]

@@ -1,18 +1,25 @@
-use Rattle.std.proofs.Common.{◌≡◌, List, ◌++◌, OnOk, OnErr, sym, ap, ◌∙◌}
+use Rattle.std.proofs.Common.{◌≡◌, List, ◌++◌, OnOk, OnErr, length, sym, ap, ◌∙◌}
 use Rattle.std.specs.Io.KnownBytes.{Appends}
+use Rattle.exchange_core.specs.Boards.{Board}
 use Rattle.exchange_core.specs.Working.{order_of}
 use Rattle.exchange_top.specs.Outcomes.{IsRunWhole, IsBegun, listed}
 use Rattle.exchange_top.specs.Report.{report}
 use Rattle.exchange_top.specs.Running.{fabric_at}
 use Rattle.exchange_top.specs.Telling.{AreTold, AreToldFront}
 use Rattle.exchange_top.proofs.Pending.{on_err}
-use Rattle.exchange_top.proofs.Sums.{moved}
+use Rattle.exchange_top.proofs.Sums.{fits_order, moved}
 use Rattle.exchange_top.proofs.Tellings.{none_front}
 use Rattle.exchange_top.proofs.Underway.{begun_none}
 use Rattle.exchange_top.proofs.run.run.Goals as goal
 
 pub returns-in_err-board-clause-begun : goal.returns-in_err-board-clause-begun
 returns-in_err-board-clause-begun g c = on_err c.from_residual.result (begun_none _ _ _ _ _ _ _ c.requires.empty (none_front _ _ _ _))
+
+pub note_order-requires : goal.note_order-requires
+note_order-requires g c = record {
+  room = fits_order _ _ _ _ _ _ c.requires.empty (c.journal-2.ensures ∙ c.close.ensures.journal) c.report_segments-done.ensures.chief
+      (ap (λ (b : Board). length b.trace.events) c.in_ok-board.ensures.board) c.requires.room;
+}
 
 pub returns-clause-whole : goal.returns-clause-whole
 returns-clause-whole g c =
