@@ -70,7 +70,11 @@ pub(crate) fn do_frame<B: Switchboard, G: Gate, C: Carrier, K: Keeper, R: Wait>(
 }
 
 // Makes room for what so many lines send, unless there is.
-pub(crate) fn grow(alloc: Global, octets: &mut Vec<[u8; 30]>, lines: usize) -> Result<(), AllocError>
+pub(crate) fn grow(
+    alloc: Global,
+    octets: &mut Vec<[u8; 30]>,
+    lines: usize,
+) -> Result<(), AllocError>
     ensures { OnOk result (length octets.new.items ≡ lines) }
 {
     if octets.len() != lines {

@@ -76,9 +76,7 @@ fn do_events<B: Switchboard, G: Gate, K: Keeper, R: Wait>(
         if shortage.is_told() {
             return Err(AllocError);
         }
-        do_event(
-            rt, alloc, board, seat, processor, event, desk, keeper, gate,
-        )?;
+        do_event(rt, alloc, board, seat, processor, event, desk, keeper, gate)?;
     }
     Ok(())
 }

@@ -14,8 +14,8 @@ ghost use Rattle.exchange_top.specs.Running.{IsUnused};
 
 use crate::listing::Listing;
 use crate::segments::{Carried, report_segments};
-use control_memory::{Image, PathMap};
 use call_processor::AnswerList;
+use control_memory::{Image, PathMap};
 use ex_io::{Failed, Sink};
 use exchange_core::{Core, Tool, Trace};
 use frame_engine::Carrier;

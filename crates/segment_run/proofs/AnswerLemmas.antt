@@ -231,8 +231,7 @@ module _ {J U : Type 0} (plays : Plays) (tones : Kind → List ℕ) (board : Boa
           there : (i : ℕ) (a : Answer) → slice_get (map (λ (p : Placed). p.answer) m) i ≡ Some a → (p : Placed) × In p (all_of (lists us)) × (p.place ≡ length v.seen + i) × (p.answer ≡ a)
           there i a at =
               let g = got_map (λ (p : Placed). p.answer) m i a at in
-              let long = merged_many in
-              (
+              let long = merged_many in (
                 g.0,
                 merged.each g.0 (got_in m i g.0 g.1),
                 each_place (length v.seen) m merged.rising (λ q j. let w = within q (merged.each q j) in let high = w.1 in (w.0, omega (arith, high, long, many))) i g.0 g.1,

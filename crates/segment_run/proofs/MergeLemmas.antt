@@ -54,8 +54,7 @@ rising_append (p ∷ ps) qs a b c = rising_cons p (ps ++ qs) (rising_append ps q
 pub rising_parts : (ps qs : List Placed) → IsRising (ps ++ qs) → IsRising ps × IsRising qs × ((p q : Placed) → In p ps → In q qs → p.place < q.place)
 rising_parts [] qs r = (rising_none, r, λ p q i j. absurd i)
 rising_parts (x ∷ ps) qs r =
-    let rest = rising_parts ps qs (rising_rest x (ps ++ qs) r) in
-    (
+    let rest = rising_parts ps qs (rising_rest x (ps ++ qs) r) in (
       rising_cons x ps rest.0 (λ q i. rising_above x (ps ++ qs) r q (in_left ps qs q i)),
       rest.1,
       λ p q i j. pick p q i j rest.2,

@@ -110,7 +110,17 @@ pub fn run_segment_in<B: Switchboard, G: Gate, C: Carrier, R: Threads + Wait + S
 {
     let mut keeper = AnswerList::new(alloc);
     let done = run_segment_with(
-        rt, alloc, board, seat, trace, segment, engine, tool, workroom, &mut keeper, gate,
+        rt,
+        alloc,
+        board,
+        seat,
+        trace,
+        segment,
+        engine,
+        tool,
+        workroom,
+        &mut keeper,
+        gate,
     )?;
     let answer = SegmentAnswer {
         answers: answers_of(alloc, &mut keeper.items)?,
