@@ -139,7 +139,7 @@ come d tones w is = let m = made_pass d tones w is [] in record { commands = m.c
 abbrev pub boundary : World → Boundary
 boundary w = record { inputs = w.inputs; held = w.held; ports = w.seated; circuits = w.holding.circuits; seats = w.ports }
 
--- what an engine is asked for a frame: its control memory, of the exchange's size, shows the circuits and ports at the frame's boundary
+-- what an engine is frame_asks for a frame: its control memory, of the exchange's size, shows the circuits and ports at the frame's boundary
 pub record Asked (image : Control) (d : Dimensions) (w : World) : Type 0 where
   pub size : IsOfSize d image
   pub shows : Shows image w.holding.circuits w.ports w.holding.next

@@ -2,3 +2,5 @@ pub mod PartLemmas
 pub mod EventLemmas
 pub mod FrameLemmas
 pub mod ToolLemmas
+mod HandLemmas
+mod KeepingLemmas

@@ -2,3 +2,4 @@ pub mod Parts
 pub mod Work
 pub mod Frames
 pub mod Workplaces
+pub mod Keeping

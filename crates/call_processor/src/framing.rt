@@ -1,18 +1,23 @@
-ghost use Rattle.std.specs.Prelude.{◌≡◌, ◌<◌, ◌≤◌, ◌+◌, [], IfOk, IsTrue, All, OnOk, is_ok, length};
+ghost use Rattle.std.specs.Prelude.{◌≡◌, ◌<◌, ◌≤◌, IsTrue, All, List, OnOk, OnErr, is_ok, length};
 ghost use Rattle.exchange_events.specs.declared.trace.Event.TheVariants.{Frame};
 ghost use Rattle.exchange_events.specs.Orders.{Frame_worker, IsEvent};
 ghost use Rattle.exchange_core.specs.Working.{IsNumbered};
 ghost use Rattle.tone_rules.specs.Tables.{table_of};
 ghost use Rattle.call_processor.specs.Frames.{IsReady, IsReadyFor, HasFrame, engine_dimensions};
 ghost use Rattle.call_processor.specs.Parts.{part_of};
-ghost use Rattle.call_processor.specs.Work.{DidEvent, IsAnswer, MayWork, Works};
-ghost use Rattle.call_processor.specs.Workplaces.{DidPart, EndsReady, FinishesReady, HasFrames, HasWorked, PlaysFrames};
+ghost use Rattle.call_processor.specs.declared.worked.Placed.{Placed};
+ghost use Rattle.call_processor.specs.Keeping.{HasKept, KeepsWork};
+ghost use Rattle.call_processor.specs.Work.{DidEvent, MayWork, Works};
+ghost use Rattle.call_processor.specs.Workplaces.{EndsReady, FinishesReady, HasWorked};
 
+use crate::answer_list::AnswerList;
+use crate::keeper::Keeper;
 use crate::segment::{input_of, numbers_of};
-use crate::worked::{Finished, FinishedFrames, Framed, Placed, Worked, Workplace};
+use crate::shortage::Shortage;
+use crate::worked::{Finished, FinishedFrames, Framed, Worked, Workplace};
 use circuit_model::IDLE;
 use exchange_core::{Desk, Switchboard, Tool};
-use exchange_events::{Answer, Input, Trace};
+use exchange_events::{Input, Trace};
 use frame_engine::Carrier;
 use gate::Gate;
 use std::alloc::{AllocError, Global};
@@ -22,7 +27,7 @@ use tone_rules::Tones;
 
 // Does one frame: its boundary in the seat's turn, and its octets when the turn was given on, beside
 // the call processors. `octets` is room for what each external line sends.
-fn do_frame<B: Switchboard, G: Gate, C: Carrier, R: Wait>(
+pub(crate) fn do_frame<B: Switchboard, G: Gate, C: Carrier, K: Keeper, R: Wait>(
     rt: &R,
     alloc: Global,
     board: &B,
@@ -34,8 +39,9 @@ fn do_frame<B: Switchboard, G: Gate, C: Carrier, R: Wait>(
     desk: &mut Desk,
     octets: &mut Vec<[u8; 30]>,
     tones: &Tones,
+    keeper: &mut K,
     gate: &G,
-) -> Result<Placed, AllocError>
+) -> Result<(), AllocError>
     requires seated { B.seated board.now seat.old }
     requires known { IsEvent (B.board board.now).trace event }
     requires frame { IsNumbered (B.board board.now).trace event (Frame input.now) }
@@ -48,10 +54,8 @@ fn do_frame<B: Switchboard, G: Gate, C: Carrier, R: Wait>(
     ensures handled { DidEvent (B.known seat.old) event (B.known seat.new) }
     ensures ready { IsReadyFor C.carries C.next C.external_lines C.bridge_lines C.depth (B.board board.now) (B.known seat.new) engine.new desk.new.tool }
     ensures lines { length octets.new.items ≡ (B.board board.now).trace.external }
-    ensures place { IfOk result (λ p. length (B.known seat.new).seen ≡ p.place + 1) }
-    ensures event { IfOk result (λ p. p.answer.event ≡ event) }
-    ensures answer { IfOk result (λ p. IsAnswer (B.board board.now) (B.known seat.new) p) }
-    ensures octets { IfOk result (λ p. HasFrame C.plays (table_of tones.now) (B.board board.now) (B.known seat.new) p) }
+    ensures kept { OnOk result (HasKept K.holds (B.board board.now) (B.known seat.new) event (HasFrame C.plays (table_of tones.now) (B.board board.now) (B.known seat.new)) keeper.old keeper.new) }
+    ensures refused { OnErr result ((answers : List Placed) → K.holds keeper.old answers → K.holds keeper.new answers) }
 {
     gate.before_turn(worker, event);
     let (place, response) = board.work(rt, seat, event, desk);
@@ -63,12 +67,15 @@ fn do_frame<B: Switchboard, G: Gate, C: Carrier, R: Wait>(
     gate.before_crossing(frame);
     engine.frame(image, tones, input.as_slice(), octets.as_mut_slice());
     gate.after_crossing(frame);
-    let answer = Answer::keep_response(alloc, event, response, &desk.out, octets.as_slice())?;
-    Ok(Placed { place, answer })
+    keeper.keep(alloc, place, event, response, &desk.out, octets.as_slice())
 }
 
-// Room for what so many lines send, unless it is there already.
-fn grow(alloc: Global, octets: &mut Vec<[u8; 30]>, lines: usize) -> Result<(), AllocError>
+// Makes room for what so many lines send, unless there is.
+pub(crate) fn grow(
+    alloc: Global,
+    octets: &mut Vec<[u8; 30]>,
+    lines: usize,
+) -> Result<(), AllocError>
     ensures { OnOk result (length octets.new.items ≡ lines) }
 {
     if octets.len() != lines {
@@ -78,7 +85,7 @@ fn grow(alloc: Global, octets: &mut Vec<[u8; 30]>, lines: usize) -> Result<(), A
 }
 
 // Does the frames of a segment in order, until memory runs out.
-fn do_frames<B: Switchboard, G: Gate, C: Carrier, R: Wait>(
+fn do_frames<B: Switchboard, G: Gate, C: Carrier, K: Keeper, R: Wait>(
     rt: &R,
     alloc: Global,
     board: &B,
@@ -88,19 +95,19 @@ fn do_frames<B: Switchboard, G: Gate, C: Carrier, R: Wait>(
     engine: &mut C,
     desk: &mut Desk,
     octets: &mut Vec<[u8; 30]>,
-    answers: &mut Vec<Placed>,
+    keeper: &mut K,
+    shortage: &Shortage,
     gate: &G,
 ) -> Result<(), AllocError>
     requires seated { B.seated board.now seat.old }
     requires may { MayWork (B.board board.now) trace.now segment Frame_worker (B.known seat.old) }
     requires baton { IsTrue (B.known seat.old).baton }
     requires ready { IsReadyFor C.carries C.next C.external_lines C.bridge_lines C.depth (B.board board.now) (B.known seat.old) engine.old desk.old.tool }
-    requires empty { answers.old.items ≡ [] }
     ensures seated { B.seated board.now seat.new }
-    ensures works { Works (B.board board.now) (part_of trace.now segment Frame_worker) (B.known seat.old) answers.new.items (is_ok result) (B.known seat.new) }
+    ensures works { KeepsWork K.holds (B.board board.now) (HasFrame C.plays (table_of trace.now.tones) (B.board board.now)) (part_of trace.now segment Frame_worker) (B.known seat.old) keeper.new (is_ok result) (B.known seat.new) }
     ensures ready { IsReadyFor C.carries C.next C.external_lines C.bridge_lines C.depth (B.board board.now) (B.known seat.new) engine.new desk.new.tool }
-    ensures octets { All (HasFrame C.plays (table_of trace.now.tones) (B.board board.now) (B.known seat.new)) answers.new.items }
 {
+    keeper.clear();
     let worker = u32::from(trace.processors);
     grow(alloc, octets, usize::from(trace.external))?;
     let (first, end) = numbers_of(trace, segment);
@@ -108,8 +115,10 @@ fn do_frames<B: Switchboard, G: Gate, C: Carrier, R: Wait>(
         let Some(input) = input_of(trace, event) else {
             continue;
         };
-        answers.reserve(1)?;
-        let placed = do_frame(
+        if shortage.is_told() {
+            return Err(AllocError);
+        }
+        do_frame(
             rt,
             alloc,
             board,
@@ -121,9 +130,9 @@ fn do_frames<B: Switchboard, G: Gate, C: Carrier, R: Wait>(
             desk,
             octets,
             &trace.tones,
+            keeper,
             gate,
         )?;
-        answers.push_reserved(placed);
     }
     Ok(())
 }
@@ -136,7 +145,6 @@ fn do_frames<B: Switchboard, G: Gate, C: Carrier, R: Wait>(
 /// The octets of an answer are those that the engine plays in its frame, with the tones of the trace, for
 /// each external line.
 ///
-/// The memory for an answer is taken before its frame is done, but for what the answer itself holds.
 /// Where memory runs out, the work ends there, and only the last frame done may lack its answer.
 pub fn run_frames<B: Switchboard, G: Gate, C: Carrier, R: Wait>(
     rt: &R,
@@ -157,15 +165,15 @@ pub fn run_frames<B: Switchboard, G: Gate, C: Carrier, R: Wait>(
     // The engine carries the frames of the history that the seat has seen, and the tool is of its size.
     requires ready { IsReady C.carries C.next (engine_dimensions C.external_lines C.bridge_lines C.depth) (B.board board.now) (B.known seat).seen engine tool }
     ensures seated { B.seated board.now result.worked.seat }
-    ensures works { DidPart B.known (B.board board.now) (part_of trace.now segment Frame_worker) (B.known seat) result.worked }
+    ensures works { Works (B.board board.now) (part_of trace.now segment Frame_worker) (B.known seat) result.worked.answers.items result.worked.whole (B.known result.worked.seat) }
     ensures ready { EndsReady C.carries C.next (engine_dimensions C.external_lines C.bridge_lines C.depth) B.known (B.board board.now) result }
-    ensures octets { PlaysFrames C.plays (table_of trace.now.tones) B.known (B.board board.now) result.worked }
+    ensures octets { All (HasFrame C.plays (table_of trace.now.tones) (B.board board.now) (B.known result.worked.seat)) result.worked.answers.items }
 {
     let mut seat = seat;
     let mut engine = engine;
     let mut desk = Desk::new(tool);
     let mut octets = Vec::new(alloc);
-    let mut answers = Vec::new(alloc);
+    let mut keeper = AnswerList::new(alloc);
     let done = do_frames(
         rt,
         alloc,
@@ -176,13 +184,14 @@ pub fn run_frames<B: Switchboard, G: Gate, C: Carrier, R: Wait>(
         &mut engine,
         &mut desk,
         &mut octets,
-        &mut answers,
+        &mut keeper,
+        &Shortage::new(),
         gate,
     );
     Framed {
         worked: Worked {
             seat,
-            answers,
+            answers: Vec::from(keeper.items),
             whole: done.is_ok(),
         },
         engine,
@@ -191,8 +200,9 @@ pub fn run_frames<B: Switchboard, G: Gate, C: Carrier, R: Wait>(
 }
 
 /// Does the frames of one segment as [`run_frames`] does, at a workplace that the frame worker is lent
-/// and hands back.
-pub fn run_frames_at<B: Switchboard, G: Gate, C: Carrier, R: Wait>(
+/// and hands back. It begins with an empty keeper. Where another worker ran out of memory, the work ends
+/// before the next frame.
+pub fn run_frames_at<B: Switchboard, G: Gate, C: Carrier, K: Keeper, R: Wait>(
     rt: &R,
     alloc: Global,
     board: &B,
@@ -201,23 +211,22 @@ pub fn run_frames_at<B: Switchboard, G: Gate, C: Carrier, R: Wait>(
     segment: u32,
     engine: C,
     tool: Tool,
-    workplace: Workplace,
+    workplace: Workplace<K>,
+    shortage: &Shortage,
     gate: &G,
-) -> FinishedFrames<B::Seat, C>
+) -> FinishedFrames<B::Seat, C, K>
     requires seated { B.seated board.now seat }
     requires may { MayWork (B.board board.now) trace.now segment Frame_worker (B.known seat) }
     requires baton { IsTrue (B.known seat).baton }
     requires ready { IsReadyFor C.carries C.next C.external_lines C.bridge_lines C.depth (B.board board.now) (B.known seat) engine tool }
     ensures seated { B.seated board.now result.finished.seat }
-    ensures works { HasWorked B.known (B.board board.now) (part_of trace.now segment Frame_worker) (B.known seat) result.finished }
+    ensures works { HasWorked K.holds B.known (B.board board.now) (HasFrame C.plays (table_of trace.now.tones) (B.board board.now)) (part_of trace.now segment Frame_worker) (B.known seat) result.finished }
     ensures ready { FinishesReady C.carries C.next (engine_dimensions C.external_lines C.bridge_lines C.depth) B.known (B.board board.now) result }
-    ensures octets { HasFrames C.plays (table_of trace.now.tones) B.known (B.board board.now) result.finished }
 {
     let mut seat = seat;
     let mut engine = engine;
     let mut workplace = workplace;
     workplace.desk.tool = tool;
-    workplace.answers.clear();
     let whole = do_frames(
         rt,
         alloc,
@@ -228,10 +237,14 @@ pub fn run_frames_at<B: Switchboard, G: Gate, C: Carrier, R: Wait>(
         &mut engine,
         &mut workplace.desk,
         &mut workplace.octets,
-        &mut workplace.answers,
+        &mut workplace.keeper,
+        shortage,
         gate,
     )
     .is_ok();
+    if !whole {
+        shortage.tell();
+    }
     let tool = replace(&mut workplace.desk.tool, Tool::Nothing);
     FinishedFrames {
         finished: Finished {

@@ -6,20 +6,27 @@
 //!   the exchange's at the whole history before it (`works`).
 //! - An answer to a frame has the octets that the engine plays (`octets` of [`run_frames`]), and
 //!   the engine comes back carrying the frames of the history (`ready`).
-//! - [`process_at`] and [`run_frames_at`] do the same at a workplace that they are lent, so that a
-//!   worker of the next segment needs no memory of its own but for what it hands out.
+//! - [`process_at`] and [`run_frames_at`] do the same at a workplace that they are lent, over any
+//!   [`Keeper`], which is told of each event that was done (`works`). [`AnswerList`] keeps whole answers.
+//! - A worker that ran out of memory says so to the others ([`Shortage`]).
 //! - [`numbers_of`] returns the numbers of a segment's events, and [`processor_of`] who does one.
 //!
 //! It stands on `circuit_model`, `seat_history`, `control_memory`, `tone_rules`, `frame_engine`,
 //! `exchange_core` and `gate`.
 #![tactic(auto)]
 
+mod answer_list;
 mod framing;
+mod keeper;
 mod processing;
 mod segment;
+mod shortage;
 mod worked;
 
+pub use answer_list::AnswerList;
 pub use framing::{run_frames, run_frames_at};
+pub use keeper::Keeper;
 pub use processing::{process, process_at};
 pub use segment::{numbers_of, processor_of};
+pub use shortage::Shortage;
 pub use worked::{Finished, FinishedFrames, Framed, Placed, Worked, Workplace};

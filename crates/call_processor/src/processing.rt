@@ -1,20 +1,54 @@
-ghost use Rattle.std.specs.Prelude.{◌≡◌, ◌<◌, ◌≤◌, [], All, is_ok, length};
+ghost use Rattle.std.specs.Prelude.{◌≡◌, ◌<◌, ◌≤◌, [], true, All, List, OnOk, OnErr, is_ok, length};
 ghost use Rattle.exchange_core.specs.declared.tool.Tool.TheVariants.{Nothing};
-ghost use Rattle.exchange_events.specs.Orders.{Processor};
-ghost use Rattle.call_processor.specs.Parts.{part_of};
-ghost use Rattle.call_processor.specs.Work.{MayWork, Works};
-ghost use Rattle.call_processor.specs.Workplaces.{DidPart, HasWorked};
+ghost use Rattle.exchange_events.specs.Orders.{IsEvent, Processor};
+ghost use Rattle.call_processor.specs.declared.worked.Placed.{Placed};
+ghost use Rattle.call_processor.specs.Keeping.{HasKept, KeepsWork, has_no_octets};
+ghost use Rattle.call_processor.specs.Parts.{is_its, part_of};
+ghost use Rattle.call_processor.specs.Work.{DidEvent, MayWork, Works};
+ghost use Rattle.call_processor.specs.Workplaces.{HasWorked};
 
+use crate::answer_list::AnswerList;
+use crate::keeper::Keeper;
 use crate::segment::{is_of_processor, numbers_of};
-use crate::worked::{Finished, Placed, Worked, Workplace};
+use crate::shortage::Shortage;
+use crate::worked::{Finished, Worked, Workplace};
 use exchange_core::{Desk, Switchboard, Tool};
-use exchange_events::{Answer, Trace};
+use exchange_events::Trace;
 use gate::Gate;
 use std::alloc::{AllocError, Global};
 use std::sync::Wait;
 
+// Does one event of a call processor in the seat's turn.
+pub(crate) fn do_event<B: Switchboard, G: Gate, K: Keeper, R: Wait>(
+    rt: &R,
+    alloc: Global,
+    board: &B,
+    seat: &mut B::Seat,
+    processor: u32,
+    event: u32,
+    desk: &mut Desk,
+    keeper: &mut K,
+    gate: &G,
+) -> Result<(), AllocError>
+    requires seated { B.seated board.now seat.old }
+    requires known { IsEvent (B.board board.now).trace event }
+    requires its { is_its (B.board board.now).trace (Processor processor) event ≡ true }
+    requires turn { 0 < (B.known seat.old).left }
+    requires tool { desk.old.tool ≡ Nothing }
+    ensures seated { B.seated board.now seat.new }
+    ensures handled { DidEvent (B.known seat.old) event (B.known seat.new) }
+    ensures tool { desk.new.tool ≡ Nothing }
+    ensures kept { OnOk result (HasKept K.holds (B.board board.now) (B.known seat.new) event has_no_octets keeper.old keeper.new) }
+    ensures refused { OnErr result ((answers : List Placed) → K.holds keeper.old answers → K.holds keeper.new answers) }
+{
+    gate.before_turn(processor, event);
+    let (place, response) = board.work(rt, seat, event, desk);
+    gate.after_turn(processor, event);
+    keeper.keep(alloc, place, event, response, &desk.out, &[])
+}
+
 // Does the events of one call processor in one segment in order, until memory runs out.
-fn do_events<B: Switchboard, G: Gate, R: Wait>(
+fn do_events<B: Switchboard, G: Gate, K: Keeper, R: Wait>(
     rt: &R,
     alloc: Global,
     board: &B,
@@ -23,29 +57,27 @@ fn do_events<B: Switchboard, G: Gate, R: Wait>(
     segment: u32,
     processor: u32,
     desk: &mut Desk,
-    answers: &mut Vec<Placed>,
+    keeper: &mut K,
+    shortage: &Shortage,
     gate: &G,
 ) -> Result<(), AllocError>
     requires seated { B.seated board.now seat.old }
     requires may { MayWork (B.board board.now) trace.now segment (Processor processor) (B.known seat.old) }
     requires processor { processor < trace.now.processors }
     requires tool { desk.old.tool ≡ Nothing }
-    requires empty { answers.old.items ≡ [] }
     ensures seated { B.seated board.now seat.new }
-    ensures works { Works (B.board board.now) (part_of trace.now segment (Processor processor)) (B.known seat.old) answers.new.items (is_ok result) (B.known seat.new) }
-    ensures octets { All (λ p. p.answer.octets ≡ []) answers.new.items }
+    ensures works { KeepsWork K.holds (B.board board.now) (λ w. has_no_octets) (part_of trace.now segment (Processor processor)) (B.known seat.old) keeper.new (is_ok result) (B.known seat.new) }
 {
+    keeper.clear();
     let (first, end) = numbers_of(trace, segment);
     for event in first..end {
         if !is_of_processor(trace, processor, event) {
             continue;
         }
-        answers.reserve(1)?;
-        gate.before_turn(processor, event);
-        let (place, response) = board.work(rt, seat, event, desk);
-        gate.after_turn(processor, event);
-        let answer = Answer::keep_response(alloc, event, response, &desk.out, &[])?;
-        answers.push_reserved(Placed { place, answer });
+        if shortage.is_told() {
+            return Err(AllocError);
+        }
+        do_event(rt, alloc, board, seat, processor, event, desk, keeper, gate)?;
     }
     Ok(())
 }
@@ -53,7 +85,6 @@ fn do_events<B: Switchboard, G: Gate, R: Wait>(
 /// Does the events of one call processor in one segment of a board's trace, in the order of the file;
 /// segments and processors are counted from 0. Waits for its turn at each of them.
 ///
-/// The memory for an answer is taken before its event is done, but for what the answer itself holds.
 /// Where memory runs out, the work ends there, and only the last event done may lack its answer.
 pub fn process<B: Switchboard, G: Gate, R: Wait>(
     rt: &R,
@@ -71,13 +102,13 @@ pub fn process<B: Switchboard, G: Gate, R: Wait>(
     requires processor { processor < trace.now.processors }
     requires turns { length (part_of trace.now segment (Processor processor)) ≤ (B.known seat).left }
     ensures seated { B.seated board.now result.seat }
-    ensures works { DidPart B.known (B.board board.now) (part_of trace.now segment (Processor processor)) (B.known seat) result }
+    ensures works { Works (B.board board.now) (part_of trace.now segment (Processor processor)) (B.known seat) result.answers.items result.whole (B.known result.seat) }
     // An event that is no frame has no octets.
     ensures octets { All (λ p. p.answer.octets ≡ []) result.answers.items }
 {
     let mut seat = seat;
     let mut desk = Desk::new(Tool::Nothing);
-    let mut answers = Vec::new(alloc);
+    let mut keeper = AnswerList::new(alloc);
     let done = do_events(
         rt,
         alloc,
@@ -87,19 +118,21 @@ pub fn process<B: Switchboard, G: Gate, R: Wait>(
         segment,
         processor,
         &mut desk,
-        &mut answers,
+        &mut keeper,
+        &Shortage::new(),
         gate,
     );
     Worked {
         seat,
-        answers,
+        answers: Vec::from(keeper.items),
         whole: done.is_ok(),
     }
 }
 
 /// Does the events of one call processor in one segment as [`process`] does, at a workplace that it is
-/// lent and hands back.
-pub fn process_at<B: Switchboard, G: Gate, R: Wait>(
+/// lent and hands back. It begins with an empty keeper. Where another worker ran out of memory, the work
+/// ends before the next event.
+pub fn process_at<B: Switchboard, G: Gate, K: Keeper, R: Wait>(
     rt: &R,
     alloc: Global,
     board: &B,
@@ -107,21 +140,19 @@ pub fn process_at<B: Switchboard, G: Gate, R: Wait>(
     trace: &Trace,
     segment: u32,
     processor: u32,
-    workplace: Workplace,
+    workplace: Workplace<K>,
+    shortage: &Shortage,
     gate: &G,
-) -> Finished<B::Seat>
+) -> Finished<B::Seat, K>
     requires seated { B.seated board.now seat }
     requires may { MayWork (B.board board.now) trace.now segment (Processor processor) (B.known seat) }
     requires processor { processor < trace.now.processors }
     ensures seated { B.seated board.now result.seat }
-    ensures works { HasWorked B.known (B.board board.now) (part_of trace.now segment (Processor processor)) (B.known seat) result }
-    // An event that is no frame has no octets.
-    ensures octets { All (λ p. p.answer.octets ≡ []) result.workplace.answers.items }
+    ensures works { HasWorked K.holds B.known (B.board board.now) (λ w. has_no_octets) (part_of trace.now segment (Processor processor)) (B.known seat) result }
 {
     let mut seat = seat;
     let mut workplace = workplace;
     workplace.desk.tool = Tool::Nothing;
-    workplace.answers.clear();
     let whole = do_events(
         rt,
         alloc,
@@ -131,10 +162,14 @@ pub fn process_at<B: Switchboard, G: Gate, R: Wait>(
         segment,
         processor,
         &mut workplace.desk,
-        &mut workplace.answers,
+        &mut workplace.keeper,
+        shortage,
         gate,
     )
     .is_ok();
+    if !whole {
+        shortage.tell();
+    }
     Finished {
         seat,
         workplace,

@@ -1,3 +1,4 @@
+use crate::keeper::Keeper;
 use exchange_core::{Desk, Tool};
 use exchange_events::Answer;
 use std::alloc::{AllocError, Global};
@@ -34,47 +35,48 @@ pub struct Framed<T, C> {
 }
 
 /// What a worker is lent for its part of a segment, and may be lent again for another. What an earlier
-/// worker left there is of no matter.
+/// worker left there is of no matter. `K` is the type of its keeper.
 #[derive(Drop)]
-pub struct Workplace {
+pub struct Workplace<K> {
     /// The desk.
     pub desk: Box<Desk>,
     /// What the external lines send in a frame. The frame worker makes the room for it, once.
     pub octets: Vec<[u8; 30]>,
-    /// The answers.
-    pub answers: Vec<Placed>,
+    /// What is kept of the events.
+    pub keeper: K,
 }
 
 /// What came of a worker's part of a segment that was done at a workplace.
 #[derive(Drop)]
-pub struct Finished<T> {
+pub struct Finished<T, K> {
     /// The worker's seat.
     pub seat: T,
-    /// The workplace. Its answers are the worker's, in the order of its part.
-    pub workplace: Workplace,
-    /// Whether all of the part was done and answered. False only for want of memory.
+    /// The workplace. Its keeper keeps the worker's events, in the order of its part.
+    pub workplace: Workplace<K>,
+    /// Whether all of the part was done and kept. False only for want of memory, be it another
+    /// worker's.
     pub whole: bool,
 }
 
 /// What came of the frame worker's part of a segment that was done at a workplace. The engine and the
 /// tool come back with it.
 #[derive(Drop)]
-pub struct FinishedFrames<T, C> {
+pub struct FinishedFrames<T, C, K> {
     /// What came of its part.
-    pub finished: Finished<T>,
+    pub finished: Finished<T, K>,
     /// The engine. Where the part was done whole, it carries the frames of the history.
     pub engine: C,
     /// The control memory for the next frame.
     pub tool: Tool,
 }
 
-impl Workplace {
-    /// A workplace that nobody used yet. `AllocError` where memory is lacking.
-    pub fn new(alloc: Global) -> Result<Workplace, AllocError> {
+impl<K: Keeper> Workplace<K> {
+    /// A workplace that nobody used yet, with this keeper. `AllocError` where memory is lacking.
+    pub fn new(alloc: Global, keeper: K) -> Result<Workplace<K>, AllocError> {
         Ok(Workplace {
             desk: Box::new(alloc, Desk::new(Tool::Nothing))?,
             octets: Vec::new(alloc),
-            answers: Vec::new(alloc),
+            keeper,
         })
     }
 }

@@ -14,6 +14,7 @@ ghost use Rattle.exchange_top.specs.Running.{IsUnused};
 
 use crate::listing::Listing;
 use crate::segments::{Carried, report_segments};
+use call_processor::AnswerList;
 use control_memory::{Image, PathMap};
 use ex_io::{Failed, Sink};
 use exchange_core::{Core, Tool};
@@ -123,7 +124,7 @@ fn equipped<'t, P: PathMap + Drop, C: Carrier>(
     let carried = Carried {
         engine: C::new(alloc, external, bridges, slots)?,
         tool: Tool::Image(Image::new(alloc, external, bridges, slots)?),
-        workroom: Workroom::new(alloc)?,
+        workroom: Workroom::new(alloc, &AnswerList::new(alloc))?,
     };
     Ok((board, seat, carried))
 }

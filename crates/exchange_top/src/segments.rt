@@ -22,6 +22,7 @@ use crate::listing::Listing;
 use crate::run::RunFault;
 use crate::streams::write_all;
 use crate::telling::tell;
+use call_processor::AnswerList;
 use ex_io::{Failed, Sink};
 use exchange_core::{Switchboard, Tool};
 use exchange_events::{Answer, Trace};
@@ -46,7 +47,7 @@ pub struct Carried<T, C> {
     /// The control memory.
     pub tool: Tool,
     /// Where the workers of a segment work.
-    pub workroom: Workroom<T>,
+    pub workroom: Workroom<T, AnswerList>,
 }
 
 /// Runs the segments of a board's trace one after the other, writes of them what is listed, and tells

@@ -13,6 +13,12 @@ pub trait Gate: Sync {
 
     /// The octets of this frame were moved.
     fn after_crossing(&self, frame: u32);
+
+    /// Whether the workers of a segment are to run in threads of their own in any case, also where its
+    /// events are too few for threads to pay.
+    fn apart(&self) -> bool {
+        true
+    }
 }
 
 /// A gate that holds nobody up: the one of the program.
@@ -27,4 +33,8 @@ impl Gate for OpenGate {
     fn before_crossing(&self, _frame: u32) {}
 
     fn after_crossing(&self, _frame: u32) {}
+
+    fn apart(&self) -> bool {
+        false
+    }
 }

@@ -35,6 +35,7 @@ fn passes(calls: &[Call]) -> bool {
 fn a_new_gate_has_not_passed(rt: HostRuntime) -> Result<(), Fail> {
     assert!(rt; !TestGate::new(7, 3).passed());
     make(&OpenGate, Call::BeforeTurn(7));
+    assert!(rt; !OpenGate.apart() && TestGate::new(7, 3).apart());
     Ok(())
 }
 

@@ -7,7 +7,12 @@ use Rattle.circuit_model.specs.FrameInput.{idle_octet}
 use Rattle.exchange_events.specs.declared.answer.Answer.{Answer}
 use Rattle.exchange_events.specs.declared.answer.Kept.{Kept}
 use Rattle.exchange_events.specs.declared.answer.Kept.TheVariants.{Granted, Busy, Seated, NoPort, Freed, NotNailed, Sent, Frame}
+use Rattle.exchange_events.specs.declared.outbox.Outbox.{Outbox}
+use Rattle.exchange_events.specs.declared.outbox.Response.{Response}
+use Rattle.exchange_events.specs.declared.outbox.Response.TheVariants as response
 use Rattle.exchange_events.specs.declared.signal.Signal.{Signal}
+use Rattle.exchange_events.specs.Kept.{kept_of}
+use Rattle.exchange_events.specs.Responses.{reply_of}
 
 -- the thirty octets of a line, in order of place
 unfoldable pub line_octets : (Slot → ℕ) → ℕ → List ℕ
@@ -66,3 +71,40 @@ report_line octets n (Frame k sends records) = frame_line octets n k
 -- the line of an answer
 abbrev pub answer_line : Answer → List ℕ
 answer_line answer = report_line (lines_sent (octet_of answer.octets) (length answer.octets)) answer.event answer.reply
+
+-- the line of an event, from the response and the outbox of its step
+abbrev pub response_line : List (List ℕ) → ℕ → Response → Outbox → List ℕ
+response_line octets n said outbox = report_line (lines_sent (octet_of octets) (length octets)) n (kept_of (reply_of said outbox))
+
+-- what is kept of a response with what was moved and sent; no line tells of the records of calls
+abbrev pub kept_with : Response → Option (ℕ × ℕ) → List Signal → Kept
+kept_with (response.Granted a b) moved sends = Granted a b
+kept_with response.Busy moved sends = Busy
+kept_with (response.Seated a b) moved sends = Seated a b
+kept_with response.NoPort moved sends = NoPort
+kept_with response.Freed moved sends = Freed
+kept_with response.NotNailed moved sends = NotNailed
+kept_with response.Sent moved sends = Sent sends moved []
+kept_with (response.Frame n) moved sends = Frame n [] []
+
+abbrev pub parts_line : List (List ℕ) → ℕ → Response → Option (ℕ × ℕ) → List Signal → List ℕ
+parts_line octets n said moved sends = report_line (lines_sent (octet_of octets) (length octets)) n (kept_with said moved sends)
+
+-- the response, the paths moved and the messages sent of a kept reply
+abbrev pub response_kept : Kept → Response
+response_kept (Granted a b) = response.Granted a b
+response_kept Busy = response.Busy
+response_kept (Seated a b) = response.Seated a b
+response_kept NoPort = response.NoPort
+response_kept Freed = response.Freed
+response_kept NotNailed = response.NotNailed
+response_kept (Sent sends moved records) = response.Sent
+response_kept (Frame n sends records) = response.Frame n
+
+abbrev pub moved_kept : Kept → Option (ℕ × ℕ)
+moved_kept (Sent sends moved records) = moved
+moved_kept _ = None
+
+abbrev pub sends_kept : Kept → List Signal
+sends_kept (Sent sends moved records) = sends
+sends_kept _ = []

@@ -1,18 +1,18 @@
 ghost use Rattle.std.specs.Prelude.{◌≡◌, ℕ, ◌++◌, ◌*◌, ◌≤◌, length, take, codes, decimal, slice_index, [], OnOk, OnErr};
 ghost use Rattle.hex.specs.Hex.{encode_upper};
 ghost use Rattle.exchange_events.specs.declared.answer.Kept.TheVariants.{Granted, Busy, Seated, NoPort, Freed, NotNailed};
-ghost use Rattle.report_text.specs.Report.{answer_line, frame_line, line_octets, lines_sent, octet_of, part, parts, report_line};
+ghost use Rattle.report_text.specs.Report.{answer_line, frame_line, line_octets, lines_sent, moved_kept, octet_of, part, parts, parts_line, report_line, response_kept, response_line, sends_kept};
 
 use crate::digits::{is_idle, put_row_digits, wide_row};
 use crate::message::put_message;
 use crate::text::{put_before, put_line_before, put_number_before};
-use exchange_events::{Answer, Kept};
+use exchange_events::{Answer, Kept, Outbox, Response, Signal};
 use std::alloc::AllocError;
 
 // Room for the words and numbers of a line: three numbers of ten digits, and what stands between them.
 const ROOM: usize = 48;
 
-/// Appends a report's line for one event: its number and what it was answered, for a message what
+/// Appends a report's line for one event: its number and what it was answered_events, for a message what
 /// was sent for it, and for a frame the thirty octets of each line that sends an octet other than
 /// idle. The octets of an answer are read for a frame alone.
 ///
@@ -23,8 +23,92 @@ pub fn append_answer(out: &mut Vec<u8>, answer: &Answer) -> Result<(), AllocErro
     ensures line { OnOk result (out.new.items ≡ out.old.items ++ answer_line answer.now) }
     ensures kept { OnErr result (out.new.items ≡ out.old.items) }
 {
+    append_parts(
+        out,
+        answer.event,
+        response_of(&answer.reply),
+        moved_of(&answer.reply),
+        sends_of(&answer.reply),
+        answer.octets.as_slice(),
+    )
+}
+
+/// Appends the line of an event as [`append_answer`] does, from the response and the outbox of its step,
+/// and from what each line sends where it is a frame.
+///
+/// # Errors
+///
+/// [`AllocError`] for want of memory, and then `out` is as it was.
+pub fn append_line(
+    out: &mut Vec<u8>,
+    event: u32,
+    response: Response,
+    outbox: &Outbox,
+    octets: &[[u8; 30]],
+) -> Result<(), AllocError>
+    ensures line { OnOk result (out.new.items ≡ out.old.items ++ response_line octets.now event response outbox.now) }
+    ensures kept { OnErr result (out.new.items ≡ out.old.items) }
+{
+    append_parts(
+        out,
+        event,
+        response,
+        outbox.moved,
+        outbox.sends.as_slice(),
+        octets,
+    )
+}
+
+// The response that a kept reply has.
+fn response_of(reply: &Kept) -> Response
+    ensures { result ≡ response_kept reply.now }
+{
+    match reply {
+        Kept::Granted(a, b) => Response::Granted(*a, *b),
+        Kept::Busy => Response::Busy,
+        Kept::Seated(a, b) => Response::Seated(*a, *b),
+        Kept::NoPort => Response::NoPort,
+        Kept::Freed => Response::Freed,
+        Kept::NotNailed => Response::NotNailed,
+        Kept::Sent { .. } => Response::Sent,
+        Kept::Frame { number, .. } => Response::Frame(*number),
+    }
+}
+
+// How many live paths were moved for a connection or a seat that a message made.
+fn moved_of(reply: &Kept) -> Option<(u32, u32)>
+    ensures { result ≡ moved_kept reply.now }
+{
+    match reply {
+        Kept::Sent { moved, .. } => *moved,
+        _ => None,
+    }
+}
+
+// The messages that were sent for a message.
+fn sends_of(reply: &Kept) -> &[Signal]
+    ensures { result.now ≡ sends_kept reply.now }
+{
+    match reply {
+        Kept::Sent { sends, .. } => sends.as_slice(),
+        _ => &[],
+    }
+}
+
+// The line of a response with what was moved and sent.
+fn append_parts(
+    out: &mut Vec<u8>,
+    event: u32,
+    response: Response,
+    moved: Option<(u32, u32)>,
+    sends: &[Signal],
+    octets: &[[u8; 30]],
+) -> Result<(), AllocError>
+    ensures line { OnOk result (out.new.items ≡ out.old.items ++ parts_line octets.now event response moved sends.now) }
+    ensures kept { OnErr result (out.new.items ≡ out.old.items) }
+{
     let start = out.len();
-    let done = put_answer(out, answer);
+    let done = put_parts_line(out, event, response, moved, sends, octets);
     if done.is_err() {
         out.truncate(start);
     }
@@ -32,20 +116,26 @@ pub fn append_answer(out: &mut Vec<u8>, answer: &Answer) -> Result<(), AllocErro
 }
 
 // The same, and a refusal leaves a front of the line.
-fn put_answer(out: &mut Vec<u8>, answer: &Answer) -> Result<(), AllocError>
-    ensures line { OnOk result (out.new.items ≡ out.old.items ++ answer_line answer.now) }
+fn put_parts_line(
+    out: &mut Vec<u8>,
+    event: u32,
+    response: Response,
+    moved: Option<(u32, u32)>,
+    sends: &[Signal],
+    octets: &[[u8; 30]],
+) -> Result<(), AllocError>
+    ensures line { OnOk result (out.new.items ≡ out.old.items ++ parts_line octets.now event response moved sends.now) }
     ensures front { take (length out.old.items) out.new.items ≡ out.old.items }
 {
-    let event = answer.event;
-    match &answer.reply {
-        Kept::Granted(a, b) => put_granted(out, event, *a, *b),
-        Kept::Busy => put_busy(out, event),
-        Kept::Seated(a, b) => put_seated(out, event, *a, *b),
-        Kept::NoPort => put_no_port(out, event),
-        Kept::Freed => put_freed(out, event),
-        Kept::NotNailed => put_not_nailed(out, event),
-        Kept::Sent { sends, moved, .. } => put_message(out, event, *moved, sends.as_slice()),
-        Kept::Frame { number, .. } => put_frame(out, event, *number, answer.octets.as_slice()),
+    match response {
+        Response::Granted(a, b) => put_granted(out, event, a, b),
+        Response::Busy => put_busy(out, event),
+        Response::Seated(a, b) => put_seated(out, event, a, b),
+        Response::NoPort => put_no_port(out, event),
+        Response::Freed => put_freed(out, event),
+        Response::NotNailed => put_not_nailed(out, event),
+        Response::Sent => put_message(out, event, moved, sends),
+        Response::Frame(number) => put_frame(out, event, number, octets),
     }
 }
 

@@ -1,32 +1,34 @@
 -- The answers of all workers, each at its place in the history.
-use Rattle.std.proofs.Common.{◌≡◌, ◌≢◌, ℕ, suc, ◌+◌, ◌<◌, ◌≤◌, ◌⊎◌, inl, inr, Bool, true, false, ◌&&◌, IsTrue, List, [], ◌∷◌, ◌++◌, map, length, reverse, take, slice_get, Option, Some, None, refl, sym, ap, ◌∙◌, subst, arith, length-append}
-use Rattle.std.specs.Prelude.{nat_eq, replicate}
+use Rattle.std.proofs.Common.{◌≡◌, ◌≢◌, ℕ, zero, suc, ◌+◌, ◌-◌, ◌<◌, ◌≤◌, ◌⊎◌, inl, inr, Bool, true, false, ◌&&◌, IsTrue, List, [], ◌∷◌, ◌++◌, map, length, reverse, take, slice_get, Option, Some, None, refl, sym, ap, ◌∙◌, subst, arith, length-append}
+use Rattle.std.specs.Prelude.{nat_eq}
 use Rattle.std.specs.List.{All, AllZip}
 use Rattle.std.proofs.lemmas.Bool.{cases_lt}
-use Rattle.std.proofs.lemmas.List.{length-replicate, reverse-append}
-use Rattle.std.proofs.lemmas.List.Elements.{All-push}
+use Rattle.std.proofs.lemmas.List.{reverse-append}
 use lib.Seq.{take-append-le}
 use Rattle.circuit_model.specs.declared.circuit.Kind.{Kind}
 use Rattle.circuit_model.specs.FrameInput.{Input}
 use Rattle.exchange_events.specs.declared.answer.Answer.{Answer}
-use Rattle.exchange_events.specs.declared.trace.Event.TheVariants.{Frame}
+use Rattle.exchange_events.specs.declared.trace.Event.{Event}
+use Rattle.exchange_events.specs.declared.trace.Event.TheVariants.{Nail, Seat, Free, Message, Frame}
 use Rattle.exchange_events.specs.declared.trace.Trace.{Trace}
-use Rattle.exchange_events.specs.Orders.{Worker, Processor, segment_of}
+use Rattle.exchange_events.specs.Orders.{Worker, Processor, Frame_worker, segment_of}
 use Rattle.seat_history.specs.declared.known.Known.{Known}
 use Rattle.seat_history.specs.Histories.{StartsWith, before}
-use Rattle.exchange_core.specs.Boards.{Board, AnswersAt, world_at}
+use Rattle.exchange_core.specs.Boards.{Board, AnswersAt, world_at, IsFrame}
 use Rattle.exchange_core.specs.Working.{Entry, IsNumbered, order_of}
 use Rattle.call_processor.specs.declared.worked.Placed.{Placed}
-use Rattle.call_processor.specs.declared.worked.Workplace.{Workplace}
-use Rattle.call_processor.specs.Frames.{Plays, HasFrame, IsPlayed}
+use Rattle.call_processor.specs.Frames.{Plays, IsPlayed}
 use Rattle.call_processor.specs.Parts.{does, is_its}
 use Rattle.call_processor.specs.Work.{IsAnswer, Works, answered_events}
-use Rattle.segment_run.specs.Nothing.{nothing}
+use Rattle.segment_run.specs.Jobs.{HasItsOctets}
+use Rattle.segment_run.specs.Merging.{AreApart}
+use Rattle.segment_run.specs.Merging.{IsMerged}
+use Rattle.segment_run.specs.Merging.{all_of}
 use Rattle.segment_run.specs.Segment.{IsAnswered, AreAnswered, new_events}
-use Rattle.segment_run.specs.Team.{AreDealt, IsRising, IsWithin, all_of, put_from, load, part_numbered, turns_left, worker_numbered}
-use Rattle.segment_run.proofs.ListLemmas.{In, all_in, in_all, in_either, in_left, in_map, filter_in, length_of_map, range_in, both, got_left, got_behind, got_within}
-use Rattle.segment_run.proofs.DoerLemmas.{numbered_processor}
-use Rattle.segment_run.proofs.PlaceLemmas.{AreApart, all_of_last, all_of_none, apart_append, apart_rising, each_filled, events_are, length_filled}
+use Rattle.segment_run.specs.Team.{AreDealt, load, part_numbered, turns_left, worker_numbered}
+use Rattle.segment_run.proofs.ListLemmas.{In, all_in, in_either, in_left, in_map, filter_in, length_of_map, range_in, both, got_in, got_left, got_behind, got_within}
+use Rattle.segment_run.proofs.DoerLemmas.{numbered_frames, numbered_processor}
+use Rattle.segment_run.proofs.MergeLemmas.{all_of_last, all_of_none, apart_last, each_place, events_are}
 use Rattle.segment_run.proofs.RunLemmas.{zip_right}
 
 reverse_cons : {X : Type 0} (x : X) (xs : List X) → reverse (x ∷ xs) ≡ reverse xs ++ x ∷ []
@@ -37,16 +39,33 @@ abbrev number_of : Option Entry → ℕ
 number_of None = 0
 number_of (Some e) = e.0
 
+-- what the frame worker does is a frame
+its_frame : (trace : Trace) (n : ℕ) → is_its trace Frame_worker n ≡ true → IsFrame trace n
+its_frame trace n its = go (slice_get trace.events (n - 1)) its
+  where
+    go : (o : Option Event) → does trace.processors Frame_worker o ≡ true → (input : Input) × (o ≡ Some (Frame input))
+    go None off = absurd (cc off)
+    go (Some (Frame input)) on = (input, refl)
+    go (Some (Nail x y)) off = absurd (cc off)
+    go (Some (Seat x room)) off = absurd (cc off)
+    go (Some (Free x)) off = absurd (cc off)
+    go (Some (Message line octets)) off = absurd (cc off)
+
+got_map : {X Y : Type 0} (f : X → Y) (xs : List X) (i : ℕ) (y : Y) → slice_get (map f xs) i ≡ Some y → (x : X) × (slice_get xs i ≡ Some x) × (f x ≡ y)
+got_map f [] i y at = absurd (cc at)
+got_map f (x ∷ xs) zero y at = (x, refl, cc at)
+got_map f (x ∷ xs) (suc i) y at = got_map f xs i y at
+
 -- a frame is no event of a call processor
 pub no_frame : (trace : Trace) (p n : ℕ) (input : Input) → is_its trace (Processor p) n ≡ true → IsNumbered trace n (Frame input) → ⊥
 no_frame trace p n input its number = let e : false ≡ true = ap (does trace.processors (Processor p)) (sym number) ∙ its in absurd (cc e)
 
-module _ {J U : Type 0} (plays : Plays) (tones : Kind → List ℕ) (board : Board) (trace : Trace) (segment : ℕ) (wj : J → ℕ) (kj : J → Known) (ku : U → Known) (au : U → Workplace) (bu : U → Bool) where
+module _ {J U : Type 0} (plays : Plays) (tones : Kind → List ℕ) (board : Board) (trace : Trace) (segment : ℕ) (wj : J → ℕ) (kj : J → Known) (ku : U → Known) (au : U → List Placed) (bu : U → Bool) where
   abbrev pub Octets : J → U → Type 0
-  Octets j u = wj j ≡ trace.processors → All (HasFrame plays tones board (ku u)) (au u).answers.items
+  Octets j u = All (HasItsOctets plays tones board trace (wj j) (ku u)) (au u)
 
   abbrev pub Answers : J → U → Type 0
-  Answers j u = Works board (part_numbered trace segment (wj j)) (kj j) (au u).answers.items (bu u) (ku u) × Octets j u
+  Answers j u = Works board (part_numbered trace segment (wj j)) (kj j) (au u) (bu u) (ku u) × Octets j u
 
   abbrev pub rows_of : List J → List (ℕ × Known)
   rows_of js = map (λ (j : J). (wj j, kj j)) js
@@ -59,17 +78,17 @@ module _ {J U : Type 0} (plays : Plays) (tones : Kind → List ℕ) (board : Boa
     given : IsAnswered plays tones board k.seen p.place p.answer
 
   module _ (same : trace ≡ board.trace) (v k : Known) where
-    good : (j : J) (u : U) → Answers j u → wj j ≤ trace.processors → (kj j).seen ≡ v.seen → StartsWith k.seen (ku u).seen → (p : Placed) → In p (au u).answers.items → Good (length v.seen) k (kj j).number p
+    good : (j : J) (u : U) → Answers j u → wj j ≤ trace.processors → (kj j).seen ≡ v.seen → StartsWith k.seen (ku u).seen → (p : Placed) → In p (au u) → Good (length v.seen) k (kj j).number p
     good j u r few started s p i =
         let w = r.0 in
-        let a = all_in (IsAnswer board (ku u)) (au u).answers.items w.each p i in
+        let a = all_in (IsAnswer board (ku u)) (au u) w.each p i in
         let here = got_within (ku u).seen p.place ((ku u).number, p.answer.event) a.entry in
         let as_before : before p.place k.seen ≡ before p.place (ku u).seen = ap (take p.place) s.1 ∙ take-append-le p.place (ku u).seen s.0 (omega (arith, here)) in
-        let beyond = all_in (λ (q : Placed). length (kj j).seen ≤ q.place) (au u).answers.items w.beyond p i in
+        let beyond = all_in (λ (q : Placed). length (kj j).seen ≤ q.place) (au u) w.beyond p i in
         let long = ap length started in
         let part = part_numbered trace segment (wj j) in
-        let said : In p.answer.event (answered_events (au u).answers.items) = in_map (λ (q : Placed). q.answer.event) (au u).answers.items p i in
-        let done : In p.answer.event w.done = subst (λ (l : List ℕ). In p.answer.event l) (sym w.told.1) (in_left (answered_events (au u).answers.items) w.told.0 p.answer.event said) in
+        let said : In p.answer.event (answered_events (au u)) = in_map (λ (q : Placed). q.answer.event) (au u) p i in
+        let done : In p.answer.event w.done = subst (λ (l : List ℕ). In p.answer.event l) (sym w.told.1) (in_left (answered_events (au u)) w.told.0 p.answer.event said) in
         let its : In p.answer.event part = subst (λ (l : List ℕ). In p.answer.event l) (sym w.first.1) (in_left w.done w.first.0 p.answer.event done) in
         let worker = worker_numbered trace.processors (wj j) in
         let f = filter_in (λ (m : ℕ). nat_eq (segment_of trace.segments m) segment && is_its trace worker m) _ p.answer.event its in
@@ -87,6 +106,7 @@ module _ {J U : Type 0} (plays : Plays) (tones : Kind → List ℕ) (board : Boa
             keeps = a.keeps;
             played = λ input number. subst (λ (l : List Entry). IsPlayed plays tones board.trace.external (world_at board l) input p.answer.octets) (sym as_before)
                 (octets mine input number (cases_lt (wj j) trace.processors));
+            silent = λ never. silent mine never (cases_lt (wj j) trace.processors);
           };
         }
       where
@@ -96,30 +116,29 @@ module _ {J U : Type 0} (plays : Plays) (tones : Kind → List ℕ) (board : Boa
         octets mine input number (inl inside) =
             absurd (no_frame trace (wj j) p.answer.event input (ap (λ (w : Worker). is_its trace w p.answer.event) (sym (numbered_processor trace.processors (wj j) inside)) ∙ mine)
             (subst (λ (t : Trace). IsNumbered t p.answer.event (Frame input)) (sym same) number))
-        octets mine input number (inr past) = all_in (HasFrame plays tones board (ku u)) (au u).answers.items (r.1 (omega (arith, past, few))) p i input number
+        octets mine input number (inr past) = (all_in (HasItsOctets plays tones board trace (wj j) (ku u)) (au u) r.1 p i).0 (omega (arith, past, few)) input number
+
+        silent : is_its trace (worker_numbered trace.processors (wj j)) p.answer.event ≡ true → (IsFrame board.trace p.answer.event → ⊥) → (wj j < trace.processors) ⊎ (trace.processors ≤ wj j) → p.answer.octets ≡ []
+        silent mine never (inl inside) = (all_in (HasItsOctets plays tones board trace (wj j) (ku u)) (au u) r.1 p i).1 inside
+        silent mine never (inr past) =
+            absurd (never (subst (λ (t : Trace). IsFrame t p.answer.event) same
+            (its_frame trace p.answer.event (ap (λ (w : Worker). is_its trace w p.answer.event) (sym (numbered_frames trace.processors (wj j) past)) ∙ mine))))
 
     -- ---- all answers
 
-    abbrev pub lists : List U → List (Workplace)
+    abbrev pub lists : List U → List (List Placed)
     lists us = reverse (map au us)
 
-    lists_cons : (u : U) (us : List U) → all_of (lists (u ∷ us)) ≡ all_of (lists us) ++ (au u).answers.items
+    lists_cons : (u : U) (us : List U) → all_of (lists (u ∷ us)) ≡ all_of (lists us) ++ (au u)
     lists_cons u us = ap all_of (reverse_cons (au u) (map au us)) ∙ all_of_last (lists us) (au u)
 
-    in_lists : (us : List U) (p : Placed) → In p (all_of (lists us)) → (u : U) × In u us × In p (au u).answers.items
+    in_lists : (us : List U) (p : Placed) → In p (all_of (lists us)) → (u : U) × In u us × In p (au u)
     in_lists [] p i = absurd (subst (λ (l : List Placed). In p l) all_of_none i)
-    in_lists (u ∷ us) p i = pick (in_lists us p) (in_either (all_of (lists us)) (au u).answers.items p (subst (λ (l : List Placed). In p l) (lists_cons u us) i))
+    in_lists (u ∷ us) p i = pick (in_lists us p) (in_either (all_of (lists us)) (au u) p (subst (λ (l : List Placed). In p l) (lists_cons u us) i))
       where
-        pick : (In p (all_of (lists us)) → (x : U) × In x us × In p (au x).answers.items) → In p (all_of (lists us)) ⊎ In p (au u).answers.items → (x : U) × In x (u ∷ us) × In p (au x).answers.items
+        pick : (In p (all_of (lists us)) → (x : U) × In x us × In p (au x)) → In p (all_of (lists us)) ⊎ In p (au u) → (x : U) × In x (u ∷ us) × In p (au x)
         pick tail (inl h) = let r = tail h in (r.0, inr r.1, r.2)
         pick tail (inr h) = (u, inl refl, h)
-
-    -- those of each worker rise
-    pub all_rising : (js : List J) (us : List U) → AllZip Answers js us → All IsRising (lists us)
-    all_rising [] [] z = λ i x h. absurd (omega (arith, h))
-    all_rising [] (u ∷ us) z = absurd z
-    all_rising (j ∷ js) [] z = absurd z
-    all_rising (j ∷ js) (u ∷ us) z = subst (All IsRising) (sym (reverse_cons (au u) (map au us))) (All-push IsRising (lists us) (au u) (all_rising js us z.1) z.0.0.rising)
 
     record Since (n : ℕ) (j : J) : Type 0 where
       number : n ≤ (kj j).number
@@ -152,14 +171,14 @@ module _ {J U : Type 0} (plays : Plays) (tones : Kind → List ℕ) (board : Boa
         let since = since_in n low js d r.0 r.1 in
         record { number = (kj r.0).number; high = since.number; good = good r.0 u r.2 since.few since.started (all_in Seen us seen u q.1) p q.2 }
 
-    apart : (n low : ℕ) (js : List J) (us : List U) → AllZip Answers js us → AreDealt trace segment v n low (rows_of js) → All Seen us → AreApart (all_of (lists us))
-    apart n low [] [] z d seen = subst AreApart (sym all_of_none) tt
+    pub apart : (n low : ℕ) (js : List J) (us : List U) → AllZip Answers js us → AreDealt trace segment v n low (rows_of js) → All Seen us → AreApart (lists us)
+    apart n low [] [] z d seen = tt
     apart n low [] (u ∷ us) z d seen = absurd z
     apart n low (j ∷ js) [] z d seen = absurd z
     apart n low (j ∷ js) (u ∷ us) z d seen =
         let tail : All Seen us = λ i x h. seen (suc i) x (omega (arith, h)) in
-        subst AreApart (sym (lists_cons u us))
-        (apart_append (all_of (lists us)) (au u).answers.items (apart (n + 1) (wj j + 1) js us z.1 d.3 tail) (apart_rising (au u).answers.items z.0.0.rising)
+        subst AreApart (sym (reverse_cons (au u) (map au us)))
+        (apart_last (lists us) (au u) (apart (n + 1) (wj j + 1) js us z.1 d.3 tail) z.0.0.rising
         (λ p q a b e.
         let older = one_good (n + 1) (wj j + 1) js us z.1 d.3 tail p a in
         let mine = good j u z.0 d.1 d.2.seen_is (seen 0 u (omega arith)) q b in
@@ -176,42 +195,45 @@ module _ {J U : Type 0} (plays : Plays) (tones : Kind → List ℕ) (board : Boa
     as_many n low (j ∷ js) [] z d whole = absurd z
     as_many n low (j ∷ js) (u ∷ us) z d whole =
         let a = ap length (lists_cons u us) in
-        let b = length-append (all_of (lists us)) (au u).answers.items in
+        let b = length-append (all_of (lists us)) (au u) in
         let c = as_many (n + 1) (wj j + 1) js us z.1 d.3 (λ i x h. whole (suc i) x (omega (arith, h))) in
         let told = ap length (z.0.0.all (whole 0 u (omega arith))) in
-        let e = length_of_map (λ (q : Placed). q.answer.event) (au u).answers.items in
+        let e = length_of_map (λ (q : Placed). q.answer.event) (au u) in
         let turns = d.2.turns_are in
         omega (arith, a, b, c, told, e, turns)
 
     module _ (rest : List Entry) (grew : k.seen ≡ v.seen ++ rest) (grown_is : new_events v k ≡ order_of rest) (n low : ℕ) (js : List J) (us : List U) (z : AllZip Answers js us) (d : AreDealt trace segment v n low (rows_of js)) (seen : All Seen us) where
-      pub within : (lo count : ℕ) → lo ≡ length v.seen → count ≡ length rest → (p : Placed) → In p (all_of (lists us)) → IsWithin lo count p
-      within lo count first size p i =
+      within : (p : Placed) → In p (all_of (lists us)) → (length v.seen ≤ p.place) × (p.place < length v.seen + length rest)
+      within p i =
           let g = (one_good n low js us z d seen p i).good in
-          let low_is = g.low in
           let high = got_within k.seen p.place _ g.entry in
           let a = ap length grew in
           let b = length-append v.seen rest in
-          (omega (arith, low_is, first), omega (arith, high, a, b, first, size))
+          (g.low, omega (arith, high, a, b))
 
-      pub all_within : (lo count : ℕ) → lo ≡ length v.seen → count ≡ length rest → All (IsWithin lo count) (all_of (lists us))
-      all_within lo count first size = in_all (IsWithin lo count) (all_of (lists us)) (within lo count first size)
-
-      pub are_answered : (lo count : ℕ) → lo ≡ length v.seen → count ≡ length rest → length (all_of (lists us)) ≡ count → (m : List Answer) → m ≡ put_from lo (all_of (lists us)) (replicate count nothing)
-          → AreAnswered plays tones board v k m
-      are_answered lo count first size many m is = record {
-        events = events_are rest m (omega (arith, ap length is, length_filled lo (all_of (lists us)) (replicate count nothing), length-replicate count nothing, size)) (λ i a at.
+      pub are_answered : length (all_of (lists us)) ≡ length rest → (m : List Placed) → IsMerged (lists us) m → AreAnswered plays tones board v k (map (λ (p : Placed). p.answer) m)
+      are_answered many m merged = record {
+        events = events_are rest (map (λ (p : Placed). p.answer) m) (omega (arith, length_of_map (λ (p : Placed). p.answer) m, merged_many, many)) (λ i a at.
             let t = there i a at in
             let g = (one_good n low js us z d seen t.0 t.1).good in
             let number = (one_good n low js us z d seen t.0 t.1).number in
-            let place : t.0.place ≡ length v.seen + i = t.2 ∙ ap (λ (l : ℕ). l + i) first in
-            (number, sym (got_behind v.seen rest i) ∙ (ap (λ (l : List Entry). slice_get l (length v.seen + i)) (sym grew) ∙ (ap (slice_get k.seen) (sym place) ∙ (g.entry ∙ ap (λ (x : Answer). Some (number, x.event)) t.3)))))
+            (number, sym (got_behind v.seen rest i) ∙ (ap (λ (l : List Entry). slice_get l (length v.seen + i)) (sym grew) ∙ (ap (slice_get k.seen) (sym t.2) ∙ (g.entry ∙ ap (λ (x : Answer). Some (number, x.event)) t.3)))))
             ∙ sym grown_is;
         each = λ i a at.
             let t = there i a at in
             let g = (one_good n low js us z d seen t.0 t.1).good in
-            let place : t.0.place ≡ length v.seen + i = t.2 ∙ ap (λ (l : ℕ). l + i) first in
-            subst (λ (x : ℕ). IsAnswered plays tones board k.seen x a) place (subst (IsAnswered plays tones board k.seen t.0.place) t.3 g.given);
+            subst (λ (x : ℕ). IsAnswered plays tones board k.seen x a) t.2 (subst (IsAnswered plays tones board k.seen t.0.place) t.3 g.given);
       }
         where
-          there : (i : ℕ) (a : Answer) → slice_get m i ≡ Some a → (p : Placed) × In p (all_of (lists us)) × (p.place ≡ lo + i) × (p.answer ≡ a)
-          there i a at = each_filled lo count (all_of (lists us)) (apart n low js us z d seen) (λ p h. (within lo count first size p h, (one_good n low js us z d seen p h).good.event)) many i a (subst (λ (l : List Answer). slice_get l i ≡ Some a) is at)
+          merged_many : length m ≡ length (all_of (lists us))
+          merged_many = merged.many
+
+          there : (i : ℕ) (a : Answer) → slice_get (map (λ (p : Placed). p.answer) m) i ≡ Some a → (p : Placed) × In p (all_of (lists us)) × (p.place ≡ length v.seen + i) × (p.answer ≡ a)
+          there i a at =
+              let g = got_map (λ (p : Placed). p.answer) m i a at in
+              let long = merged_many in (
+                g.0,
+                merged.each g.0 (got_in m i g.0 g.1),
+                each_place (length v.seen) m merged.rising (λ q j. let w = within q (merged.each q j) in let high = w.1 in (w.0, omega (arith, high, long, many))) i g.0 g.1,
+                g.2,
+              )

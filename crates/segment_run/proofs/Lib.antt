@@ -1,7 +1,7 @@
 pub mod OrderLemmas
 pub mod ListLemmas
 pub mod DoerLemmas
-pub mod PlaceLemmas
+pub mod MergeLemmas
 pub mod RunLemmas
 pub mod LoadLemmas
 pub mod AnswerLemmas
@@ -10,3 +10,4 @@ pub mod CountLemmas
 pub mod DealLemmas
 pub mod TeamLemmas
 pub mod WholeRunLemmas
+pub mod PairLemmas

@@ -3,12 +3,12 @@ use Rattle.std.proofs.Common.{◌≡◌, ℕ, zero, suc, ◌+◌, ◌<◌, ◌�
 use Rattle.std.specs.Prelude.{slice_index_or, slice_set, ◌||◌, nat_eq}
 use Rattle.std.specs.List.{All, list_any, range_with_len}
 use Rattle.std.proofs.lemmas.Bool.Decides.{nat_tests}
+use Rattle.segment_run.specs.Merging.{IsOneOf}
 
 module _ {X : Type 0} where
   -- the list has this element
   abbrev pub In : X → List X → Type 0
-  In x [] = ⊥
-  In x (y ∷ ys) = (y ≡ x) ⊎ In x ys
+  In x xs = IsOneOf x xs
 
   pub all_in : (P : X → Type 0) (xs : List X) → All P xs → (x : X) → In x xs → P x
   all_in P [] a x i = absurd i

@@ -12,7 +12,7 @@ use Rattle.seat_history.specs.Histories.{StartsWith, unseen}
 use Rattle.seat_history.specs.Seats.{Settled, kept_of}
 use Rattle.exchange_core.specs.Boards.{Board}
 use Rattle.exchange_core.specs.Working.{Entry, order_of}
-use Rattle.call_processor.specs.declared.worked.Workplace.{Workplace}
+use Rattle.call_processor.specs.declared.worked.Placed.{Placed}
 use Rattle.call_processor.specs.Parts.{is_its, is_worker, part_of}
 use Rattle.call_processor.specs.Work.{Works, answered_events, entries_for}
 use Rattle.segment_run.specs.Segment.{IsChief, Ran, RanWhole, IsOfSegment, new_events}
@@ -96,9 +96,9 @@ settled_same turns v c d left s =
     let same : record v { baton = c.baton } ≡ c = λ i. record { number = sym d.number i; left = sym left i; baton = c.baton; seen = sym d.seen i; own = sym d.own i; made = made i; kept = sym d.kept i } in
     subst (Settled turns) same (record { own = s.own; kept = s.kept; others = s.others; once = s.once; entries_made = s.entries_made; within = s.within; accounted = s.accounted; whole = s.whole })
 
-module _ {J U : Type 0} (board : Board) (trace : Trace) (segment : ℕ) (wj : J → ℕ) (kj : J → Known) (ku : U → Known) (au : U → Workplace) (bu : U → Bool) (E : J → U → Type 0) where
+module _ {J U : Type 0} (board : Board) (trace : Trace) (segment : ℕ) (wj : J → ℕ) (kj : J → Known) (ku : U → Known) (au : U → List Placed) (bu : U → Bool) (E : J → U → Type 0) where
   abbrev pub Each : J → U → Type 0
-  Each j u = Works board (part_numbered trace segment (wj j)) (kj j) (au u).answers.items (bu u) (ku u) × E j u
+  Each j u = Works board (part_numbered trace segment (wj j)) (kj j) (au u) (bu u) (ku u) × E j u
 
   abbrev pub seats : List J → List (ℕ × Known)
   seats js = map (λ (j : J). (wj j, kj j)) js
@@ -263,7 +263,7 @@ module _ {J U : Type 0} (board : Board) (trace : Trace) (segment : ℕ) (wj : J 
           let yes_it = all_in (λ (u : U). IsTrue (bu u)) us all_whole p.u p.out in
           let given = w.all yes_it in
           let a = ap length w.told.1 in
-          let b = length-append (answered_events (au p.u).answers.items) w.told.0 in
+          let b = length-append (answered_events (au p.u)) w.told.0 in
           let d = ap length w.first.1 in
           let e = length-append w.done w.first.0 in
           let f = ap length given in

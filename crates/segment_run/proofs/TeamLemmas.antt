@@ -7,7 +7,11 @@ use Rattle.exchange_events.specs.Orders.{Worker, Processor, Frame_worker}
 use Rattle.seat_history.specs.declared.known.Known.{Known}
 use Rattle.exchange_core.specs.Boards.{Board}
 use Rattle.call_processor.specs.declared.worked.Placed.{Placed}
+use Rattle.call_processor.specs.Frames.{HasFrame, Plays}
+use Rattle.call_processor.specs.Keeping.{KeepsWork, has_no_octets}
 use Rattle.call_processor.specs.Parts.{part_of}
+use Rattle.circuit_model.specs.declared.circuit.Kind.{Kind}
+use Rattle.segment_run.specs.Jobs.{HasItsOctets}
 use Rattle.call_processor.specs.Work.{MayWork, Works}
 use Rattle.segment_run.specs.Team.{AreDealt, load, worker_numbered}
 use Rattle.segment_run.proofs.ListLemmas.{In, all_in, in_all, in_left, in_right}
@@ -111,23 +115,6 @@ module _ {J : Type 0} (trace : Trace) (segment : ℕ) (worker : J → ℕ) (know
 
   -- ---- what comes of them
 
-  module _ {U : Type 0} (board : Board) (after : U → Known) (answers : U → List Placed) (whole : U → Bool) where
-    abbrev pub WorksAs : (ℕ → Worker) → J → U → Type 0
-    WorksAs as_worker j u = Works board (part_of trace segment (as_worker (worker j))) (known j) (answers u) (whole u) (after u)
-
-    -- what a call processor did is what the worker with its number did
-    pub works_numbered : (jobs js : List J) (us : List U) → jobs ≡ js → All (λ j. worker j < trace.processors) js
-        → AllZip (WorksAs Processor) js us → AllZip (WorksAs (worker_numbered trace.processors)) jobs us
-    works_numbered jobs js us same below z =
-        subst (λ (l : List J). AllZip (WorksAs (worker_numbered trace.processors)) l us) (sym same)
-        (zip_map (WorksAs Processor) (WorksAs (worker_numbered trace.processors)) js us
-        (λ j u i w. subst (λ (k : Worker). Works board (part_of trace segment k) (known j) (answers u) (whole u) (after u)) (sym (numbered_processor trace.processors (worker j) (all_in (λ j. worker j < trace.processors) js below j i))) w)
-        z)
-
-    -- and so with the frame worker
-    pub frames_numbered : (x : J) (u : U) → trace.processors ≤ worker x → Works board (part_of trace segment Frame_worker) (known x) (answers u) (whole u) (after u) → WorksAs (worker_numbered trace.processors) x u
-    frames_numbered x u past w = subst (λ (k : Worker). Works board (part_of trace segment k) (known x) (answers u) (whole u) (after u)) (sym (numbered_frames trace.processors (worker x) past)) w
-
   module _ {U : Type 0} (R S : J → U → Type 0) where
     -- nothing is asked of call processors that is asked of the frame worker alone
     pub no_frames : (jobs js : List J) (us : List U) → jobs ≡ js → All (λ j. worker j < trace.processors) js → AllZip R js us → AllZip (λ j u. worker j ≡ trace.processors → S j u) jobs us
@@ -141,3 +128,35 @@ module _ {A B : Type 0} (R : A → B → Type 0) where
   -- two lists side by side, and one more of each
   pub zip_last : (all xs : List A) (x : A) (most ys : List B) (y : B) → all ≡ xs ++ x ∷ [] → most ≡ ys ++ y ∷ [] → AllZip R xs ys → R x y → AllZip R all most
   zip_last all xs x most ys y e f z r = subst (λ (l : List A). AllZip R l most) (sym e) (subst (λ (l : List B). AllZip R (xs ++ x ∷ []) l) (sym f) (zip_more R xs ys x y z r))
+
+-- ---- what the workers with these jobs kept
+
+module _ {J U K : Type 0} (holds : K → List Placed → Type 0) (plays : Plays) (tones : Kind → List ℕ) (board : Board) (trace : Trace) (segment : ℕ) (worker : J → ℕ) (known : J → Known) (after : U → Known) (keeper : U → K) (whole : U → Bool) where
+  abbrev Kept_as : (ℕ → Worker) → (ℕ → Known → Placed → Type 0) → J → U → Type 0
+  Kept_as as_worker said j u = KeepsWork holds board (said (worker j)) (part_of trace segment (as_worker (worker j))) (known j) (keeper u) (whole u) (after u)
+
+  abbrev Numbered : J → U → Type 0
+  Numbered = Kept_as (worker_numbered trace.processors) (HasItsOctets plays tones board trace)
+
+  -- what a call processor did is what the worker with its number did
+  kept_one : (j : J) (u : U) → worker j < trace.processors → Kept_as Processor (λ n w. has_no_octets) j u → Numbered j u
+  kept_one j u below r = record {
+    answers = r.answers;
+    held = r.held;
+    works = subst (λ (x : Worker). Works board (part_of trace segment x) (known j) r.answers (whole u) (after u)) (sym (numbered_processor trace.processors (worker j) below)) r.works;
+    said = λ k d within. ((λ e. absurd (omega (arith, below, e))), λ lt. r.said k d within);
+  }
+
+  pub kept_numbered : (jobs js : List J) (us : List U) → jobs ≡ js → All (λ j. worker j < trace.processors) js → AllZip (Kept_as Processor (λ n w. has_no_octets)) js us → AllZip Numbered jobs us
+  kept_numbered jobs js us same below z =
+      subst (λ (l : List J). AllZip Numbered l us) (sym same)
+      (zip_map (Kept_as Processor (λ n w. has_no_octets)) Numbered js us (λ j u i r. kept_one j u (all_in (λ j. worker j < trace.processors) js below j i) r) z)
+
+  -- and so with the frame worker
+  pub kept_frames : (x : J) (u : U) → trace.processors ≤ worker x → KeepsWork holds board (HasFrame plays tones board) (part_of trace segment Frame_worker) (known x) (keeper u) (whole u) (after u) → Numbered x u
+  kept_frames x u past r = record {
+    answers = r.answers;
+    held = r.held;
+    works = subst (λ (k : Worker). Works board (part_of trace segment k) (known x) r.answers (whole u) (after u)) (sym (numbered_frames trace.processors (worker x) past)) r.works;
+    said = λ k d within. ((λ e. r.said k d within), λ lt. absurd (omega (arith, past, lt)));
+  }

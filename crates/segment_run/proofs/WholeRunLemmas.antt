@@ -1,11 +1,10 @@
 -- A segment's run as a whole: from what was dealt, done and joined to what the run promises.
 use Rattle.std.proofs.Common.{◌≡◌, ◌≢◌, ℕ, suc, ◌+◌, ◌-◌, ◌<◌, ◌≤◌, ◌⊎◌, inl, inr, Bool, true, false, IsTrue, List, [], ◌∷◌, ◌++◌, map, length, drop, filter, refl, sym, ap, ◌∙◌, subst, arith, append-nil, append_assoc, length-append}
-use Rattle.std.specs.Prelude.{◌||◌, nat_eq, replicate}
+use Rattle.std.specs.Prelude.{◌||◌, nat_eq}
 use Rattle.std.specs.List.{All, AllZip}
 use Rattle.std.proofs.lemmas.Bool.{cases_lt}
 use Rattle.std.proofs.lemmas.Bool.Decides.{nat_tests}
 use Rattle.circuit_model.specs.declared.circuit.Kind.{Kind}
-use Rattle.exchange_events.specs.declared.answer.Answer.{Answer}
 use Rattle.exchange_core.specs.declared.tool.Tool.{Tool}
 use Rattle.exchange_events.specs.declared.trace.Trace.{Trace}
 use Rattle.exchange_events.specs.Orders.{Worker, Frame_worker}
@@ -18,20 +17,22 @@ use Rattle.exchange_core.specs.Boards.{Board, IsFrame, NoFrames, turns_of, world
 use Rattle.exchange_events.specs.Sound.{IsSound}
 use Rattle.exchange_core.specs.Working.{Entry, order_of}
 use Rattle.exchange_events.specs.Sizes.{Dimensions}
-use Rattle.call_processor.specs.declared.worked.Workplace.{Workplace}
+use Rattle.call_processor.specs.declared.worked.Placed.{Placed}
 use Rattle.call_processor.specs.Frames.{Carrying, Plays, IsReady}
 use Rattle.call_processor.specs.Parts.{does, is_its, is_worker, part_of}
 use Rattle.call_processor.specs.Work.{Works, answered_events}
 use Rattle.call_processor.proofs.FrameLemmas.{same_frames, still_carried}
-use Rattle.segment_run.specs.Nothing.{nothing}
+use Rattle.segment_run.specs.Merging.{AreApart}
+use Rattle.segment_run.specs.Merging.{IsMerged}
+use Rattle.segment_run.specs.Merging.{all_of}
 use Rattle.segment_run.specs.Segment.{AreAnswered, IsChief, IsOfSegment, Ran, RanWhole, new_events}
 use Rattle.segment_run.specs.Segments.{events_before}
-use Rattle.segment_run.specs.Team.{AreDealt, HasDealt, IsRising, IsWithin, all_of, any_baton, put_from, after_joins, load, loads_below, part_numbered, turns_left, worker_numbered}
+use Rattle.segment_run.specs.Team.{AreDealt, HasDealt, any_baton, after_joins, load, loads_below, part_numbered, turns_left, worker_numbered}
 use Rattle.segment_run.proofs.ListLemmas.{In, all_in, in_all, in_filter, in_left, in_right, in_map, filter_none, none_behind}
 use Rattle.segment_run.proofs.DoerLemmas.{Doer, Joined, dealt_in, alike, entries_split, found, numbered_frames, numbered_processor, one_worker, its_of}
 use Rattle.segment_run.proofs.LoadLemmas.{ends_are, loads_all}
 use Rattle.segment_run.proofs.RunLemmas.{zip_and, sum_left, still_chief, ran, ran_whole, turns_are, grown_is, grew, ts, pair_of, joined, after as settled_after, doer, doers}
-use Rattle.segment_run.proofs.AnswerLemmas.{Octets, all_rising, all_within, are_answered, as_many, lists}
+use Rattle.segment_run.proofs.AnswerLemmas.{Octets, apart, are_answered, as_many, lists}
 
 -- ---- a run that did nothing
 
@@ -123,7 +124,7 @@ module _ (turns : ℕ) (trace : Trace) (segment : ℕ) (v k : Known) (rest : Lis
 
 -- ---- the whole run
 
-module _ {J U E : Type 0} (board : Board) (trace : Trace) (segment : ℕ) (wj : J → ℕ) (kj : J → Known) (ku : U → Known) (au : U → Workplace) (bu : U → Bool)
+module _ {J U E : Type 0} (board : Board) (trace : Trace) (segment : ℕ) (wj : J → ℕ) (kj : J → Known) (ku : U → Known) (au : U → List Placed) (bu : U → Bool)
     (plays : Plays) (tones : Kind → List ℕ) (carries : Carrying E) (next : E → ℕ) (sizes : E → Dimensions) where
   abbrev IsReadyAt : List Entry → E → Tool → Type 0
   IsReadyAt = IsReady carries next sizes board
@@ -132,7 +133,7 @@ module _ {J U E : Type 0} (board : Board) (trace : Trace) (segment : ℕ) (wj : 
   jobs_of js = map (λ (j : J). (wj j, kj j)) js
 
   abbrev Did_part : J → U → Type 0
-  Did_part j u = Works board (part_numbered trace segment (wj j)) (kj j) (au u).answers.items (bu u) (ku u)
+  Did_part j u = Works board (part_numbered trace segment (wj j)) (kj j) (au u) (bu u) (ku u)
 
   abbrev Has_octets : J → U → Type 0
   Has_octets = Octets plays tones board trace segment wj kj ku au bu
@@ -262,7 +263,7 @@ module _ {J U E : Type 0} (board : Board) (trace : Trace) (segment : ℕ) (wj : 
         let w = y.0 in
         let given = ap length (w.all (whole 0 u (omega arith))) in
         let told = ap length w.told.1 in
-        let told_long = length-append (answered_events (au u).answers.items) w.told.0 in
+        let told_long = length-append (answered_events (au u)) w.told.0 in
         let first = ap length w.first.1 in
         let first_long = length-append w.done w.first.0 in
         let turns = w.did.turns in
@@ -301,28 +302,22 @@ module _ {J U E : Type 0} (board : Board) (trace : Trace) (segment : ℕ) (wj : 
           let g = r.begun in
           omega (arith, a, b, d, f, g)
 
-      abbrev all_answers : List (Workplace)
+      abbrev all_answers : List (List Placed)
       all_answers = lists plays tones board trace segment wj kj ku au bu r.same v k us
 
       zipped : AllZip (λ j u. Did_part j u × Has_octets j u) js us
       zipped = zip_and Did_part Has_octets js us r.works r.octets
 
-      pub run_within : (lo count : ℕ) → lo ≡ events_before trace.segments segment → count ≡ events_before trace.segments (segment + 1) - events_before trace.segments segment → All (IsWithin lo count) (all_of all_answers)
-      run_within lo count low many =
-          all_within plays tones board trace segment wj kj ku au bu r.same v k growth it_grew it_grew_by (v.made + 1) 0 js us zipped r.dealt r.fronts
-          lo count (low ∙ sym r.begun) (many ∙ sym run_size)
+      pub run_apart : AreApart all_answers
+      run_apart = apart plays tones board trace segment wj kj ku au bu r.same v k (v.made + 1) 0 js us zipped r.dealt r.fronts
 
-      pub run_many : (count : ℕ) → count ≡ events_before trace.segments (segment + 1) - events_before trace.segments segment → length (all_of all_answers) ≡ count
-      run_many count many = as_many plays tones board trace segment wj kj ku au bu r.same v k (v.made + 1) 0 js us zipped r.dealt whole ∙ (sym size ∙ (run_size ∙ sym many))
+      pub run_many : length (all_of all_answers) ≡ events_before trace.segments (segment + 1) - events_before trace.segments segment
+      run_many = as_many plays tones board trace segment wj kj ku au bu r.same v k (v.made + 1) 0 js us zipped r.dealt whole ∙ (sym size ∙ run_size)
 
-      pub run_rising : All IsRising all_answers
-      run_rising = all_rising plays tones board trace segment wj kj ku au bu r.same v k js us zipped
-
-      pub run_answered : (lo count : ℕ) → lo ≡ events_before trace.segments segment → count ≡ events_before trace.segments (segment + 1) - events_before trace.segments segment
-          → (m : List Answer) → m ≡ put_from lo (all_of all_answers) (replicate count nothing) → AreAnswered plays tones board v k m
-      run_answered lo count low many m is =
+      pub run_answered : (m : List Placed) → IsMerged all_answers m → AreAnswered plays tones board v k (map (λ (p : Placed). p.answer) m)
+      run_answered m merged =
           are_answered plays tones board trace segment wj kj ku au bu r.same v k growth it_grew it_grew_by (v.made + 1) 0 js us zipped r.dealt r.fronts
-          lo count (low ∙ sym r.begun) (many ∙ sym run_size) (run_many count many) m is
+          (run_many ∙ sym run_size) m merged
 
 -- ---- before the workers start
 

@@ -9,44 +9,47 @@ use Rattle.seat_history.specs.declared.known.Known.{Known}
 use Rattle.exchange_core.specs.Boards.{Board}
 use Rattle.exchange_events.specs.Sizes.{Dimensions}
 use Rattle.call_processor.specs.declared.worked.Finished.{Finished}
-use Rattle.call_processor.specs.Frames.{Carrying, Plays, IsReady}
+use Rattle.call_processor.specs.declared.worked.Placed.{Placed}
+use Rattle.call_processor.specs.Frames.{Carrying, HasFrame, Plays, IsReady}
+use Rattle.call_processor.specs.Keeping.{has_no_octets}
 use Rattle.call_processor.specs.Parts.{part_of}
 use Rattle.call_processor.specs.Work.{MayWork}
-use Rattle.call_processor.specs.Workplaces.{HasFrames, HasWorked}
+use Rattle.call_processor.specs.Workplaces.{HasWorked}
 use Rattle.segment_run.specs.declared.crew.Crew.{Crew}
 use Rattle.segment_run.specs.declared.dealing.Job.{Job}
 use Rattle.segment_run.specs.declared.team.Team.{Team}
 use Rattle.segment_run.specs.Team.{part_numbered}
 
 -- the call processor with this job may do its part
-abbrev pub MayProcess : {T : Type 0} → (T → Known) → Board → Trace → ℕ → Job T → Type 0
+abbrev pub MayProcess : {T K : Type 0} → (T → Known) → Board → Trace → ℕ → Job T K → Type 0
 MayProcess known board trace segment j = (j.worker < trace.processors) × MayWork board trace segment (Processor j.worker) (known j.seat)
 
 -- the call processor with this job did its part
-abbrev pub HasProcessed : {T : Type 0} → (T → Known) → Board → Trace → ℕ → Job T → Finished T → Type 0
-HasProcessed known board trace segment j f = HasWorked known board (part_of trace segment (Processor j.worker)) (known j.seat) f
+abbrev pub HasProcessed : {T K : Type 0} → (K → List Placed → Type 0) → (T → Known) → Board → Trace → ℕ → Job T K → Finished T K → Type 0
+HasProcessed holds known board trace segment j f = HasWorked holds known board (λ w. has_no_octets) (part_of trace segment (Processor j.worker)) (known j.seat) f
+
+-- what is said of the octets of an answer of the worker with this number: those of a frame are what the engine plays, and no other answer has any
+abbrev pub HasItsOctets : Plays → (Kind → List ℕ) → Board → Trace → ℕ → Known → Placed → Type 0
+HasItsOctets plays tones board trace i w p = (i ≡ trace.processors → HasFrame plays tones board w p) × (i < trace.processors → has_no_octets p)
 
 -- the worker with this job, be it a call processor or the frame worker, did its part
-abbrev pub HasDone : {T : Type 0} → (T → Known) → Board → Trace → ℕ → Job T → Finished T → Type 0
-HasDone known board trace segment j f = HasWorked known board (part_numbered trace segment j.worker) (known j.seat) f
-
--- where it is the frame worker, its answers have the octets that the engine plays
-abbrev pub HasPlayed : {T : Type 0} → Plays → (Kind → List ℕ) → (T → Known) → Board → Trace → Job T → Finished T → Type 0
-HasPlayed plays tones known board trace j f = j.worker ≡ trace.processors → HasFrames plays tones known board f
+abbrev pub HasDone : {T K : Type 0} → (K → List Placed → Type 0) → Plays → (Kind → List ℕ) → (T → Known) → Board → Trace → ℕ → Job T K → Finished T K → Type 0
+HasDone holds plays tones known board trace segment j f =
+    HasWorked holds known board (HasItsOctets plays tones board trace j.worker) (part_numbered trace segment j.worker) (known j.seat) f
 
 -- no job is left, and the list has the room that it had
-abbrev pub IsThrough : {T : Type 0} → Crew T → Crew T → Type 0
+abbrev pub IsThrough : {T K : Type 0} → Crew T K → Crew T K → Type 0
 IsThrough before after = (after.jobs.items ≡ []) × (vec_capacity after.jobs ≡ vec_capacity before.jobs)
 
 -- whichever of these jobs is the frame worker's, the engine and the tool are ready for its next frame
-abbrev pub AreReady : {T E : Type 0} → Carrying E → (E → ℕ) → (E → Dimensions) → (T → Known) → Board → E → Tool → List (Job T) → Type 0
+abbrev pub AreReady : {T E K : Type 0} → Carrying E → (E → ℕ) → (E → Dimensions) → (T → Known) → Board → E → Tool → List (Job T K) → Type 0
 AreReady carries next sizes known board engine tool jobs = All (λ j. IsReady carries next sizes board (known j.seat).seen engine tool) jobs
 
 -- and so once it is done
-abbrev pub StayReady : {T E : Type 0} → Carrying E → (E → ℕ) → (E → Dimensions) → (T → Known) → Board → Trace → List (Job T) → Team T E → Type 0
+abbrev pub StayReady : {T E K : Type 0} → Carrying E → (E → ℕ) → (E → Dimensions) → (T → Known) → Board → Trace → List (Job T K) → Team T E K → Type 0
 StayReady carries next sizes known board trace jobs team =
     AllZip (λ j f. j.worker ≡ trace.processors → IsReady carries next sizes board (known f.seat).seen team.engine team.tool) jobs team.crew.done.items
 
 -- the workers' numbers, with what their seats know
-abbrev pub seats_of : {T : Type 0} → (T → Known) → List (Job T) → List (ℕ × Known)
+abbrev pub seats_of : {T K : Type 0} → (T → Known) → List (Job T K) → List (ℕ × Known)
 seats_of known jobs = map (λ j. (j.worker, known j.seat)) jobs

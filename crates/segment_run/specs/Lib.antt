@@ -1,7 +1,7 @@
 pub mod Segment
 pub mod Segments
 pub mod Team
-pub mod Nothing
 pub mod Rooms
+pub mod Merging
 pub mod Jobs
 pub mod Gathered

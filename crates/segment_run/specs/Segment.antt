@@ -1,5 +1,5 @@
 -- What a run of a segment does, from what seat 0 knew before it to what it knows afterwards. Source: this exchange's own.
-use Rattle.std.specs.Prelude.{◌≡◌, ℕ, ◌+◌, ◌<◌, ◌≤◌, ◌^◌, IsTrue, List, ◌++◌, length, map, filter, slice_get, Some, All}
+use Rattle.std.specs.Prelude.{◌≡◌, ℕ, ◌+◌, ◌<◌, ◌≤◌, ◌^◌, IsTrue, List, [], ◌++◌, length, map, filter, slice_get, Some, All}
 use Rattle.circuit_model.specs.declared.circuit.Kind.{Kind}
 use Rattle.circuit_model.specs.FrameInput.{Input}
 use Rattle.exchange_events.specs.declared.answer.Answer.{Answer}
@@ -11,14 +11,16 @@ use Rattle.exchange_events.specs.Orders.{Worker, IsEvent, segment_of}
 use Rattle.seat_history.specs.declared.known.Known.{Known}
 use Rattle.seat_history.specs.Histories.{StartsWith, before, unseen}
 use Rattle.seat_history.specs.Seats.{Settled}
-use Rattle.exchange_core.specs.Boards.{Board, AnswersAt, turns_of, world_at}
+use Rattle.exchange_core.specs.Boards.{Board, IsFrame, AnswersAt, turns_of, world_at}
 use Rattle.call_profile.specs.Step.{MovesAtMost}
 use Rattle.exchange_core.specs.Working.{Entry, IsNumbered, order_of}
 use Rattle.exchange_events.specs.Sizes.{Dimensions}
 use Rattle.tone_rules.specs.Tables.{table_of}
 use Rattle.call_processor.specs.Frames.{Carrying, Plays, IsPlayed, IsReady}
 use Rattle.call_processor.specs.Parts.{is_its, part_of}
+use Rattle.call_processor.specs.declared.worked.Placed.{Placed}
 use Rattle.segment_run.specs.declared.answers.SegmentAnswer.{SegmentAnswer}
+use Rattle.segment_run.specs.declared.answers.SegmentDone.{SegmentDone}
 use Rattle.segment_run.specs.Segments.{events_before}
 
 -- seat 0 between two segments: it holds the baton, all other seats are joined, and what it has seen is accounted for
@@ -53,7 +55,7 @@ abbrev pub RanWhole : Trace → ℕ → Known → Known → Type 0
 RanWhole trace segment v w = (worker : Worker) → of_worker trace worker (new_events v w) ≡ part_of trace segment worker
 
 -- the answer is that of the history's event at this place: it keeps the exchange's reply after the history before it, and the octets of a frame
--- are those that the engine plays
+-- are those that the engine plays; of another event it has none
 pub record IsAnswered (plays : Plays) (tones : Kind → List ℕ) (board : Board) (history : List Entry) (place : ℕ) (a : Answer) : Type 0 where
   pub reply : Reply
   pub given : AnswersAt board (before place history) a.event reply
@@ -61,6 +63,7 @@ pub record IsAnswered (plays : Plays) (tones : Kind → List ℕ) (board : Board
   pub keeps : a.reply ≡ kept_of reply
   pub played : (input : Input) → IsNumbered board.trace a.event (Frame input)
       → IsPlayed plays tones board.trace.external (world_at board (before place history)) input a.octets
+  pub silent : (IsFrame board.trace a.event → ⊥) → a.octets ≡ []
 
 -- the answers of what the history grew by, in its order
 pub record AreAnswered (plays : Plays) (tones : Kind → List ℕ) (board : Board) (v w : Known) (answers : List Answer) : Type 0 where
@@ -74,6 +77,18 @@ pub record MayRun (board : Board) (trace : Trace) (segment : ℕ) (v : Known) : 
   pub chief : IsChief (turns_of board) v
   pub numbers : v.made + 10 < 2 ^ 32
   pub begun : length v.seen ≡ events_before trace.segments segment
+
+-- a keeper keeps behind what it kept before the answers of what the history grew by
+pub record AddsAnswers {K : Type 0} (holds : K → List Placed → Type 0) (plays : Plays) (tones : Kind → List ℕ) (board : Board) (v w : Known) (kept_of : List Placed) (keeper : K) : Type 0 where
+  pub answers : List Placed
+  pub answered : AreAnswered plays tones board v w (map (λ (p : Placed). p.answer) answers)
+  pub held : holds keeper (kept_of ++ answers)
+
+-- from v to w the segment was run whole, and the engine and the tool came back ready for the next frame
+pub record RanTo {T E K : Type 0} (carries : Carrying E) (next : E → ℕ) (sizes : E → Dimensions) (board : Board) (trace : Trace) (segment : ℕ) (v w : Known) (a : SegmentDone T E K) : Type 0 where
+  pub whole : RanWhole trace segment v w
+  pub long : length w.seen ≡ events_before trace.segments (segment + 1)
+  pub ready : IsReady carries next sizes board w.seen a.engine a.tool
 
 -- from v to w the segment was run whole, and this is its answer
 pub record IsAnswerOf {E : Type 0} (plays : Plays) (carries : Carrying E) (next : E → ℕ) (sizes : E → Dimensions) (board : Board) (trace : Trace) (segment : ℕ) (v w : Known) (a : SegmentAnswer E) : Type 0 where

@@ -1,12 +1,9 @@
 -- The workers of a segment, their seats and their answers. Source: this exchange's own.
-use Rattle.std.specs.Prelude.{◌≡◌, ℕ, zero, suc, ◌+◌, ◌-◌, ◌<◌, ◌≤◌, ◌||◌, nat_lt, Bool, false, if◌then◌else◌, List, [], ◌∷◌, ◌++◌, length, slice_set, AllPairs}
-use Rattle.exchange_events.specs.declared.answer.Answer.{Answer}
+use Rattle.std.specs.Prelude.{◌≡◌, ℕ, zero, suc, ◌+◌, ◌≤◌, ◌||◌, nat_lt, Bool, false, if◌then◌else◌, List, [], ◌∷◌, length}
 use Rattle.exchange_events.specs.declared.trace.Trace.{Trace}
 use Rattle.exchange_events.specs.Orders.{Worker, Processor, Frame_worker}
 use Rattle.seat_history.specs.declared.known.Known.{Known}
 use Rattle.seat_history.specs.Seats.{after_join}
-use Rattle.call_processor.specs.declared.worked.Placed.{Placed}
-use Rattle.call_processor.specs.declared.worked.Workplace.{Workplace}
 use Rattle.call_processor.specs.Parts.{part_of}
 
 -- the workers by number: the call processors by theirs, and behind them the frame worker
@@ -61,21 +58,3 @@ pub record HasDealt (v : Known) (seats : ℕ) (w : Known) : Type 0 where
 abbrev pub after_joins : Known → List Known → Known
 after_joins v [] = v
 after_joins v (w ∷ ws) = after_join (after_joins v ws) w
-
--- the answer's place is one of so many, from lo on
-abbrev pub IsWithin : ℕ → ℕ → Placed → Type 0
-IsWithin lo count p = (lo ≤ p.place) × (p.place < lo + count)
-
--- the answers once each of these stands at its place, counted from lo; the last is put there first
-unfoldable pub put_from : ℕ → List Placed → List Answer → List Answer
-put_from lo [] xs = xs
-put_from lo (p ∷ ps) xs = slice_set (put_from lo ps xs) (p.place - lo) p.answer
-
--- the answers at all workplaces
-unfoldable pub all_of : List Workplace → List Placed
-all_of [] = []
-all_of (w ∷ ws) = w.answers.items ++ all_of ws
-
--- each answer at the workplace stands behind the one before it in the history
-abbrev pub IsRising : Workplace → Type 0
-IsRising w = AllPairs (λ (p q : Placed). p.place < q.place) w.answers.items

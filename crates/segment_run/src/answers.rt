@@ -1,3 +1,4 @@
+use crate::workroom::Workroom;
 use exchange_core::Tool;
 use exchange_events::Answer;
 
@@ -10,4 +11,16 @@ pub struct SegmentAnswer<C> {
     pub engine: C,
     /// The control memory for the next frame.
     pub tool: Tool,
+}
+
+/// What is handed back of a segment whose answers are kept by a keeper. `T` is the type of the workers'
+/// seats, and `K` that of the keepers.
+#[derive(Drop)]
+pub struct SegmentDone<T, C, K> {
+    /// The engine, which carries the frames of the history.
+    pub engine: C,
+    /// The control memory for the next frame.
+    pub tool: Tool,
+    /// The workroom, for the next segment.
+    pub workroom: Workroom<T, K>,
 }

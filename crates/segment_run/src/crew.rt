@@ -2,13 +2,14 @@ ghost use Rattle.std.specs.Prelude.{◌≡◌, ◌≤◌, ◌<◌, ◌+◌, ◌+
 ghost use Rattle.std.specs.List.{AllZip};
 ghost use Rattle.std.specs.Thread.{IsSync};
 ghost use Rattle.exchange_events.specs.Orders.{Processor};
+ghost use Rattle.call_processor.specs.Keeping.{has_no_octets};
 ghost use Rattle.call_processor.specs.Parts.{part_of};
 ghost use Rattle.call_processor.specs.Work.{MayWork};
 ghost use Rattle.call_processor.specs.Workplaces.{HasWorked};
 ghost use Rattle.segment_run.specs.Jobs.{HasProcessed, IsThrough, MayProcess};
 
 use crate::dealing::Job;
-use call_processor::{Finished, process_at};
+use call_processor::{Finished, Keeper, Shortage, process_at};
 use exchange_core::Switchboard;
 use exchange_events::Trace;
 use gate::Gate;
@@ -18,25 +19,26 @@ use std::thread::{Threads, join};
 
 /// The workers of a segment.
 #[derive(Drop)]
-pub struct Crew<T> {
+pub struct Crew<T, K> {
     /// The jobs that nobody began yet.
-    pub jobs: Vec<Job<T>>,
+    pub jobs: Vec<Job<T, K>>,
     /// What came of the others.
-    pub done: Vec<Finished<T>>,
+    pub done: Vec<Finished<T, K>>,
 }
 
 /// The call processors with this job and those of the crew, all at once; the last of them to start is
 /// the caller. Hands back what came of them, in the order of the jobs.
-pub fn call_processors<B: Switchboard, G: Gate, R: Threads + Wait + Sync>(
+pub fn call_processors<B: Switchboard, G: Gate, K: Keeper, R: Threads + Wait + Sync>(
     rt: &R,
     alloc: Global,
     board: &B,
     trace: &Trace,
     segment: u32,
-    job: Job<B::Seat>,
-    crew: Crew<B::Seat>,
+    job: Job<B::Seat, K>,
+    crew: Crew<B::Seat, K>,
+    shortage: &Shortage,
     gate: &G,
-) -> Crew<B::Seat>
+) -> Crew<B::Seat, K>
     requires seated { B.seated board.now job.seat × All (λ j. B.seated board.now j.seat) crew.jobs.items }
     requires may { MayProcess B.known (B.board board.now) trace.now segment job }
     requires all_may { All (MayProcess B.known (B.board board.now) trace.now segment) crew.jobs.items }
@@ -46,7 +48,7 @@ pub fn call_processors<B: Switchboard, G: Gate, R: Threads + Wait + Sync>(
     ensures room { vec_capacity crew.done ≤ vec_capacity result.done }
     ensures count { length result.done.items ≡ length crew.jobs.items + 1 }
     ensures seated { All (λ f. B.seated board.now f.seat) result.done.items }
-    ensures works { AllZip (HasProcessed B.known (B.board board.now) trace.now segment) (crew.jobs.items ++ job ∷ []) result.done.items }
+    ensures works { AllZip (HasProcessed K.holds B.known (B.board board.now) trace.now segment) (crew.jobs.items ++ job ∷ []) result.done.items }
 {
     let mut crew = crew;
     let Job {
@@ -56,24 +58,24 @@ pub fn call_processors<B: Switchboard, G: Gate, R: Threads + Wait + Sync>(
     } = job;
     let Some(next) = crew.jobs.pop() else {
         crew.done.push_reserved(process_at(
-            rt, alloc, board, seat, trace, segment, worker, workplace, gate,
+            rt, alloc, board, seat, trace, segment, worker, workplace, shortage, gate,
         ));
         return crew;
     };
     let (mine, rest) = join(
         rt,
-        move || -> Finished<B::Seat>
+        move || -> Finished<B::Seat, K>
             requires seated { B.seated board.now seat }
             requires number { worker < trace.now.processors }
             requires may { MayWork (B.board board.now) trace.now segment (Processor worker) (B.known seat) }
             ensures seated { B.seated board.entry.now result.seat }
-            ensures works { HasWorked B.known (B.board board.entry.now) (part_of trace.entry.now segment (Processor worker)) (B.known seat) result }
+            ensures works { HasWorked K.holds B.known (B.board board.entry.now) (λ w. has_no_octets) (part_of trace.entry.now segment (Processor worker)) (B.known seat) result }
         {
             process_at(
-                rt, alloc, board, seat, trace, segment, worker, workplace, gate,
+                rt, alloc, board, seat, trace, segment, worker, workplace, shortage, gate,
             )
         },
-        move || -> Crew<B::Seat>
+        move || -> Crew<B::Seat, K>
             requires threads { IsSync R.row }
             requires seated { B.seated board.now next.seat × All (λ j. B.seated board.now j.seat) crew.jobs.items }
             requires may { MayProcess B.known (B.board board.now) trace.now segment next }
@@ -84,8 +86,8 @@ pub fn call_processors<B: Switchboard, G: Gate, R: Threads + Wait + Sync>(
             ensures room { vec_capacity crew.done ≤ vec_capacity result.done }
             ensures count { length result.done.items ≡ length crew.jobs.items + 1 }
             ensures seated { All (λ f. B.seated board.entry.now f.seat) result.done.items }
-            ensures works { AllZip (HasProcessed B.known (B.board board.entry.now) trace.entry.now segment) (crew.jobs.items ++ next ∷ []) result.done.items }
-        { call_processors(rt, alloc, board, trace, segment, next, crew, gate) },
+            ensures works { AllZip (HasProcessed K.holds B.known (B.board board.entry.now) trace.entry.now segment) (crew.jobs.items ++ next ∷ []) result.done.items }
+        { call_processors(rt, alloc, board, trace, segment, next, crew, shortage, gate) },
     );
     let mut rest = rest;
     rest.done.push_reserved(mine);

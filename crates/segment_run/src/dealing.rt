@@ -4,20 +4,20 @@ ghost use Rattle.segment_run.specs.Jobs.{seats_of};
 ghost use Rattle.segment_run.specs.Rooms.{HasRoom};
 ghost use Rattle.segment_run.specs.Team.{AreDealt, HasDealt, any_baton, load, loads_below, turns_left};
 
-use call_processor::{Workplace, numbers_of, processor_of};
+use call_processor::{Keeper, Workplace, numbers_of, processor_of};
 use exchange_core::Switchboard;
 use exchange_events::Trace;
 
 /// A worker's number, and its seat. The call processors count from 0, and the frame worker comes
 /// behind them.
 #[derive(Drop)]
-pub struct Job<T> {
+pub struct Job<T, K> {
     /// The worker.
     pub worker: u32,
     /// Its seat.
     pub seat: T,
     /// Where it works.
-    pub workplace: Workplace,
+    pub workplace: Workplace<K>,
 }
 
 /// How many events each worker has to do in a segment, by the worker's number.
@@ -39,15 +39,15 @@ pub fn loads_of(trace: &Trace, segment: u32) -> [u32; 9]
 
 /// Splits a seat off for each worker that has events, with a turn for each of them, and lends it a
 /// workplace. The frame worker's seat gets the baton.
-pub fn deal<B: Switchboard>(
+pub fn deal<B: Switchboard, K: Keeper>(
     board: &B,
     seat: &mut B::Seat,
     trace: &Trace,
     segment: u32,
     loads: &[u32; 9],
-    jobs: Vec<Job<B::Seat>>,
-    workplaces: &mut Vec<Workplace>,
-) -> Vec<Job<B::Seat>>
+    jobs: Vec<Job<B::Seat, K>>,
+    workplaces: &mut Vec<Workplace<K>>,
+) -> Vec<Job<B::Seat, K>>
     requires seated { B.seated board.now seat.old }
     requires few { trace.now.processors ≤ 8 }
     requires chief { ((B.known seat.old).number ≡ 0) × IsTrue (B.known seat.old).baton }

@@ -5,11 +5,11 @@ ghost use Rattle.exchange_core.specs.Boards.{turns_of};
 ghost use Rattle.segment_run.specs.Rooms.{HasRoom};
 ghost use Rattle.segment_run.specs.Team.{after_joins};
 
-use call_processor::{Finished, Workplace};
+use call_processor::{Finished, Keeper, Workplace};
 use exchange_core::Switchboard;
 
 /// Whether all workers did their parts whole.
-pub fn all_whole<T>(workers: &[Finished<T>]) -> bool
+pub fn all_whole<T, K>(workers: &[Finished<T, K>]) -> bool
     ensures { IsTrue result ↔ All (λ f. IsTrue f.whole) workers.now }
 {
     for finished in workers {
@@ -21,11 +21,11 @@ pub fn all_whole<T>(workers: &[Finished<T>]) -> bool
 }
 
 /// Joins the seats of all workers, the last first. Their workplaces come in this order.
-pub fn gather<B: Switchboard>(
+pub fn gather<B: Switchboard, K: Keeper>(
     board: &B,
     seat: &mut B::Seat,
-    workers: &mut Vec<Finished<B::Seat>>,
-    used: &mut Vec<Workplace>,
+    workers: &mut Vec<Finished<B::Seat, K>>,
+    used: &mut Vec<Workplace<K>>,
 )
     requires seated { B.seated board.now seat.old × All (λ f. B.seated board.now f.seat) workers.old.items }
     requires chief { (B.known seat.old).number ≡ 0 }

@@ -7,7 +7,8 @@
 //! the octets that the engine plays (`answered`); the engine carries the frames of the history
 //! (`ready`). Segments that are run one after another make a lawful order
 //! (`segments_make_lawful_orders`). `run_segment_in` does the same in a `Workroom`, which keeps the desks
-//! and lists of the workers from one segment to the next.
+//! and lists of the workers from one segment to the next, and `run_segment_with` does it with any keeper
+//! of what was done.
 //!
 //! It stands on `circuit_model`, `seat_history`, `tone_rules`, `frame_engine`, `exchange_core`,
 //! `gate` and `call_processor`.
@@ -24,7 +25,7 @@ mod team;
 mod working;
 mod workroom;
 
-pub use answers::SegmentAnswer;
+pub use answers::{SegmentAnswer, SegmentDone};
 pub use laws::{first_seat_is_chief, segments_leave_room, segments_make_lawful_orders};
-pub use run::{run_segment, run_segment_in};
+pub use run::{run_segment, run_segment_in, run_segment_with};
 pub use workroom::Workroom;

@@ -5,16 +5,16 @@ ghost use Rattle.exchange_events.specs.Orders.{Frame_worker};
 ghost use Rattle.seat_history.specs.declared.known.Known.{Known};
 ghost use Rattle.exchange_events.specs.Sound.{IsSound};
 ghost use Rattle.tone_rules.specs.Tables.{table_of};
-ghost use Rattle.call_processor.specs.Frames.{IsReadyFor, engine_dimensions};
+ghost use Rattle.call_processor.specs.Frames.{HasFrame, IsReadyFor, engine_dimensions};
 ghost use Rattle.call_processor.specs.Parts.{part_of};
 ghost use Rattle.call_processor.specs.Work.{MayWork};
-ghost use Rattle.call_processor.specs.Workplaces.{FinishesReady, HasFrames, HasWorked};
-ghost use Rattle.segment_run.specs.Jobs.{AreReady, HasDone, HasPlayed, HasProcessed, IsThrough, MayProcess, StayReady, seats_of};
+ghost use Rattle.call_processor.specs.Workplaces.{FinishesReady, HasWorked};
+ghost use Rattle.segment_run.specs.Jobs.{AreReady, HasDone, HasProcessed, IsThrough, MayProcess, StayReady, seats_of};
 ghost use Rattle.segment_run.specs.Team.{AreDealt};
 
 use crate::crew::{Crew, call_processors};
 use crate::dealing::Job;
-use call_processor::{FinishedFrames, run_frames_at};
+use call_processor::{FinishedFrames, Keeper, Shortage, run_frames_at};
 use exchange_core::{Switchboard, Tool};
 use exchange_events::Trace;
 use frame_engine::Carrier;
@@ -25,9 +25,9 @@ use std::thread::{Threads, join};
 
 /// What came of the workers of a segment.
 #[derive(Drop)]
-pub struct Team<T, C> {
+pub struct Team<T, C, K> {
     /// What came of each, in the order of the jobs. No job is left.
-    pub crew: Crew<T>,
+    pub crew: Crew<T, K>,
     /// The engine.
     pub engine: C,
     /// The control memory for the next frame.
@@ -36,18 +36,19 @@ pub struct Team<T, C> {
 
 // The frame worker with this job beside the call processors of the crew. Where there are none, it is
 // the caller.
-fn with_frames<B: Switchboard, G: Gate, C: Carrier, R: Threads + Wait + Sync>(
+fn with_frames<B: Switchboard, G: Gate, C: Carrier, K: Keeper, R: Threads + Wait + Sync>(
     rt: &R,
     alloc: Global,
     board: &B,
     trace: &Trace,
     segment: u32,
-    frames: Job<B::Seat>,
-    crew: Crew<B::Seat>,
+    frames: Job<B::Seat, K>,
+    crew: Crew<B::Seat, K>,
     engine: C,
     tool: Tool,
+    shortage: &Shortage,
     gate: &G,
-) -> (FinishedFrames<B::Seat, C>, Crew<B::Seat>)
+) -> (FinishedFrames<B::Seat, C, K>, Crew<B::Seat, K>)
     requires seated { B.seated board.now frames.seat × All (λ j. B.seated board.now j.seat) crew.jobs.items }
     requires frames { MayWork (B.board board.now) trace.now segment Frame_worker (B.known frames.seat) }
     requires baton { IsTrue (B.known frames.seat).baton }
@@ -59,10 +60,9 @@ fn with_frames<B: Switchboard, G: Gate, C: Carrier, R: Threads + Wait + Sync>(
     ensures room { vec_capacity crew.done ≤ vec_capacity result.1.done }
     ensures count { length result.1.done.items ≡ length crew.jobs.items }
     ensures seated { B.seated board.now result.0.finished.seat × All (λ f. B.seated board.now f.seat) result.1.done.items }
-    ensures frames { HasWorked B.known (B.board board.now) (part_of trace.now segment Frame_worker) (B.known frames.seat) result.0.finished }
+    ensures frames { HasWorked K.holds B.known (B.board board.now) (HasFrame C.plays (table_of trace.now.tones) (B.board board.now)) (part_of trace.now segment Frame_worker) (B.known frames.seat) result.0.finished }
     ensures ready { FinishesReady C.carries C.next (engine_dimensions C.external_lines C.bridge_lines C.depth) B.known (B.board board.now) result.0 }
-    ensures octets { HasFrames C.plays (table_of trace.now.tones) B.known (B.board board.now) result.0.finished }
-    ensures works { AllZip (HasProcessed B.known (B.board board.now) trace.now segment) crew.jobs.items result.1.done.items }
+    ensures works { AllZip (HasProcessed K.holds B.known (B.board board.now) trace.now segment) crew.jobs.items result.1.done.items }
 {
     let mut crew = crew;
     let Job {
@@ -72,27 +72,26 @@ fn with_frames<B: Switchboard, G: Gate, C: Carrier, R: Threads + Wait + Sync>(
     } = frames;
     let Some(next) = crew.jobs.pop() else {
         let framed = run_frames_at(
-            rt, alloc, board, seat, trace, segment, engine, tool, workplace, gate,
+            rt, alloc, board, seat, trace, segment, engine, tool, workplace, shortage, gate,
         );
         return (framed, crew);
     };
     join(
         rt,
-        move || -> FinishedFrames<B::Seat, C>
+        move || -> FinishedFrames<B::Seat, C, K>
             requires seated { B.seated board.now seat }
             requires may { MayWork (B.board board.now) trace.now segment Frame_worker (B.known seat) }
             requires baton { IsTrue (B.known seat).baton }
             requires ready { IsReadyFor C.carries C.next C.external_lines C.bridge_lines C.depth (B.board board.now) (B.known seat) engine tool }
             ensures seated { B.seated board.entry.now result.finished.seat }
-            ensures works { HasWorked B.known (B.board board.entry.now) (part_of trace.entry.now segment Frame_worker) (B.known seat) result.finished }
+            ensures works { HasWorked K.holds B.known (B.board board.entry.now) (HasFrame C.plays (table_of trace.entry.now.tones) (B.board board.entry.now)) (part_of trace.entry.now segment Frame_worker) (B.known seat) result.finished }
             ensures ready { FinishesReady C.carries C.next (engine_dimensions C.external_lines C.bridge_lines C.depth) B.known (B.board board.entry.now) result }
-            ensures octets { HasFrames C.plays (table_of trace.entry.now.tones) B.known (B.board board.entry.now) result.finished }
         {
             run_frames_at(
-                rt, alloc, board, seat, trace, segment, engine, tool, workplace, gate,
+                rt, alloc, board, seat, trace, segment, engine, tool, workplace, shortage, gate,
             )
         },
-        move || -> Crew<B::Seat>
+        move || -> Crew<B::Seat, K>
             requires threads { IsSync R.row }
             requires seated { B.seated board.now next.seat × All (λ j. B.seated board.now j.seat) crew.jobs.items }
             requires may { MayProcess B.known (B.board board.now) trace.now segment next }
@@ -103,24 +102,25 @@ fn with_frames<B: Switchboard, G: Gate, C: Carrier, R: Threads + Wait + Sync>(
             ensures room { vec_capacity crew.done ≤ vec_capacity result.done }
             ensures count { length result.done.items ≡ length crew.jobs.items + 1 }
             ensures seated { All (λ f. B.seated board.entry.now f.seat) result.done.items }
-            ensures works { AllZip (HasProcessed B.known (B.board board.entry.now) trace.entry.now segment) (crew.jobs.items ++ next ∷ []) result.done.items }
-        { call_processors(rt, alloc, board, trace, segment, next, crew, gate) },
+            ensures works { AllZip (HasProcessed K.holds B.known (B.board board.entry.now) trace.entry.now segment) (crew.jobs.items ++ next ∷ []) result.done.items }
+        { call_processors(rt, alloc, board, trace, segment, next, crew, shortage, gate) },
     )
 }
 
 /// The workers of a crew, all at once; one of them is the caller. The frame worker, if it has a job, has
 /// the last one.
-pub fn side_by_side<B: Switchboard, G: Gate, C: Carrier, R: Threads + Wait + Sync>(
+pub fn side_by_side<B: Switchboard, G: Gate, C: Carrier, K: Keeper, R: Threads + Wait + Sync>(
     rt: &R,
     alloc: Global,
     board: &B,
     trace: &Trace,
     segment: u32,
-    crew: Crew<B::Seat>,
+    crew: Crew<B::Seat, K>,
     engine: C,
     tool: Tool,
+    shortage: &Shortage,
     gate: &G,
-) -> Team<B::Seat, C>
+) -> Team<B::Seat, C, K>
     requires trace { trace.now ≡ (B.board board.now).trace }
     requires segment { segment < length trace.now.segments }
     requires seated { All (λ j. B.seated board.now j.seat) crew.jobs.items }
@@ -133,8 +133,7 @@ pub fn side_by_side<B: Switchboard, G: Gate, C: Carrier, R: Threads + Wait + Syn
     ensures room { vec_capacity crew.done ≤ vec_capacity result.crew.done }
     ensures count { length result.crew.done.items ≡ length crew.jobs.items }
     ensures seated { All (λ f. B.seated board.now f.seat) result.crew.done.items }
-    ensures works { AllZip (HasDone B.known (B.board board.now) trace.now segment) crew.jobs.items result.crew.done.items }
-    ensures octets { AllZip (HasPlayed C.plays (table_of trace.now.tones) B.known (B.board board.now) trace.now) crew.jobs.items result.crew.done.items }
+    ensures works { AllZip (HasDone K.holds C.plays (table_of trace.now.tones) B.known (B.board board.now) trace.now segment) crew.jobs.items result.crew.done.items }
     ensures ready { StayReady C.carries C.next (engine_dimensions C.external_lines C.bridge_lines C.depth) B.known (B.board board.now) trace.now crew.jobs.items result }
     ensures idle { All (λ j. j.worker < trace.now.processors) crew.jobs.items → (result.engine ≡ engine) × (result.tool ≡ tool) }
 {
@@ -143,11 +142,11 @@ pub fn side_by_side<B: Switchboard, G: Gate, C: Carrier, R: Threads + Wait + Syn
         return Team { crew, engine, tool };
     };
     if last.worker < u32::from(trace.processors) {
-        let crew = call_processors(rt, alloc, board, trace, segment, last, crew, gate);
+        let crew = call_processors(rt, alloc, board, trace, segment, last, crew, shortage, gate);
         return Team { crew, engine, tool };
     }
     let (framed, mut crew) = with_frames(
-        rt, alloc, board, trace, segment, last, crew, engine, tool, gate,
+        rt, alloc, board, trace, segment, last, crew, engine, tool, shortage, gate,
     );
     let FinishedFrames {
         finished,

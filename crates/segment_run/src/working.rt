@@ -1,15 +1,16 @@
-ghost use Rattle.std.specs.Prelude.{◌≡◌, IsTrue};
+ghost use Rattle.std.specs.Prelude.{◌≡◌, ◌≤◌, ℕ, IsTrue, slice_index};
 ghost use Rattle.exchange_core.specs.Boards.{turns_of};
 ghost use Rattle.call_processor.specs.Frames.{IsReadyFor, engine_dimensions};
 ghost use Rattle.segment_run.specs.Gathered.{AllDone, IsComplete};
 ghost use Rattle.segment_run.specs.Segment.{IsChief, MayRun, Ran};
+ghost use Rattle.segment_run.specs.Team.{load};
 
 use crate::crew::Crew;
-use crate::dealing::{deal, loads_of};
+use crate::dealing::deal;
 use crate::gathering::{all_whole, gather};
 use crate::team::{Team, side_by_side};
 use crate::workroom::Workroom;
-use call_processor::Workplace;
+use call_processor::{Keeper, Shortage, Workplace};
 use exchange_core::{Switchboard, Tool};
 use exchange_events::Trace;
 use frame_engine::Carrier;
@@ -20,13 +21,13 @@ use std::thread::Threads;
 
 /// What came of all workers of a segment, once their seats are joined.
 #[derive(Drop)]
-pub struct Gathered<T, C> {
+pub struct Gathered<T, C, K> {
     /// The workplaces that nobody worked at.
-    pub workplaces: Vec<Workplace>,
-    /// Those where the answers lie.
-    pub used: Vec<Workplace>,
+    pub workplaces: Vec<Workplace<K>>,
+    /// Those where the answers are kept.
+    pub used: Vec<Workplace<K>>,
     /// No job and no worker any more.
-    pub crew: Crew<T>,
+    pub crew: Crew<T, K>,
     /// The engine.
     pub engine: C,
     /// The control memory for the next frame.
@@ -36,7 +37,7 @@ pub struct Gathered<T, C> {
 }
 
 /// Has the events of one segment done by its workers, all at once, and joins their seats again.
-pub fn work_all<B: Switchboard, G: Gate, C: Carrier, R: Threads + Wait + Sync>(
+pub fn work_all<B: Switchboard, G: Gate, C: Carrier, K: Keeper, R: Threads + Wait + Sync>(
     rt: &R,
     alloc: Global,
     board: &B,
@@ -45,17 +46,19 @@ pub fn work_all<B: Switchboard, G: Gate, C: Carrier, R: Threads + Wait + Sync>(
     segment: u32,
     engine: C,
     tool: Tool,
-    workroom: Workroom<B::Seat>,
+    workroom: Workroom<B::Seat, K>,
+    loads: &[u32; 9],
     gate: &G,
-) -> Gathered<B::Seat, C>
+) -> Gathered<B::Seat, C, K>
     requires seated { B.seated board.now seat.old }
     requires may { MayRun (B.board board.now) trace.now segment (B.known seat.old) }
+    requires loads { (i : ℕ) → i ≤ trace.now.processors → slice_index loads.now i ≡ load trace.now segment i }
     requires ready { IsReadyFor C.carries C.next C.external_lines C.bridge_lines C.depth (B.board board.now) (B.known seat.old) engine tool }
     ensures seated { B.seated board.now seat.new }
     ensures chief { IsChief (turns_of (B.board board.now)) (B.known seat.new) }
     ensures ran { Ran trace.now segment (B.known seat.old) (B.known seat.new) }
     ensures complete { IsComplete result }
-    ensures done { IsTrue result.whole → AllDone C.plays C.carries C.next (engine_dimensions C.external_lines C.bridge_lines C.depth) (B.board board.now)
+    ensures done { IsTrue result.whole → AllDone K.holds C.plays C.carries C.next (engine_dimensions C.external_lines C.bridge_lines C.depth) (B.board board.now)
         trace.now segment (B.known seat.old) (B.known seat.new) result }
 {
     let Workroom {
@@ -64,8 +67,7 @@ pub fn work_all<B: Switchboard, G: Gate, C: Carrier, R: Threads + Wait + Sync>(
         crew,
     } = workroom;
     let Crew { jobs, done } = crew;
-    let loads = loads_of(trace, segment);
-    let jobs = deal(board, seat, trace, segment, &loads, jobs, &mut workplaces);
+    let jobs = deal(board, seat, trace, segment, loads, jobs, &mut workplaces);
     let Team {
         mut crew,
         engine,
@@ -79,6 +81,7 @@ pub fn work_all<B: Switchboard, G: Gate, C: Carrier, R: Threads + Wait + Sync>(
         Crew { jobs, done },
         engine,
         tool,
+        &Shortage::new(),
         gate,
     );
     let whole = all_whole(crew.done.as_slice());

@@ -1,7 +1,7 @@
 ghost use Rattle.std.specs.Prelude.{◌≡◌, ◌≤◌, [], IfOk, length, vec_capacity};
 
 use crate::crew::Crew;
-use call_processor::Workplace;
+use call_processor::{Keeper, Workplace};
 use std::alloc::{AllocError, Global};
 use std::marker::Model;
 
@@ -9,19 +9,20 @@ use std::marker::Model;
 const WORKERS: usize = 9;
 
 /// What the workers of a segment need, kept for those of the next one: a workplace for each of up to
-/// nine, and the lists of their jobs and of what came of them. `T` is the type of their seats.
+/// nine, and the lists of their jobs and of what came of them. `T` is the type of
+/// their seats, and `K` that of their keepers.
 ///
 /// Contracts see how many workers it has room for.
 #[derive(Drop)]
-pub struct Workroom<T> {
+pub struct Workroom<T, K> {
     // Those that nobody works at.
-    pub(crate) workplaces: Vec<Workplace>,
+    pub(crate) workplaces: Vec<Workplace<K>>,
     // Those that hold the answers of a segment; none between two segments.
-    pub(crate) used: Vec<Workplace>,
-    pub(crate) crew: Crew<T>,
+    pub(crate) used: Vec<Workplace<K>>,
+    pub(crate) crew: Crew<T, K>,
 }
 
-impl<T> Model for Workroom<T> {
+impl<T, K> Model for Workroom<T, K> {
     ghost use Rattle.std.specs.Prelude.{◌≡◌, ℕ, length};
     ghost use Rattle.segment_run.specs.Rooms.{HasRoom};
 
@@ -32,14 +33,14 @@ impl<T> Model for Workroom<T> {
     ghost invariant = { λ r. (length r.workplaces.items ≡ 9) × HasRoom r.used × HasRoom r.crew.jobs × HasRoom r.crew.done };
 }
 
-impl<T: Drop> Workroom<T> {
-    /// A workroom that nobody used yet. `AllocError` where memory is lacking.
-    pub fn new(alloc: Global) -> Result<Workroom<T>, AllocError>
+impl<T: Drop, K: Keeper> Workroom<T, K> {
+    /// A workroom that nobody used yet, with keepers of this kind. `AllocError` where memory is lacking.
+    pub fn new(alloc: Global, keeper: &K) -> Result<Workroom<T, K>, AllocError>
         ensures { IfOk result (λ r. r ≡ 9) }
     {
         let mut workplaces = Vec::with_capacity(alloc, WORKERS)?;
         for _ in 0..WORKERS {
-            workplaces.push_reserved(Workplace::new(alloc)?);
+            workplaces.push_reserved(Workplace::new(alloc, keeper.another(alloc))?);
         }
         Ok(Workroom {
             workplaces,

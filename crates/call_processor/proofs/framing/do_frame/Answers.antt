@@ -1,17 +1,17 @@
-use Rattle.std.proofs.Common.{rules, ◌≡◌, ◌+◌, ℕ, [], ◌∷◌, ◌++◌, length, sym, ap, ◌∙◌, subst, arith, length-take-le}
+use Rattle.std.proofs.Common.{rules, ◌≡◌, ◌+◌, ℕ, [], ◌∷◌, ◌++◌, length, refl, sym, ap, ◌∙◌, subst, arith, length-take-le}
 use Rattle.circuit_model.specs.FrameInput.{Input}
 use Rattle.exchange_events.specs.Responses.{reply_of}
 use Rattle.seat_history.specs.Histories.{before}
-use Rattle.exchange_core.specs.Boards.{AnswersAt, world_at, setting_at}
-use Rattle.exchange_core.specs.Working.{IsNumbered}
+use Rattle.exchange_core.specs.Boards.{world_at, setting_at}
 use Rattle.exchange_events.specs.Sizes.{Dimensions}
-use Rattle.exchange_events.specs.declared.trace.Event.TheVariants.{Frame}
 use Rattle.frame_engine.specs.Frames.{PlaysOut}
 use Rattle.tone_rules.specs.Tables.{table_of}
 use Rattle.call_processor.proofs.EventLemmas.{Next, answer_next}
 use Rattle.call_processor.proofs.FrameLemmas.{frame_asks, boundary, frames_few, input_whole, made_at, next_frame, one_input, played_here, ready_after, same_frames, still_carried, written_whole}
 use Rattle.call_profile.proofs.GivenToneLemmas.{sounds_given}
 use Rattle.call_processor.specs.Frames.{engine_dimensions}
+use Rattle.call_processor.specs.Keeping.{placed}
+use Rattle.call_processor.proofs.KeepingLemmas.{on_ok}
 use Rattle.call_processor.specs.declared.worked.Placed.{Placed}
 use Rattle.call_processor.proofs.framing.do_frame.Goals as goal
 
@@ -49,24 +49,6 @@ frame-requires-clause-tones g c = λ at line place kind since sounds.
     let a = frame_asks board history c.args.event c.args.input.now c.work-place.new.desk.tool c.in-Image.image c.work-place.ensures.sound c.requires.frame c.in-Image.is c.work-place.ensures.shows c.work-place.ensures.tool in
     rw c.requires.tones (sounds_given _ c.in-Image.image _ _ _ (made_at board history c.work-place.ensures.sound).sounding a.shows at line place kind since sounds)
 
-pub returns-in_err-answer-clause-ready : goal.returns-in_err-answer-clause-ready
-returns-in_err-answer-clause-ready g c =
-    let K = g.B.Switchboard.known in
-    let board = g.B.Switchboard.board c.args.board.now in
-    let history = before c.work-place.result.0 (K c.work-place.new.seat).seen in
-    let w = world_at board history in
-    let n = c.args.event in
-    let input = c.args.input.now in
-    let same = same_frames board (K c.args.seat.now).seen history c.work-place.ensures.begins (c.work-place.ensures.frames c.requires.baton) in
-    let a = frame_asks board history n input c.work-place.new.desk.tool c.in-Image.image c.work-place.ensures.sound c.requires.frame c.in-Image.is c.work-place.ensures.shows c.work-place.ensures.tool in
-    let carried = still_carried g.C.Carrier.carries g.C.Carrier.next (engine_dimensions g.C.Carrier.external_lines g.C.Carrier.bridge_lines g.C.Carrier.depth) board (world_at board (K c.args.seat.now).seen) w c.args.engine.now same c.requires.ready.carried in
-    let more = c.frame.ensures.carries (boundary w) (next_frame (g.C.Carrier.carries c.args.engine.now) c.in-Image.image (setting_at board).dimensions w a carried) in
-    ready_after g.C.Carrier.carries g.C.Carrier.next (engine_dimensions g.C.Carrier.external_lines g.C.Carrier.bridge_lines g.C.Carrier.depth) board history (K c.work-place.new.seat).seen (K c.args.seat.now).number n input c.frame.new.self c.in-Image.image c.frame.new.image
-    c.requires.frame (ap (λ k. k.seen) c.work-place.ensures.seat) a.size c.frame.ensures.image
-    (subst (λ (l : Input). g.C.Carrier.carries c.frame.new.self (w.inputs ++ l ∷ []) (w.held ++ w.holding.circuits ∷ []) (w.seated ++ w.ports ∷ [])) c.as_slice.ensures more)
-    (c.frame.ensures.next ∙ ap (λ (k : ℕ). k + 1) (c.requires.ready.number ∙ sym same.next))
-    ((λ i. record { external = c.frame.ensures.external i; bridges = c.frame.ensures.bridges i; slots = c.frame.ensures.slots i }) ∙ c.requires.ready.sized)
-
 pub returns-clause-ready : goal.returns-clause-ready
 returns-clause-ready g c =
     let K = g.B.Switchboard.known in
@@ -85,15 +67,14 @@ returns-clause-ready g c =
     (c.frame.ensures.next ∙ ap (λ (k : ℕ). k + 1) (c.requires.ready.number ∙ sym same.next))
     ((λ i. record { external = c.frame.ensures.external i; bridges = c.frame.ensures.bridges i; slots = c.frame.ensures.slots i }) ∙ c.requires.ready.sized)
 
-pub returns-clause-answer : goal.returns-clause-answer
-returns-clause-answer g c =
+pub returns-clause-kept : goal.returns-clause-kept
+returns-clause-kept g c =
     let K = g.B.Switchboard.known in
     let board = g.B.Switchboard.board c.args.board.now in
     let place = c.work-place.result.0 in
     let history = before place (K c.work-place.new.seat).seen in
-    let p : Placed = record { place = place; answer = c.in_ok-answer.answer } in
+    let p : Placed = placed place c.args.event c.work-place.result.1 c.work-place.new.desk.out c.as_slice-2.result.now in
     let last = c.work-place.ensures.place in
-    let event = c.in_ok-answer.ensures.event in
     let next : Next history c.args.event place (K c.args.seat.now) (K c.work-place.new.seat) = record {
       seat = c.work-place.ensures.seat;
       begins = c.work-place.ensures.begins;
@@ -101,15 +82,6 @@ returns-clause-answer g c =
       turn = c.requires.turn;
       exact = c.work-place.ensures.own;
     } in
-    answer_next board history (K c.args.seat.now) (K c.work-place.new.seat) p (reply_of c.work-place.result.1 c.work-place.new.desk.out)
-    (subst (λ (n : ℕ). Next history n place (K c.args.seat.now) (K c.work-place.new.seat)) (sym event) next)
-    (subst (λ (n : ℕ). AnswersAt board history n (reply_of c.work-place.result.1 c.work-place.new.desk.out)) (sym event) c.work-place.ensures.reply) c.work-place.ensures.few c.in_ok-answer.ensures.reply
-
-pub returns-clause-octets : goal.returns-clause-octets
-returns-clause-octets g c = λ other number.
-    let K = g.B.Switchboard.known in
-    let board = g.B.Switchboard.board c.args.board.now in
-    let history = before c.work-place.result.0 (K c.work-place.new.seat).seen in
     let w = world_at board history in
     let n = c.args.event in
     let input = c.args.input.now in
@@ -117,12 +89,19 @@ returns-clause-octets g c = λ other number.
     let a = frame_asks board history n input c.work-place.new.desk.tool c.in-Image.image c.work-place.ensures.sound c.requires.frame c.in-Image.is c.work-place.ensures.shows c.work-place.ensures.tool in
     let carried = still_carried g.C.Carrier.carries g.C.Carrier.next (engine_dimensions g.C.Carrier.external_lines g.C.Carrier.bridge_lines g.C.Carrier.depth) board (world_at board (K c.args.seat.now).seen) w c.args.engine.now same c.requires.ready.carried in
     let played = c.frame.ensures.plays (boundary w) (next_frame (g.C.Carrier.carries c.args.engine.now) c.in-Image.image (setting_at board).dimensions w a carried) in
-    let arrived : c.as_slice.result.now ≡ other =
-    c.as_slice.ensures ∙ one_input board.trace n input other c.requires.frame (subst (λ (m : ℕ). IsNumbered board.trace m (Frame other)) c.in_ok-answer.ensures.event number) in
     let size : length c.frame.new.out ≡ length c.args.octets.now.items = search rules in
     let room : c.args.octets.now.len ≡ length c.args.octets.now.items = search rules in
-    let kept : c.in_ok-answer.answer.octets ≡ c.frame.new.out =
-    c.in_ok-answer.ensures.octets ∙ (c.as_slice-2.ensures.value ∙ written_whole c.args.octets.now.len c.frame.new.out c.args.octets.now.items (room ∙ sym size) (sym size)) in
-    played_here g.C.Carrier.plays (table_of c.args.tones.now) board.trace.external w other c.frame.new.out c.in_ok-answer.answer.octets c.in-Image.image.external c.in-Image.image.frame
-    a.size.external a.shows.1.frame kept (size ∙ c.requires.lines)
-    (subst (λ (l : Input). PlaysOut c.in-Image.image.external (g.C.Carrier.plays (table_of c.args.tones.now) (w.inputs ++ l ∷ []) (w.held ++ w.holding.circuits ∷ []) c.in-Image.image.frame) c.frame.new.out) arrived played)
+    let kept : c.as_slice-2.result.now ≡ c.frame.new.out =
+    c.as_slice-2.ensures.value ∙ written_whole c.args.octets.now.len c.frame.new.out c.args.octets.now.items (room ∙ sym size) (sym size) in
+    on_ok c.keep.result (λ held. record {
+      answer = p;
+      place = last;
+      event_is = refl;
+      is = answer_next board history (K c.args.seat.now) (K c.work-place.new.seat) p (reply_of c.work-place.result.1 c.work-place.new.desk.out) next c.work-place.ensures.reply c.work-place.ensures.few refl;
+      said = λ other number.
+          let arrived : c.as_slice.result.now ≡ other = c.as_slice.ensures ∙ one_input board.trace n input other c.requires.frame number in
+          played_here g.C.Carrier.plays (table_of c.args.tones.now) board.trace.external w other c.frame.new.out c.as_slice-2.result.now c.in-Image.image.external c.in-Image.image.frame
+          a.size.external a.shows.1.frame kept (size ∙ c.requires.lines)
+          (subst (λ (l : Input). PlaysOut c.in-Image.image.external (g.C.Carrier.plays (table_of c.args.tones.now) (w.inputs ++ l ∷ []) (w.held ++ w.holding.circuits ∷ []) c.in-Image.image.frame) c.frame.new.out) arrived played);
+      held = held;
+    }) c.keep.ensures.kept

@@ -13,9 +13,9 @@ use Rattle.segment_run.proofs.dealing.deal.Goals as goal
 pub loop-worker-init : goal.loop-worker-init
 loop-worker-init g c =
     let K = g.B.Switchboard.known in
-    let S : Job _ → Type 0 = λ j. g.B.Switchboard.seated c.args.board.now j.seat in
+    let S : Job _ _ → Type 0 = λ j. g.B.Switchboard.seated c.args.board.now j.seat in
     let none = c.requires.room.1 in
-    let d = none_yet (λ (j : Job _). j.worker) (λ (j : Job _). K j.seat) c.args.trace.now c.args.segment (K c.args.seat.now) c.args.jobs.items none c.requires.chief.1 in
+    let d = none_yet (λ (j : Job _ _). j.worker) (λ (j : Job _ _). K j.seat) c.args.trace.now c.args.segment (K c.args.seat.now) c.args.jobs.items none c.requires.chief.1 in
     let long = ap length none in
     record {
       seated = c.requires.seated;
@@ -42,7 +42,7 @@ split-mine-requires-clause-turns g c =
     let last = c.from-processors.ensures in
     let within = c.loop-worker-test.true in
     let le : c.loop-worker.worker ≤ c.args.trace.now.processors = omega (arith, last, within) in
-    let h = enough (λ (j : Job _). j.worker) (λ (j : Job _). K j.seat) c.args.trace.now c.args.segment (K c.args.seat.now) c.loop-worker.worker c.loop-worker.jobs.items (K c.loop-worker.seat) le inv.turns inv.all c.requires.turns in
+    let h = enough (λ (j : Job _ _). j.worker) (λ (j : Job _ _). K j.seat) c.args.trace.now c.args.segment (K c.args.seat.now) c.loop-worker.worker c.loop-worker.jobs.items (K c.loop-worker.seat) le inv.turns inv.all c.requires.turns in
     let is = c.requires.loads c.loop-worker.worker le in
     omega (arith, h, is)
 
@@ -52,9 +52,9 @@ loop-worker-preserved g c =
     let within = c.loop-worker-test.true in
     let le : c.loop-worker.worker ≤ c.args.trace.now.processors = omega (arith, last, within) in
     let K = g.B.Switchboard.known in
-    let number : Job _ → ℕ = λ j. j.worker in
-    let known : Job _ → Known = λ j. K j.seat in
-    let S : Job _ → Type 0 = λ j. g.B.Switchboard.seated c.args.board.now j.seat in
+    let number : Job _ _ → ℕ = λ j. j.worker in
+    let known : Job _ _ → Known = λ j. K j.seat in
+    let S : Job _ _ → Type 0 = λ j. g.B.Switchboard.seated c.args.board.now j.seat in
     let trace = c.args.trace.now in
     let segment = c.args.segment in
     let v = K c.args.seat.now in
@@ -75,14 +75,14 @@ loop-worker-preserved g c =
     } in
     elim c.if-turns-gt0.branch [
       | then-turns-gt0+in-Some w ↦
-          let j : Job _ = record { worker = i; seat = w.split-mine.result; workplace = w.in-Some.workplace } in
+          let j : Job _ _ = record { worker = i; seat = w.split-mine.result; workplace = w.in-Some.workplace } in
           let h = enough number known trace segment v i js (K c.loop-worker.seat) le inv.turns inv.all c.requires.turns in
           let d : Dealing number known trace segment v (i + 1) (js ++ j ∷ []) (K w.split-mine.new.seat) =
           one_dealt number known trace segment v i (slice_index_or c.args.loads.now i 0) (nat_eq i c.from-processors.result) js j (K c.loop-worker.seat) (K w.split-mine.new.seat) le is refl (omega (arith, h, is)) (ap (nat_eq i) last)
           w.split-mine.ensures.old w.split-mine.ensures.new so_far in
-          let items : c.if-turns-gt0.jobs.items ≡ js ++ j ∷ [] = ap (λ (l : Vec (Job _) Global). l.items) w.jobs-is ∙ w.push_reserved.ensures.items in
+          let items : c.if-turns-gt0.jobs.items ≡ js ++ j ∷ [] = ap (λ (l : Vec (Job _ _) Global). l.items) w.jobs-is ∙ w.push_reserved.ensures.items in
           let a : Dealing number known trace segment v (i + 1) c.if-turns-gt0.jobs.items (K c.if-turns-gt0.seat) =
-          subst (λ (l : List (Job _)). Dealing number known trace segment v (i + 1) l (K c.if-turns-gt0.seat)) (sym items)
+          subst (λ (l : List (Job _ _)). Dealing number known trace segment v (i + 1) l (K c.if-turns-gt0.seat)) (sym items)
           (subst (λ (s : _). Dealing number known trace segment v (i + 1) (js ++ j ∷ []) (K s)) (sym w.seat-is) d) in
           let long = ap length items in
           let more = length-append js (j ∷ []) in
@@ -100,16 +100,16 @@ loop-worker-preserved g c =
             frames = a.frames;
             turns = a.turns;
             all = a.all;
-            room = subst (λ (l : Vec (Job _) Global). 9 ≤ vec_capacity l) (sym w.jobs-is) (search rules);
+            room = subst (λ (l : Vec (Job _ _) Global). 9 ≤ vec_capacity l) (sym w.jobs-is) (search rules);
             lent = search rules;
             kept = search rules;
           }
       | else-turns-gt0 w ↦
           let none = w.if-turns-gt0.false in
           let d : Dealing number known trace segment v (i + 1) js (K c.loop-worker.seat) = none_dealt number known trace segment v i js (K c.loop-worker.seat) (omega (arith, is, none)) so_far in
-          let items : c.if-turns-gt0.jobs.items ≡ js = ap (λ (l : Vec (Job _) Global). l.items) w.jobs-is in
+          let items : c.if-turns-gt0.jobs.items ≡ js = ap (λ (l : Vec (Job _ _) Global). l.items) w.jobs-is in
           let a : Dealing number known trace segment v (i + 1) c.if-turns-gt0.jobs.items (K c.if-turns-gt0.seat) =
-          subst (λ (l : List (Job _)). Dealing number known trace segment v (i + 1) l (K c.if-turns-gt0.seat)) (sym items)
+          subst (λ (l : List (Job _ _)). Dealing number known trace segment v (i + 1) l (K c.if-turns-gt0.seat)) (sym items)
           (subst (λ (s : _). Dealing number known trace segment v (i + 1) js (K s)) (sym w.seat-is) d) in
           let long = ap length items in
           let few = inv.few in
@@ -126,7 +126,7 @@ loop-worker-preserved g c =
             frames = a.frames;
             turns = a.turns;
             all = a.all;
-            room = subst (λ (l : Vec (Job _) Global). 9 ≤ vec_capacity l) (sym w.jobs-is) inv.room;
+            room = subst (λ (l : Vec (Job _ _) Global). 9 ≤ vec_capacity l) (sym w.jobs-is) inv.room;
             lent = search rules;
             kept = search rules;
           }

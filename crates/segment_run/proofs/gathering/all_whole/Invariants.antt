@@ -4,5 +4,5 @@ use Rattle.segment_run.proofs.gathering.all_whole.Given as goal
 
 abbrev pub invariant-loop-finished : goal.invariant-loop-finished
 invariant-loop-finished g l = record {
-  so_far : (k : ℕ) (d : Finished _) → k < l.finished-index → IsTrue (slice_index_or l.fn.workers k d).whole;
+  so_far : (k : ℕ) (d : Finished _ _) → k < l.finished-index → IsTrue (slice_index_or l.fn.workers k d).whole;
 }

@@ -1,52 +1,17 @@
-use Rattle.std.proofs.Common.{rules, ◌-◌, IsTrue, sym, subst, arith}
-use Rattle.exchange_events.specs.Sound.{IsSound}
-use Rattle.segment_run.specs.Gathered.{IsSpan}
-use Rattle.segment_run.proofs.LoadLemmas.{ends_are}
+use Rattle.std.proofs.Common.{◌≡◌, [], map, ap, sym, subst, ◌∙◌}
+use Rattle.tone_rules.specs.Tables.{table_of}
+use Rattle.call_processor.specs.declared.worked.Placed.{Placed}
+use Rattle.segment_run.specs.Segment.{AreAnswered}
 use Rattle.segment_run.proofs.run.run_segment_in.Goals as goal
-
-pub overflow_sub-count : goal.overflow_sub-count
-overflow_sub-count g c =
-    let sound : IsSound c.args.trace.now = subst IsSound (sym c.requires.may.trace_is) ((g.met.B.Switchboard g.world.𝓛 g.world.𝓜 g.world.𝓡 ((λ s x. x), (λ x. x), (λ x. x), λ x. x)).sound_trace c.args.board.now c.args.seat.now c.requires.seated) in
-    let ends = ends_are c.args.trace.now c.args.segment sound.segments c.requires.may.within in
-    let order = ends.0 in
-    let before = c.ends_of-before.ensures.before in
-    let last = c.ends_of-before.ensures.last in
-    omega (arith, order, before, last)
-
-pub merge-requires-clause-within : goal.merge-requires-clause-within
-merge-requires-clause-within g c =
-    let whole : IsTrue c.work_all-gathered.result.whole = search rules in
-    let all = c.work_all-gathered.ensures.done whole in
-    let first = c.ends_of-before.ensures.before in
-    let last = c.ends_of-before.ensures.last in
-    let span : IsSpan c.args.trace.now c.args.segment c.ends_of-before.result.0 (c.ends_of-before.result.1 - c.ends_of-before.result.0) = (first, omega (arith, first, last)) in
-    all.within c.ends_of-before.result.0 (c.ends_of-before.result.1 - c.ends_of-before.result.0) span
-
-pub merge-requires-clause-many : goal.merge-requires-clause-many
-merge-requires-clause-many g c =
-    let whole : IsTrue c.work_all-gathered.result.whole = search rules in
-    let all = c.work_all-gathered.ensures.done whole in
-    let first = c.ends_of-before.ensures.before in
-    let last = c.ends_of-before.ensures.last in
-    let span : IsSpan c.args.trace.now c.args.segment c.ends_of-before.result.0 (c.ends_of-before.result.1 - c.ends_of-before.result.0) = (first, omega (arith, first, last)) in
-    all.many c.ends_of-before.result.0 (c.ends_of-before.result.1 - c.ends_of-before.result.0) span
-
-pub merge-requires-clause-rising : goal.merge-requires-clause-rising
-merge-requires-clause-rising g c =
-    let whole : IsTrue c.work_all-gathered.result.whole = search rules in
-    let all = c.work_all-gathered.ensures.done whole in
-    all.rising
 
 pub returns-clause-answer : goal.returns-clause-answer
 returns-clause-answer g c =
-    let whole : IsTrue c.work_all-gathered.result.whole = search rules in
-    let all = c.work_all-gathered.ensures.done whole in
-    let first = c.ends_of-before.ensures.before in
-    let last = c.ends_of-before.ensures.last in
-    let span : IsSpan c.args.trace.now c.args.segment c.ends_of-before.result.0 (c.ends_of-before.result.1 - c.ends_of-before.result.0) = (first, omega (arith, first, last)) in
+    let adds = c.in_ok-done.ensures.answered [] c.new-keeper.ensures in
+    let ran = c.in_ok-done.ensures.whole in
+    let same : c.in_ok-answers_of.field-0.items ≡ map (λ (p : Placed). p.answer) adds.answers = c.in_ok-answers_of.ensures ∙ ap (map (λ (p : Placed). p.answer)) adds.held in
     record {
-      whole = all.whole;
-      long = all.long;
-      answered = all.answered c.ends_of-before.result.0 (c.ends_of-before.result.1 - c.ends_of-before.result.0) span c.in_ok-answers.answers.items c.in_ok-answers.ensures.answers;
-      ready = all.ready;
+      whole = ran.whole;
+      long = ran.long;
+      answered = subst (AreAnswered g.C.Carrier.plays (table_of c.args.trace.now.tones) (g.B.Switchboard.board c.args.board.now) (g.B.Switchboard.known c.args.seat.now) (g.B.Switchboard.known c.run_segment_with.new.seat)) (sym same) adds.answered;
+      ready = ran.ready;
     }

@@ -12,8 +12,8 @@ join-requires-after_bounds g c lifetimes outlive =
     let ps = c.pop.new.self.items in
     let next = c.in-Some.next in
     let items = c.in-Some.ensures.items in
-    let S : Job _ → Type 0 = λ j. g.B.Switchboard.seated c.args.board.now j.seat in
-    let M : Job _ → Type 0 = MayProcess g.B.Switchboard.known (g.B.Switchboard.board c.args.board.now) c.args.trace.now c.args.segment in
+    let S : Job _ _ → Type 0 = λ j. g.B.Switchboard.seated c.args.board.now j.seat in
+    let M : Job _ _ → Type 0 = MayProcess g.B.Switchboard.known (g.B.Switchboard.board c.args.board.now) c.args.trace.now c.args.segment in
     let seated_one : S next = all_last S ps next (subst (All S) items c.requires.seated.1) in
     let seated_all : All S ps = all_front S ps next (subst (All S) items c.requires.seated.1) in
     let may_one : M next = all_last M ps next (subst (All M) items c.requires.all_may) in
@@ -29,6 +29,7 @@ join-requires-after_bounds g c lifetimes outlive =
               c.requires.ready,
               (
                 param_send _ _ (arg_send _ no _ bounds.send-C),
+                param_send _ _ (arg_send _ no _ bounds.send-K),
                 param_send _ _ (arg_send _ no _ bounds.send-B-Seat),
                 param_sync _ _ (arg_sync _ no _ bounds.sync-B),
                 param_sync _ _ (arg_sync _ no _ bounds.sync-G),
@@ -51,6 +52,7 @@ join-requires-after_bounds g c lifetimes outlive =
                 (
                   c.requires.empty,
                   (
+                    param_send _ _ (arg_send _ no _ bounds.send-K),
                     param_send _ _ (arg_send _ no _ bounds.send-B-Seat),
                     param_sync _ _ (arg_sync _ no _ bounds.sync-B),
                     param_sync _ _ (arg_sync _ no _ bounds.sync-G),

@@ -1,5 +1,4 @@
-use Rattle.std.proofs.Common.{◌+◌, ℕ, sym, subst, ap, ◌∙◌, IsTrue, List, length}
-use Rattle.std.specs.Prelude.{replicate}
+use Rattle.std.proofs.Common.{◌≡◌, ◌+◌, ◌<◌, ℕ, Bool, sym, subst, ap, ◌∙◌, IsTrue, List, map, reverse}
 use Rattle.std.specs.List.{All}
 use Rattle.seat_history.specs.declared.known.Known.{Known}
 use Rattle.exchange_events.specs.Sound.{IsSound}
@@ -8,9 +7,14 @@ use Rattle.tone_rules.specs.Tables.{table_of}
 use Rattle.call_processor.specs.declared.worked.Finished.{Finished}
 use Rattle.call_processor.specs.Frames.{IsReady, engine_dimensions}
 use Rattle.segment_run.specs.declared.dealing.Job.{Job}
-use Rattle.segment_run.specs.Nothing.{nothing}
-use Rattle.segment_run.specs.Team.{IsRising, IsWithin, all_of, put_from}
-use Rattle.segment_run.proofs.WholeRunLemmas.{Run, each_at, enough_turns, run_answered, run_chief, run_long, run_many, run_ran, run_ready, run_rising, run_whole, run_within}
+use Rattle.segment_run.specs.Jobs.{HasItsOctets}
+use Rattle.segment_run.specs.Merging.{Keep}
+use Rattle.segment_run.specs.Team.{after_joins, part_numbered}
+use Rattle.seat_history.specs.Histories.{StartsWith}
+use Rattle.call_processor.specs.declared.worked.Placed.{Placed}
+use Rattle.call_processor.specs.declared.worked.Workplace.{Workplace}
+use Rattle.segment_run.proofs.PairLemmas.{pairs, pairs_all, pairs_keep, pairs_long, pairs_map, pairs_said, pairs_work, pairs_zip}
+use Rattle.segment_run.proofs.WholeRunLemmas.{Run, each_at, enough_turns, run_answered, run_apart, run_chief, run_long, run_many, run_ran, run_ready, run_whole}
 use Rattle.segment_run.proofs.working.work_all.Goals as goal
 
 pub deal-jobs-requires-clause-turns : goal.deal-jobs-requires-clause-turns
@@ -23,25 +27,35 @@ side_by_side-crew-requires-clause-ready g c lifetimes outlive =
     let K = g.B.Switchboard.known in
     let v = K c.args.seat.now in
     let P : List Entry → Type 0 = λ seen. IsReady g.C.Carrier.carries g.C.Carrier.next (engine_dimensions g.C.Carrier.external_lines g.C.Carrier.bridge_lines g.C.Carrier.depth) (g.B.Switchboard.board c.args.board.now) seen c.args.engine c.args.tool in
-    each_at c.args.trace.now c.args.segment (λ (j : Job _). j.worker) (λ (j : Job _). K j.seat) v P (v.made + 1) 0 c.deal-jobs.result.items c.deal-jobs.ensures.dealt c.requires.ready
+    each_at c.args.trace.now c.args.segment (λ (j : Job _ _). j.worker) (λ (j : Job _ _). K j.seat) v P (v.made + 1) 0 c.deal-jobs.result.items c.deal-jobs.ensures.dealt c.requires.ready
 
 pub returns-clause-chief : goal.returns-clause-chief
 returns-clause-chief g c =
     let K = g.B.Switchboard.known in
     let board = g.B.Switchboard.board c.args.board.now in
-    let number : Job _ → ℕ = λ j. j.worker in
-    let known : Job _ → Known = λ j. K j.seat in
-    let joined : Finished _ → Known = λ f. K f.seat in
-    let workplace = λ (f : Finished _). f.workplace in
-    let whole = λ (f : Finished _). f.whole in
+    let trace = c.args.trace.now in
+    let plays = g.C.Carrier.plays in
+    let tones = table_of trace.tones in
+    let number : Job _ _ → ℕ = λ j. j.worker in
+    let known : Job _ _ → Known = λ j. K j.seat in
+    let octets : Job _ _ → Known → Placed → Type 0 = λ j. HasItsOctets plays tones board trace j.worker in
+    let part : Job _ _ → List ℕ = λ j. part_numbered trace c.args.segment j.worker in
+    let seat : Finished _ _ → Known = λ f. K f.seat in
+    let place : Finished _ _ → Workplace _ = λ f. f.workplace in
+    let done : Finished _ _ → Bool = λ f. f.whole in
+    let joined : (Finished _ _) × List Placed → Known = λ u. K u.0.seat in
+    let answers : (Finished _ _) × List Placed → List Placed = λ u. u.1 in
+    let whole : (Finished _ _) × List Placed → Bool = λ u. u.0.whole in
     let sizes = engine_dimensions g.C.Carrier.external_lines g.C.Carrier.bridge_lines g.C.Carrier.depth in
     let v = K c.args.seat.now in
     let dealt = K c.deal-jobs.new.seat in
     let k = K c.gather.new.seat in
     let jobs = c.deal-jobs.result.items in
     let workers = c.side_by_side-crew.result.crew.done.items in
-    let sound : IsSound c.args.trace.now = subst IsSound (sym c.requires.may.trace_is) ((g.met.B.Switchboard g.world.𝓛 g.world.𝓜 g.world.𝓡 ((λ s x. x), (λ x. x), (λ x. x), λ x. x)).sound_trace c.args.board.now c.args.seat.now c.requires.seated) in
-    let r : Run board c.args.trace.now c.args.segment number known joined workplace whole g.C.Carrier.plays (table_of c.args.trace.now.tones) g.C.Carrier.carries g.C.Carrier.next sizes v dealt k jobs workers c.args.engine c.side_by_side-crew.result.engine c.args.tool c.side_by_side-crew.result.tool = record {
+    let z = c.side_by_side-crew.ensures.works in
+    let us = pairs g.K.Keeper.holds board octets part known seat place done jobs workers z in
+    let sound : IsSound trace = subst IsSound (sym c.requires.may.trace_is) ((g.met.B.Switchboard g.world.𝓛 g.world.𝓜 g.world.𝓡 ((λ s x. x), (λ x. x), (λ x. x), λ x. x)).sound_trace c.args.board.now c.args.seat.now c.requires.seated) in
+    let r : Run board trace c.args.segment number known joined answers whole plays tones g.C.Carrier.carries g.C.Carrier.next sizes v dealt k jobs us c.args.engine c.side_by_side-crew.result.engine c.args.tool c.side_by_side-crew.result.tool = record {
       same = c.requires.may.trace_is;
       sound = sound;
       within = c.requires.may.within;
@@ -55,34 +69,44 @@ returns-clause-chief g c =
       baton = c.deal-jobs.ensures.baton;
       turns = c.deal-jobs.ensures.turns;
       all = c.deal-jobs.ensures.all;
-      works = c.side_by_side-crew.ensures.works;
-      octets = c.side_by_side-crew.ensures.octets;
-      readies = c.side_by_side-crew.ensures.ready;
+      works = pairs_work g.K.Keeper.holds board octets part known seat place done jobs workers z;
+      octets = pairs_said g.K.Keeper.holds board octets part known seat place done jobs workers z;
+      readies = pairs_zip g.K.Keeper.holds board octets part known seat place done (λ j f. j.worker ≡ trace.processors → IsReady g.C.Carrier.carries g.C.Carrier.next sizes board (K f.seat).seen c.side_by_side-crew.result.engine c.side_by_side-crew.result.tool) jobs workers z c.side_by_side-crew.ensures.ready;
       idles = c.side_by_side-crew.ensures.idle;
-      joins = c.gather.ensures.seat;
+      joins = c.gather.ensures.seat ∙ ap (after_joins dealt) (sym (pairs_map g.K.Keeper.holds board octets part known seat place done seat jobs workers z));
       begins = c.gather.ensures.begins;
-      fronts = c.gather.ensures.fronts;
-      settled = c.gather.ensures.settled;
+      fronts = pairs_all g.K.Keeper.holds board octets part known seat place done (λ f. StartsWith k.seen (K f.seat).seen) jobs workers z c.gather.ensures.fronts;
+      settled = λ some. c.gather.ensures.settled (subst (λ (n : ℕ). 0 < n) (pairs_long g.K.Keeper.holds board octets part known seat place done jobs workers z) some);
     } in
-    run_chief board c.args.trace.now c.args.segment number known joined workplace whole g.C.Carrier.plays (table_of c.args.trace.now.tones) g.C.Carrier.carries g.C.Carrier.next sizes v dealt k jobs workers c.args.engine c.side_by_side-crew.result.engine c.args.tool c.side_by_side-crew.result.tool r
+    run_chief board trace c.args.segment number known joined answers whole plays tones g.C.Carrier.carries g.C.Carrier.next sizes v dealt k jobs us c.args.engine c.side_by_side-crew.result.engine c.args.tool c.side_by_side-crew.result.tool r
 
 pub returns-clause-ran : goal.returns-clause-ran
 returns-clause-ran g c =
     let K = g.B.Switchboard.known in
     let board = g.B.Switchboard.board c.args.board.now in
-    let number : Job _ → ℕ = λ j. j.worker in
-    let known : Job _ → Known = λ j. K j.seat in
-    let joined : Finished _ → Known = λ f. K f.seat in
-    let workplace = λ (f : Finished _). f.workplace in
-    let whole = λ (f : Finished _). f.whole in
+    let trace = c.args.trace.now in
+    let plays = g.C.Carrier.plays in
+    let tones = table_of trace.tones in
+    let number : Job _ _ → ℕ = λ j. j.worker in
+    let known : Job _ _ → Known = λ j. K j.seat in
+    let octets : Job _ _ → Known → Placed → Type 0 = λ j. HasItsOctets plays tones board trace j.worker in
+    let part : Job _ _ → List ℕ = λ j. part_numbered trace c.args.segment j.worker in
+    let seat : Finished _ _ → Known = λ f. K f.seat in
+    let place : Finished _ _ → Workplace _ = λ f. f.workplace in
+    let done : Finished _ _ → Bool = λ f. f.whole in
+    let joined : (Finished _ _) × List Placed → Known = λ u. K u.0.seat in
+    let answers : (Finished _ _) × List Placed → List Placed = λ u. u.1 in
+    let whole : (Finished _ _) × List Placed → Bool = λ u. u.0.whole in
     let sizes = engine_dimensions g.C.Carrier.external_lines g.C.Carrier.bridge_lines g.C.Carrier.depth in
     let v = K c.args.seat.now in
     let dealt = K c.deal-jobs.new.seat in
     let k = K c.gather.new.seat in
     let jobs = c.deal-jobs.result.items in
     let workers = c.side_by_side-crew.result.crew.done.items in
-    let sound : IsSound c.args.trace.now = subst IsSound (sym c.requires.may.trace_is) ((g.met.B.Switchboard g.world.𝓛 g.world.𝓜 g.world.𝓡 ((λ s x. x), (λ x. x), (λ x. x), λ x. x)).sound_trace c.args.board.now c.args.seat.now c.requires.seated) in
-    let r : Run board c.args.trace.now c.args.segment number known joined workplace whole g.C.Carrier.plays (table_of c.args.trace.now.tones) g.C.Carrier.carries g.C.Carrier.next sizes v dealt k jobs workers c.args.engine c.side_by_side-crew.result.engine c.args.tool c.side_by_side-crew.result.tool = record {
+    let z = c.side_by_side-crew.ensures.works in
+    let us = pairs g.K.Keeper.holds board octets part known seat place done jobs workers z in
+    let sound : IsSound trace = subst IsSound (sym c.requires.may.trace_is) ((g.met.B.Switchboard g.world.𝓛 g.world.𝓜 g.world.𝓡 ((λ s x. x), (λ x. x), (λ x. x), λ x. x)).sound_trace c.args.board.now c.args.seat.now c.requires.seated) in
+    let r : Run board trace c.args.segment number known joined answers whole plays tones g.C.Carrier.carries g.C.Carrier.next sizes v dealt k jobs us c.args.engine c.side_by_side-crew.result.engine c.args.tool c.side_by_side-crew.result.tool = record {
       same = c.requires.may.trace_is;
       sound = sound;
       within = c.requires.may.within;
@@ -96,35 +120,45 @@ returns-clause-ran g c =
       baton = c.deal-jobs.ensures.baton;
       turns = c.deal-jobs.ensures.turns;
       all = c.deal-jobs.ensures.all;
-      works = c.side_by_side-crew.ensures.works;
-      octets = c.side_by_side-crew.ensures.octets;
-      readies = c.side_by_side-crew.ensures.ready;
+      works = pairs_work g.K.Keeper.holds board octets part known seat place done jobs workers z;
+      octets = pairs_said g.K.Keeper.holds board octets part known seat place done jobs workers z;
+      readies = pairs_zip g.K.Keeper.holds board octets part known seat place done (λ j f. j.worker ≡ trace.processors → IsReady g.C.Carrier.carries g.C.Carrier.next sizes board (K f.seat).seen c.side_by_side-crew.result.engine c.side_by_side-crew.result.tool) jobs workers z c.side_by_side-crew.ensures.ready;
       idles = c.side_by_side-crew.ensures.idle;
-      joins = c.gather.ensures.seat;
+      joins = c.gather.ensures.seat ∙ ap (after_joins dealt) (sym (pairs_map g.K.Keeper.holds board octets part known seat place done seat jobs workers z));
       begins = c.gather.ensures.begins;
-      fronts = c.gather.ensures.fronts;
-      settled = c.gather.ensures.settled;
+      fronts = pairs_all g.K.Keeper.holds board octets part known seat place done (λ f. StartsWith k.seen (K f.seat).seen) jobs workers z c.gather.ensures.fronts;
+      settled = λ some. c.gather.ensures.settled (subst (λ (n : ℕ). 0 < n) (pairs_long g.K.Keeper.holds board octets part known seat place done jobs workers z) some);
     } in
-    run_ran board c.args.trace.now c.args.segment number known joined workplace whole g.C.Carrier.plays (table_of c.args.trace.now.tones) g.C.Carrier.carries g.C.Carrier.next sizes v dealt k jobs workers c.args.engine c.side_by_side-crew.result.engine c.args.tool c.side_by_side-crew.result.tool r
+    run_ran board trace c.args.segment number known joined answers whole plays tones g.C.Carrier.carries g.C.Carrier.next sizes v dealt k jobs us c.args.engine c.side_by_side-crew.result.engine c.args.tool c.side_by_side-crew.result.tool r
 
 pub returns-clause-done : goal.returns-clause-done
 returns-clause-done g c =
-    λ done.
+    λ all.
     let K = g.B.Switchboard.known in
     let board = g.B.Switchboard.board c.args.board.now in
-    let number : Job _ → ℕ = λ j. j.worker in
-    let known : Job _ → Known = λ j. K j.seat in
-    let joined : Finished _ → Known = λ f. K f.seat in
-    let workplace = λ (f : Finished _). f.workplace in
-    let whole = λ (f : Finished _). f.whole in
+    let trace = c.args.trace.now in
+    let plays = g.C.Carrier.plays in
+    let tones = table_of trace.tones in
+    let number : Job _ _ → ℕ = λ j. j.worker in
+    let known : Job _ _ → Known = λ j. K j.seat in
+    let octets : Job _ _ → Known → Placed → Type 0 = λ j. HasItsOctets plays tones board trace j.worker in
+    let part : Job _ _ → List ℕ = λ j. part_numbered trace c.args.segment j.worker in
+    let seat : Finished _ _ → Known = λ f. K f.seat in
+    let place : Finished _ _ → Workplace _ = λ f. f.workplace in
+    let done : Finished _ _ → Bool = λ f. f.whole in
+    let joined : (Finished _ _) × List Placed → Known = λ u. K u.0.seat in
+    let answers : (Finished _ _) × List Placed → List Placed = λ u. u.1 in
+    let whole : (Finished _ _) × List Placed → Bool = λ u. u.0.whole in
     let sizes = engine_dimensions g.C.Carrier.external_lines g.C.Carrier.bridge_lines g.C.Carrier.depth in
     let v = K c.args.seat.now in
     let dealt = K c.deal-jobs.new.seat in
     let k = K c.gather.new.seat in
     let jobs = c.deal-jobs.result.items in
     let workers = c.side_by_side-crew.result.crew.done.items in
-    let sound : IsSound c.args.trace.now = subst IsSound (sym c.requires.may.trace_is) ((g.met.B.Switchboard g.world.𝓛 g.world.𝓜 g.world.𝓡 ((λ s x. x), (λ x. x), (λ x. x), λ x. x)).sound_trace c.args.board.now c.args.seat.now c.requires.seated) in
-    let r : Run board c.args.trace.now c.args.segment number known joined workplace whole g.C.Carrier.plays (table_of c.args.trace.now.tones) g.C.Carrier.carries g.C.Carrier.next sizes v dealt k jobs workers c.args.engine c.side_by_side-crew.result.engine c.args.tool c.side_by_side-crew.result.tool = record {
+    let z = c.side_by_side-crew.ensures.works in
+    let us = pairs g.K.Keeper.holds board octets part known seat place done jobs workers z in
+    let sound : IsSound trace = subst IsSound (sym c.requires.may.trace_is) ((g.met.B.Switchboard g.world.𝓛 g.world.𝓜 g.world.𝓡 ((λ s x. x), (λ x. x), (λ x. x), λ x. x)).sound_trace c.args.board.now c.args.seat.now c.requires.seated) in
+    let r : Run board trace c.args.segment number known joined answers whole plays tones g.C.Carrier.carries g.C.Carrier.next sizes v dealt k jobs us c.args.engine c.side_by_side-crew.result.engine c.args.tool c.side_by_side-crew.result.tool = record {
       same = c.requires.may.trace_is;
       sound = sound;
       within = c.requires.may.within;
@@ -138,23 +172,23 @@ returns-clause-done g c =
       baton = c.deal-jobs.ensures.baton;
       turns = c.deal-jobs.ensures.turns;
       all = c.deal-jobs.ensures.all;
-      works = c.side_by_side-crew.ensures.works;
-      octets = c.side_by_side-crew.ensures.octets;
-      readies = c.side_by_side-crew.ensures.ready;
+      works = pairs_work g.K.Keeper.holds board octets part known seat place done jobs workers z;
+      octets = pairs_said g.K.Keeper.holds board octets part known seat place done jobs workers z;
+      readies = pairs_zip g.K.Keeper.holds board octets part known seat place done (λ j f. j.worker ≡ trace.processors → IsReady g.C.Carrier.carries g.C.Carrier.next sizes board (K f.seat).seen c.side_by_side-crew.result.engine c.side_by_side-crew.result.tool) jobs workers z c.side_by_side-crew.ensures.ready;
       idles = c.side_by_side-crew.ensures.idle;
-      joins = c.gather.ensures.seat;
+      joins = c.gather.ensures.seat ∙ ap (after_joins dealt) (sym (pairs_map g.K.Keeper.holds board octets part known seat place done seat jobs workers z));
       begins = c.gather.ensures.begins;
-      fronts = c.gather.ensures.fronts;
-      settled = c.gather.ensures.settled;
+      fronts = pairs_all g.K.Keeper.holds board octets part known seat place done (λ f. StartsWith k.seen (K f.seat).seen) jobs workers z c.gather.ensures.fronts;
+      settled = λ some. c.gather.ensures.settled (subst (λ (n : ℕ). 0 < n) (pairs_long g.K.Keeper.holds board octets part known seat place done jobs workers z) some);
     } in
-    let all_done = subst (All (λ (f : Finished _). IsTrue f.whole)) c.as_slice.ensures.value (c.all_whole-whole.ensures.0 done) in
-    let lie = sym c.gather.ensures.workplaces in
+    let all_done : All (λ (u : (Finished _ _) × List Placed). IsTrue (whole u)) us = pairs_all g.K.Keeper.holds board octets part known seat place done (λ f. IsTrue f.whole) jobs workers z (subst (All (λ (f : Finished _ _). IsTrue f.whole)) c.as_slice.ensures.value (c.all_whole-whole.ensures.0 all)) in
     record {
-      whole = run_whole board c.args.trace.now c.args.segment number known joined workplace whole g.C.Carrier.plays (table_of c.args.trace.now.tones) g.C.Carrier.carries g.C.Carrier.next sizes v dealt k jobs workers c.args.engine c.side_by_side-crew.result.engine c.args.tool c.side_by_side-crew.result.tool r all_done;
-      long = run_long board c.args.trace.now c.args.segment number known joined workplace whole g.C.Carrier.plays (table_of c.args.trace.now.tones) g.C.Carrier.carries g.C.Carrier.next sizes v dealt k jobs workers c.args.engine c.side_by_side-crew.result.engine c.args.tool c.side_by_side-crew.result.tool r all_done;
-      ready = run_ready board c.args.trace.now c.args.segment number known joined workplace whole g.C.Carrier.plays (table_of c.args.trace.now.tones) g.C.Carrier.carries g.C.Carrier.next sizes v dealt k jobs workers c.args.engine c.side_by_side-crew.result.engine c.args.tool c.side_by_side-crew.result.tool r;
-      within = λ lo count span. subst (λ (l : List _). All (IsWithin lo count) (all_of l)) lie (run_within board c.args.trace.now c.args.segment number known joined workplace whole g.C.Carrier.plays (table_of c.args.trace.now.tones) g.C.Carrier.carries g.C.Carrier.next sizes v dealt k jobs workers c.args.engine c.side_by_side-crew.result.engine c.args.tool c.side_by_side-crew.result.tool r all_done lo count span.0 span.1);
-      many = λ lo count span. ap length (ap all_of (sym lie)) ∙ run_many board c.args.trace.now c.args.segment number known joined workplace whole g.C.Carrier.plays (table_of c.args.trace.now.tones) g.C.Carrier.carries g.C.Carrier.next sizes v dealt k jobs workers c.args.engine c.side_by_side-crew.result.engine c.args.tool c.side_by_side-crew.result.tool r all_done count span.1;
-      rising = subst (All IsRising) lie (run_rising board c.args.trace.now c.args.segment number known joined workplace whole g.C.Carrier.plays (table_of c.args.trace.now.tones) g.C.Carrier.carries g.C.Carrier.next sizes v dealt k jobs workers c.args.engine c.side_by_side-crew.result.engine c.args.tool c.side_by_side-crew.result.tool r all_done);
-      answered = λ lo count span m is. run_answered board c.args.trace.now c.args.segment number known joined workplace whole g.C.Carrier.plays (table_of c.args.trace.now.tones) g.C.Carrier.carries g.C.Carrier.next sizes v dealt k jobs workers c.args.engine c.side_by_side-crew.result.engine c.args.tool c.side_by_side-crew.result.tool r all_done lo count span.0 span.1 m (is ∙ ap (λ (l : List _). put_from lo (all_of l) (replicate count nothing)) (sym lie));
+      whole = run_whole board trace c.args.segment number known joined answers whole plays tones g.C.Carrier.carries g.C.Carrier.next sizes v dealt k jobs us c.args.engine c.side_by_side-crew.result.engine c.args.tool c.side_by_side-crew.result.tool r all_done;
+      long = run_long board trace c.args.segment number known joined answers whole plays tones g.C.Carrier.carries g.C.Carrier.next sizes v dealt k jobs us c.args.engine c.side_by_side-crew.result.engine c.args.tool c.side_by_side-crew.result.tool r all_done;
+      ready = run_ready board trace c.args.segment number known joined answers whole plays tones g.C.Carrier.carries g.C.Carrier.next sizes v dealt k jobs us c.args.engine c.side_by_side-crew.result.engine c.args.tool c.side_by_side-crew.result.tool r;
+      parts = reverse (map answers us);
+      kept = subst (λ (l : List (Workplace _)). Keep g.K.Keeper.holds l (reverse (map answers us))) (sym c.gather.ensures.workplaces) (pairs_keep g.K.Keeper.holds board octets part known seat place done jobs workers z);
+      apart = run_apart board trace c.args.segment number known joined answers whole plays tones g.C.Carrier.carries g.C.Carrier.next sizes v dealt k jobs us c.args.engine c.side_by_side-crew.result.engine c.args.tool c.side_by_side-crew.result.tool r all_done;
+      many = λ lo count span. run_many board trace c.args.segment number known joined answers whole plays tones g.C.Carrier.carries g.C.Carrier.next sizes v dealt k jobs us c.args.engine c.side_by_side-crew.result.engine c.args.tool c.side_by_side-crew.result.tool r all_done ∙ sym span.1;
+      answered = run_answered board trace c.args.segment number known joined answers whole plays tones g.C.Carrier.carries g.C.Carrier.next sizes v dealt k jobs us c.args.engine c.side_by_side-crew.result.engine c.args.tool c.side_by_side-crew.result.tool r all_done;
     }

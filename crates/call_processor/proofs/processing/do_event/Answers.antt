@@ -1,0 +1,32 @@
+use Rattle.std.proofs.Common.{[], refl, arith, length-take-le}
+use Rattle.exchange_events.specs.Responses.{reply_of}
+use Rattle.seat_history.specs.Histories.{before}
+use Rattle.call_processor.specs.declared.worked.Placed.{Placed}
+use Rattle.call_processor.specs.Keeping.{placed}
+use Rattle.call_processor.proofs.EventLemmas.{Next, answer_next}
+use Rattle.call_processor.proofs.KeepingLemmas.{on_ok}
+use Rattle.call_processor.proofs.processing.do_event.Goals as goal
+
+pub returns-clause-kept : goal.returns-clause-kept
+returns-clause-kept g c =
+    let K = g.B.Switchboard.known in
+    let board = g.B.Switchboard.board c.args.board.now in
+    let place = c.work-place.result.0 in
+    let history = before place (K c.work-place.new.seat).seen in
+    let p : Placed = placed place c.args.event c.work-place.result.1 c.work-place.new.desk.out [] in
+    let last = c.work-place.ensures.place in
+    let next : Next history c.args.event place (K c.args.seat.now) (K c.work-place.new.seat) = record {
+      seat = c.work-place.ensures.seat;
+      begins = c.work-place.ensures.begins;
+      place_is = length-take-le place (K c.work-place.new.seat).seen (omega (arith, last));
+      turn = c.requires.turn;
+      exact = c.work-place.ensures.own;
+    } in
+    on_ok c.keep.result (λ kept. record {
+      answer = p;
+      place = last;
+      event_is = refl;
+      is = answer_next board history (K c.args.seat.now) (K c.work-place.new.seat) p (reply_of c.work-place.result.1 c.work-place.new.desk.out) next c.work-place.ensures.reply c.work-place.ensures.few refl;
+      said = refl;
+      held = kept;
+    }) c.keep.ensures.kept

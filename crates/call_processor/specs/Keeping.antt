@@ -1,0 +1,66 @@
+-- What a worker keeps of the events that it did. Source: this exchange's own.
+use Rattle.std.specs.Prelude.{◌≡◌, ℕ, ◌+◌, ◌<◌, Bool, List, [], ◌∷◌, ◌++◌, length, drop, All, Option, Some, None}
+use Rattle.exchange_events.specs.declared.outbox.Outbox.{Outbox}
+use Rattle.exchange_events.specs.declared.outbox.Response.{Response}
+use Rattle.exchange_events.specs.Kept.{kept_of}
+use Rattle.exchange_events.specs.Responses.{reply_of}
+use Rattle.seat_history.specs.declared.known.Known.{Known}
+use Rattle.exchange_core.specs.Boards.{Board}
+use Rattle.call_processor.specs.declared.worked.Placed.{Placed}
+use Rattle.call_processor.specs.Work.{IsAnswer, Works}
+
+-- the answer of an event at its place, from the response and the outbox of its step and from what each line sends
+abbrev pub placed : ℕ → ℕ → Response → Outbox → List (List ℕ) → Placed
+placed place event response outbox octets = record { place = place; answer = record { event = event; reply = kept_of (reply_of response outbox); octets = octets } }
+
+-- the place of the first of these answers
+abbrev pub first_place : List Placed → Option ℕ
+first_place [] = None
+first_place (p ∷ ps) = Some p.place
+
+-- A keeper that held these answers handed the first ones to another: the first of all, and those behind it that come before a place. The other has
+-- them behind its own.
+pub record HandsOn {K : Type 0} (holds : K → List Placed → Type 0) (below : ℕ) (answers others : List Placed) (from to : K) : Type 0 where
+  pub run : List Placed
+  pub rest : List Placed
+  pub parts : answers ≡ run ++ rest
+  pub some : 0 < length answers → 0 < length run
+  pub before : All (λ (p : Placed). p.place < below) (drop 1 run)
+  pub left : holds from rest
+  pub got : holds to (others ++ run)
+
+-- a keeper holds these answers, and maybe more behind them
+pub record StillHolds {K : Type 0} (holds : K → List Placed → Type 0) (answers : List Placed) (k : K) : Type 0 where
+  pub more : List Placed
+  pub held : holds k (answers ++ more)
+
+-- the first answers were moved from one list behind another, as far as they come before a place
+pub record HandsBelow (below : ℕ) (answers others from to : List Placed) : Type 0 where
+  pub run : List Placed
+  pub parts : answers ≡ run ++ from
+  pub before : All (λ (p : Placed). p.place < below) run
+  pub got : to ≡ others ++ run
+
+-- ---- one event, and a part of a segment
+
+-- The event was done by the seat and kept: behind all that was kept before stands its answer, at the place of the seat's last entry. Of its octets
+-- holds what is said.
+pub record HasKept {K : Type 0} (holds : K → List Placed → Type 0) (board : Board) (seat : Known) (event : ℕ) (octets : Placed → Type 0) (before after : K) : Type 0 where
+  pub answer : Placed
+  pub place : length seat.seen ≡ answer.place + 1
+  pub event_is : answer.answer.event ≡ event
+  pub is : IsAnswer board seat answer
+  pub said : octets answer
+  pub held : (answers : List Placed) → holds before answers → holds after (answers ++ answer ∷ [])
+
+-- an event that is no frame has no octets
+abbrev pub has_no_octets : Placed → Type 0
+has_no_octets p = p.answer.octets ≡ []
+
+-- From v to w the first events of the part were done, as `Works` says, and their answers are what is kept; of the octets of each holds what is said,
+-- given what the seat knows at last.
+pub record KeepsWork {K : Type 0} (holds : K → List Placed → Type 0) (board : Board) (octets : Known → Placed → Type 0) (part : List ℕ) (v : Known) (keeper : K) (whole : Bool) (w : Known) : Type 0 where
+  pub answers : List Placed
+  pub held : holds keeper answers
+  pub works : Works board part v answers whole w
+  pub said : All (octets w) answers

@@ -1,0 +1,13 @@
+use Rattle.std.proofs.Common.{◌≡◌, ◌+◌, ◌≤◌, length, vec_len}
+use Rattle.std.specs.Prelude.{vec_capacity}
+use Rattle.segment_run.proofs.run.give_back.Given as goal
+
+abbrev pub invariant-loop-one : goal.invariant-loop-one
+invariant-loop-one g l = record {
+  all : length l.workplaces.items + length l.used.items ≡ length l.fn.workplaces.items + length l.fn.used.items;
+  room : vec_len l.workplaces + vec_len l.used ≤ vec_capacity l.workplaces;
+  kept : vec_capacity l.used ≡ vec_capacity l.fn.used;
+}
+
+abbrev pub decreases-loop-one : goal.decreases-loop-one
+decreases-loop-one g l = vec_len l.used
