@@ -12,7 +12,7 @@ use std::alloc::AllocError;
 // Room for the words and numbers of a line: three numbers of ten digits, and what stands between them.
 const ROOM: usize = 48;
 
-/// Appends a report's line for one event: its number and what it was answered_events, for a message what
+/// Appends a report's line for one event: its number and what it was answered, for a message what
 /// was sent for it, and for a frame the thirty octets of each line that sends an octet other than
 /// idle. The octets of an answer are read for a frame alone.
 ///
