@@ -62,7 +62,7 @@ impl FrameBuffer {
     }
 
     /// The octets of the half that is filled, line after line and thirty to a line, to be written.
-    pub fn half_to_fill(&mut self) -> &mut [u8]
+    pub fn filled(&mut self) -> &mut [u8]
         ensures* writes_back { sem 𝓛 (Lends the_row (Array octet_row 0) self.entry result (speech_with self.old)) }
         ensures octets { result.now ≡ self.old.filled }
         ensures size { length result.now ≡ self.old.lines * 30 }

@@ -77,7 +77,7 @@ pub fn outgoing(crossed: &Crossed, table: &Image, out: &mut FrameBuffer)
     ensures octets { IsRead table.now crossed.now out.new }
     ensures readable { out.new.readable ≡ out.old.readable }
 {
-    read_part(crossed, table, 0, out.half_to_fill());
+    read_part(crossed, table, 0, out.filled());
 }
 
 // What some lines read, from line `first` on: `part` holds their rows, of thirty octets each.
