@@ -79,10 +79,10 @@ pub record MayRun (board : Board) (trace : Trace) (segment : ℕ) (v : Known) : 
   pub begun : length v.seen ≡ events_before trace.segments segment
 
 -- a keeper keeps behind what it kept before the answers of what the history grew by
-pub record AddsAnswers {K : Type 0} (holds : K → List Placed → Type 0) (plays : Plays) (tones : Kind → List ℕ) (board : Board) (v w : Known) (kept_of : List Placed) (keeper : K) : Type 0 where
+pub record AddsAnswers {K : Type 0} (holds : K → List Placed → Type 0) (plays : Plays) (tones : Kind → List ℕ) (board : Board) (v w : Known) (kept : List Placed) (keeper : K) : Type 0 where
   pub answers : List Placed
   pub answered : AreAnswered plays tones board v w (map (λ (p : Placed). p.answer) answers)
-  pub held : holds keeper (kept_of ++ answers)
+  pub held : holds keeper (kept ++ answers)
 
 -- from v to w the segment was run whole, and the engine and the tool came back ready for the next frame
 pub record RanTo {T E K : Type 0} (carries : Carrying E) (next : E → ℕ) (sizes : E → Dimensions) (board : Board) (trace : Trace) (segment : ℕ) (v w : Known) (a : SegmentDone T E K) : Type 0 where
