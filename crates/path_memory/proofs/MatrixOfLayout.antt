@@ -8,7 +8,7 @@ use Rattle.control_memory.proofs.Lookups.{path_in_found, path_in_is, path_out_fo
 use Rattle.control_memory.proofs.LookupsAfter.{looks_in, sent_in, path_of, found_with_new, found_with_old, found_without_old, found_without_other}
 use Rattle.paull_matrix.specs.Matrix.{Matrix, by_row_and_slot, no_paths, row_slot, column_slot, IsLegal, with_path as with_entry, without_path as without_entry}
 use Rattle.paull_matrix.proofs.Laws.{with_path_here, with_path_other, without_path_here, without_path_other, here_or_other, column_of_row, no_column, no_row}
-use Rattle.fabric_map.specs.Matching.{IsMatrixOf}
+use Rattle.path_memory.specs.Matching.{IsMatrixOf}
 use Rattle.control_memory.proofs.TablesAfter.{bare, finds_nothing}
 use Rattle.std.specs.FinMap.{get-empty}
 

@@ -1,8 +1,8 @@
 use Rattle.std.proofs.Common.{◌≡◌, ◌∙◌, sym, subst, Some}
 use Rattle.control_memory.specs.Layout.{IsSlot, Joins, hop_of}
 use Rattle.control_memory.specs.Paths.{Fabric}
-use Rattle.fabric_map.proofs.Connected.{lifts_entry, map_without}
-use Rattle.fabric_map.proofs.fabric.FabricMapPathMap.disconnect.Goals as goal
+use Rattle.path_memory.proofs.Kept.{lifts_entry, kept_without}
+use Rattle.path_memory.proofs.memory.PathMemory.disconnect.Goals as goal
 
 pub lift-requires : goal.lift-requires
 lift-requires c =
@@ -15,4 +15,4 @@ pub invariant_of-self : goal.invariant_of-self
 invariant_of-self c =
     let inside = subst (λ (x : Fabric). IsSlot x.lines c.args.from) (sym c.self.view_is) c.requires.from in
     let at : hop_of c.self.inside.paths.layout c.args.from ≡ Some c.in-Some.hop = sym c.hop.ensures.hop ∙ c.in-Some.is in
-    map_without c.self.inside.matrix c.self.inside.paths c.args.from c.in-Some.hop c.lift.new.self c.take.new.self c.self.invariant inside at c.lift.ensures.lifted c.take.ensures.layout c.take.ensures.lines c.take.ensures.slots
+    kept_without c.self.inside.matrix c.self.inside.paths c.args.from c.in-Some.hop c.lift.new.self c.take.new.self c.self.invariant inside at c.lift.ensures.lifted c.take.ensures.layout c.take.ensures.lines c.take.ensures.slots
