@@ -1,14 +1,11 @@
 -- What the exchange of a chain makes of a layout: its paths lifted and laid again, and how many of them have moved.
-use Rattle.std.proofs.Common.{◌≡◌, ◌≢◌, ℕ, zero, suc, ◌+◌, ◌*◌, ◌<◌, ◌&&◌, Bool, true, false, cond, not, eqb, Option, Some, None, List, [], ◌∷◌, map, length, get_or, set, refl, sym, ◌∙◌, ap, subst, ⊎_elim, arith, length-set}
+use Rattle.std.proofs.Common.{◌≡◌, ◌≢◌, ℕ, zero, suc, ◌+◌, ◌*◌, ◌<◌, true, false, eqb, Option, Some, None, List, [], ◌∷◌, map, length, get_or, refl, sym, ◌∙◌, ap, subst, ⊎_elim, arith, length-set}
 use Rattle.std.specs.Prelude.{⊤, ◌==◌}
 use Rattle.std.proofs.lemmas.List.{set-set, set_comm}
-use Rattle.std.proofs.lemmas.Bool.{eq-eqb}
 use Rattle.std.proofs.lemmas.Bool.Decides.{eqb_tells}
 use Rattle.circuit_model.specs.declared.channel.Slot.{Slot}
-use Rattle.circuit_model.specs.Circuits.{same_slot}
 use Rattle.circuit_model.proofs.Slots.{same_slot-refl}
-use Rattle.control_memory.specs.declared.hop.Hop.{Hop}
-use Rattle.control_memory.specs.Layout.{Path, Layout, number_of, hop_of, path_in, IsSlot, HasPath, Joins, Legal}
+use Rattle.control_memory.specs.Layout.{Path, Layout, number_of, path_in, IsSlot, HasPath, Joins, Legal}
 use Rattle.control_memory.specs.Connecting.{Side, across, path_at, far_line, chain, exchanged, with_path, without_path, moved, is_moved}
 use Rattle.control_memory.proofs.Lookups.{IsPathOf, path_in_found, path_in_is, one_hop}
 use Rattle.control_memory.proofs.Steps.{same_number, number_inside, was_there, hop_here, hop_else, IsNew, new_or_old}

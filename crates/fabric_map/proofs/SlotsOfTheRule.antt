@@ -1,10 +1,10 @@
 -- The slots of the rule on the matrix are those of the rule on the layout, and the moves determine the paths that are taken.
-use Rattle.std.proofs.Common.{◌≡◌, ℕ, ◌&&◌, Bool, cond, Option, Some, None, List, [], ◌∷◌, refl, sym, ◌∙◌, ap}
-use Rattle.std.specs.Prelude.{is_none, option_map, find, unwrap_or}
+use Rattle.std.proofs.Common.{◌≡◌, ℕ, Some, None, List, [], ◌∷◌, refl, sym, ◌∙◌, ap}
+use Rattle.std.specs.Prelude.{find, unwrap_or}
 use Rattle.std.specs.List.{range_with_len}
-use Rattle.control_memory.specs.Layout.{Path, Layout, path_in, path_out}
-use Rattle.control_memory.specs.Connecting.{without_path, common_slot, first_unsent, first_unreceived, is_unsent, is_unreceived}
-use Rattle.paull_matrix.specs.Matrix.{Matrix, is_free_in_row, is_free_in_column, lowest_in_both}
+use Rattle.control_memory.specs.Layout.{Layout}
+use Rattle.control_memory.specs.Connecting.{without_path, first_unsent, first_unreceived, is_unsent, is_unreceived}
+use Rattle.paull_matrix.specs.Matrix.{Matrix, is_free_in_row, is_free_in_column}
 use Rattle.rearrange_chain.specs.declared.moves.Move.{Move}
 use Rattle.rearrange_chain.specs.Chain.{slot_a, slot_b}
 use Rattle.control_memory.specs.declared.ends.Ends.{Ends}

@@ -57,12 +57,7 @@ impl FabricMap {
 
 // Connects by the rule where paths may have to move for it. It stands apart, so that the lists of
 // moves are made only where no slot is free in both lines.
-fn connect_by_moves<L: Ledger>(
-    memory: &mut PathMemory,
-    from: Slot,
-    to: Slot,
-    blank: Blank,
-) -> u32
+fn connect_by_moves<L: Ledger>(memory: &mut PathMemory, from: Slot, to: Slot, blank: Blank) -> u32
     requires ledger { (blank.name ≡ L.name) × (blank.parts ≡ L.parts) × (0 < L.parts) }
     requires thirty { memory.old.slots ≡ 30 }
     requires from { IsSlot memory.old.lines from }
@@ -80,7 +75,13 @@ fn connect_by_moves<L: Ledger>(
     let mut steps = Steps::<L>::new(blank);
     let mut moves = ArrayVec::new();
     let mut lifted = ArrayVec::new();
-    let freed = make_room(&mut memory.matrix, from.line, to.line, &mut moves, &mut steps);
+    let freed = make_room(
+        &mut memory.matrix,
+        from.line,
+        to.line,
+        &mut moves,
+        &mut steps,
+    );
     lift_all(&mut memory.paths, &moves, &mut lifted);
     lay_all(&mut memory.paths, &moves, &lifted);
     memory.matrix.place(from.line, to.line, freed);

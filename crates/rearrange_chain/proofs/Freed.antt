@@ -1,12 +1,11 @@
 -- The chain from a row or from a column makes room in both, and the shorter of the two moves few paths.
 use Rattle.std.proofs.Common.{◌≡◌, ◌≢◌, ℕ, zero, ◌+◌, ◌*◌, ◌-◌, ◌<◌, ◌≤◌, Bool, true, false, Option, Some, None, List, length, arith, refl, sym, ap, subst, ◌∙◌}
-use Rattle.std.specs.Prelude.{slice_get, ◌&&◌, is_none, nat_lt, if◌then◌else◌}
+use Rattle.std.specs.Prelude.{slice_get, ◌&&◌, nat_lt, if◌then◌else◌}
 use Rattle.std.proofs.lemmas.Bool.Decides.{nat_tests}
 use mathlib.Core.Logic.{inl, inr}
 use Rattle.paull_matrix.specs.Matrix.{Matrix, row_slot, column_slot, is_free_in_row, is_free_in_column, lowest_in_row, lowest_in_column, lowest_in_both, paths_of_cell, SameSizes, IsLegal}
 use Rattle.paull_matrix.proofs.Numbers.{lowest_passes, lowest_none}
 use Rattle.paull_matrix.proofs.Laws.{column_of_row, row_of_column, row_inside, no_column, lowest_in_row_is, lowest_in_column_is}
-use Rattle.paull_matrix.proofs.Bools.{both_true}
 use Rattle.rearrange_chain.specs.declared.moves.Move.{Move}
 use Rattle.rearrange_chain.specs.Chain.{End, Row, Column, far_line, far_end, move_of, chain, lifted, exchanged, is_shorter, shorter, ChangesBy}
 use Rattle.rearrange_chain.proofs.Walk.{leave, enter, IsMirrored, IsWithin, own_chain, is_step, has_step, rows_leave_once, rows_take_once, columns_take_once, not_entered, new_of, old_of}
