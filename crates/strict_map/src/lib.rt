@@ -16,6 +16,8 @@
 
 mod laws;
 mod strict;
+#[cfg(test)]
+mod tests;
 
 pub use laws::nothing_moves;
 pub use strict::{SLOTS, StrictMap};
