@@ -58,12 +58,7 @@ fn on(line: u8, place: u8) -> Slot {
     Slot { line, place }
 }
 
-fn take<P: PathMap>(
-    rt: &impl Abort,
-    map: &mut CircuitMap<P>,
-    image: &mut Image,
-    step: Step,
-) -> Told
+fn take<P: PathMap>(rt: &impl Abort, map: &mut CircuitMap<P>, image: &mut Image, step: Step) -> Told
     requires lines { (map.old.external ≡ 2) × (map.old.bridges ≡ 1) }
     requires image { (image.old.external ≡ 2) × (image.old.bridges ≡ 1) × (image.old.slots ≡ map.old.slots) }
     ensures sizes { SameSizes map.old map.new }

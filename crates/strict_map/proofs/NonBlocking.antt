@@ -1,9 +1,9 @@
 -- A slot is free in both lines wherever two free ends are to be connected on fifty-nine internal slots.
-use Rattle.std.proofs.Common.{◌≡◌, ℕ, ◌<◌, ◌&&◌, Bool, true, false, Option, Some, None, refl, sym, ◌∙◌, ap, subst}
-use Rattle.std.specs.Prelude.{is_none, option_map}
+use Rattle.std.proofs.Common.{◌≡◌, ℕ, ◌&&◌, false, Option, Some, None, refl, sym, ◌∙◌, ap, subst}
+use Rattle.std.specs.Prelude.{is_none}
 use Rattle.circuit_model.specs.declared.channel.Slot.{Slot}
 use Rattle.control_memory.specs.Layout.{Path, path_in, path_out, place_sent, Legal}
-use Rattle.control_memory.specs.Connecting.{common_slot, connect, is_unsent, is_unreceived, moved, with_path}
+use Rattle.control_memory.specs.Connecting.{common_slot, is_unsent, is_unreceived, moved, with_path}
 use Rattle.control_memory.specs.Paths.{Fabric}
 use Rattle.paull_matrix.proofs.Numbers.{lowest_none, lowest_passes}
 use Rattle.path_memory.specs.Memory.{CanConnect}
