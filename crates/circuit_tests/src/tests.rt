@@ -1,14 +1,16 @@
-ghost use Rattle.std.specs.Prelude.{◌≡◌};
+ghost use Rattle.std.specs.Prelude.{◌≡◌, ◌≤◌};
+ghost use Rattle.control_memory.specs.Layout.{IsBare};
 ghost use Rattle.control_memory.specs.Image.{SameSizes as SameImageSizes};
 ghost use Rattle.circuit_map.specs.Connections.{SameSizes};
 
 use circuit_map::{CircuitMap, NoPort};
 use circuit_model::{Circuit, Kind, Slot};
-use control_memory::{Heard, Image};
+use control_memory::{Heard, Image, PathMap};
 use fabric_map::FabricMap;
-use std::alloc::Global;
+use std::alloc::{AllocError, Global};
 use std::process::Abort;
 use std::test::Fail;
+use strict_map::StrictMap;
 
 /// One step of a worked example, over two external lines and one bridge line.
 #[derive(Clone, Copy, Debug)]
@@ -56,7 +58,7 @@ fn on(line: u8, place: u8) -> Slot {
     Slot { line, place }
 }
 
-fn take(rt: &impl Abort, map: &mut CircuitMap<FabricMap>, image: &mut Image, step: Step) -> Told
+fn take<P: PathMap>(rt: &impl Abort, map: &mut CircuitMap<P>, image: &mut Image, step: Step) -> Told
     requires lines { (map.old.external ≡ 2) × (map.old.bridges ≡ 1) }
     requires image { (image.old.external ≡ 2) × (image.old.bridges ≡ 1) × (image.old.slots ≡ map.old.slots) }
     ensures sizes { SameSizes map.old map.new }
@@ -122,14 +124,64 @@ fn take(rt: &impl Abort, map: &mut CircuitMap<FabricMap>, image: &mut Image, ste
     }
 }
 
-/// Takes the steps over a map without circuits, and compares what each is answered.
-fn check(rt: &impl Abort, alloc: Global, steps: &[(Step, Told)]) -> Result<(), Fail> {
-    let mut map = CircuitMap::new(alloc, FabricMap::new(alloc, 3)?, 2, 1)?;
-    let mut image = Image::new(alloc, 2, 1, 30)?;
+/// Takes the steps over a map without circuits, on a fabric without paths, and compares what each is
+/// answered.
+fn check_over<P: PathMap + Drop>(
+    rt: &impl Abort,
+    alloc: Global,
+    paths: P,
+    steps: &[(Step, Told)],
+) -> Result<(), Fail>
+    requires lines { P.width paths ≡ 3 }
+    requires slots { (1 ≤ P.depth paths) × (P.depth paths ≤ 59) }
+    requires bare { IsBare (P.layout paths) }
+{
+    let slots = paths.slots();
+    let mut map = CircuitMap::new(alloc, paths, 2, 1)?;
+    let mut image = Image::new(alloc, 2, 1, slots)?;
     for (step, answer) in steps {
         assert_eq!(rt; take(rt, &mut map, &mut image, *step), *answer, "{step:?}");
     }
     Ok(())
+}
+
+/// The same on a fabric of thirty internal slots.
+fn check(rt: &impl Abort, alloc: Global, steps: &[(Step, Told)]) -> Result<(), Fail> {
+    check_over(rt, alloc, FabricMap::new(alloc, 3)?, steps)
+}
+
+/// The same on a fabric of fifty-nine.
+fn check_strict(rt: &impl Abort, alloc: Global, steps: &[(Step, Told)]) -> Result<(), Fail> {
+    check_over(rt, alloc, StrictMap::new(alloc, 3)?, steps)
+}
+
+/// Half of each external line sits at the bridge line, and then the next two slots are connected:
+/// how many paths that moves.
+fn between_full_lines(alloc: Global, answer: Told) -> Result<Vec<(Step, Told)>, AllocError> {
+    let mut steps = Vec::new(alloc);
+    for place in 0..15 {
+        steps.push((Seat(on(0, place), 7), Moved(0, 0)))?;
+    }
+    for place in 0..15 {
+        steps.push((Seat(on(1, place), 7), Moved(0, 0)))?;
+    }
+    steps.push((Pair(on(0, 15), on(1, 15)), answer))?;
+    steps.push((Frame, Number(0)))?;
+    steps.push((Hears(on(1, 15)), path(0)))?;
+    steps.push((Hears(on(2, 29)), path(0)))?;
+    Ok(steps)
+}
+
+#[test]
+fn on_thirty_slots_paths_move(rt: HostRuntime) -> Result<(), Fail> {
+    let steps = between_full_lines(rt.alloc(), Moved(2, 0))?;
+    check(&rt, rt.alloc(), &steps)
+}
+
+#[test]
+fn on_fifty_nine_slots_none_moves(rt: HostRuntime) -> Result<(), Fail> {
+    let steps = between_full_lines(rt.alloc(), Moved(0, 0))?;
+    check_strict(&rt, rt.alloc(), &steps)
 }
 
 #[test]

@@ -7,8 +7,8 @@ use Rattle.control_memory.proofs.Lookups.{IsPathOf, path_in_found, path_out_foun
 use Rattle.paull_matrix.specs.Matrix.{Matrix}
 use Rattle.rearrange_chain.specs.declared.moves.Move.{Move}
 use Rattle.rearrange_chain.specs.Chain.{End, Row, Column, move_of, far_end, far_line as look_far, chain as matrix_chain}
-use Rattle.fabric_map.proofs.MatrixOfLayout.{column_matches}
-use Rattle.fabric_map.proofs.Rearranged.{Beside}
+use Rattle.path_memory.proofs.MatrixOfLayout.{column_matches}
+use Rattle.path_memory.proofs.CommonSlot.{Beside}
 
 -- the other of the two slots
 abbrev pub other : ℕ → ℕ → ℕ → ℕ

@@ -1,20 +1,18 @@
 -- What the exchange of a chain makes of a layout: its paths lifted and laid again, and how many of them have moved.
-use Rattle.std.proofs.Common.{◌≡◌, ◌≢◌, ℕ, zero, suc, ◌+◌, ◌*◌, ◌<◌, ◌&&◌, Bool, true, false, cond, not, eqb, Option, Some, None, List, [], ◌∷◌, map, length, get_or, set, refl, sym, ◌∙◌, ap, subst, ⊎_elim, arith, length-set}
+use Rattle.std.proofs.Common.{◌≡◌, ◌≢◌, ℕ, zero, suc, ◌+◌, ◌*◌, ◌<◌, true, false, eqb, Option, Some, None, List, [], ◌∷◌, map, length, get_or, refl, sym, ◌∙◌, ap, subst, ⊎_elim, arith, length-set}
 use Rattle.std.specs.Prelude.{⊤, ◌==◌}
 use Rattle.std.proofs.lemmas.List.{set-set, set_comm}
-use Rattle.std.proofs.lemmas.Bool.{eq-eqb}
 use Rattle.std.proofs.lemmas.Bool.Decides.{eqb_tells}
 use Rattle.circuit_model.specs.declared.channel.Slot.{Slot}
-use Rattle.circuit_model.specs.Circuits.{same_slot}
 use Rattle.circuit_model.proofs.Slots.{same_slot-refl}
-use Rattle.control_memory.specs.declared.hop.Hop.{Hop}
-use Rattle.control_memory.specs.Layout.{Path, Layout, number_of, hop_of, path_in, IsSlot, HasPath, Joins, Legal}
+use Rattle.control_memory.specs.Layout.{Path, Layout, number_of, path_in, IsSlot, HasPath, Joins, Legal}
 use Rattle.control_memory.specs.Connecting.{Side, across, path_at, far_line, chain, exchanged, with_path, without_path, moved, is_moved}
 use Rattle.control_memory.proofs.Lookups.{IsPathOf, path_in_found, path_in_is, one_hop}
 use Rattle.control_memory.proofs.Steps.{same_number, number_inside, was_there, hop_here, hop_else, IsNew, new_or_old}
 use Rattle.control_memory.specs.declared.ends.Ends.{Ends}
 use Rattle.fabric_map.specs.Rearranging.{without_all, AreTaken, laid}
 use Rattle.control_memory.specs.Paths.{ends_of}
+use Rattle.path_memory.proofs.Added.{same_hop, not_moved, moved_set}
 use Rattle.fabric_map.proofs.Rearranged.{AllSlots, Apart}
 use Rattle.fabric_map.proofs.Chained.{other, moved_by, found_at}
 
@@ -81,26 +79,6 @@ laid_is lines a b (p ∷ ps) layout slots apart =
     ∙ ap (λ l. without_all l es) (set-set layout (number_of p.from) None (Some (record { to = p.to; slot = new }))))
     ∙ laid_is lines a b ps (with_path layout p.from p.to new) slots.1 apart.1
 
--- ---- how many paths have moved
-same_hop : (h k : Hop) (b c : Bool) → same_slot h.to k.to ≡ b → (h.slot == k.slot) ≡ c → is_moved (Some h) (Some k) ≡ cond (b && not c) 1 0
-same_hop h k b c to slot = ap (λ t. cond (t && not (h.slot == k.slot)) 1 0) to ∙ ap (λ t. cond (b && not t) 1 0) slot
-
-not_moved : (h : Hop) → is_moved (Some h) (Some h) ≡ 0
-not_moved h = same_hop h h true true (same_slot-refl h.to) (eq-eqb h.slot h.slot refl)
-
-pub moved_same : (layout : Layout) → moved layout layout ≡ 0
-moved_same [] = refl
-moved_same (None ∷ hops) = ap (λ n. 0 + n) (moved_same hops)
-moved_same (Some h ∷ hops) = ap (λ n. n + moved hops hops) (not_moved h) ∙ ap (λ n. 0 + n) (moved_same hops)
-
--- one hop is written
-pub moved_set : (before after : Layout) (n : ℕ) (v : Option Hop) → length before ≡ length after → n < length after → moved before (set after n v) + is_moved (get_or before n None) (get_or after n None) ≡ moved before after + is_moved (get_or before n None) v
-moved_set [] [] n v same inside = absurd (omega (arith, inside))
-moved_set [] (a ∷ rest) n v same inside = absurd (omega (arith, same))
-moved_set (b ∷ bs) [] n v same inside = absurd (omega (arith, same))
-moved_set (b ∷ bs) (a ∷ rest) zero v same inside = omega arith
-moved_set (b ∷ bs) (a ∷ rest) (suc n) v same inside = let later = moved_set bs rest n v (omega (arith, same)) (omega (arith, inside)) in omega (arith, later)
-
 -- ---- a whole chain has moved
 -- the paths of a chain use the two slots
 abbrev pub AllTurn : ℕ → ℕ → List Path → Type 0
@@ -135,14 +113,6 @@ chain_moved lines a b before (p ∷ ps) after size_b size_a slots apart turn wer
     let is : is_moved (get_or before (number_of p.from) None) (Some (record { to = p.to; slot = new })) ≡ 1 = ap (λ h. is_moved h (Some (record { to = p.to; slot = new }))) were.0 ∙ turned_hop p.to p.slot new turn.0 in
     let rest = chain_moved lines a b before ps next size_b (length-set after (number_of p.from) _ ∙ size_a) slots.1 apart.1 turn.1 were.1 (were_still lines after p new ps slots.0.0.1 slots.1 apart.0 now.1) in
     omega (arith, step, was, is, rest)
-
--- a new path has not moved
-pub new_unmoved : (lines : ℕ) (before after : Layout) (from to : Slot) (slot : ℕ) → length before ≡ 30 * lines → length after ≡ 30 * lines → IsSlot lines from → hop_of before from ≡ None → moved before (with_path after from to slot) ≡ moved before after
-new_unmoved lines before after from to slot size_b size_a inside free =
-    let step = moved_set before after (number_of from) (Some (record { to = to; slot = slot })) (size_b ∙ sym size_a) (let n = number_inside lines from inside in omega (arith, n, size_a)) in
-    let was = ap (λ h. is_moved h (get_or after (number_of from) None)) free in
-    let is = ap (λ h. is_moved h (Some (record { to = to; slot = slot }))) free in
-    omega (arith, step, was, is)
 
 -- ---- which slots are joined
 pub exchanged_long : (a b : ℕ) (ps : List Path) (layout : Layout) → length (exchanged layout a b ps) ≡ length layout

@@ -1,4 +1,3 @@
-pub mod MatrixOfLayout
 pub mod Rearranged
 pub mod Chained
 pub mod Exchanged
@@ -7,4 +6,3 @@ pub mod FreeSlots
 pub mod SlotsOfTheRule
 pub mod RuleOnTheMap
 pub mod Connected
-pub mod InTheCommonSlot

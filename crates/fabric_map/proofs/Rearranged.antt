@@ -7,16 +7,17 @@ use Rattle.control_memory.specs.declared.hop.Hop.{Hop}
 use Rattle.control_memory.specs.Connecting.{with_path, without_path}
 use Rattle.control_memory.proofs.Lookups.{path_in_found}
 use Rattle.control_memory.proofs.Steps.{IsNew, new_or_old, legal_with, legal_without, hop_else, was_there}
-use Rattle.paull_matrix.specs.Matrix.{Matrix, row_slot, column_slot, IsLegal, with_path as with_entry, without_path as without_entry}
+use Rattle.paull_matrix.specs.Matrix.{Matrix, row_slot, column_slot, with_path as with_entry, without_path as without_entry}
 use Rattle.paull_matrix.proofs.Laws.{legal_without as legal_matrix_without, legal_with as legal_matrix_with}
 use Rattle.rearrange_chain.specs.declared.moves.Move.{Move}
 use Rattle.rearrange_chain.specs.Chain.{lifted, placed}
 use Rattle.rearrange_chain.specs.InTurn.{CanLift, CanPlace}
 use Rattle.control_memory.specs.declared.ends.Ends.{Ends}
-use Rattle.fabric_map.specs.Matching.{IsMatrixOf}
+use Rattle.path_memory.specs.Matching.{IsMatrixOf}
 use Rattle.fabric_map.specs.Rearranging.{without_all, AreTaken, laid, CanLay}
 use Rattle.control_memory.specs.Paths.{ends_of}
-use Rattle.fabric_map.proofs.MatrixOfLayout.{mapped_some, matrix_with, matrix_without, free_by_matrix}
+use Rattle.path_memory.proofs.MatrixOfLayout.{mapped_some, matrix_with, matrix_without, free_by_matrix}
+use Rattle.path_memory.proofs.CommonSlot.{Beside}
 
 some_line : (a b : ℕ) → Some a ≡ Some b → a ≡ b
 some_line a b e = cc
@@ -24,12 +25,6 @@ some_line a b e = cc
 by_hop : (o : Option Hop) → ((h : Hop) → o ≡ Some (record { to = h.to; slot = h.slot }) → ⊥) → o ≡ None
 by_hop None nothing = refl
 by_hop (Some h) nothing = absurd (nothing h refl)
-
--- what both hold, side by side
-pub record Beside (lines slots : ℕ) (m : Matrix) (layout : Layout) : Type 0 where
-  pub legal_matrix : IsLegal m
-  pub legal : Legal lines slots layout
-  pub is : IsMatrixOf m layout
 
 -- the ends are slots of so many lines
 abbrev pub AllSlots : ℕ → List Ends → Type 0

@@ -17,10 +17,12 @@ use Rattle.rearrange_chain.proofs.Closed.{turned_round}
 use Rattle.control_memory.specs.declared.ends.Ends.{Ends}
 use Rattle.fabric_map.specs.Rearranging.{without_all, AreTaken, taken_by, laid, CanLay}
 use Rattle.control_memory.specs.Paths.{ends_of}
-use Rattle.fabric_map.proofs.Rearranged.{Beside, AllSlots, Ready, lifts, lays}
+use Rattle.path_memory.proofs.CommonSlot.{Beside, common_is}
+use Rattle.path_memory.proofs.Added.{moved_same, new_unmoved}
+use Rattle.fabric_map.proofs.Rearranged.{AllSlots, Ready, lifts, lays}
 use Rattle.fabric_map.proofs.Chained.{other, moved_by, chains_match}
-use Rattle.fabric_map.proofs.Exchanged.{AllStand, chain_stands, taken_chain, AllApart, laid_is, AllTurn, AllWere, chain_moved, moved_same, new_unmoved, exchanged_long, exchange_joins}
-use Rattle.fabric_map.proofs.SlotsOfTheRule.{common_is, unsent_slot, unreceived_slot, taken_is}
+use Rattle.fabric_map.proofs.Exchanged.{AllStand, chain_stands, taken_chain, AllApart, laid_is, AllTurn, AllWere, chain_moved, exchanged_long, exchange_joins}
+use Rattle.fabric_map.proofs.SlotsOfTheRule.{unsent_slot, unreceived_slot, taken_is}
 
 -- the layout after the moves of the rule, before the new path joins
 abbrev pub rearranged : Matrix → Layout → ℕ → ℕ → Layout

@@ -3,7 +3,6 @@ ghost use Rattle.circuit_model.specs.declared.channel.Slot.{Slot};
 ghost use Rattle.control_memory.specs.Layout.{Layout, Legal, IsSlot, Joins, hop_of, path_to};
 ghost use Rattle.control_memory.specs.Connecting.{connect as joined, moved};
 ghost use Rattle.fabric_map.specs.Map.{most_moves};
-ghost use Rattle.paull_matrix.specs.Matrix.{lowest_in_both, IsLegal};
 ghost use Rattle.rearrange_chain.specs.declared.moves.Move.{Move};
 ghost use Rattle.control_memory.specs.declared.ends.Ends.{Ends};
 ghost use Rattle.control_memory.specs.Paths.{Fabric};
@@ -12,7 +11,8 @@ ghost use Rattle.fabric_map.specs.Rearranging.{without_all, AreTaken, taken_by, 
 use arrayvec::ArrayVec;
 use circuit_model::Slot;
 use control_memory::{Ends, Image, PathMap, PathTable};
-use paull_matrix::{PaullMatrix, Steps};
+use path_memory::PathMemory;
+use paull_matrix::Steps;
 use rearrange_chain::{Move, make_room};
 use std::alloc::{AllocError, Global};
 use std::marker::{Brand, Model};
@@ -24,22 +24,21 @@ pub const SLOTS: u8 = 30;
 
 /// The live map of a rearrangeable fabric: thirty internal slots, as many as a line has places.
 ///
-/// Contracts see its layout. It keeps Paull's matrix of the layout beside it.
+/// Contracts see its layout.
 #[derive(Drop)]
 pub struct FabricMap {
-    matrix: PaullMatrix,
-    paths: PathTable,
+    memory: PathMemory,
 }
 
 impl Model for FabricMap {
+    ghost use Rattle.std.specs.Prelude.{◌≡◌};
     ghost use Rattle.control_memory.specs.Paths.{Fabric};
-    ghost use Rattle.fabric_map.specs.Map.{IsMap};
 
     ghost Value = { Fabric };
 
-    ghost view = { λ m. m.paths };
+    ghost view = { λ m. m.memory };
 
-    ghost invariant = { λ m. IsMap m.matrix m.paths };
+    ghost invariant = { λ m. m.memory.slots ≡ 30 };
 }
 
 impl FabricMap {
@@ -51,49 +50,43 @@ impl FabricMap {
         ensures bare { IfOk result (λ m. m.layout ≡ replicate (30 * lines) None) }
     {
         Ok(FabricMap {
-            matrix: PaullMatrix::new(alloc, lines, SLOTS)?,
-            paths: PathTable::new(alloc, lines, SLOTS)?,
+            memory: PathMemory::new(alloc, lines, SLOTS)?,
         })
-    }
-
-    // Connects by the rule where paths may have to move for it. It stands apart, so that the lists of
-    // moves are made only where no slot is free in both lines.
-    fn connect_by_moves<L: Ledger>(&mut self, from: Slot, to: Slot, blank: Blank) -> u32
-        requires ledger { (blank.name ≡ L.name) × (blank.parts ≡ L.parts) × (0 < L.parts) }
-        requires from { IsSlot self.old.lines from }
-        requires to { IsSlot self.old.lines to }
-        requires inlet { hop_of self.old.layout from ≡ None }
-        requires outlet { path_to self.old.layout to ≡ None }
-        ensures layout { self.new.layout ≡ joined self.old.lines self.old.slots self.old.layout from to }
-        ensures pairs { (x y : Slot) → IsSlot self.old.lines x → Joins self.new.layout x y ↔ (Joins self.old.layout x y ⊎ ((x ≡ from) × (y ≡ to))) }
-        ensures moves { result ≡ moved self.old.layout self.new.layout }
-        ensures few { result ≤ most_moves self.old.lines }
-        ensures lines { self.new.lines ≡ self.old.lines }
-        ensures slots { self.new.slots ≡ self.old.slots }
-        ensures legal { Legal self.new.lines self.new.slots self.new.layout }
-    {
-        let mut steps = Steps::<L>::new(blank);
-        let mut moves = ArrayVec::new();
-        let mut lifted = ArrayVec::new();
-        let freed = make_room(&mut self.matrix, from.line, to.line, &mut moves, &mut steps);
-        lift_all(&mut self.paths, &moves, &mut lifted);
-        lay_all(&mut self.paths, &moves, &lifted);
-        self.matrix.place(from.line, to.line, freed);
-        self.paths.add(from, to, freed);
-        moves.len() as u32
     }
 }
 
-// The lowest slot that is free in a row and in a column, by a counter of its own.
-fn common_slot<L: Ledger>(matrix: &PaullMatrix, i: u8, j: u8, blank: Blank) -> Option<u8>
+// Connects by the rule where paths may have to move for it. It stands apart, so that the lists of
+// moves are made only where no slot is free in both lines.
+fn connect_by_moves<L: Ledger>(memory: &mut PathMemory, from: Slot, to: Slot, blank: Blank) -> u32
     requires ledger { (blank.name ≡ L.name) × (blank.parts ≡ L.parts) × (0 < L.parts) }
-    requires row { i < matrix.now.lines }
-    requires column { j < matrix.now.lines }
-    ensures lowest { result ≡ lowest_in_both matrix.now i j }
-    ensures legal { IsLegal matrix.now }
+    requires thirty { memory.old.slots ≡ 30 }
+    requires from { IsSlot memory.old.lines from }
+    requires to { IsSlot memory.old.lines to }
+    requires inlet { hop_of memory.old.layout from ≡ None }
+    requires outlet { path_to memory.old.layout to ≡ None }
+    ensures layout { memory.new.layout ≡ joined memory.old.lines memory.old.slots memory.old.layout from to }
+    ensures pairs { (x y : Slot) → IsSlot memory.old.lines x → Joins memory.new.layout x y ↔ (Joins memory.old.layout x y ⊎ ((x ≡ from) × (y ≡ to))) }
+    ensures moves { result ≡ moved memory.old.layout memory.new.layout }
+    ensures few { result ≤ most_moves memory.old.lines }
+    ensures lines { memory.new.lines ≡ memory.old.lines }
+    ensures slots { memory.new.slots ≡ memory.old.slots }
+    ensures legal { Legal memory.new.lines memory.new.slots memory.new.layout }
 {
     let mut steps = Steps::<L>::new(blank);
-    matrix.common_free(i, j, &mut steps)
+    let mut moves = ArrayVec::new();
+    let mut lifted = ArrayVec::new();
+    let freed = make_room(
+        &mut memory.matrix,
+        from.line,
+        to.line,
+        &mut moves,
+        &mut steps,
+    );
+    lift_all(&mut memory.paths, &moves, &mut lifted);
+    lay_all(&mut memory.paths, &moves, &lifted);
+    memory.matrix.place(from.line, to.line, freed);
+    memory.paths.add(from, to, freed);
+    moves.len() as u32
 }
 
 // Takes the paths that move out of the layout, and lists their ends.
@@ -138,41 +131,34 @@ impl PathMap for FabricMap {
     ghost layout = { λ m. m.layout };
 
     fn inlet_free(&self, at: Slot) -> bool {
-        self.paths.hop(at).is_none()
+        self.memory.inlet_free(at)
     }
 
     fn outlet_free(&self, at: Slot) -> bool {
-        self.paths.read(at).is_none()
+        self.memory.outlet_free(at)
     }
 
     fn connect(&mut self, from: Slot, to: Slot) -> u32 {
-        let Some(slot) = common_slot::<Brand>(&self.matrix, from.line, to.line, Blank::new(1))
-        else {
-            return self.connect_by_moves::<Brand>(from, to, Blank::new(1));
-        };
-        self.matrix.place(from.line, to.line, slot);
-        self.paths.add(from, to, slot);
-        0
+        match self.memory.connect_in_common_slot(from, to) {
+            Some(_) => 0,
+            None => connect_by_moves::<Brand>(&mut self.memory, from, to, Blank::new(1)),
+        }
     }
 
     fn disconnect(&mut self, from: Slot, to: Slot) {
-        let Some(hop) = self.paths.hop(from) else {
-            unreachable!()
-        };
-        self.matrix.lift(from.line, to.line, hop.slot);
-        self.paths.take(from, hop);
+        self.memory.disconnect(from, to);
     }
 
     fn slot_of(&self, from: Slot) -> Option<u8> {
-        self.paths.hop(from).map(|hop| hop.slot)
+        self.memory.slot_of(from)
     }
 
     fn slots(&self) -> u8 {
-        self.paths.slots()
+        self.memory.slots()
     }
 
     fn write_tables(&self, image: &mut Image) {
-        self.paths.write(image);
+        self.memory.write_tables(image);
     }
 }
 

@@ -1,6 +1,7 @@
 //! The live map of the paths through a fabric of thirty internal slots, as a `PathMap`.
 //!
-//! [`FabricMap`] keeps Paull's matrix beside the layout and its control tables.
+//! [`FabricMap`] is a path memory of thirty slots. Where no slot is free in both lines, it moves
+//! live paths along a chain of Paull's matrix.
 //!
 //! - `connect` never refuses: the new path joins by the rule of rearrangement (`layout`), and at
 //!   most r-1 live paths of r lines move (`few`). It returns how many (`moves`).
@@ -8,8 +9,8 @@
 //! - `write_tables` writes the tables of the layout (`tables`). After each call the layout is legal
 //!   (`legal`).
 //!
-//! It stands on `circuit_model`, `control_memory`, `paull_matrix` and `rearrange_chain`, and on the
-//! kit's `arrayvec`.
+//! It stands on `circuit_model`, `control_memory`, `paull_matrix`, `path_memory` and
+//! `rearrange_chain`, and on the kit's `arrayvec`.
 #![tactic(auto)]
 
 mod fabric;

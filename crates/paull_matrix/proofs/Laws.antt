@@ -11,7 +11,7 @@ use Rattle.std.proofs.lemmas.Cmp.{on_total, then_total}
 use Rattle.std.proofs.lemmas.Map.Lookups.{exact_pairs, exact_unsigned}
 use Rattle.std.proofs.lemmas.Bool.{cases_eq}
 use Rattle.paull_matrix.specs.Numbers.{lowest}
-use Rattle.paull_matrix.specs.Matrix.{by_row_and_slot, Matrix, row_slot, column_slot, names, has_path, no_paths, with_path, without_path, is_free_in_row, is_free_in_column, paths_of_row, paths_of_column, paths_of_cell, IsLegal}
+use Rattle.paull_matrix.specs.Matrix.{by_row_and_slot, Matrix, row_slot, column_slot, names, has_path, no_paths, with_path, without_path, is_free_in_row, is_free_in_column, lowest_in_row, lowest_in_column, lowest_in_both, paths_of_row, paths_of_column, paths_of_cell, IsLegal}
 use Rattle.paull_matrix.proofs.Bools.{false_unless, both_true}
 use Rattle.paull_matrix.proofs.Numbers.{lowest_passes, lowest_only, lowest_of_none, count_full, count_more, count_same, count_short}
 
@@ -228,3 +228,20 @@ column_without_other m i j s l t legal stands apart = same_column (without_path 
           absurd (apart (same_Some l j same) here.1)
       | inr other ↦ without_path_other m i s k t other ∙ e
     ]
+
+-- ---- the lowest free slots are free
+is_none_of : (o : Option ℕ) → is_none o ≡ true → o ≡ None
+is_none_of None e = refl
+is_none_of (Some k) e = absurd (cc)
+
+pub lowest_in_row_is : (m : Matrix) (i a : ℕ) → lowest_in_row m i ≡ Some a → (row_slot m i a ≡ None) × (a < m.slots)
+lowest_in_row_is m i a e = let is = lowest_passes (is_free_in_row m i) m.slots a e in (is_none_of (row_slot m i a) is.0, is.1)
+
+pub lowest_in_column_is : (m : Matrix) (j b : ℕ) → lowest_in_column m j ≡ Some b → (column_slot m j b ≡ None) × (b < m.slots)
+lowest_in_column_is m j b e = let is = lowest_passes (is_free_in_column m j) m.slots b e in (is_none_of (column_slot m j b) is.0, is.1)
+
+pub lowest_in_both_is : (m : Matrix) (i j s : ℕ) → lowest_in_both m i j ≡ Some s → (row_slot m i s ≡ None) × (column_slot m j s ≡ None) × (s < m.slots)
+lowest_in_both_is m i j s e =
+    let is = lowest_passes (λ t. is_free_in_row m i t && is_free_in_column m j t) m.slots s e in
+    let both = both_true (is_free_in_row m i s) (is_free_in_column m j s) is.0 in
+    (is_none_of (row_slot m i s) both.0, is_none_of (column_slot m j s) both.1, is.1)

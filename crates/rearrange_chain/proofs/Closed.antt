@@ -8,7 +8,8 @@ use Rattle.std.proofs.lemmas.Option.{same_Some}
 use mathlib.Core.Logic.{inl, inr}
 use Rattle.rearrange_chain.specs.declared.moves.Move.{Move}
 use Rattle.rearrange_chain.specs.Chain.{End, Row, Column, far_end, move_of}
-use Rattle.rearrange_chain.proofs.Walk.{line_of, leave, enter, step, end_at, IsMirrored, IsWithin, IsEndOf, own_chain, then_cases, map_cases, entered_by, turned, next_at, is_step, has_step, end_cases, old_of, new_of, chain_length, comes_to_ends, never_comes_to, no_meeting, no_return, been_before, end_within, pigeonhole, number, number_below, number_same, numbered, numbered_is}
+use Rattle.paull_matrix.proofs.Pigeonhole.{pigeonhole}
+use Rattle.rearrange_chain.proofs.Walk.{line_of, leave, enter, step, end_at, IsMirrored, IsWithin, IsEndOf, own_chain, then_cases, map_cases, entered_by, turned, next_at, is_step, has_step, end_cases, old_of, new_of, chain_length, comes_to_ends, never_comes_to, no_meeting, no_return, been_before, end_within, number, number_below, number_same, numbered, numbered_is}
 
 -- What a chain from a start needs, so that it comes to an end and comes back nowhere: the paths are found from both of their ends, what is
 -- looked up lies within the lines, nothing leads to the start, and nothing leads to some other end

@@ -1,12 +1,11 @@
 -- The chain from a row or from a column makes room in both, and the shorter of the two moves few paths.
 use Rattle.std.proofs.Common.{◌≡◌, ◌≢◌, ℕ, zero, ◌+◌, ◌*◌, ◌-◌, ◌<◌, ◌≤◌, Bool, true, false, Option, Some, None, List, length, arith, refl, sym, ap, subst, ◌∙◌}
-use Rattle.std.specs.Prelude.{slice_get, ◌&&◌, is_none, nat_lt, if◌then◌else◌}
+use Rattle.std.specs.Prelude.{slice_get, ◌&&◌, nat_lt, if◌then◌else◌}
 use Rattle.std.proofs.lemmas.Bool.Decides.{nat_tests}
 use mathlib.Core.Logic.{inl, inr}
 use Rattle.paull_matrix.specs.Matrix.{Matrix, row_slot, column_slot, is_free_in_row, is_free_in_column, lowest_in_row, lowest_in_column, lowest_in_both, paths_of_cell, SameSizes, IsLegal}
 use Rattle.paull_matrix.proofs.Numbers.{lowest_passes, lowest_none}
-use Rattle.paull_matrix.proofs.Laws.{column_of_row, row_of_column, row_inside, no_column}
-use Rattle.paull_matrix.proofs.Bools.{both_true}
+use Rattle.paull_matrix.proofs.Laws.{column_of_row, row_of_column, row_inside, no_column, lowest_in_row_is, lowest_in_column_is}
 use Rattle.rearrange_chain.specs.declared.moves.Move.{Move}
 use Rattle.rearrange_chain.specs.Chain.{End, Row, Column, far_line, far_end, move_of, chain, lifted, exchanged, is_shorter, shorter, ChangesBy}
 use Rattle.rearrange_chain.proofs.Walk.{leave, enter, IsMirrored, IsWithin, own_chain, is_step, has_step, rows_leave_once, rows_take_once, columns_take_once, not_entered, new_of, old_of}
@@ -165,28 +164,12 @@ both_free true true e f g = cc
 both_free true false e f g = cc
 both_free false d e f g = cc
 
-is_none_of : (o : Option ℕ) → is_none o ≡ true → o ≡ None
-is_none_of None e = refl
-is_none_of (Some k) e = absurd (cc)
-
 pub two_slots : (m : Matrix) (i j a b : ℕ) → lowest_in_both m i j ≡ None → lowest_in_row m i ≡ Some a → lowest_in_column m j ≡ Some b → a ≢ b
 two_slots m i j a b none row column same =
     let in_row = lowest_passes (is_free_in_row m i) m.slots a row in
     let in_column = lowest_passes (is_free_in_column m j) m.slots b column in
     let at = lowest_none (λ s. is_free_in_row m i s && is_free_in_column m j s) m.slots a none in_row.1 in
     both_free (is_free_in_row m i a) (is_free_in_column m j a) at in_row.0 (subst (λ s. is_free_in_column m j s ≡ true) (sym same) in_column.0)
-
-pub lowest_in_row_is : (m : Matrix) (i a : ℕ) → lowest_in_row m i ≡ Some a → (row_slot m i a ≡ None) × (a < m.slots)
-lowest_in_row_is m i a e = let is = lowest_passes (is_free_in_row m i) m.slots a e in (is_none_of (row_slot m i a) is.0, is.1)
-
-pub lowest_in_column_is : (m : Matrix) (j b : ℕ) → lowest_in_column m j ≡ Some b → (column_slot m j b ≡ None) × (b < m.slots)
-lowest_in_column_is m j b e = let is = lowest_passes (is_free_in_column m j) m.slots b e in (is_none_of (column_slot m j b) is.0, is.1)
-
-pub lowest_in_both_is : (m : Matrix) (i j s : ℕ) → lowest_in_both m i j ≡ Some s → (row_slot m i s ≡ None) × (column_slot m j s ≡ None) × (s < m.slots)
-lowest_in_both_is m i j s e =
-    let is = lowest_passes (λ t. is_free_in_row m i t && is_free_in_column m j t) m.slots s e in
-    let both = both_true (is_free_in_row m i s) (is_free_in_column m j s) is.0 in
-    (is_none_of (row_slot m i s) both.0, is_none_of (column_slot m j s) both.1, is.1)
 
 -- All that the rule promises of a row and a column without a common slot
 pub record Room (m : Matrix) (i j s : ℕ) (moves : List Move) : Type 0 where

@@ -1,16 +1,10 @@
 -- The walk of an alternating chain, and two such walks over the same paths. Rows are left in slot b and entered in slot a, columns are left in a and entered in b.
-use Rattle.std.proofs.Common.{◌≡◌, ◌≢◌, ◌⊎◌, ℕ, zero, suc, ◌+◌, ◌*◌, ◌<◌, ◌≤◌, true, Option, Some, None, List, [], ◌∷◌, length, arith, zero-add, add-zero, refl, sym, ap, subst, ◌∙◌}
+use Rattle.std.proofs.Common.{◌≡◌, ◌≢◌, ◌⊎◌, ℕ, zero, suc, ◌+◌, ◌*◌, ◌<◌, ◌≤◌, Option, Some, None, List, [], ◌∷◌, length, arith, zero-add, add-zero, refl, sym, ap, subst, ◌∙◌}
 use Rattle.std.specs.Prelude.{slice_get, option_map, option_and_then}
-use Rattle.std.specs.Prelude.{map, nat_eq, unwrap_or}
-use Rattle.std.specs.List.{list_any, range_with_len}
+use Rattle.std.specs.Prelude.{unwrap_or}
 use Rattle.std.proofs.lemmas.Bool.{cases_lt}
 use Rattle.std.proofs.lemmas.Option.{same_Some}
-use Rattle.std.proofs.lemmas.Map.Views.{exact_unsigned_eq}
-use Rattle.std.proofs.lemmas.Map.Keys.{IsDistinct-from_apart}
-use Rattle.std.proofs.lemmas.Map.Steps.{length-le_from_distinct_below}
-use Rattle.std.proofs.lemmas.List.FromFn.{length-map-range_with_len, get_or-map-range_with_len}
 use mathlib.Core.Logic.{inl, inr}
-use Rattle.paull_matrix.proofs.Bools.{false_unless, or_cases}
 use Rattle.rearrange_chain.specs.declared.moves.Move.{Move}
 use Rattle.rearrange_chain.specs.Chain.{End, Row, Column, far_end, move_of, chain}
 
@@ -124,25 +118,6 @@ been_before look a b start (suc n) k x h early = elim (cases_lt k (suc n)) [
       been_before look a b start n k last.0 last.1 (omega arith)
   | inr more ↦ let last : k ≡ suc n = omega arith in (x, ap (end_at look a b start) last ∙ h)
 ]
-
--- so many numbers below a bound, no two of them equal, are not more than the bound
-in_range : (f : ℕ → ℕ) (n : ℕ) (a len q : ℕ) → ((k : ℕ) → a ≤ k → k < a + len → f k < n) → list_any (nat_eq q) (map f (range_with_len a len)) ≡ true → q < n
-in_range f n a zero q below h = absurd (cc)
-in_range f n a (suc len) q below h = elim (or_cases (nat_eq q (f a)) _ h) [
-  | inl here ↦ subst (λ k. k < n) (sym (exact_unsigned_eq q (f a) here)) (below a (omega arith) (omega arith))
-  | inr later ↦ in_range f n (a + 1) len q (λ k low high. below k (omega arith) (omega arith)) later
-]
-
-pub pigeonhole : (f : ℕ → ℕ) (len n : ℕ) → ((k : ℕ) → k < len → f k < n) → ((k l : ℕ) → k < l → l < len → f k ≡ f l → ⊥) → len ≤ n
-pigeonhole f len n below apart =
-    let size = length-map-range_with_len f 0 len in
-    let distinct = IsDistinct-from_apart nat_eq (map f (range_with_len 0 len)) (λ k l d less inside.
-    let early : k < len = omega arith in
-    let late : l < len = omega arith in
-    false_unless _ (λ e. apart k l less late
-    (sym (get_or-map-range_with_len f 0 len k k d early (omega arith)) ∙ exact_unsigned_eq _ _ e ∙ get_or-map-range_with_len f 0 len l l d late (omega arith)))) in
-    let few = length-le_from_distinct_below (map f (range_with_len 0 len)) n distinct (λ q e. in_range f n 0 len q (λ k low high. below k (omega arith)) e) in
-    omega arith
 
 -- rows and columns, numbered one after the other
 abbrev pub number : ℕ → End → ℕ

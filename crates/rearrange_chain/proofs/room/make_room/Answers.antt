@@ -1,11 +1,12 @@
 use Rattle.std.proofs.Common.{◌≡◌, refl, sym, subst, ◌∙◌, rules, arith, ℕ, ◌-◌, ◌*◌, [], List, ap, length}
 use Rattle.std.specs.Prelude.{if◌then◌else◌}
 use Rattle.paull_matrix.specs.Matrix.{Matrix}
+use Rattle.paull_matrix.proofs.Laws.{lowest_in_both_is}
 use Rattle.rearrange_chain.specs.declared.moves.Move.{Move}
 use Rattle.rearrange_chain.specs.Chain.{Column, far_line, chain, exchanged, is_shorter, shorter, with_chain}
 use Rattle.rearrange_chain.specs.InTurn.{CanLift}
 use Rattle.rearrange_chain.proofs.Exchange.{exchange_lifts, exchange_places}
-use Rattle.rearrange_chain.proofs.Freed.{Rearranged, lowest_in_both_is, ways, bounds, from_row, from_column, shorter_room, rearranges_shorter}
+use Rattle.rearrange_chain.proofs.Freed.{Rearranged, ways, bounds, from_row, from_column, shorter_room, rearranges_shorter}
 use Rattle.rearrange_chain.proofs.room.make_room.Goals as goal
 use Rattle.rearrange_chain.proofs.room.make_room.Goals.{After-place_all}
 use Rattle.rearrange_chain.proofs.room.make_room.Given.{Over}

@@ -1,7 +1,4 @@
 use Rattle.fabric_map.proofs.fabric.FabricMapPathMap.connect.Given as goal
 
-abbrev pub ghosts-common_slot : goal.ghosts-common_slot
-ghosts-common_slot a = record { name = a.blank.name; parts = a.blank.parts }
-
 abbrev pub ghosts-connect_by_moves : goal.ghosts-connect_by_moves
 ghosts-connect_by_moves a = record { name = a.blank.name; parts = a.blank.parts }

@@ -1,0 +1,18 @@
+use Rattle.std.proofs.Common.{◌≡◌, ◌∙◌, sym, subst, Some}
+use Rattle.control_memory.specs.Layout.{IsSlot, Joins, hop_of}
+use Rattle.control_memory.specs.Paths.{Fabric}
+use Rattle.path_memory.proofs.Kept.{lifts_entry, kept_without}
+use Rattle.path_memory.proofs.memory.PathMemory.disconnect.Goals as goal
+
+pub lift-requires : goal.lift-requires
+lift-requires c =
+    let inside = subst (λ (x : Fabric). IsSlot x.lines c.args.from) (sym c.self.view_is) c.requires.from in
+    let joined = subst (λ (x : Fabric). Joins x.layout c.args.from c.args.to) (sym c.self.view_is) c.requires.stands in
+    let at : hop_of c.self.inside.paths.layout c.args.from ≡ Some c.in-Some.hop = sym c.hop.ensures.hop ∙ c.in-Some.is in
+    record { stands = (lifts_entry c.self.inside.matrix c.self.inside.paths c.args.from c.args.to c.in-Some.hop c.self.invariant inside joined at).1 }
+
+pub invariant_of-self : goal.invariant_of-self
+invariant_of-self c =
+    let inside = subst (λ (x : Fabric). IsSlot x.lines c.args.from) (sym c.self.view_is) c.requires.from in
+    let at : hop_of c.self.inside.paths.layout c.args.from ≡ Some c.in-Some.hop = sym c.hop.ensures.hop ∙ c.in-Some.is in
+    kept_without c.self.inside.matrix c.self.inside.paths c.args.from c.in-Some.hop c.lift.new.self c.take.new.self c.self.invariant inside at c.lift.ensures.lifted c.take.ensures.layout c.take.ensures.lines c.take.ensures.slots

@@ -1,0 +1,153 @@
+ghost use Rattle.std.specs.Prelude.{◌≡◌, ℕ, ◌*◌, ◌<◌, ◌≤◌, None, IfOk, IfSome, replicate, is_none};
+ghost use Rattle.std.specs.Option.{option_map};
+ghost use Rattle.circuit_model.specs.declared.channel.Slot.{Slot};
+ghost use Rattle.control_memory.specs.declared.hop.Hop.{Hop};
+ghost use Rattle.control_memory.specs.Layout.{Legal, IsSlot, Joins, hop_of, path_to};
+ghost use Rattle.control_memory.specs.Connecting.{common_slot as common_slot_of, with_path, without_path};
+ghost use Rattle.control_memory.specs.Image.{lines_of, HasLayout, SameSizes};
+ghost use Rattle.control_memory.specs.Paths.{Fabric};
+ghost use Rattle.paull_matrix.specs.Matrix.{lowest_in_both, IsLegal};
+
+use circuit_model::Slot;
+use control_memory::{Image, PathTable};
+use paull_matrix::{PaullMatrix, Steps};
+use std::alloc::{AllocError, Global};
+use std::marker::{Brand, Model};
+use std::sync::ledger::{Blank, Ledger};
+
+/// The live paths of a fabric, and which internal slots they leave free in each line.
+///
+/// Contracts see the layout. Both parts are open to a fabric that moves paths, which writes them one
+/// after the other: the proof asks that they agree again before the whole is used.
+#[derive(Drop)]
+pub struct PathMemory {
+    /// The internal slots that each line uses, as Paull's matrix.
+    pub matrix: PaullMatrix,
+    /// The layout, with its control tables.
+    pub paths: PathTable,
+}
+
+impl Model for PathMemory {
+    ghost use Rattle.control_memory.specs.Paths.{Fabric};
+    ghost use Rattle.path_memory.specs.Memory.{IsPathMemory};
+
+    ghost Value = { Fabric };
+
+    ghost view = { λ m. m.paths };
+
+    ghost invariant = { λ m. IsPathMemory m.matrix m.paths };
+}
+
+impl PathMemory {
+    /// No path on so many lines, external and bridge lines together, and so many internal slots. The
+    /// only error is want of memory.
+    pub fn new(alloc: Global, lines: u8, slots: u8) -> Result<PathMemory, AllocError>
+        requires lines { (0 < lines) × (lines ≤ 34) }
+        requires slots { (0 < slots) × (slots ≤ 59) }
+        ensures lines { IfOk result (λ m. m.lines ≡ lines) }
+        ensures slots { IfOk result (λ m. m.slots ≡ slots) }
+        ensures bare { IfOk result (λ m. m.layout ≡ replicate (30 * lines) None) }
+    {
+        Ok(PathMemory {
+            matrix: PaullMatrix::new(alloc, lines, slots)?,
+            paths: PathTable::new(alloc, lines, slots)?,
+        })
+    }
+
+    /// Whether no path begins at the inlet.
+    pub fn inlet_free(&self, at: Slot) -> bool
+        requires { IsSlot self.now.lines at }
+        ensures free { result ≡ is_none (hop_of self.now.layout at) }
+        ensures legal { Legal self.now.lines self.now.slots self.now.layout }
+    {
+        self.paths.hop(at).is_none()
+    }
+
+    /// Whether no path ends at the outlet.
+    pub fn outlet_free(&self, at: Slot) -> bool
+        requires { IsSlot self.now.lines at }
+        ensures free { result ≡ is_none (path_to self.now.layout at) }
+        ensures legal { Legal self.now.lines self.now.slots self.now.layout }
+    {
+        self.paths.read(at).is_none()
+    }
+
+    /// Connects a free inlet to a free outlet in the lowest internal slot that is free in both lines,
+    /// and answers the slot. `None`, with nothing changed, exactly where there is none.
+    pub fn connect_in_common_slot(&mut self, from: Slot, to: Slot) -> Option<u8>
+        requires from { IsSlot self.old.lines from }
+        requires to { IsSlot self.old.lines to }
+        requires inlet { hop_of self.old.layout from ≡ None }
+        requires outlet { path_to self.old.layout to ≡ None }
+        ensures slot { result ≡ common_slot_of self.old.slots self.old.layout from.line to.line }
+        ensures connected { IfSome result (λ slot. self.new.layout ≡ with_path self.old.layout from to slot) }
+        ensures unchanged { result ≡ None → self.new ≡ self.old }
+        ensures lines { self.new.lines ≡ self.old.lines }
+        ensures slots { self.new.slots ≡ self.old.slots }
+        ensures legal { Legal self.new.lines self.new.slots self.new.layout }
+    {
+        let slot = common_slot::<Brand>(&self.matrix, from.line, to.line, Blank::new(1))?;
+        self.matrix.place(from.line, to.line, slot);
+        self.paths.add(from, to, slot);
+        Some(slot)
+    }
+
+    /// Takes a path out. No other path changes its slot.
+    pub fn disconnect(&mut self, from: Slot, to: Slot)
+        requires from { IsSlot self.old.lines from }
+        requires stands { Joins self.old.layout from to }
+        ensures layout { self.new.layout ≡ without_path self.old.layout from }
+        ensures lines { self.new.lines ≡ self.old.lines }
+        ensures slots { self.new.slots ≡ self.old.slots }
+        ensures legal { Legal self.new.lines self.new.slots self.new.layout }
+    {
+        let Some(hop) = self.paths.hop(from) else {
+            unreachable!()
+        };
+        self.matrix.lift(from.line, to.line, hop.slot);
+        self.paths.take(from, hop);
+    }
+
+    /// The internal slot of the path that begins at an inlet. `None` exactly where the inlet is free.
+    pub fn slot_of(&self, from: Slot) -> Option<u8>
+        requires { IsSlot self.now.lines from }
+        ensures slot { result ≡ option_map (λ (hop : Hop). hop.slot) (hop_of self.now.layout from) }
+        ensures legal { Legal self.now.lines self.now.slots self.now.layout }
+    {
+        self.paths.hop(from).map(|hop| hop.slot)
+    }
+
+    /// How many internal slots there are.
+    pub fn slots(&self) -> u8
+        ensures slots { result ≡ self.now.slots }
+        ensures legal { Legal self.now.lines self.now.slots self.now.layout }
+    {
+        self.paths.slots()
+    }
+
+    /// Writes the layout into the three tables of a control memory.
+    pub fn write_tables(&self, image: &mut Image)
+        requires lines { lines_of image.old ≡ self.now.lines }
+        requires slots { image.old.slots ≡ self.now.slots }
+        ensures tables { HasLayout image.new self.now.layout }
+        ensures legal { Legal self.now.lines self.now.slots self.now.layout }
+        ensures sizes { SameSizes image.old image.new }
+        ensures frame { image.new.frame ≡ image.old.frame }
+        ensures heard { image.new.heard ≡ image.old.heard }
+        ensures rooms { image.new.rooms ≡ image.old.rooms }
+    {
+        self.paths.write(image);
+    }
+}
+
+// The lowest slot that is free in a row and in a column, by a counter of its own.
+fn common_slot<L: Ledger>(matrix: &PaullMatrix, i: u8, j: u8, blank: Blank) -> Option<u8>
+    requires ledger { (blank.name ≡ L.name) × (blank.parts ≡ L.parts) × (0 < L.parts) }
+    requires row { i < matrix.now.lines }
+    requires column { j < matrix.now.lines }
+    ensures lowest { result ≡ lowest_in_both matrix.now i j }
+    ensures legal { IsLegal matrix.now }
+{
+    let mut steps = Steps::<L>::new(blank);
+    matrix.common_free(i, j, &mut steps)
+}

@@ -1,0 +1,88 @@
+ghost use Rattle.std.specs.Prelude.{◌≡◌, ◌*◌, ◌<◌, ◌≤◌, None, IfOk, replicate};
+
+use circuit_model::Slot;
+use control_memory::{Image, PathMap};
+use path_memory::PathMemory;
+use std::alloc::{AllocError, Global};
+use std::marker::Model;
+
+/// How many internal slots a frame of a line has in this fabric: one more than the other paths of an
+/// incoming and an outgoing line of thirty places each can use (Clos).
+pub const SLOTS: u8 = 59;
+
+/// The live map of a strict-sense non-blocking fabric: fifty-nine internal slots, and no path moves.
+///
+/// Contracts see its layout.
+#[derive(Drop)]
+pub struct StrictMap {
+    memory: PathMemory,
+}
+
+impl Model for StrictMap {
+    ghost use Rattle.std.specs.Prelude.{◌≡◌};
+    ghost use Rattle.control_memory.specs.Paths.{Fabric};
+
+    ghost Value = { Fabric };
+
+    ghost view = { λ m. m.memory };
+
+    ghost invariant = { λ m. m.memory.slots ≡ 59 };
+}
+
+impl StrictMap {
+    /// A map without paths, for so many lines, external and bridge lines together. The only error is
+    /// want of memory.
+    pub fn new(alloc: Global, lines: u8) -> Result<StrictMap, AllocError>
+        requires { (0 < lines) × (lines ≤ 34) }
+        ensures lines { IfOk result (λ m. m.lines ≡ lines) }
+        ensures slots { IfOk result (λ m. m.slots ≡ 59) }
+        ensures bare { IfOk result (λ m. m.layout ≡ replicate (30 * lines) None) }
+    {
+        Ok(StrictMap {
+            memory: PathMemory::new(alloc, lines, SLOTS)?,
+        })
+    }
+}
+
+impl PathMap for StrictMap {
+    ghost use Rattle.strict_map.specs.Strict.{most_moves};
+
+    ghost width = { λ m. m.lines };
+
+    ghost depth = { λ m. m.slots };
+
+    ghost bound = { λ m. most_moves m.lines };
+
+    ghost layout = { λ m. m.layout };
+
+    fn inlet_free(&self, at: Slot) -> bool {
+        self.memory.inlet_free(at)
+    }
+
+    fn outlet_free(&self, at: Slot) -> bool {
+        self.memory.outlet_free(at)
+    }
+
+    fn connect(&mut self, from: Slot, to: Slot) -> u32 {
+        match self.memory.connect_in_common_slot(from, to) {
+            Some(_) => 0,
+            None => unreachable!(),
+        }
+    }
+
+    fn disconnect(&mut self, from: Slot, to: Slot) {
+        self.memory.disconnect(from, to);
+    }
+
+    fn slot_of(&self, from: Slot) -> Option<u8> {
+        self.memory.slot_of(from)
+    }
+
+    fn slots(&self) -> u8 {
+        self.memory.slots()
+    }
+
+    fn write_tables(&self, image: &mut Image) {
+        self.memory.write_tables(image);
+    }
+}
