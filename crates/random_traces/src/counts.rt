@@ -41,11 +41,17 @@ impl Orders {
         if !is_file_order(in_threads) {
             self.others = self.others.saturating_add(1);
         }
-        let alone = few.iter().filter(|few| **few).count() as u32;
-        let segments = few.len() as u32;
+        let alone = u32::try_from(few.iter().filter(|few| **few).count()).unwrap_or(u32::MAX);
+        let segments = u32::try_from(few.len()).unwrap_or(u32::MAX);
         self.alone = self.alone.saturating_add(alone);
         self.apart = self.apart.saturating_add(segments.saturating_sub(alone));
         Ok(())
+    }
+
+    /// Whether all of so many traces were counted, threads took another order than the file's in some,
+    /// and the program did segments both ways.
+    pub fn is_whole(&self, traces: u32) -> bool {
+        self.traces == traces && self.others > 0 && self.alone > 0 && self.apart > 0
     }
 }
 

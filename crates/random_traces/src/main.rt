@@ -66,7 +66,7 @@ fn run_both<P: Plain + Drop, R: Threads + Wait + Sync>(
 
 /// Runs so many traces of a kind and prints what they came to. Whether all reports were the wanted
 /// ones.
-fn run<R: Print + Threads + Wait + Sync>(
+fn run<R: Print + Eprint + Threads + Wait + Sync>(
     rt: &R,
     alloc: Global,
     kind: Kind,
@@ -79,7 +79,14 @@ fn run<R: Print + Threads + Wait + Sync>(
     for number in 1..=traces {
         let trial = drawn(alloc, &mut random, kind)?;
         counts.add(&trial);
-        let agree = run_both(rt, alloc, &trial.script, trial.fresh, trial.again, &mut orders)?;
+        let agree = run_both(
+            rt,
+            alloc,
+            &trial.script,
+            trial.fresh,
+            trial.again,
+            &mut orders,
+        )?;
         if !agree {
             println!(rt; "{name}: trace {number} differs")?;
         }
@@ -93,12 +100,12 @@ fn run<R: Print + Threads + Wait + Sync>(
     println!(rt;
         "{name}: {frames} frames; in file order {refused} events refused, {octets} octets other than idle"
     )?;
-    Ok(orders.traces == traces && orders.others > 0)
+    Ok(orders.is_whole(traces))
 }
 
 /// Runs so many traces of calls and prints what they came to. Whether all reports were those of the
 /// plain program, and each act, each cause of a refusal, each tone and each chain of moved paths came.
-fn run_calls<R: Print + Threads + Wait + Sync>(
+fn run_calls<R: Print + Eprint + Threads + Wait + Sync>(
     rt: &R,
     alloc: Global,
     traces: u32,
@@ -127,11 +134,16 @@ fn run_calls<R: Print + Threads + Wait + Sync>(
     print_moves(rt, moves)?;
     print_tones(rt, tones)?;
     let whole = courses.is_whole() && tones.is_whole() && moves.is_whole();
-    Ok(orders.traces == traces && orders.others > 0 && whole)
+    Ok(orders.is_whole(traces) && whole)
 }
 
 /// Prints how many traces had the wanted reports.
-fn print_orders(rt: &impl Print, name: &str, other: &str, orders: Orders) -> io::Result<()> {
+fn print_orders(
+    rt: &(impl Print + Eprint),
+    name: &str,
+    other: &str,
+    orders: Orders,
+) -> io::Result<()> {
     let Orders {
         traces,
         events,

@@ -84,10 +84,8 @@ fn beside(loads: &[u32]) -> u32 {
 
 /// Whether a lawful order has the events of each of these segments in the order of the file.
 pub fn keeps_file_order(posts: &[Post], few: &[bool], order: &[u32]) -> bool {
-    order
-        .iter()
-        .zip(order.iter().skip(1))
-        .all(|(one, next)| one < next || !is_within(posts, few, *one, *next))
+    order.iter().zip(order.iter().skip(1)).all(|(one, next)| one < next
+        || !is_within(posts, few, *one, *next))
 }
 
 // Whether two events are of one of these segments.
@@ -100,5 +98,8 @@ fn is_within(posts: &[Post], few: &[bool], one: u32, next: u32) -> bool {
 
 /// Whether an order is that of the file.
 pub fn is_file_order(order: &[u32]) -> bool {
-    order.iter().zip(1..).all(|(number, place)| *number == place)
+    order
+        .iter()
+        .zip(1..)
+        .all(|(number, place)| *number == place)
 }
