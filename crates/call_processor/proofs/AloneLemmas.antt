@@ -1,6 +1,6 @@
 -- Seat 0 alone: one event after another, in the order of the file.
-use Rattle.std.proofs.Common.{◌≡◌, ℕ, true, false, Bool, IsTrue, List, [], ◌∷◌, ◌++◌, get_or, length, refl, sym, ap, ◌∙◌, subst, append_assoc, append-nil}
-use Rattle.std.specs.List.{All}
+use Rattle.std.proofs.Common.{◌≡◌, ◌-◌, arith, ℕ, true, false, Bool, IsTrue, List, [], ◌∷◌, ◌++◌, get_or, length, refl, sym, ap, ◌∙◌, subst, append_assoc, append-nil}
+use Rattle.std.specs.List.{All, range_with_len}
 use Rattle.std.proofs.lemmas.List.{map-append}
 use Rattle.std.proofs.lemmas.List.Elements.{All-cons, All-nil}
 use Rattle.circuit_model.specs.declared.circuit.Kind.{Kind}
@@ -113,6 +113,10 @@ module _ {K : Type 0} (holds : K → List Placed → Type 0) (board : Board) (oc
 
   pub goes_same : (done more : List ℕ) (k : K) (w : Known) → done ≡ more → GoesOn holds board octets turns done v first k w → GoesOn holds board octets turns more v first k w
   goes_same done more k w same g = subst (λ (l : List ℕ). GoesOn holds board octets turns l v first k w) same g
+
+  -- at the first number of a range
+  pub goes_begin : (at : ℕ) → GoesOn holds board octets turns (range_with_len at (at - at)) v first first v
+  goes_begin at = let zero_it : 0 ≡ at - at = omega arith in goes_same [] (range_with_len at (at - at)) first v (ap (range_with_len at) zero_it) goes_none
 
   pub goes_on : Stays board octets → (done : List ℕ) (n : ℕ) (k m : K) (w x : Known) → GoesOn holds board octets turns done v first k w → DidEvent w n x → DidNext turns w n x
       → HasKept holds board x n (octets x) k m → GoesOn holds board octets turns (done ++ n ∷ []) v first m x

@@ -3,7 +3,7 @@ use std::cmp::{max, min};
 
 /// So many events at least have to be done beside the largest part of a segment, for threads to pay
 /// (`bench/README.md` says where the number is measured).
-pub const FEWEST_BESIDE: u32 = 64;
+pub const FEWEST_BESIDE: u32 = 128;
 
 /// Whether a segment is worth threads, by how many events each worker has in it: all parts but the
 /// largest have enough events together.
