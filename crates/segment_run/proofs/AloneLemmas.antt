@@ -30,11 +30,11 @@ use Rattle.segment_run.proofs.MergeLemmas.{each_place}
 
 filter_both : (p q : ℕ → Bool) (xs : List ℕ) → filter (λ (n : ℕ). p n && q n) xs ≡ filter q (filter p xs)
 filter_both p q [] = refl
-filter_both p q (x ∷ xs) = one (p x)
+filter_both p q (x ∷ xs) = one (p x) (filter_both p q xs)
   where
-    one : (a : Bool) → cond (a && q x) (x ∷ filter (λ (n : ℕ). p n && q n) xs) (filter (λ (n : ℕ). p n && q n) xs) ≡ filter q (cond a (x ∷ filter p xs) (filter p xs))
-    one true = ap (λ (l : List ℕ). cond (q x) (x ∷ l) l) (filter_both p q xs)
-    one false = filter_both p q xs
+    one : (a : Bool) → filter (λ (n : ℕ). p n && q n) xs ≡ filter q (filter p xs) → cond (a && q x) (x ∷ filter (λ (n : ℕ). p n && q n) xs) (filter (λ (n : ℕ). p n && q n) xs) ≡ filter q (cond a (x ∷ filter p xs) (filter p xs))
+    one true rest = ap (λ (l : List ℕ). cond (q x) (x ∷ l) l) rest
+    one false rest = rest
 
 -- a part is what its worker does of the segment's events
 part_among : (trace : Trace) (segment : ℕ) (worker : Worker) → part_of trace segment worker ≡ filter (is_its trace worker) (events_of_segment trace segment)
@@ -79,11 +79,11 @@ module _ (trace : Trace) (segment : ℕ) (v w : Known) (whole : Bool) (d : DidIn
     only = subst (All (IsOfSegment trace segment)) (sym new_are) (in_all (IsOfSegment trace segment) d.done (λ n i.
         of_segment trace segment n (subst (λ (l : List ℕ). In n l) (sym d.first.1) (in_left d.done d.first.0 n i))));
     fronts = λ worker. (
-        filter (is_its trace worker) d.first.0,
-        part_among trace segment worker
-        ∙ (ap (filter (is_its trace worker)) d.first.1
-        ∙ (filter-append (is_its trace worker) d.done d.first.0
-        ∙ ap (λ (l : List ℕ). filter (is_its trace worker) l ++ filter (is_its trace worker) d.first.0) (sym new_are))),
+      filter (is_its trace worker) d.first.0,
+      part_among trace segment worker
+          ∙ (ap (filter (is_its trace worker)) d.first.1
+          ∙ (filter-append (is_its trace worker) d.done d.first.0
+          ∙ ap (λ (l : List ℕ). filter (is_its trace worker) l ++ filter (is_its trace worker) d.first.0) (sym new_are))),
     );
     turns = let a = ap length new_are in let b = d.did.turns in omega (arith, a, b);
     few = let a = d.did.made in omega (arith, a);
@@ -97,7 +97,7 @@ module _ (trace : Trace) (segment : ℕ) (v w : Known) (whole : Bool) (d : DidIn
     alone_long =
         let a = ap length d.grew in
         let b = length-append v.seen (entries_for v.number d.done) in
-        let c = length_of_map (λ (n : ℕ). (v.number, n)) d.done in
+        let c = length_of_map {Y = Entry} (λ (n : ℕ). (v.number, n)) d.done in
         let e = ap length (d.all all) in
         omega (arith, a, b, c, e)
 
