@@ -1,0 +1,35 @@
+use Rattle.std.proofs.Common.{rules, ◌≡◌, ◌-◌, IsTrue, Result, Ok, Err, OnErr, length, subst, sym, ap, arith, ◌∙◌}
+use Rattle.exchange_events.specs.Sound.{IsSound}
+use Rattle.call_processor.specs.Parts.{events_of_segment}
+use Rattle.segment_run.proofs.LoadLemmas.{long_range}
+use Rattle.segment_run.proofs.apart.run_apart.Goals as goal
+
+on_err : {A E P : Type 0} (r : Result A E) → P → OnErr r P
+on_err (Ok a) p = tt
+on_err (Err e) p = p
+
+pub numbers_of-first-requires-clause-sound : goal.numbers_of-first-requires-clause-sound
+numbers_of-first-requires-clause-sound g c = subst IsSound (sym c.requires.may.trace_is) ((g.met.B.Switchboard g.world.𝓛 g.world.𝓜 g.world.𝓡 ((λ s x. x), (λ x. x), (λ x. x), λ x. x)).sound_trace c.args.board.now c.args.seat.now c.requires.seated)
+
+pub returns-in_err-merge_or_cut-clause-kept : goal.returns-in_err-merge_or_cut-clause-kept
+returns-in_err-merge_or_cut-clause-kept g c =
+    let whole : IsTrue c.work_all-workplaces.result.whole = search rules in
+    let all = c.work_all-workplaces.ensures.done whole in
+    on_err c.from_residual.result (λ kept held. c.in_err-merge_or_cut.ensures.kept kept all.parts held all.kept all.apart)
+
+pub returns-clause-whole : goal.returns-clause-whole
+returns-clause-whole g c =
+    let whole : IsTrue c.work_all-workplaces.result.whole = search rules in
+    let all = c.work_all-workplaces.ensures.done whole in
+    record { whole = all.whole; long = all.long; ready = all.ready }
+
+pub returns-clause-answered : goal.returns-clause-answered
+returns-clause-answered g c = λ kept held.
+    let whole : IsTrue c.work_all-workplaces.result.whole = search rules in
+    let all = c.work_all-workplaces.ensures.done whole in
+    let first = c.numbers_of-first.result.0 in
+    let end = c.numbers_of-first.result.1 in
+    let size : length (events_of_segment c.args.trace.now c.args.segment) ≡ end - first = ap length c.numbers_of-first.ensures.all ∙ long_range first (end - first) in
+    let many = all.many in
+    let merged = c.in_ok-merge_or_cut.ensures.merged kept all.parts held all.kept all.apart (omega (arith, many, size)) in
+    record { answers = merged.answers; answered = all.answered merged.answers merged.merged; held = merged.held }
