@@ -1,5 +1,5 @@
 -- A frame at its place in the history, and what the engine makes of it.
-use Rattle.std.proofs.Common.{◌≡◌, ℕ, ◌+◌, ◌-◌, ◌<◌, ◌≤◌, List, ◌++◌, Option, Some, None, [], ◌∷◌, length, take, drop, drop_of_length-le, append-nil, take_all, slice_get, refl, sym, subst, arith, ◌∙◌, ap}
+use Rattle.std.proofs.Common.{true, ◌≡◌, ℕ, ◌+◌, ◌-◌, ◌<◌, ◌≤◌, List, ◌++◌, Option, Some, None, [], ◌∷◌, length, take, drop, drop_of_length-le, append-nil, take_all, slice_get, refl, sym, subst, arith, ◌∙◌, ap}
 use Rattle.std.specs.Prelude.{All}
 use Rattle.std.specs.List.{cons_option}
 use Rattle.std.proofs.lemmas.List.{map-append}
@@ -15,6 +15,7 @@ use Rattle.frame_engine.specs.Frames.{Boundary, Come, IsNext, PlaysOut}
 use Rattle.exchange_events.specs.declared.trace.Event.{Event}
 use Rattle.exchange_events.specs.declared.trace.Event.TheVariants.{Nail, Seat, Free, Message, Frame}
 use Rattle.exchange_events.specs.declared.trace.Trace.{Trace}
+use Rattle.exchange_events.specs.Orders.{Frame_worker}
 use Rattle.exchange_core.specs.declared.tool.Tool.{Tool}
 use Rattle.exchange_core.specs.declared.tool.Tool.TheVariants.{Image}
 use Rattle.seat_history.proofs.HistoryLemmas.{unseen_front}
@@ -29,6 +30,7 @@ use Rattle.call_profile.specs.World.{World, start, pass}
 use Rattle.call_profile.proofs.HistoryLemmas.{made, made_pass}
 use Rattle.call_profile.proofs.QuietEventLemmas.{SameFrames, same_self, then_same as same_then, quiet}
 use Rattle.exchange_core.proofs.StepLemmas.{world_more}
+use Rattle.call_processor.specs.Parts.{does, is_its}
 use Rattle.call_processor.specs.Frames.{Plays, Carrying, CarriesFrames, IsReady, IsPlayed}
 
 -- ---- the event with a number
@@ -46,6 +48,10 @@ input_whole trace n input sound number =
     subst (Fits trace.external) (get_or_from_slice_get trace.events (n - 1) (Frame input) (Frame input) number)
     (sound.events (n - 1) (Frame input) (slice_get_within trace.events (n - 1) (Frame input) number)) in
     fits
+
+-- a frame is the frame worker's
+pub frame_its : (trace : Trace) (n : ℕ) → IsFrame trace n → is_its trace Frame_worker n ≡ true
+frame_its trace n frame = ap (does trace.processors Frame_worker) frame.1
 
 -- ---- an event that is no frame leaves the frames as they are
 
@@ -169,6 +175,19 @@ module _ {E : Type 0} (carries : Carrying E) (frames : E → ℕ) (sizes : E →
   -- the frames of two worlds are the same, so the engine carries those of the other one too
   pub still_carried : (w v : World) (engine : E) → SameFrames w v → CarriesFrames carries engine w → CarriesFrames carries engine v
   still_carried w v engine same carried = rw (same.inputs, same.held, same.seated) carried
+
+  -- an engine stays ready where no frame comes
+  pub still_ready : (seen history : List Entry) (engine : E) (tool : Tool) (begins : StartsWith history seen) → NoFrames board.trace begins.0
+      → IsReady carries frames sizes board seen engine tool → IsReady carries frames sizes board history engine tool
+  still_ready seen history engine tool begins none r =
+      let unseen_is : unseen seen history ≡ begins.0 = ap (unseen seen) begins.1 ∙ unseen_front seen begins.0 in
+      let same = same_frames board seen history begins (subst (NoFrames board.trace) (sym unseen_is) none) in
+      record {
+        carried = still_carried (world_at board seen) (world_at board history) engine same r.carried;
+        number = r.number ∙ sym same.next;
+        sized = r.sized;
+        image = r.image;
+      }
 
   pub ready_after : (history seen : List Entry) (by n : ℕ) (input : Input) (after : E) (image later : Control) → let w = world_at board history in let d = (setting_at board).dimensions in
       IsNumbered board.trace n (Frame input) → seen ≡ history ++ (by, n) ∷ [] → IsOfSize d image → SameSizes image later

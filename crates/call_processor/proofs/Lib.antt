@@ -4,3 +4,4 @@ pub mod FrameLemmas
 pub mod ToolLemmas
 mod HandLemmas
 mod KeepingLemmas
+pub mod AloneLemmas

@@ -8,7 +8,7 @@ use Rattle.std.proofs.lemmas.List.Sums.{sum_by-cons}
 use Rattle.exchange_events.specs.declared.trace.Trace.{Trace}
 use Rattle.exchange_events.specs.Orders.{Worker, segment_of}
 use Rattle.exchange_events.specs.Sound.{AreSegments, last_of}
-use Rattle.call_processor.specs.Parts.{is_its, part_of}
+use Rattle.call_processor.specs.Parts.{events_of_segment, is_its, part_of}
 
 -- whether a segment ends before event n, as a number
 abbrev ended_before : ℕ → ℕ → ℕ
@@ -115,48 +115,74 @@ module _ (p : ℕ → Bool) where
       ap (λ (b : Bool). cond b (a ∷ filter p (range_with_len (a + 1) n)) (filter p (range_with_len (a + 1) n))) (h a (omega arith) (omega arith))
       ∙ ap (λ (l : List ℕ). cond (q a) (a ∷ l) l) (alike q (a + 1) n (λ j low high. h j (omega arith) (omega arith)))
 
+-- A test over the numbers of the file that passes none outside of a segment passes of those within, from behind the end before to the segment's own
+-- end, what another test passes there.
+module _ (trace : Trace) (k : ℕ) (p q : ℕ → Bool) (sound : AreSegments (length trace.events) trace.segments) (within : k < length trace.segments)
+    (other : (n : ℕ) → (segment_of trace.segments n ≡ k → ⊥) → p n ≡ false) (same : (n : ℕ) → segment_of trace.segments n ≡ k → p n ≡ q n) where
+  passed_within : filter p (range_with_len 1 (length trace.events)) ≡ filter q (range_with_len (before_end trace.segments k + 1) (get_or trace.segments k 0 - before_end trace.segments k))
+  passed_within =
+      let ends = trace.segments in
+      let r = sound.rising in
+      let first = before_end ends k in
+      let last = get_or ends k 0 in
+      let count = length trace.events in
+      let order = before_below ends r k within in
+      let most : last ≤ count = let h = below_last ends r k within in omega (arith, h, sound.whole) in
+      let len : count ≡ first + ((last - first) + (count - last)) = omega (arith, order, most) in
+      let one : range_with_len 1 count ≡ range_with_len 1 first ++ range_with_len (1 + first) ((last - first) + (count - last)) =
+      ap (range_with_len 1) len ∙ range_parts 1 first ((last - first) + (count - last)) in
+      let two : range_with_len (1 + first) ((last - first) + (count - last)) ≡ range_with_len (1 + first) (last - first) ++ range_with_len ((1 + first) + (last - first)) (count - last) =
+      range_parts (1 + first) (last - first) (count - last) in
+      let front : filter p (range_with_len 1 first) ≡ [] =
+      none_pass p 1 first (λ n low high. other n (let h = before_one ends r k n within low (omega (arith, high)) in λ e. absurd (omega (arith, h, e)))) in
+      let back : filter p (range_with_len ((1 + first) + (last - first)) (count - last)) ≡ [] =
+      none_pass p ((1 + first) + (last - first)) (count - last) (λ n low high. other n (let h = after_one ends r k n within (omega (arith, low, order)) in λ e. absurd (omega (arith, h, e)))) in
+      let middle : filter p (range_with_len (1 + first) (last - first)) ≡ filter q (range_with_len (1 + first) (last - first)) =
+      alike p q (1 + first) (last - first) (λ n low high. same n (inside_one ends r k n within (omega (arith, low)) (omega (arith, high, order)))) in
+      let swap : 1 + first ≡ first + 1 = omega arith in
+      ap (filter p) one
+      ∙ (filter-append p (range_with_len 1 first) (range_with_len (1 + first) ((last - first) + (count - last)))
+      ∙ (ap (λ (l : List ℕ). l ++ filter p (range_with_len (1 + first) ((last - first) + (count - last)))) front
+      ∙ (ap (filter p) two
+      ∙ (filter-append p (range_with_len (1 + first) (last - first)) (range_with_len ((1 + first) + (last - first)) (count - last))
+      ∙ (ap (λ (l : List ℕ). filter p (range_with_len (1 + first) (last - first)) ++ l) back
+      ∙ (append-nil (filter p (range_with_len (1 + first) (last - first)))
+      ∙ (middle ∙ ap (λ (b : ℕ). filter q (range_with_len b (last - first))) swap)))))))
+    where
+      before_below : (ends : List ℕ) → Rising ends → (k : ℕ) → k < length ends → before_end ends k ≤ get_or ends k 0
+      before_below ends r zero within = omega arith
+      before_below ends r (suc k) within = rises ends r k (suc k) (omega arith) within
+
 -- a part is what the worker does of the numbers from behind the end before to the end of the segment
 pub part_is : (trace : Trace) (k : ℕ) (worker : Worker) → AreSegments (length trace.events) trace.segments → k < length trace.segments
     → part_of trace k worker ≡ filter (is_its trace worker) (range_with_len (before_end trace.segments k + 1) (get_or trace.segments k 0 - before_end trace.segments k))
-part_is trace k worker sound within =
-    let ends = trace.segments in
-    let r = sound.rising in
-    let first = before_end ends k in
-    let last = get_or ends k 0 in
-    let count = length trace.events in
-    let p : ℕ → Bool = λ n. nat_eq (segment_of ends n) k && is_its trace worker n in
-    let order = before_below ends r k within in
-    let most : last ≤ count = let h = below_last ends r k within in omega (arith, h, sound.whole) in
-    let len : count ≡ first + ((last - first) + (count - last)) = omega (arith, order, most) in
-    let one : range_with_len 1 count ≡ range_with_len 1 first ++ range_with_len (1 + first) ((last - first) + (count - last)) =
-    ap (range_with_len 1) len ∙ range_parts 1 first ((last - first) + (count - last)) in
-    let two : range_with_len (1 + first) ((last - first) + (count - last)) ≡ range_with_len (1 + first) (last - first) ++ range_with_len ((1 + first) + (last - first)) (count - last) =
-    range_parts (1 + first) (last - first) (count - last) in
-    let front : filter p (range_with_len 1 first) ≡ [] =
-    none_pass p 1 first (λ n low high. other n (let h = before_one ends r k n within low (omega (arith, high)) in λ e. absurd (omega (arith, h, e)))) in
-    let back : filter p (range_with_len ((1 + first) + (last - first)) (count - last)) ≡ [] =
-    none_pass p ((1 + first) + (last - first)) (count - last) (λ n low high. other n (let h = after_one ends r k n within (omega (arith, low, order)) in λ e. absurd (omega (arith, h, e)))) in
-    let middle : filter p (range_with_len (1 + first) (last - first)) ≡ filter (is_its trace worker) (range_with_len (1 + first) (last - first)) =
-    alike p (is_its trace worker) (1 + first) (last - first) (λ n low high. same n (inside_one ends r k n within (omega (arith, low)) (omega (arith, high, order)))) in
-    let swap : 1 + first ≡ first + 1 = omega arith in
-    ap (filter p) one
-    ∙ (filter-append p (range_with_len 1 first) (range_with_len (1 + first) ((last - first) + (count - last)))
-    ∙ (ap (λ (l : List ℕ). l ++ filter p (range_with_len (1 + first) ((last - first) + (count - last)))) front
-    ∙ (ap (filter p) two
-    ∙ (filter-append p (range_with_len (1 + first) (last - first)) (range_with_len ((1 + first) + (last - first)) (count - last))
-    ∙ (ap (λ (l : List ℕ). filter p (range_with_len (1 + first) (last - first)) ++ l) back
-    ∙ (append-nil (filter p (range_with_len (1 + first) (last - first)))
-    ∙ (middle ∙ ap (λ (b : ℕ). filter (is_its trace worker) (range_with_len b (last - first))) swap)))))))
+part_is trace k worker sound within = passed_within trace k (λ n. nat_eq (segment_of trace.segments n) k && is_its trace worker n) (is_its trace worker) sound within other same
   where
-    before_below : (ends : List ℕ) → Rising ends → (k : ℕ) → k < length ends → before_end ends k ≤ get_or ends k 0
-    before_below ends r zero within = omega arith
-    before_below ends r (suc k) within = rises ends r k (suc k) (omega arith) within
-
     other : (n : ℕ) → (segment_of trace.segments n ≡ k → ⊥) → (nat_eq (segment_of trace.segments n) k && is_its trace worker n) ≡ false
     other n never = let off : nat_eq (segment_of trace.segments n) k ≡ false = grind (arith, nat_tests, never) in ap (λ (t : Bool). t && is_its trace worker n) off
 
     same : (n : ℕ) → segment_of trace.segments n ≡ k → (nat_eq (segment_of trace.segments n) k && is_its trace worker n) ≡ is_its trace worker n
     same n e = let yes_one : nat_eq (segment_of trace.segments n) k ≡ true = grind (arith, nat_tests, e) in ap (λ (t : Bool). t && is_its trace worker n) yes_one
+
+-- the events of a segment are these numbers
+pub segment_is : (trace : Trace) (k : ℕ) → AreSegments (length trace.events) trace.segments → k < length trace.segments
+    → events_of_segment trace k ≡ range_with_len (before_end trace.segments k + 1) (get_or trace.segments k 0 - before_end trace.segments k)
+segment_is trace k sound within =
+    passed_within trace k (λ n. nat_eq (segment_of trace.segments n) k) (λ n. true) sound within
+    (λ n never. grind (arith, nat_tests, never)) (λ n e. grind (arith, nat_tests, e))
+    ∙ all_pass (before_end trace.segments k + 1) (get_or trace.segments k 0 - before_end trace.segments k)
+  where
+    all_pass : (a n : ℕ) → filter (λ (m : ℕ). true) (range_with_len a n) ≡ range_with_len a n
+    all_pass a zero = refl
+    all_pass a (suc n) = ap (λ (l : List ℕ). a ∷ l) (all_pass (a + 1) n)
+
+pub segment_at : (trace : Trace) (k : ℕ) → AreSegments (length trace.events) trace.segments → k < length trace.segments
+    → (first end : ℕ) → first ≡ before_end trace.segments k + 1 → end ≡ get_or trace.segments k 0 + 1 → events_of_segment trace k ≡ range_with_len first (end - first)
+segment_at trace k sound within first end low high =
+    let size : get_or trace.segments k 0 - before_end trace.segments k ≡ end - first = omega (arith, low, high) in
+    segment_is trace k sound within
+    ∙ (ap (range_with_len (before_end trace.segments k + 1)) size
+    ∙ ap (λ (n : ℕ). range_with_len n (end - first)) (sym low))
 
 pub part_at : (trace : Trace) (k : ℕ) (worker : Worker) → AreSegments (length trace.events) trace.segments → k < length trace.segments
     → (first end : ℕ) → first ≡ before_end trace.segments k + 1 → end ≡ get_or trace.segments k 0 + 1 → part_of trace k worker ≡ filter (is_its trace worker) (range_with_len first (end - first))
@@ -185,14 +211,31 @@ order_of_ends events ends k sound within =
 abbrev pub up_to : Trace → Worker → ℕ → ℕ → List ℕ
 up_to trace worker first event = filter (is_its trace worker) (range_with_len first (event - first))
 
-up_to_parts : (trace : Trace) (worker : Worker) (first event end : ℕ) → first ≤ event → event ≤ end → up_to trace worker first end ≡ up_to trace worker first event ++ filter (is_its trace worker) (range_with_len event (end - event))
-up_to_parts trace worker first event end low high =
+-- the numbers up to one, and those from it on
+pub range_front : (first event end : ℕ) → first ≤ event → event ≤ end → range_with_len first (end - first) ≡ range_with_len first (event - first) ++ range_with_len event (end - event)
+range_front first event end low high =
     let size : end - first ≡ (event - first) + (end - event) = omega (arith, low, high) in
     let back : first + (event - first) ≡ event = omega (arith, low) in
-    ap (λ (n : ℕ). filter (is_its trace worker) (range_with_len first n)) size
-    ∙ (ap (filter (is_its trace worker)) (range_parts first (event - first) (end - event))
-    ∙ (filter-append (is_its trace worker) (range_with_len first (event - first)) (range_with_len (first + (event - first)) (end - event))
-    ∙ ap (λ (n : ℕ). up_to trace worker first event ++ filter (is_its trace worker) (range_with_len n (end - event))) back))
+    ap (range_with_len first) size
+    ∙ (range_parts first (event - first) (end - event)
+    ∙ ap (λ (n : ℕ). range_with_len first (event - first) ++ range_with_len n (end - event)) back)
+
+-- and one number more
+pub range_next : (first event : ℕ) → first ≤ event → range_with_len first ((event + 1) - first) ≡ range_with_len first (event - first) ++ event ∷ []
+range_next first event low =
+    let one : (event + 1) - event ≡ suc zero = omega arith in
+    range_front first event (event + 1) low (omega arith) ∙ ap (λ (n : ℕ). range_with_len first (event - first) ++ range_with_len event n) one
+
+pub range_after : (events : List ℕ) (first event end : ℕ) → events ≡ range_with_len first (end - first) → first ≤ event → event < end
+    → events ≡ (range_with_len first (event - first) ++ event ∷ []) ++ range_with_len (event + 1) (end - (event + 1))
+range_after events first event end is low high =
+    is ∙ (range_front first (event + 1) end (omega (arith, low)) (omega (arith, high))
+    ∙ ap (λ (l : List ℕ). l ++ range_with_len (event + 1) (end - (event + 1))) (range_next first event low))
+
+up_to_parts : (trace : Trace) (worker : Worker) (first event end : ℕ) → first ≤ event → event ≤ end → up_to trace worker first end ≡ up_to trace worker first event ++ filter (is_its trace worker) (range_with_len event (end - event))
+up_to_parts trace worker first event end low high =
+    ap (filter (is_its trace worker)) (range_front first event end low high)
+    ∙ filter-append (is_its trace worker) (range_with_len first (event - first)) (range_with_len event (end - event))
 
 one_more : (trace : Trace) (worker : Worker) (first event : ℕ) → first ≤ event → up_to trace worker first (event + 1) ≡ up_to trace worker first event ++ cond (is_its trace worker event) (event ∷ []) []
 one_more trace worker first event low =

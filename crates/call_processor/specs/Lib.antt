@@ -3,3 +3,4 @@ pub mod Work
 pub mod Frames
 pub mod Workplaces
 pub mod Keeping
+pub mod Alone

@@ -24,6 +24,10 @@ is_its trace worker n = does trace.processors worker (slice_get trace.events (n 
 abbrev pub part_of : Trace → ℕ → Worker → List ℕ
 part_of trace segment worker = filter (λ n. nat_eq (segment_of trace.segments n) segment && is_its trace worker n) (file_order (length trace.events))
 
+-- the numbers of a segment's events, segments being counted from 0, in the order of the file
+abbrev pub events_of_segment : Trace → ℕ → List ℕ
+events_of_segment trace segment = filter (λ n. nat_eq (segment_of trace.segments n) segment) (file_order (length trace.events))
+
 -- a call processor where there is a number, else the frame worker
 abbrev pub worker_at : Option ℕ → Worker
 worker_at None = Frame_worker

@@ -1,8 +1,10 @@
 ghost use Rattle.std.specs.Prelude.{◌≡◌, ◌<◌, ◌≤◌, IsTrue, All, List, OnOk, OnErr, is_ok, length};
 ghost use Rattle.exchange_events.specs.declared.trace.Event.TheVariants.{Frame};
 ghost use Rattle.exchange_events.specs.Orders.{Frame_worker, IsEvent};
+ghost use Rattle.exchange_core.specs.Boards.{turns_of};
 ghost use Rattle.exchange_core.specs.Working.{IsNumbered};
 ghost use Rattle.tone_rules.specs.Tables.{table_of};
+ghost use Rattle.call_processor.specs.Alone.{DidNext, IsOnly};
 ghost use Rattle.call_processor.specs.Frames.{IsReady, IsReadyFor, HasFrame, engine_dimensions};
 ghost use Rattle.call_processor.specs.Parts.{part_of};
 ghost use Rattle.call_processor.specs.declared.worked.Placed.{Placed};
@@ -52,6 +54,7 @@ pub(crate) fn do_frame<B: Switchboard, G: Gate, C: Carrier, K: Keeper, R: Wait>(
     requires lines { length octets.old.items ≡ (B.board board.now).trace.external }
     ensures seated { B.seated board.now seat.new }
     ensures handled { DidEvent (B.known seat.old) event (B.known seat.new) }
+    ensures next { IsOnly (B.known seat.old) → DidNext (turns_of (B.board board.now)) (B.known seat.old) event (B.known seat.new) }
     ensures ready { IsReadyFor C.carries C.next C.external_lines C.bridge_lines C.depth (B.board board.now) (B.known seat.new) engine.new desk.new.tool }
     ensures lines { length octets.new.items ≡ (B.board board.now).trace.external }
     ensures kept { OnOk result (HasKept K.holds (B.board board.now) (B.known seat.new) event (HasFrame C.plays (table_of tones.now) (B.board board.now) (B.known seat.new)) keeper.old keeper.new) }

@@ -8,6 +8,7 @@
 //!   the engine comes back carrying the frames of the history (`ready`).
 //! - [`process_at`] and [`run_frames_at`] do the same at a workplace that they are lent, over any
 //!   [`Keeper`], which is told of each event that was done (`works`). [`AnswerList`] keeps whole answers.
+//! - [`run_alone`] does all events of a segment by one caller, in the order of the file (`in_order`).
 //! - A worker that ran out of memory says so to the others ([`Shortage`]).
 //! - [`numbers_of`] returns the numbers of a segment's events, and [`processor_of`] who does one.
 //!
@@ -15,6 +16,7 @@
 //! `exchange_core` and `gate`.
 #![tactic(auto)]
 
+mod alone;
 mod answer_list;
 mod framing;
 mod keeper;
@@ -23,6 +25,7 @@ mod segment;
 mod shortage;
 mod worked;
 
+pub use alone::run_alone;
 pub use answer_list::AnswerList;
 pub use framing::{run_frames, run_frames_at};
 pub use keeper::Keeper;

@@ -1,6 +1,8 @@
 ghost use Rattle.std.specs.Prelude.{◌≡◌, ◌<◌, ◌≤◌, [], true, All, List, OnOk, OnErr, is_ok, length};
+ghost use Rattle.exchange_core.specs.Boards.{turns_of};
 ghost use Rattle.exchange_core.specs.declared.tool.Tool.TheVariants.{Nothing};
 ghost use Rattle.exchange_events.specs.Orders.{IsEvent, Processor};
+ghost use Rattle.call_processor.specs.Alone.{DidNext, IsOnly};
 ghost use Rattle.call_processor.specs.declared.worked.Placed.{Placed};
 ghost use Rattle.call_processor.specs.Keeping.{HasKept, KeepsWork, has_no_octets};
 ghost use Rattle.call_processor.specs.Parts.{is_its, part_of};
@@ -37,6 +39,7 @@ pub(crate) fn do_event<B: Switchboard, G: Gate, K: Keeper, R: Wait>(
     requires tool { desk.old.tool ≡ Nothing }
     ensures seated { B.seated board.now seat.new }
     ensures handled { DidEvent (B.known seat.old) event (B.known seat.new) }
+    ensures next { IsOnly (B.known seat.old) → DidNext (turns_of (B.board board.now)) (B.known seat.old) event (B.known seat.new) }
     ensures tool { desk.new.tool ≡ Nothing }
     ensures kept { OnOk result (HasKept K.holds (B.board board.now) (B.known seat.new) event has_no_octets keeper.old keeper.new) }
     ensures refused { OnErr result ((answers : List Placed) → K.holds keeper.old answers → K.holds keeper.new answers) }

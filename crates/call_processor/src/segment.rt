@@ -1,10 +1,10 @@
-ghost use Rattle.std.specs.Prelude.{◌≡◌, ℕ, ◌+◌, ◌-◌, ◌<◌, ◌≤◌, length, filter, is_some, IfSome};
+ghost use Rattle.std.specs.Prelude.{◌≡◌, true, false, ℕ, ◌+◌, ◌-◌, ◌<◌, ◌≤◌, length, filter, is_some, IfSome};
 ghost use Rattle.std.specs.List.{range_with_len};
 ghost use Rattle.exchange_events.specs.Orders.{Worker, Processor, Frame_worker, IsEvent, worker_of};
 ghost use Rattle.exchange_events.specs.Sound.{IsSound};
 ghost use Rattle.exchange_core.specs.Working.{IsNumbered};
 ghost use Rattle.exchange_events.specs.declared.trace.Event.TheVariants.{Frame};
-ghost use Rattle.call_processor.specs.Parts.{is_its, part_of, worker_at};
+ghost use Rattle.call_processor.specs.Parts.{events_of_segment, is_its, part_of, worker_at};
 
 use exchange_events::{Event, Input, Trace};
 
@@ -15,6 +15,7 @@ pub fn numbers_of(trace: &Trace, segment: u32) -> (u32, u32)
     requires segment { segment < length trace.now.segments }
     ensures parts { (worker : Worker) → part_of trace.now segment worker ≡ filter (is_its trace.now worker) (range_with_len result.0 (result.1 - result.0)) }
     ensures events { (n : ℕ) → result.0 ≤ n → n < result.1 → IsEvent trace.now n }
+    ensures all { events_of_segment trace.now segment ≡ range_with_len result.0 (result.1 - result.0) }
     ensures order { result.0 ≤ result.1 }
 {
     let ends = trace.segments.as_slice();
@@ -49,6 +50,20 @@ pub(crate) fn is_of_processor(trace: &Trace, processor: u32, event: u32) -> bool
 {
     let done = &trace.events.as_slice()[event as usize - 1];
     processor_of(trace.processors, done) == Some(processor)
+}
+
+/// The call processor that does the event with this number, which is no frame.
+pub(crate) fn processor_at(trace: &Trace, event: u32) -> u32
+    requires some { 0 < trace.now.processors }
+    requires event { IsEvent trace.now event }
+    requires no_frame { is_its trace.now Frame_worker event ≡ false }
+    ensures { is_its trace.now (Processor result) event ≡ true }
+{
+    let done = &trace.events.as_slice()[event as usize - 1];
+    let Some(processor) = processor_of(trace.processors, done) else {
+        unreachable!()
+    };
+    processor
 }
 
 /// What arrives in the frame that has this number. `None` for an event that is no frame.

@@ -19,6 +19,8 @@ pub struct Drawn {
     pub script: Script,
     /// A plain exchange of the trace's lines, numbers and tones, before its first event.
     pub fresh: PlainExchange,
+    /// The same once more.
+    pub again: PlainExchange,
     /// What became of its messages.
     pub counts: Counts,
     /// How many paths were moved.
@@ -191,6 +193,7 @@ pub fn draw_traffic(alloc: Global, random: &mut Random, events: u32) -> Result<D
     Ok(Drawn {
         script,
         fresh: setting.exchange(alloc)?,
+        again: setting.exchange(alloc)?,
         counts,
         moved: run.paths_moved(),
         chains: run.exchange().chains(),

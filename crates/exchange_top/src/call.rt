@@ -327,7 +327,9 @@ fn answer_words<S: Source, K: Sink, G: Gate, C: Carrier, R: Threads + Wait + Syn
 /// have. `gen SEED CALLS` reads nothing and takes the trace that is generated of the seed with so many
 /// calls. Then the trace is run, one segment after the other: the call processors and the frame worker
 /// of a segment take turns at one switching map, each in a thread of its own, and are held up at the
-/// gate, where a test may look on. The order in which the events took their turns is `order`; the
+/// gate, where a test may look on. Where all but the busiest of them have few events together, and the
+/// gate doesn't ask for threads, the segment is done by the caller, in the order of the trace. The order
+/// in which the events took their turns is `order`; the
 /// report has a line for each in that order, and a summary has a line that counts them and then what
 /// the meters say (`docs/FORMATS.md`). The meters are told of the calls that end, segment by segment,
 /// in that order. The causes of another end are met in this order: the words, reading, the trace, the

@@ -3,7 +3,7 @@ use call_traffic::Script;
 use ex_io::{MemSink, MemSource};
 use exchange_top::{Outcome, exchange};
 use frame_engine::Engine;
-use gate::OpenGate;
+use gate::Gate;
 use plain_calls::{PlainEvent, PlainRun};
 use std::alloc::{AllocError, Global};
 use std::sync::Wait;
@@ -33,33 +33,53 @@ impl Plain for PlainRun {
     }
 }
 
-/// Runs a trace through the exchange. Whether its report has the events in a lawful order, and says of
-/// each what the plain program says that takes them in that order, from nothing.
-pub fn agrees<P: Plain + Drop, R: Threads + Wait + Sync>(
+/// A gate that holds nobody up, and asks for threads.
+pub struct Apart;
+
+impl Gate for Apart {
+    fn before_turn(&self, _worker: u32, _event: u32) {}
+
+    fn after_turn(&self, _worker: u32, _event: u32) {}
+
+    fn before_crossing(&self, _frame: u32) {}
+
+    fn after_crossing(&self, _frame: u32) {}
+}
+
+/// Runs a trace through the exchange at a gate. The order of its report, where that has the events in a
+/// lawful order, and says of each what the plain program says that takes them in that order, from
+/// nothing.
+pub fn agreed<P: Plain + Drop, G: Gate, R: Threads + Wait + Sync>(
     rt: &R,
     alloc: Global,
     script: &Script,
     plain: P,
-) -> Result<bool, AllocError> {
-    let report = report_of(rt, alloc, script.text.as_str())?;
+    gate: &G,
+) -> Result<Option<Vec<u32>>, AllocError> {
+    let report = report_of(rt, alloc, script.text.as_str(), gate)?;
     let Ok(report) = str::from_utf8(report.as_slice()) else {
-        return Ok(false);
+        return Ok(None);
     };
     let Some(order) = order_of(alloc, report)? else {
-        return Ok(false);
+        return Ok(None);
     };
     if !is_lawful(script.posts.as_slice(), order.as_slice()) {
-        return Ok(false);
+        return Ok(None);
     }
     let wanted = wanted_of(alloc, plain, script.events.as_slice(), order.as_slice())?;
-    Ok(is_wanted(report, wanted.as_str()))
+    Ok(if is_wanted(report, wanted.as_str()) {
+        Some(order)
+    } else {
+        None
+    })
 }
 
 // The exchange's report of a trace; nothing where it was not run.
-fn report_of<R: Threads + Wait + Sync>(
+fn report_of<G: Gate, R: Threads + Wait + Sync>(
     rt: &R,
     alloc: Global,
     trace: &str,
+    gate: &G,
 ) -> Result<Vec<u8>, AllocError> {
     let words = vec![in alloc; String::from_str(alloc, "run")?]?;
     let input = Vec::from_slice(alloc, trace.as_bytes())?;
@@ -71,7 +91,7 @@ fn report_of<R: Threads + Wait + Sync>(
         &words,
         &mut source,
         &mut sink,
-        &OpenGate,
+        gate,
         &mut Vec::new(alloc),
     );
     if outcome.status != 0 {

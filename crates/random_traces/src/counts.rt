@@ -1,24 +1,57 @@
 use crate::draw::Trial;
+use crate::orders::{few_beside, is_file_order, keeps_file_order};
 use call_traffic::{Counts as Courses, Drawn, LONGEST_TONE, Script};
 use plain_calls::Chains;
+use std::alloc::{AllocError, Global};
 
-/// How many traces there were, and how many of them leave their workers a choice.
+/// How many traces there were, how many of them leave their workers a choice, in how many of those the
+/// threads took another order than the file's, and of how many segments the caller did all events and
+/// the threads did.
 #[derive(Clone, Copy, Default)]
 pub struct Orders {
     pub traces: u32,
     pub events: u32,
     pub choices: u32,
+    pub others: u32,
+    pub alone: u32,
+    pub apart: u32,
 }
 
 impl Orders {
-    /// Counts a trace whose order was lawful, and whose report was the wanted one in it.
-    pub fn add(&mut self, script: &Script) {
+    /// Counts a trace whose reports were the wanted ones in the orders that they have: in threads, and as
+    /// the program decides. Not where a segment of too few events is out of the order of the file.
+    pub fn add(
+        &mut self,
+        alloc: Global,
+        script: &Script,
+        in_threads: &[u32],
+        decided: &[u32],
+    ) -> Result<(), AllocError> {
+        let posts = script.posts.as_slice();
+        let few = few_beside(alloc, posts)?;
+        if !keeps_file_order(posts, few.as_slice(), decided) {
+            return Ok(());
+        }
         self.traces = self.traces.saturating_add(1);
         let events = u32::try_from(script.events.len()).unwrap_or(u32::MAX);
         self.events = self.events.saturating_add(events);
         if script.has_choice() {
             self.choices = self.choices.saturating_add(1);
         }
+        if !is_file_order(in_threads) {
+            self.others = self.others.saturating_add(1);
+        }
+        let alone = u32::try_from(few.iter().filter(|few| **few).count()).unwrap_or(u32::MAX);
+        let segments = u32::try_from(few.len()).unwrap_or(u32::MAX);
+        self.alone = self.alone.saturating_add(alone);
+        self.apart = self.apart.saturating_add(segments.saturating_sub(alone));
+        Ok(())
+    }
+
+    /// Whether all of so many traces were counted, threads took another order than the file's in some,
+    /// and the program did segments both ways.
+    pub fn is_whole(&self, traces: u32) -> bool {
+        self.traces == traces && self.others > 0 && self.alone > 0 && self.apart > 0
     }
 }
 

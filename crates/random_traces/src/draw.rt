@@ -11,6 +11,8 @@ pub struct Trial {
     pub script: Script,
     /// A yardstick of the trace's lines before its first event.
     pub fresh: Yardstick,
+    /// The same once more.
+    pub again: Yardstick,
     /// How many frames there are.
     pub frames: u32,
     /// How many events are refused.
@@ -37,6 +39,7 @@ pub fn drawn(alloc: Global, random: &mut Random, kind: Kind) -> Result<Trial, Al
     Ok(Trial {
         script,
         fresh: Yardstick::new(alloc, kind, external, bridges)?,
+        again: Yardstick::new(alloc, kind, external, bridges)?,
         frames: yardstick.frames(),
         refused: yardstick.refused(),
         octets: yardstick.octets(),

@@ -4,16 +4,18 @@
 //! `random_traces TRACES` draws that many traces of nails, whose octets are compared with those of
 //! a delay line; that many with seats too, compared with the definitions' own program; and that
 //! many of calls and tones, compared with a plain program of calls. They are for one to eight call
-//! processors, and their segments are of any length. The order of each report has to hold every
-//! event once and be a lawful one, and the plain program takes the events in that order, from
-//! nothing.
+//! processors, and their segments are of any length. Each is run twice: all segments in threads, and
+//! as the program decides, where small ones have to come in the order of the file. The order of each
+//! report has to hold every event once and be a lawful one, and the plain program takes the events in
+//! that order, from nothing.
 //!
-//! It names a trace whose report differs, and then its status is 1. Which order a run takes is
-//! chance, so all that it counts is of the traces, or of their events in file order. It is proved
-//! safe; what it compares is tested, not proved.
+//! It names a trace whose report differs, and then its status is 1. Which order threads take is
+//! chance, so all that it prints is of the traces, or of their events in file order; only the error
+//! output says in how many traces threads took another order than the file's, and the status is 1
+//! where that is none. It is proved safe; what it compares is tested, not proved.
 //!
 //! It stands on `ex_io`, `circuit_model`, `frame_buffer`, `plain_model`, `plain_calls`,
-//! `call_traffic`, `frame_engine`, `gate` and `exchange_top`.
+//! `call_traffic`, `frame_engine`, `gate`, `segment_run` and `exchange_top`.
 #![tactic(auto)]
 
 mod check;
@@ -24,10 +26,11 @@ mod orders;
 mod tests;
 mod yardstick;
 
-use call_traffic::{Counts as Courses, LONGEST_TONE, Random, draw_traffic};
-use check::agrees;
+use call_traffic::{Counts as Courses, LONGEST_TONE, Random, Script, draw_traffic};
+use check::{Apart, Plain, agreed};
 use counts::{Counts, Moves, Orders, Tones};
 use draw::drawn;
+use gate::OpenGate;
 use plain_calls::{Chains, PlainRun};
 use std::alloc::Global;
 use std::process::ExitCode;
@@ -41,9 +44,29 @@ const SEED: u64 = 1976;
 /// How many events a trace of calls has.
 const EVENTS: u32 = 250;
 
+/// Runs a trace in threads in any case, and as the program decides, and counts it where both reports are
+/// those of the plain program. Whether they are.
+fn run_both<P: Plain + Drop, R: Threads + Wait + Sync>(
+    rt: &R,
+    alloc: Global,
+    script: &Script,
+    fresh: P,
+    again: P,
+    orders: &mut Orders,
+) -> io::Result<bool> {
+    let Some(in_threads) = agreed(rt, alloc, script, fresh, &Apart)? else {
+        return Ok(false);
+    };
+    let Some(decided) = agreed(rt, alloc, script, again, &OpenGate)? else {
+        return Ok(false);
+    };
+    orders.add(alloc, script, in_threads.as_slice(), decided.as_slice())?;
+    Ok(true)
+}
+
 /// Runs so many traces of a kind and prints what they came to. Whether all reports were the wanted
 /// ones.
-fn run<R: Print + Threads + Wait + Sync>(
+fn run<R: Print + Eprint + Threads + Wait + Sync>(
     rt: &R,
     alloc: Global,
     kind: Kind,
@@ -56,10 +79,15 @@ fn run<R: Print + Threads + Wait + Sync>(
     for number in 1..=traces {
         let trial = drawn(alloc, &mut random, kind)?;
         counts.add(&trial);
-        let fresh = trial.fresh;
-        if agrees(rt, alloc, &trial.script, fresh)? {
-            orders.add(&trial.script);
-        } else {
+        let agree = run_both(
+            rt,
+            alloc,
+            &trial.script,
+            trial.fresh,
+            trial.again,
+            &mut orders,
+        )?;
+        if !agree {
             println!(rt; "{name}: trace {number} differs")?;
         }
     }
@@ -72,12 +100,12 @@ fn run<R: Print + Threads + Wait + Sync>(
     println!(rt;
         "{name}: {frames} frames; in file order {refused} events refused, {octets} octets other than idle"
     )?;
-    Ok(orders.traces == traces)
+    Ok(orders.is_whole(traces))
 }
 
 /// Runs so many traces of calls and prints what they came to. Whether all reports were those of the
 /// plain program, and each act, each cause of a refusal, each tone and each chain of moved paths came.
-fn run_calls<R: Print + Threads + Wait + Sync>(
+fn run_calls<R: Print + Eprint + Threads + Wait + Sync>(
     rt: &R,
     alloc: Global,
     traces: u32,
@@ -95,9 +123,9 @@ fn run_calls<R: Print + Threads + Wait + Sync>(
         moved = moved.saturating_add(drawn.moved);
         moves.add(&drawn);
         let fresh = PlainRun::new(alloc, drawn.fresh);
-        if agrees(rt, alloc, &drawn.script, fresh)? {
-            orders.add(&drawn.script);
-        } else {
+        let again = PlainRun::new(alloc, drawn.again);
+        let agree = run_both(rt, alloc, &drawn.script, fresh, again, &mut orders)?;
+        if !agree {
             println!(rt; "calls: trace {number} differs")?;
         }
     }
@@ -106,20 +134,32 @@ fn run_calls<R: Print + Threads + Wait + Sync>(
     print_moves(rt, moves)?;
     print_tones(rt, tones)?;
     let whole = courses.is_whole() && tones.is_whole() && moves.is_whole();
-    Ok(orders.traces == traces && whole)
+    Ok(orders.is_whole(traces) && whole)
 }
 
 /// Prints how many traces had the wanted reports.
-fn print_orders(rt: &impl Print, name: &str, other: &str, orders: Orders) -> io::Result<()> {
+fn print_orders(
+    rt: &(impl Print + Eprint),
+    name: &str,
+    other: &str,
+    orders: Orders,
+) -> io::Result<()> {
     let Orders {
         traces,
         events,
         choices,
+        others,
+        alone,
+        apart,
     } = orders;
+    eprintln!(rt; "{name}: in {others} of the traces threads took another order than the file's")?;
     println!(rt;
         "{name}: {traces} traces, {events} events: {traces} lawful orders, in each of which exchange and {other} agree"
     )?;
-    println!(rt; "{name}: {choices} of the traces have more than one lawful order")
+    println!(rt; "{name}: {choices} of the traces have more than one lawful order")?;
+    println!(rt;
+        "{name}: the program did {alone} segments by one caller, in the order of the file, and {apart} in threads"
+    )
 }
 
 fn print_moves(rt: &impl Print, moves: Moves) -> io::Result<()> {

@@ -1,5 +1,7 @@
 use call_traffic::Post;
+use segment_run::FEWEST_BESIDE;
 use std::alloc::{AllocError, Global};
+use std::cmp::{max, min};
 
 // A segment has eight call processors and the frame worker at the most.
 const WORKERS: usize = 9;
@@ -48,4 +50,56 @@ pub fn is_lawful(posts: &[Post], order: &[u32]) -> bool {
         }
     }
     order.len() == posts.len()
+}
+
+/// Of each segment, whether all workers but the busiest have too few events for threads.
+pub fn few_beside(alloc: Global, posts: &[Post]) -> Result<Vec<bool>, AllocError> {
+    let mut few = Vec::new(alloc);
+    let mut loads = [0u32; WORKERS];
+    let mut segment = 0;
+    for post in posts {
+        if post.segment != segment {
+            few.push(beside(&loads) < FEWEST_BESIDE)?;
+            loads = [0; WORKERS];
+            segment = post.segment;
+        }
+        if let Some(load) = loads.get_mut(usize::from(post.worker)) {
+            *load = load.saturating_add(1);
+        }
+    }
+    few.push(beside(&loads) < FEWEST_BESIDE)?;
+    Ok(few)
+}
+
+// How many events all workers but the busiest have.
+fn beside(loads: &[u32]) -> u32 {
+    let mut busiest = 0;
+    let mut others: u32 = 0;
+    for load in loads {
+        others = others.saturating_add(min(busiest, *load));
+        busiest = max(busiest, *load);
+    }
+    others
+}
+
+/// Whether a lawful order has the events of each of these segments in the order of the file.
+pub fn keeps_file_order(posts: &[Post], few: &[bool], order: &[u32]) -> bool {
+    order.iter().zip(order.iter().skip(1)).all(|(one, next)| one < next
+        || !is_within(posts, few, *one, *next))
+}
+
+// Whether two events are of one of these segments.
+fn is_within(posts: &[Post], few: &[bool], one: u32, next: u32) -> bool {
+    let (Some(one), Some(next)) = (of_event(posts, one), of_event(posts, next)) else {
+        return false;
+    };
+    one.segment == next.segment && few.get(one.segment as usize).map_or(false, |few| *few)
+}
+
+/// Whether an order is that of the file.
+pub fn is_file_order(order: &[u32]) -> bool {
+    order
+        .iter()
+        .zip(1..)
+        .all(|(number, place)| *number == place)
 }

@@ -51,7 +51,7 @@ its_frame trace n its = go (slice_get trace.events (n - 1)) its
     go (Some (Free x)) off = absurd (cc off)
     go (Some (Message line octets)) off = absurd (cc off)
 
-got_map : {X Y : Type 0} (f : X → Y) (xs : List X) (i : ℕ) (y : Y) → slice_get (map f xs) i ≡ Some y → (x : X) × (slice_get xs i ≡ Some x) × (f x ≡ y)
+pub got_map : {X Y : Type 0} (f : X → Y) (xs : List X) (i : ℕ) (y : Y) → slice_get (map f xs) i ≡ Some y → (x : X) × (slice_get xs i ≡ Some x) × (f x ≡ y)
 got_map f [] i y at = absurd (cc at)
 got_map f (x ∷ xs) zero y at = (x, refl, cc at)
 got_map f (x ∷ xs) (suc i) y at = got_map f xs i y at

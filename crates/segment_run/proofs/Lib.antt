@@ -11,3 +11,4 @@ pub mod DealLemmas
 pub mod TeamLemmas
 pub mod WholeRunLemmas
 pub mod PairLemmas
+pub mod AloneLemmas

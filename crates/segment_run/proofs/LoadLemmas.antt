@@ -7,10 +7,13 @@ use Rattle.exchange_events.specs.declared.trace.Event.{Event}
 use Rattle.exchange_events.specs.declared.trace.Event.TheVariants.{Nail, Seat, Free, Message, Frame}
 use Rattle.exchange_events.specs.declared.trace.Trace.{Trace}
 use Rattle.exchange_events.specs.Orders.{Worker, IsEvent, worker_of}
-use Rattle.exchange_events.specs.Sound.{AreSegments}
-use Rattle.call_processor.specs.Parts.{does, is_its, is_worker}
-use Rattle.call_processor.proofs.PartLemmas.{part_is, order_of_ends}
+use Rattle.exchange_events.specs.Sound.{AreSegments, IsSound}
+use Rattle.exchange_core.specs.Boards.{Board, turns_of}
+use Rattle.seat_history.specs.declared.known.Known.{Known}
+use Rattle.call_processor.specs.Parts.{does, events_of_segment, is_its, is_worker}
+use Rattle.call_processor.proofs.PartLemmas.{part_is, segment_is, order_of_ends}
 use Rattle.segment_run.specs.Team.{load, loads_below, worker_numbered}
+use Rattle.segment_run.specs.Segment.{IsChief}
 use Rattle.segment_run.specs.Segments.{events_before}
 use Rattle.segment_run.proofs.ListLemmas.{In, got_there, range_in}
 use Rattle.segment_run.proofs.DoerLemmas.{is_itself, numbered_frames, numbered_processor, other_worker}
@@ -93,7 +96,7 @@ sums_all trace some_one (x ∷ xs) f =
     let c = sums_all trace some_one xs (λ y i. f y (inr i)) in
     omega (arith, a, b, c)
 
-long_range : (a n : ℕ) → length (range_with_len a n) ≡ n
+pub long_range : (a n : ℕ) → length (range_with_len a n) ≡ n
 long_range a zero = refl
 long_range a (suc n) = ap suc (long_range (a + 1) n)
 
@@ -133,7 +136,7 @@ ends_are trace segment sound within =
 
 -- the workers of a segment have to do all its events
 pub loads_all : (trace : Trace) (segment : ℕ) → 0 < trace.processors → AreSegments (length trace.events) trace.segments → segment < length trace.segments
-    → loads_below trace segment (trace.processors + 1) ≡ events_before trace.segments (segment + 1) - events_before trace.segments segment
+    → loads_below trace segment (trace.processors + 1) ≡ length (events_of_segment trace segment)
 unfolding loads_below
 loads_all trace segment some_one sound within =
     let next : segment + 1 ≡ suc segment = omega arith in
@@ -145,9 +148,22 @@ loads_all trace segment some_one sound within =
     let e0 = ends.0 in
     let e1 = ends.1 in
     let all = sums_all trace some_one xs (λ x i. let r = range_in (low + 1) size x i in let a = r.0 in let b = r.1 in (omega (arith, a), omega (arith, b, e0, e1, same))) in
-    let long = long_range (low + 1) size in
-    each (trace.processors + 1) ∙ (all ∙ (long ∙ ap (λ (k : ℕ). k - low) (sym same)))
+    each (trace.processors + 1) ∙ (all ∙ sym (ap length (segment_is trace segment sound within)))
   where
     each : (n : ℕ) → loads_below trace segment n ≡ sums trace (range_with_len (events_before trace.segments segment + 1) (get_or trace.segments segment 0 - events_before trace.segments segment)) n
     each zero = refl
     each (suc n) = λ i. each n i + length (part_is trace segment (worker_numbered trace.processors n) sound within i)
+
+-- seat 0 has a turn for each event of a segment where all segments before were done
+pub turns_for : (board : Board) (trace : Trace) (segment : ℕ) (v : Known) → trace ≡ board.trace → IsSound trace → segment < length trace.segments → IsChief (turns_of board) v → length v.seen ≡ events_before trace.segments segment
+    → length (events_of_segment trace segment) ≤ v.left
+turns_for board trace segment v same sound within chief begun =
+    let next : segment + 1 ≡ suc segment = omega arith in
+    let end = ap (events_before trace.segments) next in
+    let long = ap length (segment_is trace segment sound.segments within) ∙ long_range (events_before trace.segments segment + 1) (get_or trace.segments segment 0 - events_before trace.segments segment) in
+    let whole = chief.settled.whole chief.joined in
+    let ends = ends_are trace segment sound.segments within in
+    let first = ends.0 in
+    let last = ends.1 in
+    let events = ap (λ (t : Trace). length t.events) same in
+    omega (arith, long, end, whole, first, last, events, begun)

@@ -19,18 +19,17 @@ use Rattle.exchange_core.specs.Working.{Entry, order_of}
 use Rattle.exchange_events.specs.Sizes.{Dimensions}
 use Rattle.call_processor.specs.declared.worked.Placed.{Placed}
 use Rattle.call_processor.specs.Frames.{Carrying, Plays, IsReady}
-use Rattle.call_processor.specs.Parts.{does, is_its, is_worker, part_of}
+use Rattle.call_processor.specs.Parts.{does, events_of_segment, is_its, is_worker, part_of}
 use Rattle.call_processor.specs.Work.{Works, answered_events}
-use Rattle.call_processor.proofs.FrameLemmas.{same_frames, still_carried}
+use Rattle.call_processor.proofs.FrameLemmas.{frame_its, still_ready}
 use Rattle.segment_run.specs.Merging.{AreApart}
 use Rattle.segment_run.specs.Merging.{IsMerged}
 use Rattle.segment_run.specs.Merging.{all_of}
 use Rattle.segment_run.specs.Segment.{AreAnswered, IsChief, IsOfSegment, Ran, RanWhole, new_events}
-use Rattle.segment_run.specs.Segments.{events_before}
 use Rattle.segment_run.specs.Team.{AreDealt, HasDealt, any_baton, after_joins, load, loads_below, part_numbered, turns_left, worker_numbered}
 use Rattle.segment_run.proofs.ListLemmas.{In, all_in, in_all, in_filter, in_left, in_right, in_map, filter_none, none_behind}
 use Rattle.segment_run.proofs.DoerLemmas.{Doer, Joined, dealt_in, alike, entries_split, found, numbered_frames, numbered_processor, one_worker, its_of}
-use Rattle.segment_run.proofs.LoadLemmas.{ends_are, loads_all}
+use Rattle.segment_run.proofs.LoadLemmas.{loads_all}
 use Rattle.segment_run.proofs.RunLemmas.{zip_and, sum_left, still_chief, ran, ran_whole, turns_are, grown_is, grew, ts, pair_of, joined, after as settled_after, doer, doers}
 use Rattle.segment_run.proofs.AnswerLemmas.{Octets, apart, are_answered, as_many, lists}
 
@@ -50,25 +49,6 @@ ran_none trace segment v =
       turns = let a = ap length none in omega (arith, a);
       few = omega arith;
     }
-
--- ---- an engine stays ready where no frame comes
-
-module _ {E : Type 0} (carries : Carrying E) (next : E → ℕ) (sizes : E → Dimensions) (board : Board) where
-  still_ready : (seen history : List Entry) (engine : E) (tool : Tool) (begins : StartsWith history seen) → NoFrames board.trace begins.0
-      → IsReady carries next sizes board seen engine tool → IsReady carries next sizes board history engine tool
-  still_ready seen history engine tool begins none r =
-      let unseen_is : unseen seen history ≡ begins.0 = ap (unseen seen) begins.1 ∙ unseen_front seen begins.0 in
-      let same = same_frames board seen history begins (subst (NoFrames board.trace) (sym unseen_is) none) in
-      record {
-        carried = still_carried carries next sizes board (world_at board seen) (world_at board history) engine same r.carried;
-        number = r.number ∙ sym same.next;
-        sized = r.sized;
-        image = r.image;
-      }
-
--- a frame is the frame worker's
-frame_its : (trace : Trace) (n : ℕ) → IsFrame trace n → is_its trace Frame_worker n ≡ true
-frame_its trace n frame = ap (does trace.processors Frame_worker) frame.1
 
 left_all : (c : Known) (ws : List Known) → (after_joins c ws).left ≡ c.left + sum_left ws
 left_all c [] = omega arith
@@ -147,7 +127,6 @@ module _ {J U E : Type 0} (board : Board) (trace : Trace) (segment : ℕ) (wj : 
     pub sound : IsSound trace
     pub within : segment < length trace.segments
     pub chief : IsChief (turns_of board) v
-    pub begun : length v.seen ≡ events_before trace.segments segment
     pub ready : IsReadyAt v.seen engine tool
     pub few : length js ≤ 9
     pub dealt : AreDealt trace segment v (v.made + 1) 0 (jobs_of js)
@@ -287,20 +266,13 @@ module _ {J U E : Type 0} (board : Board) (trace : Trace) (segment : ℕ) (wj : 
           let f = r.turns in
           omega (arith, a, b, d, e, f)
 
-      pub run_size : length growth ≡ events_before trace.segments (segment + 1) - events_before trace.segments segment
+      pub run_size : length growth ≡ length (events_of_segment trace segment)
       run_size =
           let some_one = r.sound.processors.0 in
           size ∙ (r.all ∙ loads_all trace segment (omega (arith, some_one)) r.sound.segments r.within)
 
-      pub run_long : length k.seen ≡ events_before trace.segments (segment + 1)
-      run_long =
-          let a = ap length it_grew in
-          let b = length-append v.seen growth in
-          let d = run_size in
-          let e = ends_are trace segment r.sound.segments r.within in
-          let f = e.0 in
-          let g = r.begun in
-          omega (arith, a, b, d, f, g)
+      pub run_long : length k.seen ≡ length v.seen + length (events_of_segment trace segment)
+      run_long = let a = ap length it_grew in let b = length-append v.seen growth in let d = run_size in omega (arith, a, b, d)
 
       abbrev all_answers : List (List Placed)
       all_answers = lists plays tones board trace segment wj kj ku au bu r.same v k us
@@ -311,7 +283,7 @@ module _ {J U E : Type 0} (board : Board) (trace : Trace) (segment : ℕ) (wj : 
       pub run_apart : AreApart all_answers
       run_apart = apart plays tones board trace segment wj kj ku au bu r.same v k (v.made + 1) 0 js us zipped r.dealt r.fronts
 
-      pub run_many : length (all_of all_answers) ≡ events_before trace.segments (segment + 1) - events_before trace.segments segment
+      pub run_many : length (all_of all_answers) ≡ length (events_of_segment trace segment)
       run_many = as_many plays tones board trace segment wj kj ku au bu r.same v k (v.made + 1) 0 js us zipped r.dealt whole ∙ (sym size ∙ run_size)
 
       pub run_answered : (m : List Placed) → IsMerged all_answers m → AreAnswered plays tones board v k (map (λ (p : Placed). p.answer) m)
@@ -331,15 +303,10 @@ module _ {J : Type 0} (trace : Trace) (segment : ℕ) (wj : J → ℕ) (kj : J �
   pub each_at : (P : List Entry → Type 0) (n low : ℕ) (js : List J) → AreDealt trace segment v n low (map (λ (j : J). (wj j, kj j)) js) → P v.seen → All (λ (j : J). P (kj j).seen) js
   each_at P n low js d here = in_all (λ (j : J). P (kj j).seen) js (λ j i. subst P (sym (seen_same n low js d j i)) here)
 
--- seat 0 has a turn for each event of the segment
-pub enough_turns : (board : Board) (trace : Trace) (segment : ℕ) (v : Known) → trace ≡ board.trace → IsSound trace → segment < length trace.segments → IsChief (turns_of board) v → length v.seen ≡ events_before trace.segments segment
-    → loads_below trace segment (trace.processors + 1) ≤ v.left
-enough_turns board trace segment v same sound within chief begun =
+-- seat 0 has a turn for each event that the workers have to do
+pub enough_turns : (trace : Trace) (segment : ℕ) (left : ℕ) → IsSound trace → segment < length trace.segments → length (events_of_segment trace segment) ≤ left
+    → loads_below trace segment (trace.processors + 1) ≤ left
+enough_turns trace segment left sound within turns =
     let some_one = sound.processors.0 in
     let all = loads_all trace segment (omega (arith, some_one)) sound.segments within in
-    let whole = chief.settled.whole chief.joined in
-    let ends = ends_are trace segment sound.segments within in
-    let first = ends.0 in
-    let last = ends.1 in
-    let long = ap (λ (t : Trace). length t.events) same in
-    omega (arith, all, whole, first, last, long, begun)
+    omega (arith, all, turns)

@@ -1,5 +1,5 @@
 -- What came of all workers of a segment, once their seats are joined. Source: this exchange's own.
-use Rattle.std.specs.Prelude.{◌≡◌, ℕ, ◌+◌, ◌-◌, ◌≤◌, List, length, map, vec_capacity}
+use Rattle.std.specs.Prelude.{◌≡◌, ℕ, ◌+◌, ◌≤◌, List, length, map, vec_capacity}
 use Rattle.exchange_events.specs.declared.trace.Trace.{Trace}
 use Rattle.seat_history.specs.declared.known.Known.{Known}
 use Rattle.exchange_core.specs.Boards.{Board}
@@ -7,17 +7,13 @@ use Rattle.exchange_events.specs.Sizes.{Dimensions}
 use Rattle.tone_rules.specs.Tables.{table_of}
 use Rattle.call_processor.specs.declared.worked.Placed.{Placed}
 use Rattle.call_processor.specs.Frames.{Carrying, Plays, IsReady}
+use Rattle.call_processor.specs.Parts.{events_of_segment}
 use Rattle.segment_run.specs.declared.working.Gathered.{Gathered}
 use Rattle.segment_run.specs.Merging.{AreApart}
 use Rattle.segment_run.specs.Merging.{IsMerged, Keep}
 use Rattle.segment_run.specs.Merging.{all_of}
 use Rattle.segment_run.specs.Rooms.{HasRoom}
-use Rattle.segment_run.specs.Segment.{AreAnswered, RanWhole}
-use Rattle.segment_run.specs.Segments.{events_before}
-
--- the places of the segment's events in the history: so many from lo on
-abbrev pub IsSpan : Trace → ℕ → ℕ → ℕ → Type 0
-IsSpan trace segment lo count = (lo ≡ events_before trace.segments segment) × (count ≡ events_before trace.segments (segment + 1) - events_before trace.segments segment)
+use Rattle.segment_run.specs.Segment.{AreAnswered, HasGrown, RanWhole}
 
 -- no workplace was lost, and all lists have the room that a workroom keeps
 pub record IsComplete {T E K : Type 0} (g : Gathered T E K) : Type 0 where
@@ -31,10 +27,10 @@ pub record IsComplete {T E K : Type 0} (g : Gathered T E K) : Type 0 where
 -- kept, which put together are those of what the history grew by.
 pub record AllDone {T E K : Type 0} (holds : K → List Placed → Type 0) (plays : Plays) (carries : Carrying E) (next : E → ℕ) (sizes : E → Dimensions) (board : Board) (trace : Trace) (segment : ℕ) (v w : Known) (g : Gathered T E K) : Type 0 where
   pub whole : RanWhole trace segment v w
-  pub long : length w.seen ≡ events_before trace.segments (segment + 1)
+  pub long : HasGrown trace segment v w
   pub ready : IsReady carries next sizes board w.seen g.engine g.tool
   pub parts : List (List Placed)
   pub kept : Keep holds g.used.items parts
   pub apart : AreApart parts
-  pub many : (lo count : ℕ) → IsSpan trace segment lo count → length (all_of parts) ≡ count
+  pub many : length (all_of parts) ≡ length (events_of_segment trace segment)
   pub answered : (answers : List Placed) → IsMerged parts answers → AreAnswered plays (table_of trace.tones) board v w (map (λ (p : Placed). p.answer) answers)

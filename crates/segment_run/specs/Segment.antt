@@ -17,11 +17,10 @@ use Rattle.exchange_core.specs.Working.{Entry, IsNumbered, order_of}
 use Rattle.exchange_events.specs.Sizes.{Dimensions}
 use Rattle.tone_rules.specs.Tables.{table_of}
 use Rattle.call_processor.specs.Frames.{Carrying, Plays, IsPlayed, IsReady}
-use Rattle.call_processor.specs.Parts.{is_its, part_of}
+use Rattle.call_processor.specs.Parts.{events_of_segment, is_its, part_of}
 use Rattle.call_processor.specs.declared.worked.Placed.{Placed}
 use Rattle.segment_run.specs.declared.answers.SegmentAnswer.{SegmentAnswer}
 use Rattle.segment_run.specs.declared.answers.SegmentDone.{SegmentDone}
-use Rattle.segment_run.specs.Segments.{events_before}
 
 -- seat 0 between two segments: it holds the baton, all other seats are joined, and what it has seen is accounted for
 pub record IsChief (turns : ℕ) (v : Known) : Type 0 where
@@ -70,13 +69,21 @@ pub record AreAnswered (plays : Plays) (tones : Kind → List ℕ) (board : Boar
   pub events : map (λ (a : Answer). a.event) answers ≡ new_events v w
   pub each : (i : ℕ) (a : Answer) → slice_get answers i ≡ Some a → IsAnswered plays tones board w.seen (length v.seen + i) a
 
--- the segment may be run: seat 0 knows v, holds the baton, has numbers left for the seats of the workers, and all events before were done
+-- seat 0 has a turn for each event of the segment
+abbrev pub HasTurns : Trace → ℕ → Known → Type 0
+HasTurns trace segment v = length (events_of_segment trace segment) ≤ v.left
+
+-- from v to w the history grew by as many entries as the segment has events
+abbrev pub HasGrown : Trace → ℕ → Known → Known → Type 0
+HasGrown trace segment v w = length w.seen ≡ length v.seen + length (events_of_segment trace segment)
+
+-- the segment may be run: seat 0 knows v, holds the baton, and has numbers left for the seats of the workers and a turn for each event
 pub record MayRun (board : Board) (trace : Trace) (segment : ℕ) (v : Known) : Type 0 where
   pub trace_is : trace ≡ board.trace
   pub within : segment < length trace.segments
   pub chief : IsChief (turns_of board) v
   pub numbers : v.made + 10 < 2 ^ 32
-  pub begun : length v.seen ≡ events_before trace.segments segment
+  pub turns : HasTurns trace segment v
 
 -- a keeper keeps behind what it kept before the answers of what the history grew by
 pub record AddsAnswers {K : Type 0} (holds : K → List Placed → Type 0) (plays : Plays) (tones : Kind → List ℕ) (board : Board) (v w : Known) (kept : List Placed) (keeper : K) : Type 0 where
@@ -87,12 +94,12 @@ pub record AddsAnswers {K : Type 0} (holds : K → List Placed → Type 0) (play
 -- from v to w the segment was run whole, and the engine and the tool came back ready for the next frame
 pub record RanTo {T E K : Type 0} (carries : Carrying E) (next : E → ℕ) (sizes : E → Dimensions) (board : Board) (trace : Trace) (segment : ℕ) (v w : Known) (a : SegmentDone T E K) : Type 0 where
   pub whole : RanWhole trace segment v w
-  pub long : length w.seen ≡ events_before trace.segments (segment + 1)
+  pub long : HasGrown trace segment v w
   pub ready : IsReady carries next sizes board w.seen a.engine a.tool
 
 -- from v to w the segment was run whole, and this is its answer
 pub record IsAnswerOf {E : Type 0} (plays : Plays) (carries : Carrying E) (next : E → ℕ) (sizes : E → Dimensions) (board : Board) (trace : Trace) (segment : ℕ) (v w : Known) (a : SegmentAnswer E) : Type 0 where
   pub whole : RanWhole trace segment v w
-  pub long : length w.seen ≡ events_before trace.segments (segment + 1)
+  pub long : HasGrown trace segment v w
   pub answered : AreAnswered plays (table_of trace.tones) board v w a.answers.items
   pub ready : IsReady carries next sizes board w.seen a.engine a.tool

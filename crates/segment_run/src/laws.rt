@@ -5,8 +5,9 @@ ghost use Rattle.exchange_events.specs.Orders.{IsLawful, IsLawfulPrefix};
 ghost use Rattle.seat_history.specs.declared.known.Known.{Known};
 ghost use Rattle.seat_history.specs.Seats.{first_seat};
 ghost use Rattle.exchange_events.specs.Sound.{IsSound};
+ghost use Rattle.exchange_core.specs.Boards.{Board, turns_of};
 ghost use Rattle.exchange_core.specs.Working.{order_of};
-ghost use Rattle.segment_run.specs.Segment.{IsChief, Ran, RanWhole};
+ghost use Rattle.segment_run.specs.Segment.{HasTurns, IsChief, Ran, RanWhole};
 ghost use Rattle.segment_run.specs.Segments.{IsDoneBelow, events_before};
 
 /// Segments that are run one after another make a lawful order; where the last of them is cut short,
@@ -23,9 +24,11 @@ pub fn first_seat_is_chief()
     ensures { (turns : ℕ) → IsChief turns (first_seat turns) }
 {}
 
-/// When the segments before one are done, the history is as long as they have events, and there are
-/// numbers left for the seats of the next.
+/// When the segments before one are done, the history is as long as they have events, seat 0 has a turn
+/// for each event of the next, and there are numbers left for the seats of its workers.
 pub fn segments_leave_room()
     ensures long { (t : Trace) (k : ℕ) (v : Known) → IsSound t → k ≤ length t.segments → IsDoneBelow t k (order_of v.seen) → length v.seen ≡ events_before t.segments k }
+    ensures turns { (b : Board) (k : ℕ) (v : Known) → IsSound b.trace → k < length b.trace.segments → IsChief (turns_of b) v
+        → IsDoneBelow b.trace k (order_of v.seen) → HasTurns b.trace k v }
     ensures numbers { (t : Trace) (k made : ℕ) → IsSound t → k < length t.segments → made ≤ 9 * k → made + 10 < 2 ^ 32 }
 {}

@@ -1,8 +1,9 @@
 //! A segment of a trace: its call processors and its frame worker side by side, and their answers
 //! in the order of the history.
 //!
-//! `run_segment` starts a thread for each worker that has events, but for one, which is the caller.
-//! Its clauses: the history grows by the segment's events alone (`ran`), by each worker's whole part
+//! Where threads pay, or the gate asks for them, `run_segment` starts one for each worker that has
+//! events, but for one, which is the caller; else the caller does all events in the order of the file
+//! (`FEWEST_BESIDE`). Its clauses, both ways: the history grows by the segment's events alone (`ran`), by each worker's whole part
 //! where it is answered (`whole`); the answers are the exchange's at their places of the history, with
 //! the octets that the engine plays (`answered`); the engine carries the frames of the history
 //! (`ready`). Segments that are run one after another make a lawful order
@@ -15,6 +16,9 @@
 #![tactic(auto)]
 
 mod answers;
+mod apart;
+mod by_caller;
+mod choice;
 mod crew;
 mod dealing;
 mod gathering;
@@ -26,6 +30,7 @@ mod working;
 mod workroom;
 
 pub use answers::{SegmentAnswer, SegmentDone};
+pub use choice::FEWEST_BESIDE;
 pub use laws::{first_seat_is_chief, segments_leave_room, segments_make_lawful_orders};
 pub use run::{run_segment, run_segment_in, run_segment_with};
 pub use workroom::Workroom;

@@ -1,21 +1,17 @@
-ghost use Rattle.std.specs.Prelude.{◌≡◌, ◌+◌, ◌++◌, ◌<◌, ◌≤◌, ◌^◌, List, [], IfOk, OnOk, OnErr, length, map, vec_len, vec_capacity};
+ghost use Rattle.std.specs.Prelude.{◌≡◌, ◌+◌, ◌<◌, ◌≤◌, ◌^◌, List, IfOk, OnOk, OnErr, length, map};
 ghost use Rattle.exchange_core.specs.Boards.{turns_of};
 ghost use Rattle.tone_rules.specs.Tables.{table_of};
 ghost use Rattle.call_processor.specs.declared.worked.Placed.{Placed};
 ghost use Rattle.call_processor.specs.Frames.{IsReady, IsReadyFor, engine_dimensions};
-ghost use Rattle.call_processor.specs.Keeping.{StillHolds};
-ghost use Rattle.segment_run.specs.Merging.{AddsMerged, Keep};
-ghost use Rattle.segment_run.specs.Merging.{AreApart};
-ghost use Rattle.segment_run.specs.Merging.{all_of};
-ghost use Rattle.segment_run.specs.Segment.{AddsAnswers, AreAnswered, IsAnswerOf, IsChief, MayRun, Ran, RanTo, RanWhole};
-ghost use Rattle.segment_run.specs.Segments.{events_before};
+ghost use Rattle.segment_run.specs.Segment.{AddsAnswers, AreAnswered, HasGrown, HasTurns, IsAnswerOf, IsChief, MayRun, Ran, RanTo, RanWhole};
 
 use crate::answers::{SegmentAnswer, SegmentDone};
+use crate::apart::run_apart;
+use crate::by_caller::run_by_caller;
+use crate::choice::is_worth_threads;
 use crate::dealing::loads_of;
-use crate::merge::merge;
-use crate::working::{Gathered, work_all};
 use crate::workroom::Workroom;
-use call_processor::{AnswerList, Keeper, Placed, Workplace};
+use call_processor::{AnswerList, Keeper, Placed};
 use exchange_core::{Switchboard, Tool};
 use exchange_events::{Answer, Trace};
 use frame_engine::Carrier;
@@ -25,26 +21,15 @@ use std::collections::VecDeque;
 use std::sync::Wait;
 use std::thread::Threads;
 
-// The numbers of the events before a segment and up to its end.
-fn ends_of(trace: &Trace, segment: u32) -> (u32, u32)
-    requires segment { segment < length trace.now.segments }
-    ensures before { result.0 ≡ events_before trace.now.segments segment }
-    ensures last { result.1 ≡ events_before trace.now.segments (segment + 1) }
-{
-    let ends = trace.segments.as_slice();
-    let last = ends[segment as usize];
-    if segment == 0 {
-        return (0, last);
-    }
-    (ends[segment as usize - 1], last)
-}
-
-/// Runs one segment of a board's trace; segments are counted from 0. Each worker that has events gets
-/// a seat of its own, with a turn for each of them, and does them in the order of the file; all of
-/// them run at once, one as the caller. When all are done, seat 0 joins their seats again, and the
-/// answers stand in the order of the history.
+/// Runs one segment of a board's trace; segments are counted from 0. The answers come in the order of
+/// the history.
 ///
-/// Seat 0 holds the baton, and all events of the segments before are done.
+/// Where threads pay, or the gate asks for them, each worker that has events gets a seat of its own,
+/// with a turn for each of them, and does them in the order of the file; all of them run at once, one
+/// as the caller, and when all are done, seat 0 joins their seats again. Else the caller does all
+/// events in the order of the file.
+///
+/// Seat 0 holds the baton, all other seats are joined, and it has a turn for each event of the segment.
 ///
 /// # Errors
 ///
@@ -65,13 +50,13 @@ pub fn run_segment<B: Switchboard, G: Gate, C: Carrier, R: Threads + Wait + Sync
     requires segment { segment < length trace.now.segments }
     requires chief { IsChief (turns_of (B.board board.now)) (B.known seat.old) }
     requires numbers { (B.known seat.old).made + 10 < 2 ^ 32 }
-    requires turns { length (B.known seat.old).seen ≡ events_before trace.now.segments segment }
+    requires turns { HasTurns trace.now segment (B.known seat.old) }
     requires ready { IsReady C.carries C.next (engine_dimensions C.external_lines C.bridge_lines C.depth) (B.board board.now) (B.known seat.old).seen engine tool }
     ensures seated { B.seated board.now seat.new }
     ensures chief { IsChief (turns_of (B.board board.now)) (B.known seat.new) }
     ensures ran { Ran trace.now segment (B.known seat.old) (B.known seat.new) }
     ensures whole { IfOk result (λ a. RanWhole trace.now segment (B.known seat.old) (B.known seat.new)) }
-    ensures turns { IfOk result (λ a. length (B.known seat.new).seen ≡ events_before trace.now.segments (segment + 1)) }
+    ensures turns { IfOk result (λ a. HasGrown trace.now segment (B.known seat.old) (B.known seat.new)) }
     ensures answered { IfOk result (λ a. AreAnswered C.plays (table_of trace.now.tones) (B.board board.now) (B.known seat.old) (B.known seat.new) a.answers.items) }
     ensures ready { IfOk result (λ a. IsReadyFor C.carries C.next C.external_lines C.bridge_lines C.depth (B.board board.now) (B.known seat.new) a.engine a.tool) }
 {
@@ -175,63 +160,12 @@ pub fn run_segment_with<B: Switchboard, G: Gate, C: Carrier, K: Keeper, R: Threa
     ensures kept { OnErr result ((kept : List Placed) → K.holds keeper.old kept → K.holds keeper.new kept) }
 {
     let loads = loads_of(trace, segment);
-    let Gathered {
-        mut workplaces,
-        mut used,
-        crew,
-        engine,
-        tool,
-        whole,
-    } = work_all(
-        rt, alloc, board, seat, trace, segment, engine, tool, workroom, &loads, gate,
-    );
-    if !whole {
-        return Err(AllocError);
+    if gate.apart() || is_worth_threads(&loads) {
+        return run_apart(
+            rt, alloc, board, seat, trace, segment, engine, tool, workroom, keeper, &loads, gate,
+        );
     }
-    let (before, last) = ends_of(trace, segment);
-    merge_or_cut(keeper, &mut used, (last - before) as usize)?;
-    give_back(&mut used, &mut workplaces);
-    let workroom = Workroom {
-        workplaces,
-        used,
-        crew,
-    };
-    Ok(SegmentDone {
-        engine,
-        tool,
-        workroom,
-    })
-}
-
-// Merges what was kept at these workplaces behind what the keeper keeps. Where memory runs out, it keeps
-// what it kept.
-fn merge_or_cut<K: Keeper>(
-    keeper: &mut K,
-    used: &mut Vec<Workplace<K>>,
-    count: usize,
-) -> Result<(), AllocError>
-    ensures merged { OnOk result ((kept : List Placed) (parts : List (List Placed)) → K.holds keeper.old kept → Keep K.holds used.old.items parts
-        → AreApart parts → length (all_of parts) ≤ count → AddsMerged K.holds kept parts keeper.new) }
-    ensures kept { OnErr result ((kept : List Placed) (parts : List (List Placed)) → K.holds keeper.old kept → Keep K.holds used.old.items parts
-        → AreApart parts → K.holds keeper.new kept) }
-    ensures count { length used.new.items ≡ length used.old.items }
-    ensures room { vec_capacity used.new ≡ vec_capacity used.old }
-{
-    let kept = keeper.count();
-    let done = merge(keeper, used, count);
-    if done.is_err() {
-        keeper.cut(kept);
-    }
-    done
-}
-
-// Puts workplaces that were used to the others.
-fn give_back<K>(used: &mut Vec<Workplace<K>>, workplaces: &mut Vec<Workplace<K>>)
-    requires room { vec_len workplaces.old + vec_len used.old ≤ vec_capacity workplaces.old }
-    ensures back { length workplaces.new.items ≡ length workplaces.old.items + length used.old.items }
-    ensures gone { (used.new.items ≡ []) × (vec_capacity used.new ≡ vec_capacity used.old) }
-{
-    while let Some(one) = used.pop() {
-        workplaces.push_reserved(one);
-    }
+    run_by_caller(
+        rt, alloc, board, seat, trace, segment, engine, tool, workroom, keeper, gate,
+    )
 }

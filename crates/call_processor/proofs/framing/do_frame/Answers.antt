@@ -2,10 +2,11 @@ use Rattle.std.proofs.Common.{rules, ◌≡◌, ◌+◌, ℕ, [], ◌∷◌, ◌
 use Rattle.circuit_model.specs.FrameInput.{Input}
 use Rattle.exchange_events.specs.Responses.{reply_of}
 use Rattle.seat_history.specs.Histories.{before}
-use Rattle.exchange_core.specs.Boards.{world_at, setting_at}
+use Rattle.exchange_core.specs.Boards.{world_at, setting_at, turns_of}
 use Rattle.exchange_events.specs.Sizes.{Dimensions}
 use Rattle.frame_engine.specs.Frames.{PlaysOut}
 use Rattle.tone_rules.specs.Tables.{table_of}
+use Rattle.call_processor.proofs.AloneLemmas.{next_alone}
 use Rattle.call_processor.proofs.EventLemmas.{Next, answer_next}
 use Rattle.call_processor.proofs.FrameLemmas.{frame_asks, boundary, frames_few, input_whole, made_at, next_frame, one_input, played_here, ready_after, same_frames, still_carried, written_whole}
 use Rattle.call_profile.proofs.GivenToneLemmas.{sounds_given}
@@ -105,3 +106,9 @@ returns-clause-kept g c =
           (subst (λ (l : Input). PlaysOut c.in-Image.image.external (g.C.Carrier.plays (table_of c.args.tones.now) (w.inputs ++ l ∷ []) (w.held ++ w.holding.circuits ∷ []) c.in-Image.image.frame) c.frame.new.out) arrived played);
       held = held;
     }) c.keep.ensures.kept
+
+pub returns-clause-next : goal.returns-clause-next
+returns-clause-next g c = λ only.
+    let K = g.B.Switchboard.known in
+    next_alone (turns_of (g.B.Switchboard.board c.args.board.now)) (before c.work-place.result.0 (K c.work-place.new.seat).seen) c.args.event (K c.args.seat.now) (K c.work-place.new.seat)
+    c.work-place.ensures.seat (c.work-place.ensures.alone only.0 only.1) (c.work-place.ensures.settled only.0)

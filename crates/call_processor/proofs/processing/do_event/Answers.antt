@@ -1,8 +1,10 @@
 use Rattle.std.proofs.Common.{[], refl, arith, length-take-le}
 use Rattle.exchange_events.specs.Responses.{reply_of}
+use Rattle.exchange_core.specs.Boards.{turns_of}
 use Rattle.seat_history.specs.Histories.{before}
 use Rattle.call_processor.specs.declared.worked.Placed.{Placed}
 use Rattle.call_processor.specs.Keeping.{placed}
+use Rattle.call_processor.proofs.AloneLemmas.{next_alone}
 use Rattle.call_processor.proofs.EventLemmas.{Next, answer_next}
 use Rattle.call_processor.proofs.KeepingLemmas.{on_ok}
 use Rattle.call_processor.proofs.processing.do_event.Goals as goal
@@ -30,3 +32,9 @@ returns-clause-kept g c =
       said = refl;
       held = kept;
     }) c.keep.ensures.kept
+
+pub returns-clause-next : goal.returns-clause-next
+returns-clause-next g c = λ only.
+    let K = g.B.Switchboard.known in
+    next_alone (turns_of (g.B.Switchboard.board c.args.board.now)) (before c.work-place.result.0 (K c.work-place.new.seat).seen) c.args.event (K c.args.seat.now) (K c.work-place.new.seat)
+    c.work-place.ensures.seat (c.work-place.ensures.alone only.0 only.1) (c.work-place.ensures.settled only.0)

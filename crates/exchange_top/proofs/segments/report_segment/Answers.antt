@@ -4,6 +4,7 @@ use Rattle.tone_rules.specs.Tables.{table_of}
 use Rattle.exchange_events.specs.declared.trace.Trace.{Trace}
 use Rattle.exchange_events.specs.Orders.{IsEvent}
 use Rattle.segment_run.specs.Segment.{AreAnswered, new_events}
+use Rattle.segment_run.proofs.LoadLemmas.{turns_for}
 use Rattle.segment_run.proofs.OrderLemmas.{grown_known, numbers_left, seen_done}
 use Rattle.exchange_top.specs.Outcomes.{listed}
 use Rattle.exchange_top.specs.Report.{lines_of}
@@ -16,12 +17,14 @@ use Rattle.exchange_top.proofs.segments.report_segment.Goals as goal
 pub run_segment_in-requires-clause-may : goal.run_segment_in-requires-clause-may
 run_segment_in-requires-clause-may g c lifetimes outlive =
     let within = c.requires.segment in
+    let v = g.B.Switchboard.known c.args.seat.now in
     record {
       trace_is = c.requires.trace;
       within = within;
       chief = c.requires.chief;
       numbers = numbers_left c.args.trace.now c.args.segment _ c.requires.sound within c.requires.numbers;
-      begun = seen_done c.args.trace.now c.args.segment (g.B.Switchboard.known c.args.seat.now) c.requires.sound (omega (arith, within)) c.requires.done;
+      turns = turns_for (g.B.Switchboard.board c.args.board.now) c.args.trace.now c.args.segment v c.requires.trace c.requires.sound within c.requires.chief
+          (seen_done c.args.trace.now c.args.segment v c.requires.sound (omega (arith, within)) c.requires.done);
     }
 
 pub returns-in_err-done-clause-told_front : goal.returns-in_err-done-clause-told_front

@@ -1,3 +1,5 @@
+use Rattle.std.proofs.Common.{◌≤◌, refl, arith}
+use Rattle.segment_run.proofs.LoadLemmas.{turns_for}
 use Rattle.segment_run.proofs.OrderLemmas.{seen_done, numbers_left}
 use Rattle.segment_run.proofs.laws.segments_leave_room.Goals as goal
 
@@ -6,3 +8,6 @@ returns-clause-long c t k v sound within below = seen_done t k v sound within be
 
 pub returns-clause-numbers : goal.returns-clause-numbers
 returns-clause-numbers c t k made sound within few = numbers_left t k made sound within few
+
+pub returns-clause-turns : goal.returns-clause-turns
+returns-clause-turns c b k v sound within chief below = turns_for b b.trace k v refl sound within chief (seen_done b.trace k v sound (omega (arith, within)) below)

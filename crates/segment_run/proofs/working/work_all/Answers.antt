@@ -20,7 +20,7 @@ use Rattle.segment_run.proofs.working.work_all.Goals as goal
 pub deal-jobs-requires-clause-turns : goal.deal-jobs-requires-clause-turns
 deal-jobs-requires-clause-turns g c lifetimes outlive =
     let sound : IsSound c.args.trace.now = subst IsSound (sym c.requires.may.trace_is) ((g.met.B.Switchboard g.world.𝓛 g.world.𝓜 g.world.𝓡 ((λ s x. x), (λ x. x), (λ x. x), λ x. x)).sound_trace c.args.board.now c.args.seat.now c.requires.seated) in
-    enough_turns (g.B.Switchboard.board c.args.board.now) c.args.trace.now c.args.segment (g.B.Switchboard.known c.args.seat.now) c.requires.may.trace_is sound c.requires.may.within c.requires.may.chief c.requires.may.begun
+    enough_turns c.args.trace.now c.args.segment (g.B.Switchboard.known c.args.seat.now).left sound c.requires.may.within c.requires.may.turns
 
 pub side_by_side-crew-requires-clause-ready : goal.side_by_side-crew-requires-clause-ready
 side_by_side-crew-requires-clause-ready g c lifetimes outlive =
@@ -60,7 +60,6 @@ returns-clause-chief g c =
       sound = sound;
       within = c.requires.may.within;
       chief = c.requires.may.chief;
-      begun = c.requires.may.begun;
       ready = c.requires.ready;
       few = c.deal-jobs.ensures.few;
       dealt = c.deal-jobs.ensures.dealt;
@@ -111,7 +110,6 @@ returns-clause-ran g c =
       sound = sound;
       within = c.requires.may.within;
       chief = c.requires.may.chief;
-      begun = c.requires.may.begun;
       ready = c.requires.ready;
       few = c.deal-jobs.ensures.few;
       dealt = c.deal-jobs.ensures.dealt;
@@ -163,7 +161,6 @@ returns-clause-done g c =
       sound = sound;
       within = c.requires.may.within;
       chief = c.requires.may.chief;
-      begun = c.requires.may.begun;
       ready = c.requires.ready;
       few = c.deal-jobs.ensures.few;
       dealt = c.deal-jobs.ensures.dealt;
@@ -189,6 +186,6 @@ returns-clause-done g c =
       parts = reverse (map answers us);
       kept = subst (λ (l : List (Workplace _)). Keep g.K.Keeper.holds l (reverse (map answers us))) (sym c.gather.ensures.workplaces) (pairs_keep g.K.Keeper.holds board octets part known seat place done jobs workers z);
       apart = run_apart board trace c.args.segment number known joined answers whole plays tones g.C.Carrier.carries g.C.Carrier.next sizes v dealt k jobs us c.args.engine c.side_by_side-crew.result.engine c.args.tool c.side_by_side-crew.result.tool r all_done;
-      many = λ lo count span. run_many board trace c.args.segment number known joined answers whole plays tones g.C.Carrier.carries g.C.Carrier.next sizes v dealt k jobs us c.args.engine c.side_by_side-crew.result.engine c.args.tool c.side_by_side-crew.result.tool r all_done ∙ sym span.1;
+      many = run_many board trace c.args.segment number known joined answers whole plays tones g.C.Carrier.carries g.C.Carrier.next sizes v dealt k jobs us c.args.engine c.side_by_side-crew.result.engine c.args.tool c.side_by_side-crew.result.tool r all_done;
       answered = run_answered board trace c.args.segment number known joined answers whole plays tones g.C.Carrier.carries g.C.Carrier.next sizes v dealt k jobs us c.args.engine c.side_by_side-crew.result.engine c.args.tool c.side_by_side-crew.result.tool r all_done;
     }
