@@ -1,16 +1,21 @@
 use crate::orders::{is_lawful, numbered, of_event, order_of};
 use call_traffic::Script;
+use circuit_model::{Slot, channel_of};
 use ex_io::{MemSink, MemSource};
 use exchange_top::{Outcome, exchange};
 use frame_engine::Engine;
 use gate::Gate;
-use plain_calls::{PlainEvent, PlainRun};
+use meters::{CallDetail, Meter, append_summaries};
+use plain_calls::{CallRecord, Party, PlainEvent, PlainRun};
 use std::alloc::{AllocError, Global};
 use std::sync::Wait;
 use std::thread::Threads;
 
 // More than a report takes.
 const ROOM: usize = 400_000;
+
+// More than the calls of a trace.
+const CALLS: u32 = 1000;
 
 /// A plain program that takes events one by one, and reports them in lines that it numbers as they
 /// come.
@@ -20,6 +25,9 @@ pub trait Plain {
 
     /// The report. `_ _` stands in it for two numbers of moved paths that the program doesn't know.
     fn into_text(self) -> String;
+
+    /// Appends a line for each call that ended, in order, as a meter of call details does.
+    fn append_calls(&self, calls: &mut String) -> Result<(), AllocError>;
 }
 
 impl Plain for PlainRun {
@@ -31,6 +39,49 @@ impl Plain for PlainRun {
     fn into_text(self) -> String {
         self.into_report()
     }
+
+    fn append_calls(&self, calls: &mut String) -> Result<(), AllocError> {
+        for record in self.records() {
+            append_call(calls, record)?;
+        }
+        Ok(())
+    }
+}
+
+// Appends the line of a call.
+fn append_call(calls: &mut String, record: &CallRecord) -> Result<(), AllocError> {
+    calls.push_str("call ")?;
+    append_slot(calls, record.caller)?;
+    match record.called {
+        Party::Line(slot) => append_slot(calls, slot)?,
+        Party::Room(room) => write!(calls, "room {room} ")?,
+    }
+    let CallRecord {
+        from,
+        to,
+        cause,
+        ..
+    } = record;
+    write!(calls, "{from} {to} {cause}\n")
+}
+
+fn append_slot(calls: &mut String, slot: Slot) -> Result<(), AllocError> {
+    write!(calls, "{}/{} ", slot.line, channel_of(slot.place))
+}
+
+/// What is said of a run: its report, and a line for each call that ended.
+#[derive(Drop)]
+struct Said {
+    report: String,
+    calls: String,
+}
+
+/// What the exchange says of a run: its report, and what two meters say of it that keep every call, one
+/// behind the other.
+#[derive(Drop)]
+struct Heard {
+    report: Vec<u8>,
+    calls: Vec<u8>,
 }
 
 /// A gate that holds nobody up, and asks for threads.
@@ -48,7 +99,7 @@ impl Gate for Apart {
 
 /// Runs a trace through the exchange at a gate. The order of its report, where that has the events in a
 /// lawful order, and says of each what the plain program says that takes them in that order, from
-/// nothing.
+/// nothing, and where two meters kept just the calls that ended in that run.
 pub fn agreed<P: Plain + Drop, G: Gate, R: Threads + Wait + Sync>(
     rt: &R,
     alloc: Global,
@@ -56,8 +107,8 @@ pub fn agreed<P: Plain + Drop, G: Gate, R: Threads + Wait + Sync>(
     plain: P,
     gate: &G,
 ) -> Result<Option<Vec<u32>>, AllocError> {
-    let report = report_of(rt, alloc, script.text.as_str(), gate)?;
-    let Ok(report) = str::from_utf8(report.as_slice()) else {
+    let heard = heard_of(rt, alloc, script.text.as_str(), gate)?;
+    let Ok(report) = str::from_utf8(heard.report.as_slice()) else {
         return Ok(None);
     };
     let Some(order) = order_of(alloc, report)? else {
@@ -67,24 +118,33 @@ pub fn agreed<P: Plain + Drop, G: Gate, R: Threads + Wait + Sync>(
         return Ok(None);
     }
     let wanted = wanted_of(alloc, plain, script.events.as_slice(), order.as_slice())?;
-    Ok(if is_wanted(report, wanted.as_str()) {
+    let is_told = is_twice(heard.calls.as_slice(), wanted.calls.as_bytes());
+    Ok(if is_told && is_wanted(report, wanted.report.as_str()) {
         Some(order)
     } else {
         None
     })
 }
 
-// The exchange's report of a trace; nothing where it was not run.
-fn report_of<G: Gate, R: Threads + Wait + Sync>(
+// Whether a text is another, twice.
+fn is_twice(text: &[u8], half: &[u8]) -> bool {
+    text.strip_prefix(half) == Some(half)
+}
+
+// What the exchange says of a trace; nothing where it was not run.
+fn heard_of<G: Gate, R: Threads + Wait + Sync>(
     rt: &R,
     alloc: Global,
     trace: &str,
     gate: &G,
-) -> Result<Vec<u8>, AllocError> {
+) -> Result<Heard, AllocError> {
     let words = vec![in alloc; String::from_str(alloc, "run")?]?;
     let input = Vec::from_slice(alloc, trace.as_bytes())?;
     let mut source = MemSource::new(input, 4096, Vec::new(alloc));
     let mut sink = MemSink::new(alloc, ROOM, 4096, Vec::new(alloc))?;
+    let mut meters: Vec<Box<dyn Meter>> = Vec::with_capacity(alloc, 2)?;
+    meters.push(Box::new(alloc, CallDetail::new(alloc, CALLS)?)?)?;
+    meters.push(Box::new(alloc, CallDetail::new(alloc, CALLS)?)?)?;
     let outcome: Outcome<Engine> = exchange(
         rt,
         alloc,
@@ -92,28 +152,38 @@ fn report_of<G: Gate, R: Threads + Wait + Sync>(
         &mut source,
         &mut sink,
         gate,
-        &mut Vec::new(alloc),
+        &mut meters,
     );
-    if outcome.status != 0 {
-        return Ok(Vec::new(alloc));
+    let mut heard = Heard {
+        report: Vec::new(alloc),
+        calls: Vec::new(alloc),
+    };
+    if outcome.status == 0 {
+        heard.report.extend_from_slice(sink.bytes())?;
+        append_summaries(meters.as_slice(), &mut heard.calls)?;
     }
-    Vec::from_slice(alloc, sink.bytes())
+    Ok(heard)
 }
 
-// What a plain program reports of the events in this order.
+// What a plain program says of the events in this order.
 fn wanted_of<P: Plain + Drop>(
     alloc: Global,
     plain: P,
     events: &[PlainEvent],
     order: &[u32],
-) -> Result<String, AllocError> {
+) -> Result<Said, AllocError> {
     let mut plain = plain;
     for number in order {
         if let Some(event) = of_event(events, *number) {
             plain.take(alloc, event)?;
         }
     }
-    Ok(plain.into_text())
+    let mut calls = String::new(alloc);
+    plain.append_calls(&mut calls)?;
+    Ok(Said {
+        report: plain.into_text(),
+        calls,
+    })
 }
 
 // Whether the lines of a report say what is wanted, behind the numbers, by which the order was read.

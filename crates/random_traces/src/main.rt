@@ -4,7 +4,8 @@
 //! `random_traces TRACES` draws that many traces of nails, whose octets are compared with those of
 //! a delay line; that many with seats too, compared with the definitions' own program; and that
 //! many of calls and tones, compared with a plain program of calls. They are for one to eight call
-//! processors, and their segments are of any length. Each is run twice: all segments in threads, and
+//! processors, and their segments are of any length. Two meters that keep every call have to say the
+//! calls that the plain program saw end, in that order. Each trace is run twice: all segments in threads, and
 //! as the program decides, where small ones have to come in the order of the file. The order of each
 //! report has to hold every event once and be a lawful one, and the plain program takes the events in
 //! that order, from nothing.
@@ -15,7 +16,7 @@
 //! where that is none. It is proved safe; what it compares is tested, not proved.
 //!
 //! It stands on `ex_io`, `circuit_model`, `frame_buffer`, `plain_model`, `plain_calls`,
-//! `call_traffic`, `frame_engine`, `gate`, `segment_run` and `exchange_top`.
+//! `call_traffic`, `frame_engine`, `meters`, `gate`, `segment_run` and `exchange_top`.
 #![tactic(auto)]
 
 mod check;

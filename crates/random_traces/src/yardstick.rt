@@ -249,4 +249,9 @@ impl Plain for Yardstick {
         let Yardstick { report, .. } = self;
         report
     }
+
+    // No call is drawn with this yardstick.
+    fn append_calls(&self, _calls: &mut String) -> Result<(), AllocError> {
+        Ok(())
+    }
 }
