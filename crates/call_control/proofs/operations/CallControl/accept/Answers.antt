@@ -1,4 +1,4 @@
-use Rattle.std.proofs.Common.{[], sym, ◌∙◌, ap}
+use Rattle.std.proofs.Common.{◌<◌, [], sym, ◌∙◌, ap}
 use Rattle.std.specs.Prelude.{unwrap_or}
 use Rattle.q931_codec.specs.Contents.{channel_in}
 use Rattle.number_plan.specs.declared.target.Found.TheVariants.{Line}
@@ -6,6 +6,7 @@ use Rattle.call_profile.specs.Legs.{Legs, new_reference}
 use Rattle.call_profile.specs.Operations.{making_at}
 use Rattle.call_profile.specs.Setup.{digits_in, caller_slot, accept, call_line, call_room}
 use Rattle.call_profile.proofs.AcceptedSetupLemmas.{accepts_line, accepts_full_line, accepts_room, accepts_more, accepts_nothing, can_seat}
+use Rattle.call_control.proofs.AtWorkLemmas.{row_inside}
 use Rattle.call_control.proofs.SetupMakingLemmas.{makes_begun, makes_same, planned_by, external_by, chosen_external}
 use Rattle.call_control.proofs.RefusalCauseLemmas.{reaches, same_target}
 use Rattle.call_control.proofs.operations.CallControl.accept.Goals as goal
@@ -85,3 +86,12 @@ returns-in-Nothing-clause-makes g c s w plan work =
     makes_same s.dimensions c.args.self.now.map c.args.self.now.legs c.args.out.now.sends c.args.out.now.moved (making_at w) [] (accept s w m (caller_slot w c.args.line (channel_in m.elements)))
     (ap (accept s w m) is ∙ accepts_nothing s w m c.in-Some.caller target)
     (makes_begun s.dimensions c.args.self.now.map c.args.self.now.legs c.args.out.now.sends c.args.out.now.moved w work.holds c.requires.fresh)
+
+pub new_reference-reference-requires : goal.new_reference-reference-requires
+new_reference-reference-requires g c =
+    let work = c.requires.work in
+    let below : c.in-Line.line < c.args.self.now.map.external =
+    reaches c.args.self.now.map.external c.args.plan.now (unwrap_or (digits_in c.args.message.now) []) (Line c.in-Line.line)
+    (planned_by work.0 c.args.plan.now c.args.self.now.map work.2 work.3.holds.sizes work.3.planned) (sym c.target_of.ensures ∙ c.in-Line.is)
+    in
+    record { line = row_inside work.0 c.args.self.now.map c.args.self.now.legs work.1 c.in-Line.line work.3 below }
