@@ -1,5 +1,5 @@
 -- What is known of an exchange at work when a message to a leg comes.
-use Rattle.std.proofs.Common.{◌≡◌, ℕ, Option, Some, None, sym, ◌∙◌, ap, subst}
+use Rattle.std.proofs.Common.{◌≡◌, ℕ, ◌+◌, ◌*◌, ◌<◌, ◌≤◌, length, Option, Some, None, sym, ◌∙◌, ap, subst, arith}
 use Rattle.std.specs.Prelude.{IfSome}
 use Rattle.circuit_model.specs.declared.channel.Slot.{Slot}
 use Rattle.circuit_model.specs.Circuits.{heard_by, unless_naming}
@@ -37,6 +37,13 @@ silent_on_map : (map : Connections) (w : World) → ((x : Slot) → hears_at map
     → IfSome o (λ c. heard_by w.holding.circuits c.slot ≡ None) → IsSilent map o
 silent_on_map map w same None deaf = tt
 silent_on_map map w same (Some c) deaf = same c.slot ∙ deaf
+
+-- a line has a place for each of its thirty legs
+pub row_inside : (s : Setting) (map : Connections) (legs : Legs) (w : World) (line : ℕ) → IsAtWork s map legs w → line < map.external → 30 * line + 30 ≤ length legs
+row_inside s map legs w line work within =
+    let same : map.external ≡ s.dimensions.external = ap (λ (d : Dimensions). d.external) work.holds.sizes in
+    let count : length legs ≡ 30 * s.dimensions.external = ap length work.holds.legs_are ∙ work.stands.legs.count in
+    omega (arith, within, same, count)
 
 module _ (s : Setting) (map : Connections) (legs : Legs) (w : World) (work : IsAtWork s map legs w) (h : Held) (within : IsExternal map.external h.slot) (at : leg_at legs h.slot ≡ Some h.leg) where
   external_is : map.external ≡ s.dimensions.external

@@ -8,3 +8,5 @@ pub mod AtWorkLemmas
 pub mod ActMakingLemmas
 pub mod SetupMakingLemmas
 pub mod RestartMakingLemmas
+pub mod LegKeyLemmas
+pub mod LegWordLemmas

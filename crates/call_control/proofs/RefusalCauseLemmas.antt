@@ -52,21 +52,21 @@ reaches external plan digits Nothing planned is = tt
 
 -- ---- the whole
 
-module _ (s : Setting) (w : World) (line : ℕ) (m : Message) (numbers : List Number) (target : Found) (plan : s.plan ≡ numbers) (is : target ≡ found_for numbers (unwrap_or (digits_in m) [])) where
-  pub same_target : target_of s m ≡ target
-  same_target = ap (λ ns. found_for ns (unwrap_or (digits_in m) [])) plan ∙ sym is
+pub same_target : (s : Setting) (m : Message) (numbers : List Number) (target : Found) → s.plan ≡ numbers → target ≡ found_for numbers (unwrap_or (digits_in m) []) → target_of s m ≡ target
+same_target s m numbers target plan is = ap (λ ns. found_for ns (unwrap_or (digits_in m) [])) plan ∙ sym is
 
+module _ (s : Setting) (w : World) (line : ℕ) (m : Message) (target : Found) (leads : target_of s m ≡ target) where
   pub element_refused : (cause : ℕ) → first_cause (element_checks m) ≡ Some cause → refusal s w line m ≡ Some cause
   element_refused cause e = some_fails (element_checks m) (number_checks (target_of s m) ++ slot_checks s.dimensions w line (channel_in m.elements) (target_of s m)) cause e
 
   pub number_refused : (cause : ℕ) → first_cause (element_checks m) ≡ None → first_cause (number_checks target) ≡ Some cause → refusal s w line m ≡ Some cause
   number_refused cause read e =
       none_fails (element_checks m) (number_checks (target_of s m) ++ slot_checks s.dimensions w line (channel_in m.elements) (target_of s m)) read
-      ∙ some_fails (number_checks (target_of s m)) (slot_checks s.dimensions w line (channel_in m.elements) (target_of s m)) cause (ap (λ t. first_cause (number_checks t)) same_target ∙ e)
+      ∙ some_fails (number_checks (target_of s m)) (slot_checks s.dimensions w line (channel_in m.elements) (target_of s m)) cause (ap (λ t. first_cause (number_checks t)) leads ∙ e)
 
   pub slot_refused : (why : Option ℕ) → first_cause (element_checks m) ≡ None → first_cause (number_checks target) ≡ None → first_cause (slot_checks s.dimensions w line (channel_in m.elements) target) ≡ why → refusal s w line m ≡ why
   slot_refused why read known e =
       none_fails (element_checks m) (number_checks (target_of s m) ++ slot_checks s.dimensions w line (channel_in m.elements) (target_of s m)) read
-      ∙ none_fails (number_checks (target_of s m)) (slot_checks s.dimensions w line (channel_in m.elements) (target_of s m)) (ap (λ t. first_cause (number_checks t)) same_target ∙ known)
-      ∙ ap (λ t. first_cause (slot_checks s.dimensions w line (channel_in m.elements) t)) same_target
+      ∙ none_fails (number_checks (target_of s m)) (slot_checks s.dimensions w line (channel_in m.elements) (target_of s m)) (ap (λ t. first_cause (number_checks t)) leads ∙ known)
+      ∙ ap (λ t. first_cause (slot_checks s.dimensions w line (channel_in m.elements) t)) leads
       ∙ e

@@ -5,7 +5,10 @@ use Rattle.circuit_model.specs.declared.channel.Slot.{Slot}
 use Rattle.circuit_model.specs.Extent.{IsExternal}
 use Rattle.circuit_map.specs.Connections.{Connections}
 use Rattle.number_plan.specs.declared.plan.Number.{Number}
-use Rattle.number_plan.specs.Plan.{all_targets}
+use Rattle.number_plan.specs.declared.target.Found.{Found}
+use Rattle.number_plan.specs.Plan.{all_targets, found_for}
+use Rattle.call_control.specs.Choices.{IsReached}
+use Rattle.call_control.proofs.RefusalCauseLemmas.{reaches}
 use Rattle.exchange_events.specs.declared.signal.Signal.{Signal}
 use Rattle.call_profile.specs.Legs.{Legs}
 use Rattle.call_profile.specs.Operations.{Operation, Making, making_at, making_after_all}
@@ -30,6 +33,11 @@ pub planned_by : (s : Setting) (numbers : List Number) (map : Connections) → s
 planned_by s numbers map plan sizes planned =
     let one : IsTrue (all_targets (is_reached map.external) s.plan) = subst (λ (d : Dimensions). IsTrue (all_targets (is_reached d.external) s.plan)) (sym sizes) planned in
     subst (λ (ns : List Number). IsTrue (all_targets (is_reached map.external) ns)) plan one
+
+-- the line that a number leads to exists
+pub number_reaches : (s : Setting) (numbers : List Number) (map : Connections) (digits : List ℕ) (target : Found) → s.plan ≡ numbers → dimensions_of map ≡ s.dimensions → IsPlanned s → target ≡ found_for numbers digits
+    → IsReached map.external target
+number_reaches s numbers map digits target plan sizes planned is = reaches map.external numbers digits target (planned_by s numbers map plan sizes planned) (sym is)
 
 pub external_by : (s : Setting) (map : Connections) (x : Slot) → dimensions_of map ≡ s.dimensions → IsExternal map.external x → IsExternal s.dimensions.external x
 external_by s map x sizes within = subst (λ (d : Dimensions). IsExternal d.external x) sizes within

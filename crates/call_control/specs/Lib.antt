@@ -1,3 +1,4 @@
 pub mod Standing
 pub mod Choices
 pub mod AtWork
+pub mod LegKeys

@@ -1,10 +1,11 @@
 //! The legs of all calls, by the slots that they hold.
-ghost use Rattle.std.specs.Prelude.{◌≡◌, ◌<◌, ◌≤◌, length, IfOk, IfSome};
+ghost use Rattle.std.specs.Prelude.{◌≡◌, ◌+◌, ◌*◌, ◌<◌, ◌≤◌, length, All, IfOk, IfSome};
 ghost use Rattle.control_memory.specs.Layout.{number_of};
 ghost use Rattle.call_states.specs.Status.{IsTold};
-ghost use Rattle.call_profile.specs.Legs.{no_legs, leg_at, with_leg, without_leg, leg_named, new_reference};
+ghost use Rattle.call_control.specs.LegKeys.{IsRowOf};
+ghost use Rattle.call_profile.specs.Legs.{no_legs, leg_at, with_leg, without_leg, leg_named, held_at, new_reference};
 
-use call_profile::is_for;
+use crate::leg_keys::{NO_KEY, ROW, key_named, key_of, places_with, references_in};
 use call_states::{Held, Leg};
 use circuit_model::{PLACES, Slot};
 use std::alloc::{AllocError, Global};
@@ -12,21 +13,26 @@ use std::marker::Model;
 
 /// The legs of all calls, by the slots that they hold. Contracts see for each external slot, by its
 /// number, the leg that holds it.
+///
+/// Beside the legs stands a row of keys for each line, by which a message finds its leg in one pass
+/// without a branch.
 #[derive(Drop)]
 pub struct LegTable {
+    lines: u8,
     legs: Vec<Option<Leg>>,
+    // The key of the leg at each place of each line.
+    keys: Vec<u32>,
 }
 
 impl Model for LegTable {
-    ghost use Rattle.std.specs.Prelude.{All, IfSome};
-    ghost use Rattle.call_states.specs.Status.{IsTold};
+    ghost use Rattle.call_control.specs.LegKeys.{AreKeysOf};
     ghost use Rattle.call_profile.specs.Legs.{Legs};
 
     ghost Value = { Legs };
 
     ghost view = { λ t. t.legs.items };
 
-    ghost invariant = { λ t. All (λ leg. IfSome leg IsTold) t.legs.items };
+    ghost invariant = { λ t. AreKeysOf t.lines t.legs.items t.keys.items };
 }
 
 impl LegTable {
@@ -34,8 +40,11 @@ impl LegTable {
     pub fn new(alloc: Global, external: u8) -> Result<LegTable, AllocError>
         ensures { IfOk result (λ t. t ≡ no_legs external) }
     {
+        let lines = usize::from(external);
         Ok(LegTable {
-            legs: vec![in alloc; None; usize::from(PLACES) * usize::from(external)]?,
+            lines: external,
+            legs: vec![in alloc; None; usize::from(PLACES) * lines]?,
+            keys: vec![in alloc; NO_KEY; ROW * lines]?,
         })
     }
 
@@ -54,48 +63,71 @@ impl LegTable {
     /// Lets a leg hold a slot, in place of any other.
     pub(crate) fn put(&mut self, x: Slot, leg: Leg)
         requires inside { number_of x < length self.old }
+        requires place { x.place < 30 }
         requires told { IsTold leg }
         ensures { self.new ≡ with_leg self.old x leg }
     {
         self.legs[x.number()] = Some(leg);
+        self.keys[key_index(x)] = key_of(leg);
     }
 
     /// Lets no leg hold a slot.
     pub(crate) fn remove(&mut self, x: Slot)
         requires inside { number_of x < length self.old }
+        requires place { x.place < 30 }
         ensures { self.new ≡ without_leg self.old x }
     {
         self.legs[x.number()] = None;
+        self.keys[key_index(x)] = NO_KEY;
     }
 
     /// The leg of a line that a message with this flag and call reference value is for.
     pub(crate) fn named(&self, line: u8, flag: bool, reference: u16) -> Option<Held>
+        requires line { 30 * line + 30 ≤ length self.now }
         ensures { result ≡ leg_named self.now line flag reference }
     {
-        for place in 0..PLACES {
-            let slot = Slot { line, place };
-            let Some(leg) = self.at(slot) else {
-                continue;
-            };
-            let held = Held { slot, leg };
-            if is_for(flag, reference, held) {
-                return Some(held);
-            }
+        let places = places_with(self.row(line), key_named(flag, reference));
+        if places == 0 {
+            return None;
         }
-        None
+        let place = places.trailing_zeros() as u8;
+        self.held(Slot { line, place })
+    }
+
+    // The leg that holds a slot, with the slot.
+    fn held(&self, slot: Slot) -> Option<Held>
+        ensures { result ≡ held_at self.now slot }
+    {
+        let leg = self.at(slot)?;
+        Some(Held { slot, leg })
     }
 
     /// The call reference value of a new called leg of a line: the lowest from 1 up that none of the
     /// line's called legs has.
     pub(crate) fn new_reference(&self, line: u8) -> u16
+        requires line { 30 * line + 30 ≤ length self.now }
         ensures reference { result ≡ new_reference self.now line }
         ensures few { result ≤ 31 }
     {
-        for reference in 1..=30 {
-            if self.named(line, true, reference).is_none() {
-                return reference;
-            }
-        }
-        31
+        let used = references_in(self.row(line));
+        // No call has the value 0; and where the first thirty are used, it is the next.
+        (!(used | 1) | 1 << 31).trailing_zeros() as u16
     }
+
+    // The keys of a line's legs.
+    fn row(&self, line: u8) -> &[u32]
+        requires { 30 * line + 30 ≤ length self.now }
+        ensures row { IsRowOf self.now line result.now }
+        ensures told { All (λ leg. IfSome leg IsTold) self.now }
+    {
+        let start = ROW * usize::from(line);
+        &self.keys[start..start + ROW]
+    }
+}
+
+// Where the key of a slot stands.
+fn key_index(x: Slot) -> usize
+    ensures { result ≡ 32 * x.line + x.place }
+{
+    ROW * usize::from(x.line) + usize::from(x.place)
 }

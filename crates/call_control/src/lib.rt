@@ -12,6 +12,7 @@
 
 mod acts;
 mod ended_calls;
+mod leg_keys;
 mod leg_table;
 mod messages;
 mod operations;

@@ -3,11 +3,11 @@ ghost use Rattle.std.specs.Prelude.{◌≡◌, ◌<◌, ◌≤◌, ◌^◌, [], 
 ghost use Rattle.circuit_map.specs.Connections.{SameSizes};
 ghost use Rattle.call_control.specs.AtWork.{IsAtWork, EachWithPlan};
 ghost use Rattle.call_profile.specs.Calls.{making_by};
-ghost use Rattle.call_control.specs.Choices.{accept_setup};
+ghost use Rattle.call_control.specs.Choices.{IsReached, MayAccept, accept_setup};
 ghost use Rattle.call_profile.specs.Legs.{leg_named};
 ghost use Rattle.call_profile.specs.Operations.{making_at, making_after_all};
 ghost use Rattle.exchange_events.specs.Sizes.{Setting, Dimensions};
-ghost use Rattle.call_profile.specs.Setup.{course_of_setup, refusal, caller_leg, called_leg, call_proceeding, offer, call_line, call_room};
+ghost use Rattle.call_profile.specs.Setup.{course_of_setup, target_of, caller_leg, called_leg, call_proceeding, offer, call_line, call_room};
 ghost use Rattle.call_control.specs.Standing.{Holds, HasMade, Performs};
 ghost use Rattle.call_profile.specs.World.{World};
 ghost use Rattle.circuit_model.specs.Extent.{IsExternal};
@@ -17,7 +17,7 @@ ghost use Rattle.q931_codec.specs.Outgoing.{outgoing_of};
 
 use crate::operations::CallControl;
 use crate::sending::{message_to, refuse, send};
-use crate::setup_checks::target_of;
+use crate::setup_checks::dialled;
 use call_states::{Leg, Peer, Side};
 use circuit_model::{Slot, channel_of};
 use control_memory::PathMap;
@@ -40,27 +40,29 @@ impl<P: PathMap> CallControl<P> {
         ensures few { IfSome out.new.moved (λ moves. (moves.0 ≤ self.old.map.bound) × (moves.1 ≤ self.old.map.bound)) }
         ensures sizes { SameSizes self.old.map self.new.map }
     {
-        match self.refusal(plan, line, message) {
+        let number = dialled(plan, message);
+        match self.refusal(line, message, number) {
             Some(cause) => refuse(out, line, message.reference, cause),
-            None => self.accept(out, plan, line, message),
+            None => self.accept(out, line, message, number.target),
         }
     }
 
-    // Makes the legs of the call that a SETUP asks for which passes each check.
-    fn accept(&mut self, out: &mut Outbox, plan: &Plan, line: u8, message: &Message)
-        requires work { (s : Setting) × (w : World) × (s.plan ≡ plan.now) × IsAtWork s self.old.map self.old.legs w × (refusal s w line message.now ≡ None) }
+    // Makes the legs of the call that a SETUP asks for which passes each check and dials this.
+    fn accept(&mut self, out: &mut Outbox, line: u8, message: &Message, target: Found)
+        requires work { (s : Setting) × (w : World) × MayAccept s self.old.map self.old.legs w line message.now target }
+        requires reached { IsReached self.old.map.external target }
         requires line { line < self.old.map.external }
         requires reference { (1 ≤ message.now.reference) × (message.now.reference < 2 ^ 15) }
         requires fresh { (out.old.sends ≡ []) × (out.old.moved ≡ None) }
-        ensures makes { EachWithPlan plan.now self.old.map self.old.legs (λ s w.
-            HasMade s self.new.map self.new.legs out.new (making_after_all s.dimensions (making_at w) (accept_setup s w line message.now))) }
+        ensures makes { (s : Setting) (w : World) → target_of s message.now ≡ target → IsAtWork s self.old.map self.old.legs w
+            → HasMade s self.new.map self.new.legs out.new (making_after_all s.dimensions (making_at w) (accept_setup s w line message.now)) }
         ensures few { IfSome out.new.moved (λ moves. (moves.0 ≤ self.old.map.bound) × (moves.1 ≤ self.old.map.bound)) }
         ensures sizes { SameSizes self.old.map self.new.map }
     {
         let Some(caller) = self.caller_slot(line, message.channel()) else {
             return;
         };
-        match target_of(plan, message) {
+        match target {
             Found::Line(line) => {
                 let Some(called) = self.lowest_idle_beside(caller, line) else {
                     return;

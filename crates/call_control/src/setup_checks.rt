@@ -1,12 +1,11 @@
 //! The checks of a SETUP: what it asks for, which slots its call gets, and the cause with which it is refused.
-ghost use Rattle.std.specs.Prelude.{◌≡◌, ◌<◌, [], unwrap_or, option_map, IfSome, IsTrue};
-ghost use Rattle.number_plan.specs.Plan.{found_for, all_targets};
-ghost use Rattle.call_profile.specs.Setup.{digits_in, slot_of, slot_asked, element_checks, number_checks, first_cause, caller_slot, is_taken, slot_checks, refusal};
+ghost use Rattle.std.specs.Prelude.{◌≡◌, ◌<◌, [], unwrap_or, option_map, is_some, IfSome};
+ghost use Rattle.number_plan.specs.Plan.{found_for};
+ghost use Rattle.call_profile.specs.Setup.{digits_in, slot_of, slot_asked, element_checks, number_checks, first_cause, caller_slot, is_taken, slot_checks, refusal, target_of};
 ghost use Rattle.circuit_model.specs.Extent.{IsExternal};
 ghost use Rattle.call_control.specs.Choices.{IsReached, idle_beside, called_checks};
 ghost use Rattle.call_profile.specs.IdleSlots.{lowest_idle, lowest_idle_beside};
 ghost use Rattle.exchange_events.specs.Sizes.{Setting, Dimensions};
-ghost use Rattle.exchange_events.specs.Sound.{is_reached};
 ghost use Rattle.call_control.specs.Standing.{Holds};
 ghost use Rattle.call_profile.specs.World.{World};
 
@@ -128,19 +127,20 @@ impl<P: PathMap> CallControl<P> {
         }
     }
 
-    /// The cause of the first check that a SETUP fails.
-    pub(crate) fn refusal(&self, plan: &Plan, line: u8, message: &Message) -> Option<u8>
+    /// The cause of the first check that a SETUP fails, which dials this.
+    pub(crate) fn refusal(&self, line: u8, message: &Message, number: DialledNumber) -> Option<u8>
         requires external { line < self.now.map.external }
-        requires planned { IsTrue (all_targets (is_reached self.now.map.external) plan.now) }
-        ensures { (s : Setting) (w : World) → s.plan ≡ plan.now → Holds s.dimensions self.now.map self.now.legs w → result ≡ refusal s w line message.now }
+        requires readable { number.is_readable ≡ is_some (digits_in message.now) }
+        requires reached { IsReached self.now.map.external number.target }
+        ensures { (s : Setting) (w : World) → target_of s message.now ≡ number.target → Holds s.dimensions self.now.map self.now.legs w
+            → result ≡ refusal s w line message.now }
     {
-        if let Some(cause) = element_cause(message) {
+        if let Some(cause) = element_cause(message, number.is_readable) {
             return Some(cause);
         }
-        let target = target_of(plan, message);
-        match number_cause(target) {
+        match number_cause(number.target) {
             Some(cause) => Some(cause),
-            None => self.slot_cause(line, message.channel(), target),
+            None => self.slot_cause(line, message.channel(), number.target),
         }
     }
 }
@@ -152,13 +152,29 @@ fn digits_in(message: &Message) -> Option<ArrayVec<u8, MOST_DIGITS>>
     dialled_digits(message.called_number()?)
 }
 
-/// What the plan knows of the digits that a SETUP dials.
-pub(crate) fn target_of(plan: &Plan, message: &Message) -> Found
-    ensures { result ≡ found_for plan.now (unwrap_or (digits_in message.now) []) }
+/// The number that a SETUP dials. It is read once, however many checks ask for it.
+#[derive(Clone, Copy)]
+pub(crate) struct DialledNumber {
+    /// Whether the SETUP has a called party number that can be read.
+    pub(crate) is_readable: bool,
+    /// What the plan knows of its digits.
+    pub(crate) target: Found,
+}
+
+/// What a SETUP dials, by the plan.
+pub(crate) fn dialled(plan: &Plan, message: &Message) -> DialledNumber
+    ensures readable { result.is_readable ≡ is_some (digits_in message.now) }
+    ensures target { result.target ≡ found_for plan.now (unwrap_or (digits_in message.now) []) }
 {
     match digits_in(message) {
-        Some(digits) => plan.look(&digits),
-        None => plan.look(&[]),
+        Some(digits) => DialledNumber {
+            is_readable: true,
+            target: plan.look(&digits),
+        },
+        None => DialledNumber {
+            is_readable: false,
+            target: plan.look(&[]),
+        },
     }
 }
 
@@ -185,8 +201,9 @@ fn slot_of(line: u8, channel: u8) -> Option<Slot>
     Some(Slot { line, place })
 }
 
-// The cause of the first check of its elements that a SETUP fails.
-fn element_cause(message: &Message) -> Option<u8>
+// The cause of the first check of its elements that a SETUP fails, given whether its number can be read.
+fn element_cause(message: &Message, is_readable: bool) -> Option<u8>
+    requires { is_readable ≡ is_some (digits_in message.now) }
     ensures { result ≡ first_cause (element_checks message.now) }
 {
     let Some(bearer) = message.bearer() else {
@@ -200,7 +217,7 @@ fn element_cause(message: &Message) -> Option<u8>
     if message.channel() == Some(ChannelIdentification::Invalid) {
         return Some(INVALID_ELEMENT_CONTENTS);
     }
-    if digits_in(message).is_none() {
+    if !is_readable {
         return Some(INVALID_NUMBER_FORMAT);
     }
     None

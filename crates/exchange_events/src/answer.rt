@@ -2,104 +2,21 @@ ghost use Rattle.std.specs.Prelude.{◌≡◌, IfOk};
 ghost use Rattle.exchange_events.specs.Kept.{kept_of};
 ghost use Rattle.exchange_events.specs.Responses.{reply_of};
 
+use crate::list::ListOf;
 use crate::outbox::{Outbox, Response};
 use crate::record::CallRecord;
 use crate::reply::Reply;
 use crate::signal::Signal;
 use std::alloc::{AllocError, Global};
-use std::marker::Model;
 
 /// Messages that were sent, in order. Contracts see their list.
-#[derive(Drop)]
-pub struct SignalList {
-    items: Vec<Signal>,
-}
-
-impl Model for SignalList {
-    ghost use Rattle.std.specs.Prelude.{List};
-    ghost use Rattle.exchange_events.specs.declared.signal.Signal.{Signal};
-
-    ghost Value = { List Signal };
-
-    ghost view = { λ s. s.items.items };
-}
-
-impl SignalList {
-    /// These messages.
-    pub fn of(items: Vec<Signal>) -> SignalList
-        ensures { result ≡ items.items }
-    {
-        SignalList { items }
-    }
-
-    /// The messages in the order in which they were sent.
-    pub fn as_slice(&self) -> &[Signal]
-        ensures { result.now ≡ self.now }
-    {
-        self.items.as_slice()
-    }
-}
+pub type SignalList = ListOf<Signal>;
 
 /// Records of calls, in order. Contracts see their list.
-#[derive(Drop)]
-pub struct RecordList {
-    items: Vec<CallRecord>,
-}
-
-impl Model for RecordList {
-    ghost use Rattle.std.specs.Prelude.{List};
-    ghost use Rattle.exchange_events.specs.declared.record.CallRecord.{CallRecord};
-
-    ghost Value = { List CallRecord };
-
-    ghost view = { λ r. r.items.items };
-}
-
-impl RecordList {
-    /// These records.
-    pub fn of(items: Vec<CallRecord>) -> RecordList
-        ensures { result ≡ items.items }
-    {
-        RecordList { items }
-    }
-
-    /// The records in order.
-    pub fn as_slice(&self) -> &[CallRecord]
-        ensures { result.now ≡ self.now }
-    {
-        self.items.as_slice()
-    }
-}
+pub type RecordList = ListOf<CallRecord>;
 
 /// The octets of a frame: for each external line thirty, in order of place. Contracts see their list.
-#[derive(Drop)]
-pub struct Rows {
-    rows: Vec<[u8; 30]>,
-}
-
-impl Model for Rows {
-    ghost use Rattle.std.specs.Prelude.{List, ℕ};
-
-    ghost Value = { List (List ℕ) };
-
-    ghost view = { λ a. a.rows.items };
-}
-
-impl Rows {
-    /// These octets.
-    pub fn of(items: Vec<[u8; 30]>) -> Rows
-        ensures { result ≡ items.items }
-    {
-        Rows { rows: items }
-    }
-
-    /// The octets of each line, in order.
-    pub fn as_slice(&self) -> &[[u8; 30]]
-        ensures { result.now ≡ self.now }
-    {
-        self.rows.as_slice()
-    }
-}
+pub type Rows = ListOf<[u8; 30]>;
 
 /// A [`Reply`] with its lists on the heap, each no longer than it need be, so that replies can be kept.
 /// Each variant is the reply of that name.

@@ -17,6 +17,7 @@
 
 mod answer;
 mod laws;
+mod list;
 mod outbox;
 mod record;
 mod reply;
@@ -25,6 +26,7 @@ mod trace;
 
 pub use answer::{Answer, Kept, RecordList, Rows, SignalList};
 pub use laws::file_order_is_lawful;
+pub use list::ListOf;
 pub use outbox::{Outbox, Response};
 pub use record::{CallRecord, MOST_RECORDS, Party, Records};
 pub use reply::Reply;

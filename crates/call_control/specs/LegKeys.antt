@@ -1,0 +1,60 @@
+-- The keys by which the legs of a line are found. Source: ITU-T Q.931 (05/98), 4.3, for call references and their flag; the rest is this
+-- exchange's own.
+use Rattle.std.specs.Prelude.{◌≡◌, ◌≢◌, ℕ, ◌+◌, ◌*◌, ◌^◌, ◌<◌, ◌≤◌, ◌==◌, Bool, true, false, List, length, All, IfSome, Option, Some, None, slice_index, slice_index_or, if◌then◌else◌}
+use Rattle.call_states.specs.declared.leg.Leg.{Leg}
+use Rattle.call_states.specs.declared.leg.Side.{Side}
+use Rattle.call_states.specs.declared.leg.Side.TheVariants.{Caller, Called}
+use Rattle.call_states.specs.Status.{IsTold}
+use Rattle.call_profile.specs.Legs.{Legs}
+
+-- the key of a call reference: its value, and above sixteen bits the flag that the user of the line sends with it
+abbrev pub key_named : Bool → ℕ → ℕ
+key_named false reference = reference
+key_named true reference = 2 ^ 16 + reference
+
+-- the key of a leg is that of the messages that are for it
+abbrev pub key_by : Side → ℕ → ℕ
+key_by Caller reference = key_named false reference
+key_by Called reference = key_named true reference
+
+-- the key of no leg
+abbrev pub no_key : ℕ
+no_key = 2 ^ 17
+
+abbrev pub key_of : Option Leg → ℕ
+key_of None = no_key
+key_of (Some leg) = key_by leg.side leg.reference
+
+-- a line has a row of 32 keys
+abbrev pub key_on : List ℕ → ℕ → ℕ → ℕ
+key_on keys line place = slice_index_or keys (32 * line + place) no_key
+
+-- the leg at a place of a line
+abbrev pub leg_on : Legs → ℕ → ℕ → Option Leg
+leg_on legs line place = slice_index_or legs (30 * line + place) None
+
+-- so many lines have thirty slots each, whose legs have numbers that a message can carry; and each line has the keys of its thirty slots, with two
+-- places behind them that have no leg's
+pub record AreKeysOf (lines : ℕ) (legs : Legs) (keys : List ℕ) : Type 0 where
+  pub slots : length legs ≡ 30 * lines
+  pub rows : length keys ≡ 32 * lines
+  pub told : All (λ leg. IfSome leg IsTold) legs
+  pub each : (line place : ℕ) → place < 30 → key_on keys line place ≡ key_of (leg_on legs line place)
+  pub behind : (line place : ℕ) → 30 ≤ place → place < 32 → key_on keys line place ≡ no_key
+
+-- a row of 32 keys is that of a line
+pub record IsRowOf (legs : Legs) (line : ℕ) (row : List ℕ) : Type 0 where
+  pub size : length row ≡ 32
+  pub each : (place : ℕ) → place < 30 → slice_index row place ≡ key_of (leg_on legs line place)
+  pub behind : (place : ℕ) → 30 ≤ place → place < 32 → slice_index row place ≡ no_key
+
+-- the bit of a place whose key this is
+abbrev pub hit : ℕ → ℕ → ℕ
+hit key here = if here == key then 1 else 0
+
+-- a row has the key somewhere, or nowhere
+abbrev pub HasKey : List ℕ → ℕ → Type 0
+HasKey row key = (place : ℕ) × (place < 32) × (slice_index row place ≡ key)
+
+abbrev pub LacksKey : List ℕ → ℕ → Type 0
+LacksKey row key = (place : ℕ) → place < 32 → slice_index row place ≢ key
