@@ -32,5 +32,8 @@ pub mod NoCallEndedLemmas
 pub mod NoCallAnswerLemmas
 pub mod PermittedLemmas
 pub mod HistoryLemmas
+pub mod GrantedNailLemmas
+pub mod ReferenceLemmas
+pub mod ProgressLemmas
 pub mod QuietEventLemmas
 pub mod RunLemmas

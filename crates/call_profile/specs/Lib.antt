@@ -16,3 +16,6 @@ pub mod EndedCalls
 pub mod Peers
 pub mod IsMade
 pub mod Answered
+pub mod Refused
+pub mod Progress
+pub mod References

@@ -1,0 +1,25 @@
+-- What is refused, told by the answer. Source: this exchange's own.
+use Rattle.std.specs.Prelude.{◌≡◌, ℕ, Bool, true, false, List, [], ◌∷◌, Option, Some, None}
+use Rattle.q931_codec.specs.declared.message.Message.{Message}
+use Rattle.q931_codec.specs.Outgoing.{encoding}
+use Rattle.exchange_events.specs.declared.reply.Reply.{Reply}
+use Rattle.exchange_events.specs.declared.reply.Reply.TheVariants.{Busy, NoPort, NotNailed, Sent as Sent_reply}
+use Rattle.call_profile.specs.Calls.{New_call, request_of}
+use Rattle.call_profile.specs.Setup.{refusal, release_complete}
+use Rattle.exchange_events.specs.Sizes.{Setting}
+use Rattle.call_profile.specs.World.{World}
+
+-- the answers that refuse a command
+abbrev pub refuses : Reply → Bool
+refuses Busy = true
+refuses NoPort = true
+refuses NotNailed = true
+refuses _ = false
+
+-- these octets are a SETUP that asks for a call, and it fails a check with this cause
+abbrev pub IsRefused : Setting → World → ℕ → List ℕ → Message → ℕ → Type 0
+IsRefused s w line octets setup cause = (request_of w.legs line octets ≡ New_call setup) × (refusal s w line setup ≡ Some cause)
+
+-- RELEASE COMPLETE with the cause, on the SETUP's call reference, and nothing else
+abbrev pub refusal_reply : ℕ → Message → ℕ → Reply
+refusal_reply line setup cause = Sent_reply (record { line = line; octets = encoding (release_complete setup.reference cause) } ∷ []) None []

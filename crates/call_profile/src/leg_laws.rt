@@ -1,0 +1,35 @@
+//! Laws of legs: their call references, what their users are told, and what becomes of them.
+ghost use Rattle.std.specs.Prelude.{◌≡◌, ◌<◌, ◌≤◌, ℕ, None};
+ghost use Rattle.circuit_model.specs.declared.channel.Slot.{Slot};
+ghost use Rattle.q931_codec.specs.declared.kind.MessageKind.{MessageKind};
+ghost use Rattle.q931_codec.specs.declared.message.Message.{Message};
+ghost use Rattle.call_states.specs.declared.act.Act.{Act};
+ghost use Rattle.call_states.specs.declared.leg.Held.{Held};
+ghost use Rattle.clearing_rules.specs.declared.scope.Restart.{Restart};
+ghost use Rattle.clearing_rules.specs.UnknownReference.{answer_without_call};
+ghost use Rattle.tone_rules.specs.declared.tones.Tones.{Tones};
+ghost use Rattle.exchange_events.specs.Sizes.{Setting};
+ghost use Rattle.call_profile.specs.Acts.{course_of};
+ghost use Rattle.call_profile.specs.Calls.{answer_back};
+ghost use Rattle.call_profile.specs.Legs.{Legs, leg_at, new_reference};
+ghost use Rattle.call_profile.specs.Progress.{TellsOfTones};
+ghost use Rattle.call_profile.specs.References.{IsOnLine, HasReference};
+ghost use Rattle.call_profile.specs.Restarts.{restart_slot};
+ghost use Rattle.call_profile.specs.Setup.{course_of_setup};
+ghost use Rattle.call_profile.specs.World.{World};
+
+/// The call reference of a new called leg is the lowest from 1 up that no called leg of the line has.
+pub fn law_of_references()
+    ensures unused { (legs : Legs) (line : ℕ) (x : Slot) → IsOnLine line x → leg_at legs x ≡ None → ¬ HasReference legs line (new_reference legs line) }
+    ensures lower { (legs : Legs) (line reference : ℕ) → 1 ≤ reference → reference < new_reference legs line → HasReference legs line reference }
+    ensures first { (legs : Legs) (line : ℕ) → 1 ≤ new_reference legs line }
+{}
+
+/// A user is sent a progress indicator exactly where its slot gets a tone in the same step: by an act, by a
+/// SETUP, by the restart of a slot, and by the answer to a message on no call, which gives none.
+pub fn law_of_progress()
+    ensures acts { (tones : Tones) (legs : Legs) (h : Held) (type : MessageKind) (a : Act) → TellsOfTones (course_of tones legs h type a).operations }
+    ensures setups { (s : Setting) (w : World) (line : ℕ) (m : Message) → TellsOfTones (course_of_setup s w line m).operations }
+    ensures restarts { (tones : Tones) (r : Restart) (legs : Legs) (x : Slot) → TellsOfTones (restart_slot tones r legs x) }
+    ensures answers { (line : ℕ) (m : Message) → TellsOfTones (answer_back line (answer_without_call m)) }
+{}
