@@ -35,5 +35,7 @@ pub mod HistoryLemmas
 pub mod GrantedNailLemmas
 pub mod ReferenceLemmas
 pub mod ProgressLemmas
+pub mod RestartedLegLemmas
+pub mod RestartedLineLemmas
 pub mod QuietEventLemmas
 pub mod RunLemmas

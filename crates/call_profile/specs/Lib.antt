@@ -19,3 +19,4 @@ pub mod Answered
 pub mod Refused
 pub mod Progress
 pub mod References
+pub mod Restarted

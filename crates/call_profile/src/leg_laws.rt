@@ -1,20 +1,23 @@
 //! Laws of legs: their call references, what their users are told, and what becomes of them.
-ghost use Rattle.std.specs.Prelude.{◌≡◌, ◌<◌, ◌≤◌, ℕ, None};
+ghost use Rattle.std.specs.Prelude.{◌≡◌, ◌<◌, ◌≤◌, ℕ, None, Some, List, true, false};
 ghost use Rattle.circuit_model.specs.declared.channel.Slot.{Slot};
+ghost use Rattle.circuit_model.specs.Extent.{IsExternal};
 ghost use Rattle.q931_codec.specs.declared.kind.MessageKind.{MessageKind};
 ghost use Rattle.q931_codec.specs.declared.message.Message.{Message};
 ghost use Rattle.call_states.specs.declared.act.Act.{Act};
 ghost use Rattle.call_states.specs.declared.leg.Held.{Held};
+ghost use Rattle.call_states.specs.declared.leg.Leg.{Leg};
 ghost use Rattle.clearing_rules.specs.declared.scope.Restart.{Restart};
 ghost use Rattle.clearing_rules.specs.UnknownReference.{answer_without_call};
 ghost use Rattle.tone_rules.specs.declared.tones.Tones.{Tones};
 ghost use Rattle.exchange_events.specs.Sizes.{Setting};
 ghost use Rattle.call_profile.specs.Acts.{course_of};
-ghost use Rattle.call_profile.specs.Calls.{answer_back};
+ghost use Rattle.call_profile.specs.Calls.{after_message, answer_back};
 ghost use Rattle.call_profile.specs.Legs.{Legs, leg_at, new_reference};
 ghost use Rattle.call_profile.specs.Progress.{TellsOfTones};
 ghost use Rattle.call_profile.specs.References.{IsOnLine, HasReference};
-ghost use Rattle.call_profile.specs.Restarts.{restart_slot};
+ghost use Rattle.call_profile.specs.Restarts.{restarts_slot, restart_slot};
+ghost use Rattle.call_profile.specs.Restarted.{IsRestart, StaysUnheld, left_by};
 ghost use Rattle.call_profile.specs.Setup.{course_of_setup};
 ghost use Rattle.call_profile.specs.World.{World};
 
@@ -32,4 +35,19 @@ pub fn law_of_progress()
     ensures setups { (s : Setting) (w : World) (line : ℕ) (m : Message) → TellsOfTones (course_of_setup s w line m).operations }
     ensures restarts { (tones : Tones) (r : Restart) (legs : Legs) (x : Slot) → TellsOfTones (restart_slot tones r legs x) }
     ensures answers { (line : ℕ) (m : Message) → TellsOfTones (answer_back line (answer_without_call m)) }
+{}
+
+/// A RESTART that is taken: no leg holds a restarted slot afterwards. At every other slot the other leg of a
+/// call whose leg is gone is in disconnect indication with cause 41, and each other leg is as it was. A slot
+/// that no leg holds hears what it heard, so that nails and seats stay.
+pub fn law_of_restarts()
+    ensures gone { (s : Setting) (w : World) (line : ℕ) (octets : List ℕ) (r : Restart) → IsRestart s w line octets r
+        → (x : Slot) → IsExternal s.dimensions.external x → restarts_slot r line x ≡ true
+        → leg_at (after_message s w line octets).legs x ≡ None }
+    ensures others { (s : Setting) (w : World) (line : ℕ) (octets : List ℕ) (r : Restart) → IsRestart s w line octets r
+        → (x : Slot) (leg : Leg) → IsExternal s.dimensions.external x → restarts_slot r line x ≡ false → leg_at w.legs x ≡ Some leg
+        → leg_at (after_message s w line octets).legs x ≡ Some (left_by r line leg) }
+    ensures unheld { (s : Setting) (w : World) (line : ℕ) (octets : List ℕ) (r : Restart) → IsRestart s w line octets r
+        → (x : Slot) → IsExternal s.dimensions.external x → leg_at w.legs x ≡ None
+        → StaysUnheld w (after_message s w line octets) x }
 {}
