@@ -37,5 +37,7 @@ pub mod ReferenceLemmas
 pub mod ProgressLemmas
 pub mod RestartedLegLemmas
 pub mod RestartedLineLemmas
+pub mod RecordedCallLemmas
+pub mod RecordedMessageLemmas
 pub mod QuietEventLemmas
 pub mod RunLemmas

@@ -59,7 +59,7 @@ all_places : (b c : Bool) → c ≡ true → (b && c) ≡ b
 all_places true c e = e
 all_places false c e = refl
 
-named_or_not : (p : Peer) (x : Slot) → (p ≡ peer.Leg x) ⊎ (p ≡ peer.Leg x → ⊥)
+pub named_or_not : (p : Peer) (x : Slot) → (p ≡ peer.Leg x) ⊎ (p ≡ peer.Leg x → ⊥)
 named_or_not peer.Alone x = inr (λ e. cc)
 named_or_not (peer.Leg y) x = elim (same_or_apart y x) [
   | inl same ↦ inl (ap (λ (q : Slot). let named : Peer = peer.Leg q in named) same)
@@ -244,7 +244,7 @@ module _ (s : Setting) (r : Restart) (line : ℕ) (w : World) (below : line < s.
         next = done.next ∙ so_far.next;
       }
 
-  start_below : Kept s.dimensions s.tones w → Below 0 w
+  pub start_below : Kept s.dimensions s.tones w → Below 0 w
   start_below kept = record {
     kept = kept;
     gone = λ x in_x restarted less. absurd (omega (arith, less));

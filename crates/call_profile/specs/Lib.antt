@@ -20,3 +20,4 @@ pub mod Refused
 pub mod Progress
 pub mod References
 pub mod Restarted
+pub mod Recorded

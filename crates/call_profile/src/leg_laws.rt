@@ -1,5 +1,5 @@
 //! Laws of legs: their call references, what their users are told, and what becomes of them.
-ghost use Rattle.std.specs.Prelude.{◌≡◌, ◌<◌, ◌≤◌, ℕ, None, Some, List, true, false};
+ghost use Rattle.std.specs.Prelude.{◌≡◌, ◌<◌, ◌≤◌, ℕ, None, Some, List, Contains, true, false};
 ghost use Rattle.circuit_model.specs.declared.channel.Slot.{Slot};
 ghost use Rattle.circuit_model.specs.Extent.{IsExternal};
 ghost use Rattle.q931_codec.specs.declared.kind.MessageKind.{MessageKind};
@@ -10,11 +10,13 @@ ghost use Rattle.call_states.specs.declared.leg.Leg.{Leg};
 ghost use Rattle.clearing_rules.specs.declared.scope.Restart.{Restart};
 ghost use Rattle.clearing_rules.specs.UnknownReference.{answer_without_call};
 ghost use Rattle.tone_rules.specs.declared.tones.Tones.{Tones};
+ghost use Rattle.exchange_events.specs.declared.record.CallRecord.{CallRecord};
 ghost use Rattle.exchange_events.specs.Sizes.{Setting};
 ghost use Rattle.call_profile.specs.Acts.{course_of};
-ghost use Rattle.call_profile.specs.Calls.{after_message, answer_back};
+ghost use Rattle.call_profile.specs.Calls.{after_message, answer_back, answer_to};
 ghost use Rattle.call_profile.specs.Legs.{Legs, leg_at, new_reference};
 ghost use Rattle.call_profile.specs.Progress.{TellsOfTones};
+ghost use Rattle.call_profile.specs.Recorded.{Arrive, HasEnded, IsRecordOf, IsRecorded};
 ghost use Rattle.call_profile.specs.References.{IsOnLine, HasReference};
 ghost use Rattle.call_profile.specs.Restarts.{restarts_slot, restart_slot};
 ghost use Rattle.call_profile.specs.Restarted.{IsRestart, StaysUnheld, left_by};
@@ -50,4 +52,14 @@ pub fn law_of_restarts()
     ensures unheld { (s : Setting) (w : World) (line : ℕ) (octets : List ℕ) (r : Restart) → IsRestart s w line octets r
         → (x : Slot) → IsExternal s.dimensions.external x → leg_at w.legs x ≡ None
         → StaysUnheld w (after_message s w line octets) x }
+{}
+
+/// An answer has the record of a call exactly where a caller's leg left states 3, 4 and 10 by the message,
+/// with the cause that the message gives. That is every such leg, so none of them stands without the other
+/// party of its call.
+pub fn law_of_records()
+    ensures told { (s : Setting) (w : World) (line : ℕ) (octets : List ℕ) → Arrive s w line octets → (told : CallRecord)
+        → Contains (answer_to s w line octets).records told → (h : Held) × IsRecordOf s w line octets h told }
+    ensures ended { (s : Setting) (w : World) (line : ℕ) (octets : List ℕ) → Arrive s w line octets → (h : Held)
+        → HasEnded s.dimensions.external w (after_message s w line octets) h → IsRecorded s w line octets h }
 {}
