@@ -21,3 +21,4 @@ pub mod Progress
 pub mod References
 pub mod Restarted
 pub mod Recorded
+pub mod WorkedMessages
