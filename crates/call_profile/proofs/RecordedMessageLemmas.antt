@@ -31,12 +31,13 @@ use Rattle.call_profile.specs.World.{World}
 use Rattle.call_profile.proofs.BesideLemmas.{same_or_apart}
 use Rattle.call_profile.proofs.ClearingLemmas.{Kept}
 use Rattle.call_profile.proofs.NamedLegLemmas.{received_stands}
-use Rattle.call_profile.proofs.NoCallEndedLemmas.{call_ends_none, answer_ends_none}
-use Rattle.call_profile.proofs.RecordOfActLemmas.{leg_records, records_of_act, disconnected_silent}
+use Rattle.call_profile.proofs.NoCallEndedLemmas.{answer_ends_none}
+use Rattle.call_profile.proofs.RecordOfActLemmas.{leg_ends, leg_records, records_of_act, told_cause, disconnected_silent}
 use Rattle.call_profile.proofs.RecordedCallLemmas.{EndsWith, record_ends, end_recorded, calling_record, record_same, record_cause}
 use Rattle.call_profile.proofs.RefusalLemmas.{no_records}
 use Rattle.call_profile.proofs.RestartedLegLemmas.{IsRestartedAt, peer_after, slot_done}
 use Rattle.call_profile.proofs.RestartedLineLemmas.{AreRestartedBelow, named_or_not, step_below, start_below}
+use Rattle.call_profile.proofs.SetupRecordLemmas.{setup_ends_none}
 use Rattle.call_profile.proofs.RestartedSlotLemmas.{below_none, below_more}
 
 -- ---- records that are those of the calls that ended
@@ -210,16 +211,16 @@ module _ (s : Setting) (r : Restart) (line : ℕ) (w : World) (below : line < s.
 abbrev pub IsAccounted : ℕ → World → World → Option ℕ → List CallRecord → Type 0
 IsAccounted external w v given told = (cause : ℕ) × AreOfEnded external w v cause told × ((given ≡ Some cause) ⊎ (told ≡ []))
 
-act_clears : (s : Setting) (w : World) (h : Held) (m : Message) (a : Act) → (cause_of_act a ≡ Some (course_of s.tones w.legs h m.kind a).cause) ⊎ (records_of_act w h a ≡ [])
-act_clears s w h m act.Nothing = inr refl
-act_clears s w h m act.Unexpected = inr refl
-act_clears s w h m act.Enquiry = inr refl
-act_clears s w h m act.Proceeding = inr refl
-act_clears s w h m act.Alerting = inr refl
-act_clears s w h m act.Answer = inr refl
-act_clears s w h m (act.Disconnect cause) = inl refl
-act_clears s w h m (act.Released cause) = inl refl
-act_clears s w h m (act.Gone cause) = inl refl
+act_clears : (w : World) (h : Held) (a : Act) → (cause_of_act a ≡ Some (told_cause a)) ⊎ (records_of_act w h a ≡ [])
+act_clears w h act.Nothing = inr refl
+act_clears w h act.Unexpected = inr refl
+act_clears w h act.Enquiry = inr refl
+act_clears w h act.Proceeding = inr refl
+act_clears w h act.Alerting = inr refl
+act_clears w h act.Answer = inr refl
+act_clears w h (act.Disconnect cause) = inl refl
+act_clears w h (act.Released cause) = inl refl
+act_clears w h (act.Gone cause) = inl refl
 
 module _ (s : Setting) (w : World) (line : ℕ) (octets : List ℕ) (may : Arrive s w line octets) where
   abbrev size : length w.legs ≡ 30 * s.dimensions.external
@@ -231,23 +232,28 @@ module _ (s : Setting) (w : World) (line : ℕ) (octets : List ℕ) (may : Arriv
       let named = received_stands w.legs line octets h m is in
       let on = named.among in
       let within : IsExternal s.dimensions.external h.slot = (subst (λ n. n < s.dimensions.external) (sym on.0) may.fits.0, on.1) in
-      let course = course_on s w h m in (
-        course.cause,
-        of_records s.dimensions.external w (making_by s w course).world course.cause size,
-        elim (act_clears s w h m (act_on h.leg.state m)) [
+      let v = (making_by s w (course_on s w h m)).world in
+      let cause = told_cause (act_on h.leg.state m) in
+      let told = leg_records s w h m may.stands.legs within named.at in (
+        cause,
+        subst (AreOfEnded s.dimensions.external w v cause) (leg_ends s w h m may.stands.legs within named.at ∙ sym told) (of_records s.dimensions.external w v cause size),
+        elim (act_clears w h (act_on h.leg.state m)) [
           | inl clears ↦ inl clears
-          | inr none ↦ inr (leg_records s w h m.kind may.stands.legs within named.at m ∙ none)
+          | inr none ↦ inr (told ∙ none)
         ],
       )
+
+  -- no call ended, and none is told
+  none_accounted : (v : World) (given : Option ℕ) → records w v 0 ≡ [] → IsAccounted s.dimensions.external w v given []
+  none_accounted v given none = (0, subst (AreOfEnded s.dimensions.external w v 0) none (of_records s.dimensions.external w v 0 size), inr refl)
 
   request_accounted : (q : Request) → request_of w.legs line octets ≡ q
       → IsAccounted s.dimensions.external w (outcome_for s w line q).making.world (cause_of_clearing q) (outcome_for s w line q).recorded
   request_accounted (For_leg h m) is = leg_accounted h m is
-  request_accounted (New_call m) is =
-      (0, of_records s.dimensions.external w (outcome_for s w line (New_call m)).making.world 0 size, inr (call_ends_none s w line m may.planned may.stands may.fits.0))
-  request_accounted (On_no_call m) is = (0, of_records s.dimensions.external w (outcome_for s w line (On_no_call m)).making.world 0 size, inr (answer_ends_none s w line m))
+  request_accounted (New_call m) is = none_accounted (outcome_for s w line (New_call m)).making.world None (setup_ends_none s w line m may.planned may.stands may.fits.0)
+  request_accounted (On_no_call m) is = none_accounted (outcome_for s w line (On_no_call m)).making.world None (answer_ends_none s w line m)
   request_accounted (Restarts r) is = (temporary_failure, restart_recorded s r line w may.fits.0 (may.stands.circuits, may.stands.legs), inl refl)
-  request_accounted Unanswered is = (0, of_records s.dimensions.external w w 0 size, inr (no_records w 0))
+  request_accounted Unanswered is = none_accounted w None (no_records w 0)
 
   all_accounted : IsAccounted s.dimensions.external w (after_message s w line octets) (cause_of_clearing (request_of w.legs line octets)) (answer_to s w line octets).records
   all_accounted = request_accounted (request_of w.legs line octets) refl

@@ -15,7 +15,7 @@ use Rattle.clearing_rules.specs.Restarting.{acknowledgement}
 use Rattle.clearing_rules.specs.UnknownReference.{answer_without_call}
 use Rattle.exchange_events.specs.declared.record.CallRecord.{CallRecord}
 use Rattle.call_profile.specs.Acts.{course_of}
-use Rattle.call_profile.specs.CallRecords.{record_at, records, is_ended, is_calling}
+use Rattle.call_profile.specs.CallRecords.{record_at, records, records_by, is_ended, is_calling}
 use Rattle.call_profile.specs.Calls.{Request, For_leg, New_call, On_no_call, Restarts, Unanswered, request_of, answer_back, outcome_for, outcome_of_octets, after_message}
 use Rattle.call_profile.specs.Legs.{leg_at}
 use Rattle.call_profile.specs.Operations.{Operation, Clear, Pair, Seat, Sound, Put, Remove, Send, Making, making_at, making_after, making_after_all, moves_for, moves_of_seat, with_tone}
@@ -61,8 +61,7 @@ refused_outcome w line m cause = record {
 }
 
 refused_done : (s : Setting) (w : World) (line : ℕ) (m : Message) (cause : ℕ) → refusal s w line m ≡ Some cause → outcome_for s w line (New_call m) ≡ refused_outcome w line m cause
-refused_done s w line m cause e =
-    rw e (ap (λ (told : List CallRecord). let done : MessageOutcome = record { making = (refused_outcome w line m cause).making; recorded = told } in done) (no_records w 0))
+refused_done s w line m cause e = rw e refl
 
 refused_octets : (s : Setting) (w : World) (line : ℕ) (octets : List ℕ) (m : Message) (cause : ℕ) → IsRefused s w line octets m cause → outcome_of_octets s w line octets ≡ refused_outcome w line m cause
 refused_octets s w line octets m cause refused = ap (outcome_for s w line) refused.0 ∙ refused_done s w line m cause refused.1
@@ -170,10 +169,11 @@ module _ (s : Setting) (w : World) (layout : Layout) where
   begun_alike : SameButPaths (making_at other) (making_at w)
   begun_alike = record { holding = refl; legs = refl; ports = refl; sends = refl; moved = refl }
 
-  operations_alike : (cause : ℕ) (os : List Operation)
-      → DoneAlike (record { making = making_after_all s.dimensions (making_at other) os; recorded = records other (making_after_all s.dimensions (making_at other) os).world cause })
-      (record { making = making_after_all s.dimensions (making_at w) os; recorded = records w (making_after_all s.dimensions (making_at w) os).world cause })
-  operations_alike cause os =
+  operations_alike : (cause : Option ℕ) (os : List Operation)
+      → DoneAlike (record { making = making_after_all s.dimensions (making_at other) os; recorded = records_by other (making_after_all s.dimensions (making_at other) os).world cause })
+      (record { making = making_after_all s.dimensions (making_at w) os; recorded = records_by w (making_after_all s.dimensions (making_at w) os).world cause })
+  operations_alike None os = record { making = same_performed_all s.dimensions (making_at other) (making_at w) os begun_alike; recorded = refl }
+  operations_alike (Some cause) os =
       let same = same_performed_all s.dimensions (making_at other) (making_at w) os begun_alike in
       record { making = same; recorded = same_records other w (making_after_all s.dimensions (making_at other) os).world (making_after_all s.dimensions (making_at w) os).world cause refl refl same.legs }
 
@@ -206,10 +206,10 @@ module _ (s : Setting) (w : World) (layout : Layout) where
 
   received_alike : (line : ℕ) (r : Request) → DoneAlike (outcome_for s other line r) (outcome_for s w line r)
   received_alike line (For_leg h m) = operations_alike (course_of s.tones w.legs h m.kind (act_on h.leg.state m)).cause (course_of s.tones w.legs h m.kind (act_on h.leg.state m)).operations
-  received_alike line (New_call m) = operations_alike 0 (course_of_setup s w line m).operations
-  received_alike line (On_no_call m) = operations_alike 0 (answer_back line (answer_without_call m))
+  received_alike line (New_call m) = operations_alike None (course_of_setup s w line m).operations
+  received_alike line (On_no_call m) = operations_alike None (answer_back line (answer_without_call m))
   received_alike line (Restarts r) = restarted_alike r line
-  received_alike line Unanswered = operations_alike 0 []
+  received_alike line Unanswered = operations_alike None []
 
   pub done_alike : (line : ℕ) (octets : List ℕ) → DoneAlike (outcome_of_octets s other line octets) (outcome_of_octets s w line octets)
   done_alike line octets = received_alike line (request_of w.legs line octets)

@@ -14,7 +14,7 @@ use Rattle.exchange_events.specs.declared.record.CallRecord.{CallRecord}
 use Rattle.exchange_events.specs.declared.signal.Signal.{Signal}
 use Rattle.call_states.specs.declared.leg.Held.{Held}
 use Rattle.call_profile.specs.Acts.{course_of}
-use Rattle.call_profile.specs.CallRecords.{records}
+use Rattle.call_profile.specs.CallRecords.{records_by}
 use Rattle.call_profile.specs.Course.{Course, only, nothing}
 use Rattle.call_profile.specs.Legs.{Legs, leg_named}
 use Rattle.call_profile.specs.Operations.{Operation, Send, Making, making_at, making_after_all}
@@ -72,7 +72,7 @@ abbrev pub making_by : Setting → World → Course → Making
 making_by s w c = making_after_all s.dimensions (making_at w) c.operations
 
 abbrev pub outcome_by : Setting → World → Course → MessageOutcome
-outcome_by s w c = let m = making_by s w c in record { making = m; recorded = records w m.world c.cause }
+outcome_by s w c = let m = making_by s w c in record { making = m; recorded = records_by w m.world c.cause }
 
 -- the answer to a message, where there is one
 abbrev pub answer_back : ℕ → Option OutgoingMessage → List Operation
