@@ -70,7 +70,7 @@ returns-clause-tool g c =
     (c.happen-response.ensures.tool _ (tools e f.number))
 
 pub returns-clause-laid : goal.returns-clause-laid
-returns-clause-laid g c = is_laid _ _ _ _ (invariant_of-self g c) c.next_frame-_next.ensures.laid
+returns-clause-laid g c = is_laid _ _ _ _ (invariant_of-self g c) c.next_frame-next.ensures.laid
 
 pub returns-clause-joins : goal.returns-clause-joins
 returns-clause-joins g c = joins_its _ _ _ _ (invariant_of-self g c)
