@@ -7,7 +7,7 @@ use Rattle.exchange_events.specs.Sizes.{Setting}
 use Rattle.call_profile.specs.Answered.{AreNailed, IsGranted}
 use Rattle.call_profile.specs.IdleSlots.{idle}
 use Rattle.call_profile.specs.Step.{reply, next}
-use Rattle.call_profile.specs.World.{World, obey}
+use Rattle.call_profile.specs.World.{World}
 use Rattle.call_profile.proofs.AnsweringLemmas.{pair_there}
 
 module _ (s : Setting) (w : World) (x y : Slot) (idle_x : idle w x ≡ true) (idle_y : idle w y ≡ true) where

@@ -39,5 +39,6 @@ pub mod RestartedLegLemmas
 pub mod RestartedLineLemmas
 pub mod RecordedCallLemmas
 pub mod RecordedMessageLemmas
+pub mod FullPortLemmas
 pub mod QuietEventLemmas
 pub mod RunLemmas

@@ -1,5 +1,5 @@
 -- A message that is answered on the call reference of no call ends no call.
-use Rattle.std.proofs.Common.{◌≡◌, ℕ, [], Option, Some, None, refl}
+use Rattle.std.proofs.Common.{◌≡◌, ℕ, [], Option, Some, None}
 use Rattle.q931_codec.specs.declared.message.Message.{Message}
 use Rattle.q931_codec.specs.Outgoing.{OutgoingMessage}
 use Rattle.clearing_rules.specs.UnknownReference.{answer_without_call}

@@ -1,10 +1,9 @@
 -- The records of a step are those of the callers' legs that stopped calling.
-use Rattle.std.proofs.Common.{◌≡◌, ℕ, zero, suc, ◌+◌, ◌*◌, ◌<◌, ◌≤◌, Bool, true, false, not, ◌&&◌, ◌⊎◌, inl, inr, List, [], ◌∷◌, length, Option, Some, None, refl, sym, ◌∙◌, ap, subst, arith, if◌then◌else◌}
+use Rattle.std.proofs.Common.{◌≡◌, ℕ, zero, suc, ◌+◌, ◌*◌, ◌<◌, ◌≤◌, true, false, not, ◌⊎◌, inl, inr, List, length, Option, Some, None, refl, ◌∙◌, ap, arith, if◌then◌else◌}
 use Rattle.std.specs.Prelude.{Contains, filter_map, option_and_then, option_map, ◌==◌}
 use Rattle.std.specs.List.{range_with_len, cons_option}
 use Rattle.std.proofs.lemmas.Grind.{common_steps}
 use Rattle.circuit_model.specs.declared.channel.Slot.{Slot}
-use Rattle.circuit_model.specs.declared.circuit.Circuit.{Circuit}
 use Rattle.circuit_model.specs.Circuits.{heard_by}
 use Rattle.circuit_model.specs.Extent.{IsExternal}
 use Rattle.circuit_model.proofs.Age.{cons_cases, at_head, in_tail, none_in_nil}
@@ -64,9 +63,6 @@ is_given f first (suc count) n c low high e = elim (same_or_not first n) [
 -- a call ended, and this is its record with a cause
 abbrev pub EndsWith : ℕ → World → World → ℕ → CallRecord → Type 0
 EndsWith external before afterwards cause c = (h : Held) × HasEnded external before afterwards h × (record_of before cause h ≡ Some c)
-
-held : Slot → Leg → Held
-held x leg = record { slot = x; leg = leg }
 
 by_leg : (external : ℕ) (u v : World) (cause : ℕ) (x : Slot) (c : CallRecord) (o : Option Leg) → IsExternal external x → leg_at u.legs x ≡ o → is_calling o ≡ true → is_calling (leg_at v.legs x) ≡ false
     → option_and_then (record_of u cause) (option_map (λ (leg : Leg). let h : Held = record { slot = x; leg = leg } in h) o) ≡ Some c → EndsWith external u v cause c

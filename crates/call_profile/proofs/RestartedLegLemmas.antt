@@ -1,11 +1,11 @@
 -- What the restart of a slot makes of the legs, and of what slots hear that no leg holds.
-use Rattle.std.proofs.Common.{◌≡◌, ℕ, ◌<◌, Bool, true, false, inl, inr, List, length, set, Option, Some, None, refl, sym, ◌∙◌, ap, subst, if◌then◌else◌}
+use Rattle.std.proofs.Common.{◌≡◌, ℕ, true, false, inl, inr, set, Option, Some, None, refl, sym, ◌∙◌, ap, subst, if◌then◌else◌}
 use Rattle.std.specs.Prelude.{option_map}
 use Rattle.circuit_model.specs.declared.channel.Slot.{Slot}
 use Rattle.circuit_model.specs.declared.circuit.Circuit.{Circuit}
 use Rattle.circuit_model.specs.declared.circuit.Kind.{Kind}
 use Rattle.circuit_model.specs.declared.circuit.Circuit.TheVariants.{Pair, Member, Tone}
-use Rattle.circuit_model.specs.Circuits.{heard_by, unless_naming, listener, same_slot, names}
+use Rattle.circuit_model.specs.Circuits.{heard_by, unless_naming, names}
 use Rattle.circuit_model.specs.Extent.{IsExternal}
 use Rattle.circuit_model.specs.Holding.{Holding, Clear as Clear_slot, after, Valid}
 use Rattle.circuit_model.proofs.Hearing.{heard_by-stands}
@@ -21,20 +21,18 @@ use Rattle.clearing_rules.specs.Restarting.{is_restarted}
 use Rattle.tone_rules.specs.declared.tones.Tones.{Tones}
 use Rattle.call_states.specs.declared.leg.Held.{Held}
 use Rattle.call_profile.specs.Acts.{in_disconnect_indication, tone_of, peer_of, with_peer, clear_with, remove_leg}
-use Rattle.call_profile.specs.CallRecords.{is_calling}
 use Rattle.call_profile.specs.LegStanding.{LegsStand, HasPeer, MayHear, IsInCall}
-use Rattle.call_profile.specs.Legs.{Legs, leg_at}
+use Rattle.call_profile.specs.Legs.{leg_at}
 use Rattle.call_profile.specs.Operations.{Making, making_after_all, with_tone}
 use Rattle.call_profile.specs.Restarts.{restarts_slot, restart_peer, restart_leg, restart_slot}
 use Rattle.exchange_events.specs.Sizes.{Dimensions}
 use Rattle.call_profile.specs.World.{World}
-use Rattle.call_profile.proofs.BesideLemmas.{entry_here, entry_else, named_back, peer_there, peer_back, same_or_apart}
+use Rattle.call_profile.proofs.BesideLemmas.{entry_here, entry_else, named_back, same_or_apart}
 use Rattle.call_profile.proofs.BothLegsClearedLemmas.{ArePeers, strange_both}
-use Rattle.call_profile.proofs.ClearingLemmas.{Kept, held_there, peers_apart, peers_of}
+use Rattle.call_profile.proofs.ClearingLemmas.{Kept, held_there, peers_of}
 use Rattle.call_profile.proofs.CommandLemmas.{not_empty, strange_to_empty}
 use Rattle.call_profile.proofs.HearingLemmas.{IsStrange, clear_keeps, clear_both_keeps}
 use Rattle.call_profile.proofs.LegTableLemmas.{both_else, both_first, both_second}
-use Rattle.call_profile.proofs.RecordOfActLemmas.{disconnected_silent}
 use Rattle.call_profile.proofs.ToneLemmas.{cleared_is_idle, sounding_keeps, sounding_next}
 
 -- ---- a slot that no leg holds

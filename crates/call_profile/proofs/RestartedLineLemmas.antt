@@ -1,5 +1,5 @@
 -- What a RESTART leaves of a line: slot by slot.
-use Rattle.std.proofs.Common.{◌≡◌, ℕ, zero, suc, ◌<◌, ◌≤◌, ◌⊎◌, ◌&&◌, Bool, true, false, inl, inr, List, Option, Some, None, refl, sym, ◌∙◌, ap, subst, arith, if◌then◌else◌}
+use Rattle.std.proofs.Common.{◌≡◌, ℕ, zero, suc, ◌<◌, ◌≤◌, ◌⊎◌, ◌&&◌, Bool, true, false, inl, inr, List, Some, None, refl, sym, ◌∙◌, ap, subst, arith, if◌then◌else◌}
 use Rattle.std.specs.Prelude.{nat_lt, ◌==◌}
 use Rattle.std.proofs.lemmas.Bool.{eqb-true}
 use Rattle.std.proofs.lemmas.Grind.{common_steps}
@@ -18,7 +18,7 @@ use Rattle.call_profile.specs.Calls.{Request, outcome_for, after_message}
 use Rattle.call_profile.specs.LegStanding.{HasPeer}
 use Rattle.call_profile.specs.Legs.{leg_at}
 use Rattle.call_profile.specs.Restarted.{IsRestart, left_with, left_by}
-use Rattle.call_profile.specs.Restarts.{MessageOutcome, restarts_slot, restart_slot, outcome_at_slot, outcome_below}
+use Rattle.call_profile.specs.Restarts.{MessageOutcome, restarts_slot, outcome_at_slot, outcome_below}
 use Rattle.exchange_events.specs.Sizes.{Setting}
 use Rattle.call_profile.specs.World.{World}
 use Rattle.call_profile.proofs.BesideLemmas.{same_or_apart}

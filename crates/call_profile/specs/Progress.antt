@@ -1,6 +1,6 @@
 -- Where a user is told that there is something to be heard. Source: ITU-T Q.931 (05/98), 4.5.23.
 use Rattle.std.specs.Prelude.{◌≡◌, ℕ, List, filter_map, Option, Some, None, if◌then◌else◌}
-use Rattle.call_profile.specs.Operations.{Operation, Clear, Pair, Seat, Sound, Put, Remove, Send}
+use Rattle.call_profile.specs.Operations.{Operation, Sound, Send}
 
 -- the line whose user is sent a progress indicator by an operation, and the line of a slot that gets a tone by it
 abbrev pub line_told : Operation → Option ℕ

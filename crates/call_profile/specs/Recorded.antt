@@ -1,6 +1,5 @@
 -- The calls that a message ends, told by the legs before and after it. Source: this exchange's own.
 use Rattle.std.specs.Prelude.{◌≡◌, ℕ, true, false, List, Contains, Option, Some, None}
-use Rattle.circuit_model.specs.declared.channel.Slot.{Slot}
 use Rattle.circuit_model.specs.Extent.{IsExternal}
 use Rattle.q931_codec.specs.Causes.{temporary_failure}
 use Rattle.call_states.specs.Acts.{act_on, cause_of_act}

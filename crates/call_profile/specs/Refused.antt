@@ -1,5 +1,7 @@
 -- What is refused, told by the answer. Source: this exchange's own.
-use Rattle.std.specs.Prelude.{◌≡◌, ℕ, Bool, true, false, List, [], ◌∷◌, Option, Some, None}
+use Rattle.std.specs.Prelude.{◌≡◌, ℕ, ◌*◌, ◌<◌, Bool, true, false, List, [], ◌∷◌, Some, None}
+use Rattle.circuit_model.specs.declared.channel.Slot.{Slot}
+use Rattle.circuit_model.specs.Ports.{Ports, owner_of}
 use Rattle.q931_codec.specs.declared.message.Message.{Message}
 use Rattle.q931_codec.specs.Outgoing.{encoding}
 use Rattle.exchange_events.specs.declared.reply.Reply.{Reply}
@@ -15,6 +17,10 @@ refuses Busy = true
 refuses NoPort = true
 refuses NotNailed = true
 refuses _ = false
+
+-- each of the thirty ports of so many bridge lines has a member
+abbrev pub AllAreTaken : ℕ → Ports → Type 0
+AllAreTaken bridges ports = (k : ℕ) → k < 30 * bridges → (x : Slot) × (owner_of ports k ≡ Some x)
 
 -- these octets are a SETUP that asks for a call, and it fails a check with this cause
 abbrev pub IsRefused : Setting → World → ℕ → List ℕ → Message → ℕ → Type 0
