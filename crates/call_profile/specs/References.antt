@@ -1,5 +1,5 @@
 -- The call references of a line's called legs. Source: ITU-T Q.931 (05/98), 4.3.
-use Rattle.std.specs.Prelude.{◌≡◌, ◌<◌, ℕ, Some}
+use Rattle.std.specs.Prelude.{◌≡◌, ◌<◌, ℕ, None, Some}
 use Rattle.circuit_model.specs.declared.channel.Slot.{Slot}
 use Rattle.call_states.specs.declared.leg.Leg.{Leg}
 use Rattle.call_states.specs.declared.leg.Side.TheVariants.{Called}
@@ -17,3 +17,7 @@ pub record HasReference (legs : Legs) (line reference : ℕ) : Type 0 where
   pub at : leg_at legs slot ≡ Some leg
   pub is_called : leg.side ≡ Called
   pub same : leg.reference ≡ reference
+
+-- a slot of the line holds no leg
+abbrev pub HasSlotLeft : Legs → ℕ → Type 0
+HasSlotLeft legs line = (x : Slot) × IsOnLine line x × (leg_at legs x ≡ None)
