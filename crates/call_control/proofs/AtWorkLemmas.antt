@@ -77,4 +77,4 @@ module _ (s : Setting) (map : Connections) (legs : Legs) (w : World) (work : IsA
       silent_on_map map w work.holds.circuits.holds.heard o (subst (λ (p : Option Held). IfSome p (λ c. heard_by w.holding.circuits c.slot ≡ None)) same deaf)
 
   pub known_records : (m : Message) → records_of_act w h (act_on h.leg.state m) ≡ (outcome_by s w (course_of s.tones w.legs h m.kind (act_on h.leg.state m))).recorded
-  known_records m = sym (leg_records s w h m.kind work.stands.legs in_world at_world m)
+  known_records m = sym (leg_records s w h m work.stands.legs in_world at_world)

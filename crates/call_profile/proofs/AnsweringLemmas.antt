@@ -132,7 +132,7 @@ answer_operations : (tones : Tones) (legs : Legs) (h : Held) (k : MessageKind) (
     → (course_of tones legs h k act.Answer).operations ≡ on_connect h (record { slot = y; leg = other })
 answer_operations tones legs h k y other is at = rw (is, held_there legs y other at) refl
 
-pair_there : (circuits : List Circuit) (a b : Circuit) → Contains (circuits ++ a ∷ b ∷ []) a × Contains (circuits ++ a ∷ b ∷ []) b
+pub pair_there : (circuits : List Circuit) (a b : Circuit) → Contains (circuits ++ a ∷ b ∷ []) a × Contains (circuits ++ a ∷ b ∷ []) b
 pair_there circuits a b = (
   Contains-append_right circuits (a ∷ b ∷ []) a (0, omega arith, refl),
   Contains-append_right circuits (a ∷ b ∷ []) b (1, omega arith, refl),

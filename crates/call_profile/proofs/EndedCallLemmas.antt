@@ -22,7 +22,7 @@ none_hit : (f : ℕ → Option CallRecord) (first count : ℕ) → ((n : ℕ) �
 none_hit f first zero none = refl
 none_hit f first (suc count) none = rw (none first (omega arith) (omega arith)) (none_hit f (first + 1) count (λ n low high. none n (omega (arith, low)) (omega (arith, high))))
 
-same_or_not : (n k : ℕ) → (n ≡ k) ⊎ (n ≡ k → ⊥)
+pub same_or_not : (n k : ℕ) → (n ≡ k) ⊎ (n ≡ k → ⊥)
 same_or_not n k = elim (true_or_false (n == k)) [
   | inl same ↦ inl (eqb-true n k same)
   | inr differ ↦ inr (λ e. let t = eq-eqb n k e in cc)
@@ -42,7 +42,7 @@ one_hit f first (suc count) k low high none = elim (same_or_not first k) [
 
 -- ---- the record of a slot
 
-in_numbered : (external n : ℕ) → n < 30 * external → IsExternal external (slot_numbered n)
+pub in_numbered : (external n : ℕ) → n < 30 * external → IsExternal external (slot_numbered n)
 in_numbered external n below = (omega (arith, below), omega arith)
 
 goes_on : (b a : Bool) → (b ≡ true → a ≡ true) → (b && not a) ≡ false

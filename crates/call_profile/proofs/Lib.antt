@@ -32,5 +32,13 @@ pub mod NoCallEndedLemmas
 pub mod NoCallAnswerLemmas
 pub mod PermittedLemmas
 pub mod HistoryLemmas
+pub mod GrantedNailLemmas
+pub mod ReferenceLemmas
+pub mod ProgressLemmas
+pub mod RestartedLegLemmas
+pub mod RestartedLineLemmas
+pub mod RecordedCallLemmas
+pub mod RecordedMessageLemmas
+pub mod FullPortLemmas
 pub mod QuietEventLemmas
 pub mod RunLemmas

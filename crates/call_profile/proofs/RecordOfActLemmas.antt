@@ -1,6 +1,6 @@
 -- The records of what an act ends: of an act that clears a call the one of its caller, of any other none.
 use Rattle.std.proofs.Common.{◌≡◌, ℕ, ◌*◌, Bool, true, false, ◌&&◌, inl, inr, List, [], length, set, Option, Some, None, refl, sym, ◌∙◌, ap, subst}
-use Rattle.std.specs.Prelude.{option_and_then}
+use Rattle.std.specs.Prelude.{option_and_then, unwrap_or}
 use Rattle.std.specs.List.{cons_option}
 use Rattle.circuit_model.specs.declared.channel.Slot.{Slot}
 use Rattle.circuit_model.specs.Extent.{IsExternal}
@@ -9,7 +9,7 @@ use Rattle.q931_codec.specs.declared.kind.MessageKind.{MessageKind}
 use Rattle.q931_codec.specs.declared.message.Message.{Message}
 use Rattle.q931_codec.specs.CallStates.{call_delivered, call_received, incoming_call_proceeding, active}
 use Rattle.q931_codec.specs.Contents.{call_state_in}
-use Rattle.call_states.specs.Acts.{act_on, clearing_cause, is_null, is_among}
+use Rattle.call_states.specs.Acts.{act_of, act_on, cause_of_act, clearing_cause, is_null, is_among}
 use Rattle.call_states.specs.declared.act.Act.{Act}
 use Rattle.call_states.specs.declared.act.Act.TheVariants as act
 use Rattle.call_states.specs.declared.leg.Leg.{Leg}
@@ -22,7 +22,7 @@ use Rattle.tone_rules.specs.declared.tones.Tones.{Tones}
 use Rattle.call_states.specs.declared.leg.Held.{Held}
 use Rattle.exchange_events.specs.declared.record.CallRecord.{CallRecord}
 use Rattle.call_profile.specs.Acts.{course_of, in_release_request, in_disconnect_indication, in_state, peer_of, with_peer, clear_with, on_disconnect, on_release, remove_leg, on_alerting, on_connect}
-use Rattle.call_profile.specs.CallRecords.{is_calling, records}
+use Rattle.call_profile.specs.CallRecords.{is_calling, records, records_by}
 use Rattle.call_profile.specs.Calls.{making_by}
 use Rattle.call_profile.specs.EndedCalls.{caller_in, record_calling, record_ended, record_of_act}
 use Rattle.call_profile.specs.LegStanding.{LegsStand, HasPeer, IsInCall, AreOneCall}
@@ -42,6 +42,10 @@ use Rattle.call_profile.proofs.LegTableLemmas.{both_else, both_first, both_secon
 -- the record of what an act ends, as a list
 abbrev pub records_of_act : World → Held → Act → List CallRecord
 records_of_act w h a = cons_option (record_of_act w h a) []
+
+-- the cause of an act that clears a call; for any other act, of which there are no records, any cause would do
+abbrev pub told_cause : Act → ℕ
+told_cause a = unwrap_or (cause_of_act a) 0
 
 -- ---- legs that don't call
 
@@ -200,7 +204,7 @@ module _ (s : Setting) (w : World) (h : Held) (k : MessageKind) (stand : LegsSta
   progress_records os c none =
       ap (λ (list : List Operation). records w (making_after_all s.dimensions (making_at w) list).world 0) (with_caller w.legs h.leg.peer c.0 c.3.0 os c.1 c.3.1) ∙ none
 
-  act_records : (a : Act) → Asked h.leg.state a → records w (making_by s w (course_of s.tones w.legs h k a)).world (course_of s.tones w.legs h k a).cause ≡ records_of_act w h a
+  act_records : (a : Act) → Asked h.leg.state a → records w (making_by s w (course_of s.tones w.legs h k a)).world (told_cause a) ≡ records_of_act w h a
   act_records act.Nothing asks = no_records w 0
   act_records act.Unexpected asks = no_records w 0
   act_records act.Enquiry asks = no_records w 0
@@ -229,7 +233,29 @@ module _ (s : Setting) (w : World) (h : Held) (k : MessageKind) (stand : LegsSta
   act_records (act.Gone cause) asks =
       clearing_records s.dimensions s.tones w h.slot h.leg None cause stand within at (inl refl) (making_after_all s.dimensions (making_at w) (remove_leg h)) refl
 
-  -- what a message to a leg ends is what its act ends
-  pub leg_records : (m : Message)
-      → records w (making_by s w (course_of s.tones w.legs h k (act_on h.leg.state m))).world (course_of s.tones w.legs h k (act_on h.leg.state m)).cause ≡ records_of_act w h (act_on h.leg.state m)
-  leg_records m = act_records (act_on h.leg.state m) (asked h.leg.state m.kind (clearing_cause m.elements) (is_null (call_state_in m.elements)) (cause_fits m.elements))
+  given_records : (a : Act) → Asked h.leg.state a → records_by w (making_by s w (course_of s.tones w.legs h k a)).world (course_of s.tones w.legs h k a).cause ≡ records_of_act w h a
+  given_records act.Nothing asks = refl
+  given_records act.Unexpected asks = refl
+  given_records act.Enquiry asks = refl
+  given_records act.Proceeding asks = refl
+  given_records act.Alerting asks = refl
+  given_records act.Answer asks = refl
+  given_records (act.Disconnect cause) asks = act_records (act.Disconnect cause) asks
+  given_records (act.Released cause) asks = act_records (act.Released cause) asks
+  given_records (act.Gone cause) asks = act_records (act.Gone cause) asks
+
+  asked_by : (m : Message) → Asked h.leg.state (act_of h.leg.state k (clearing_cause m.elements) (is_null (call_state_in m.elements)))
+  asked_by m = asked h.leg.state k (clearing_cause m.elements) (is_null (call_state_in m.elements)) (cause_fits m.elements)
+
+-- what a message to a leg ends is what its act ends
+module _ (s : Setting) (w : World) (h : Held) (m : Message) (stand : LegsStand s.dimensions.external s.tones w)
+    (within : IsExternal s.dimensions.external h.slot) (at : leg_at w.legs h.slot ≡ Some h.leg) where
+  abbrev asked_act : Act
+  asked_act = act_on h.leg.state m
+
+  pub leg_records : records_by w (making_by s w (course_of s.tones w.legs h m.kind asked_act)).world (course_of s.tones w.legs h m.kind asked_act).cause ≡ records_of_act w h asked_act
+  leg_records = given_records s w h m.kind stand within at asked_act (asked_by s w h m.kind stand within at m)
+
+  -- and no other call ends by it
+  pub leg_ends : records w (making_by s w (course_of s.tones w.legs h m.kind asked_act)).world (told_cause asked_act) ≡ records_of_act w h asked_act
+  leg_ends = act_records s w h m.kind stand within at asked_act (asked_by s w h m.kind stand within at m)

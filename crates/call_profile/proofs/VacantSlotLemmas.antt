@@ -35,7 +35,7 @@ found_on p line x e = found_slot p (IsOn line) (slots_of line) x (slots_on line)
 
 -- ---- a slot of a line is one of its thirty
 
-same_parts : (x : Slot) (line place : ℕ) → x.line ≡ line → x.place ≡ place → x ≡ record { line = line; place = place }
+pub same_parts : (x : Slot) (line place : ℕ) → x.line ≡ line → x.place ≡ place → x ≡ record { line = line; place = place }
 same_parts x line place e f =
     let at : ℕ → ℕ → Slot = λ l p. record { line = l; place = p } in
     ap (λ l. at l x.place) e ∙ ap (at line) f

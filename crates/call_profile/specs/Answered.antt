@@ -11,6 +11,8 @@ use Rattle.call_states.specs.declared.leg.Peer.TheVariants as peer
 use Rattle.call_states.specs.declared.leg.Held.{Held}
 use Rattle.call_profile.specs.Calls.{For_leg, request_of, after_message}
 use Rattle.call_profile.specs.LegStanding.{LegsStand}
+use Rattle.exchange_events.specs.declared.reply.Reply.{Reply}
+use Rattle.exchange_events.specs.declared.reply.Reply.TheVariants.{Granted}
 use Rattle.exchange_events.specs.Sizes.{Setting}
 use Rattle.call_profile.specs.World.{World}
 
@@ -37,3 +39,12 @@ GetsBothPaths s w line octets h =
 -- the same world with its paths laid in another way
 abbrev pub with_layout : World → Layout → World
 with_layout w layout = record w { layout = layout }
+
+-- a nail is granted, whatever paths were moved for it
+abbrev pub IsGranted : Reply → Type 0
+IsGranted answer = (there back : ℕ) × (answer ≡ Granted there back)
+
+-- two slots are connected both ways since the next frame
+pub record AreNailed (before afterwards : World) (x y : Slot) : Type 0 where
+  pub there : Contains afterwards.holding.circuits (Pair x y before.holding.next)
+  pub back : Contains afterwards.holding.circuits (Pair y x before.holding.next)

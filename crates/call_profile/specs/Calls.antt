@@ -14,13 +14,13 @@ use Rattle.exchange_events.specs.declared.record.CallRecord.{CallRecord}
 use Rattle.exchange_events.specs.declared.signal.Signal.{Signal}
 use Rattle.call_states.specs.declared.leg.Held.{Held}
 use Rattle.call_profile.specs.Acts.{course_of}
-use Rattle.call_profile.specs.CallRecords.{records}
+use Rattle.call_profile.specs.CallRecords.{records_by}
 use Rattle.call_profile.specs.Course.{Course, only, nothing}
 use Rattle.call_profile.specs.Legs.{Legs, leg_named}
 use Rattle.call_profile.specs.Operations.{Operation, Send, Making, making_at, making_after_all}
 use Rattle.call_profile.specs.Restarts.{MessageOutcome, outcome_of_restart}
 use Rattle.exchange_events.specs.Sizes.{Setting}
-use Rattle.call_profile.specs.Setup.{refusal, course_of_setup}
+use Rattle.call_profile.specs.Setup.{course_of_setup}
 use Rattle.call_profile.specs.World.{World}
 
 -- ---- what is asked for
@@ -66,24 +66,13 @@ request_read legs line (Err why) = Unanswered
 abbrev pub request_of : Legs → ℕ → List ℕ → Request
 request_of legs line octets = request_read legs line (reading octets)
 
--- the cause with which a call that is asked for is refused, if it is
-abbrev pub refusal_for : Setting → World → ℕ → Request → Option ℕ
-refusal_for s w line (For_leg h m) = None
-refusal_for s w line (New_call m) = refusal s w line m
-refusal_for s w line (On_no_call m) = None
-refusal_for s w line (Restarts r) = None
-refusal_for s w line Unanswered = None
-
-abbrev pub refused_with : Setting → World → ℕ → List ℕ → Option ℕ
-refused_with s w line octets = refusal_for s w line (request_of w.legs line octets)
-
 -- ---- what is done for it
 
 abbrev pub making_by : Setting → World → Course → Making
 making_by s w c = making_after_all s.dimensions (making_at w) c.operations
 
 abbrev pub outcome_by : Setting → World → Course → MessageOutcome
-outcome_by s w c = let m = making_by s w c in record { making = m; recorded = records w m.world c.cause }
+outcome_by s w c = let m = making_by s w c in record { making = m; recorded = records_by w m.world c.cause }
 
 -- the answer to a message, where there is one
 abbrev pub answer_back : ℕ → Option OutgoingMessage → List Operation

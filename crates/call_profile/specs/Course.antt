@@ -1,15 +1,15 @@
 -- A course of action: what the exchange does for a message. Source: this exchange's own.
-use Rattle.std.specs.Prelude.{ℕ, List, []}
+use Rattle.std.specs.Prelude.{ℕ, List, [], Option, None}
 use Rattle.call_profile.specs.Operations.{Operation}
 
--- the operations, in order; and the cause that is recorded of a call which they begin to clear
+-- the operations, in order; and the cause that is recorded of a call which they begin to clear, where they may clear one
 pub record Course : Type 0 where
   pub operations : List Operation
-  pub cause : ℕ
+  pub cause : Option ℕ
 
 -- a course that clears no call
 abbrev pub only : List Operation → Course
-only operations = record { operations = operations; cause = 0 }
+only operations = record { operations = operations; cause = None }
 
 abbrev pub nothing : Course
 nothing = only []

@@ -16,3 +16,9 @@ pub mod EndedCalls
 pub mod Peers
 pub mod IsMade
 pub mod Answered
+pub mod Refused
+pub mod Progress
+pub mod References
+pub mod Restarted
+pub mod Recorded
+pub mod WorkedMessages

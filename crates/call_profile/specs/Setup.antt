@@ -156,8 +156,12 @@ caller_leg state reference peer = record { state = state; reference = reference;
 abbrev pub called_leg : ℕ → Slot → Leg
 called_leg reference caller = record { state = call_present; reference = reference; side = Called; peer = peer.Leg caller; cause = 0 }
 
+-- RELEASE COMPLETE, to the side that chose the call reference
+abbrev pub release_complete : ℕ → ℕ → OutgoingMessage
+release_complete reference cause = record (bare true reference kind.ReleaseComplete) { cause = Some cause }
+
 abbrev pub refuse : ℕ → ℕ → ℕ → List Operation
-refuse line reference cause = Send line (record (bare true reference kind.ReleaseComplete) { cause = Some cause }) ∷ []
+refuse line reference cause = Send line (release_complete reference cause) ∷ []
 
 abbrev pub call_proceeding : Slot → Leg → OutgoingMessage
 call_proceeding x leg = record (message_to leg kind.CallProceeding) { channel = Some (channel_at x.place) }

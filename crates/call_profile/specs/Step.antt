@@ -1,5 +1,5 @@
 -- The exchange as a machine: what each event makes of what stands, and what it is answered. Source: this exchange's own.
-use Rattle.std.specs.Prelude.{ℕ, ◌-◌, ◌≤◌, ◌&&◌, not, Bool, false, List, [], ◌∷◌, filter_map, slice_get, is_some, IfSome, if◌then◌else◌}
+use Rattle.std.specs.Prelude.{ℕ, ◌-◌, ◌≤◌, ◌&&◌, not, Bool, List, [], ◌∷◌, filter_map, slice_get, IfSome, if◌then◌else◌}
 use Rattle.circuit_model.specs.declared.channel.Slot.{Slot}
 use Rattle.circuit_model.specs.Holding.{Connect, Seat as Take_seat, Clear}
 use Rattle.circuit_model.specs.Ports.{port_of, ports_with}
@@ -7,7 +7,7 @@ use Rattle.exchange_events.specs.declared.trace.Event.{Event}
 use Rattle.exchange_events.specs.declared.trace.Event.TheVariants.{Nail, Seat, Free, Message, Frame}
 use Rattle.exchange_events.specs.declared.reply.Reply.{Reply}
 use Rattle.exchange_events.specs.declared.reply.Reply.TheVariants.{Granted, Busy, Seated, NoPort, Freed, NotNailed, Sent as Sent_reply, Frame as Frame_reply}
-use Rattle.call_profile.specs.Calls.{MessageAnswer, after_message, answer_to, refused_with}
+use Rattle.call_profile.specs.Calls.{MessageAnswer, after_message, answer_to}
 use Rattle.call_profile.specs.IdleSlots.{idle, is_nailed}
 use Rattle.exchange_events.specs.Sizes.{Setting, Dimensions}
 use Rattle.call_profile.specs.World.{World, obey, pass, is_full, nail_reply, seat_reply}
@@ -41,14 +41,6 @@ next s w (Seat x room) = if may_seat s.dimensions w x then obey s.dimensions w (
 next s w (Free x) = if is_nailed w x then obey s.dimensions w (Clear x) else w
 next s w (Message line octets) = after_message s w line octets
 next s w (Frame input) = pass w input
-
--- an event that is refused: a slot is not as it must be, there is no port, or a call that is asked for can't be set up
-abbrev pub is_refused : Setting → World → Event → Bool
-is_refused s w (Nail x y) = not (may_nail w x y)
-is_refused s w (Seat x room) = not (may_seat s.dimensions w x)
-is_refused s w (Free x) = not (is_nailed w x)
-is_refused s w (Message line octets) = is_some (refused_with s w line octets)
-is_refused s w (Frame input) = false
 
 -- an answer tells of so many moved paths at the most, each way
 abbrev pub MovesAtMost : ℕ → Reply → Type 0

@@ -58,6 +58,10 @@ connected sends = Sent_reply sends (Some (0, 0)) []
 abbrev pub records_reply : List Signal → CallRecord → Reply
 records_reply sends told = Sent_reply sends None (told ∷ [])
 
+-- a frame in which neither of two lines sends anything
+abbrev pub quiet_frame : Event
+quiet_frame = Frame (None ∷ None ∷ [])
+
 -- line 0 calls number 101, which is line 1's; the called user is alerted and answers, three frames pass, and the caller clears
 abbrev pub whole_call : List Event
 whole_call =
@@ -65,9 +69,9 @@ whole_call =
     ∷ Message 1 (0x08 ∷ 0x02 ∷ 0x80 ∷ 0x01 ∷ 0x01 ∷ [])
     ∷ Message 1 (0x08 ∷ 0x02 ∷ 0x80 ∷ 0x01 ∷ 0x07 ∷ [])
     ∷ Message 0 (0x08 ∷ 0x02 ∷ 0x00 ∷ 0x01 ∷ 0x0F ∷ [])
-    ∷ Frame []
-    ∷ Frame []
-    ∷ Frame []
+    ∷ quiet_frame
+    ∷ quiet_frame
+    ∷ quiet_frame
     ∷ Message 0 (0x08 ∷ 0x02 ∷ 0x00 ∷ 0x01 ∷ 0x45 ∷ 0x08 ∷ 0x02 ∷ 0x80 ∷ 0x90 ∷ [])
     ∷ Message 1 (0x08 ∷ 0x02 ∷ 0x80 ∷ 0x01 ∷ 0x4D ∷ [])
     ∷ Message 0 (0x08 ∷ 0x02 ∷ 0x00 ∷ 0x01 ∷ 0x5A ∷ [])
@@ -291,7 +295,7 @@ rings_answered = call_offered ∷ sends_reply (to 0 (0x08 ∷ 0x02 ∷ 0x80 ∷ 
 
 -- after a frame the called user is found busy
 abbrev pub found_busy : List Event
-found_busy = rings ++ Frame [] ∷ Message 1 (0x08 ∷ 0x02 ∷ 0x80 ∷ 0x01 ∷ 0x5A ∷ 0x08 ∷ 0x02 ∷ 0x80 ∷ 0x91 ∷ []) ∷ []
+found_busy = rings ++ quiet_frame ∷ Message 1 (0x08 ∷ 0x02 ∷ 0x80 ∷ 0x01 ∷ 0x5A ∷ 0x08 ∷ 0x02 ∷ 0x80 ∷ 0x91 ∷ []) ∷ []
 
 abbrev pub found_busy_answered : List Reply
 found_busy_answered =

@@ -12,7 +12,7 @@ use Rattle.circuit_map.specs.Connections.{without_both, partner}
 use Rattle.exchange_events.specs.Sizes.{Dimensions}
 use Rattle.call_profile.specs.Legs.{Legs, no_legs}
 use Rattle.exchange_events.specs.declared.reply.Reply.{Reply}
-use Rattle.exchange_events.specs.declared.reply.Reply.TheVariants.{Granted, Seated, NoPort}
+use Rattle.exchange_events.specs.declared.reply.Reply.TheVariants.{Granted, Seated}
 
 abbrev pub lines_of : Dimensions → ℕ
 lines_of d = d.external + d.bridges
@@ -73,7 +73,7 @@ pass w input = record w {
   seated = w.seated ++ w.ports ∷ [];
 }
 
--- every conference port is taken
+-- every conference port is taken: there are as many members as ports
 abbrev pub is_full : Dimensions → World → Bool
 is_full d w = count_by is_member w.holding.circuits == 30 * d.bridges
 
@@ -81,6 +81,7 @@ is_full d w = count_by is_member w.holding.circuits == 30 * d.bridges
 abbrev pub nail_reply : Dimensions → Layout → Slot → Slot → Reply
 nail_reply d layout x y = Granted (moved layout (one_way d layout x y)) (moved (one_way d layout x y) (both_ways d layout x y))
 
+-- a member without a port has no paths
 abbrev pub seat_reply : Dimensions → Layout → Slot → Option Slot → Reply
-seat_reply d layout x None = NoPort
+seat_reply d layout x None = Seated 0 0
 seat_reply d layout x (Some port) = Seated (moved layout (one_way d layout x port)) (moved (one_way d layout x port) (both_ways d layout x port))

@@ -1,14 +1,17 @@
 //! Laws of calls, and worked calls.
-ghost use Rattle.std.specs.Prelude.{◌≡◌, [], ℕ, List, All, Some, None, true};
+ghost use Rattle.std.specs.Prelude.{◌≡◌, [], ℕ, List, All, is_some};
 ghost use Rattle.control_memory.specs.Layout.{Layout};
 ghost use Rattle.call_profile.specs.Answered.{IsAnswered, GetsBothPaths, with_layout};
-ghost use Rattle.call_profile.specs.Calls.{after_message, answer_to, refused_with};
+ghost use Rattle.call_profile.specs.Calls.{after_message, answer_to};
+ghost use Rattle.q931_codec.specs.declared.message.Message.{Message};
 ghost use Rattle.exchange_events.specs.declared.trace.Event.{Event};
+ghost use Rattle.exchange_events.specs.declared.trace.Event.TheVariants as event;
 ghost use Rattle.call_profile.specs.LegStanding.{CallsStand};
 ghost use Rattle.call_states.specs.declared.leg.Held.{Held};
 ghost use Rattle.exchange_events.specs.Sizes.{Setting};
 ghost use Rattle.exchange_events.specs.Sound.{Fits, IsPlanned};
-ghost use Rattle.call_profile.specs.Step.{is_refused, next, world_after_all};
+ghost use Rattle.call_profile.specs.Refused.{IsRefused, refusal_reply};
+ghost use Rattle.call_profile.specs.Step.{reply, next, world_after_all};
 ghost use Rattle.call_profile.specs.World.{World, start};
 ghost use Rattle.call_profile.specs.WorkedCalls.{two_lines, one_line, answers, whole_call, whole_call_answered, refused_or_moved, refused_or_moved_answered, clear_collision, clear_collision_answered, without_call, without_call_answered, own_line, restart_of_called, restart_of_called_answered, restart_of_both, restart_of_both_answered, restart_of_one, restart_of_one_answered, lenient_reading, lenient_reading_answered, call_to_room, call_to_room_answered, no_port_answered, unexpected, unexpected_answered, line_full, line_full_answered, sounding_lines, circuits_after, rings, rings_answered, ringing_tone, found_busy, found_busy_answered, busy_tone, found_gone, found_gone_answered, found_there, conversation};
 
@@ -36,18 +39,18 @@ pub fn worked_calls()
     ensures not_given { circuits_after two_lines rings ≡ [] }
 {}
 
-/// A call that is refused leaves everything as it was, ends no call and makes no connection.
+/// A SETUP that is refused is answered by RELEASE COMPLETE with the cause of its refusal, on its call
+/// reference, and by nothing else; no slot, no leg and no path is another afterwards.
 pub fn law_of_refused_calls()
-    ensures world { (s : Setting) (w : World) (line : ℕ) (octets : List ℕ) (cause : ℕ) → refused_with s w line octets ≡ Some cause
+    ensures answer { (s : Setting) (w : World) (line : ℕ) (octets : List ℕ) (setup : Message) (cause : ℕ) → IsRefused s w line octets setup cause
+        → reply s w (event.Message line octets) ≡ refusal_reply line setup cause }
+    ensures world { (s : Setting) (w : World) (line : ℕ) (octets : List ℕ) (setup : Message) (cause : ℕ) → IsRefused s w line octets setup cause
         → after_message s w line octets ≡ w }
-    ensures moved { (s : Setting) (w : World) (line : ℕ) (octets : List ℕ) (cause : ℕ) → refused_with s w line octets ≡ Some cause
-        → (answer_to s w line octets).moved ≡ None }
-    ensures records { (s : Setting) (w : World) (line : ℕ) (octets : List ℕ) (cause : ℕ) → refused_with s w line octets ≡ Some cause
-        → (answer_to s w line octets).records ≡ [] }
 {}
 
 /// What the fabric looks like decides nothing: with its paths laid in another way a message is answered
-/// by the same messages and records, and leaves the same circuits and legs.
+/// by the same messages and records, and leaves the same circuits, ports and legs. Moved paths are told in
+/// both cases or in neither, and how many they are alone may differ.
 pub fn law_of_paths()
     ensures sends { (s : Setting) (w : World) (layout : Layout) (line : ℕ) (octets : List ℕ)
         → (answer_to s (with_layout w layout) line octets).sends ≡ (answer_to s w line octets).sends }
@@ -57,6 +60,10 @@ pub fn law_of_paths()
         → (after_message s (with_layout w layout) line octets).holding ≡ (after_message s w line octets).holding }
     ensures legs { (s : Setting) (w : World) (layout : Layout) (line : ℕ) (octets : List ℕ)
         → (after_message s (with_layout w layout) line octets).legs ≡ (after_message s w line octets).legs }
+    ensures ports { (s : Setting) (w : World) (layout : Layout) (line : ℕ) (octets : List ℕ)
+        → (after_message s (with_layout w layout) line octets).ports ≡ (after_message s w line octets).ports }
+    ensures moved { (s : Setting) (w : World) (layout : Layout) (line : ℕ) (octets : List ℕ)
+        → is_some (answer_to s (with_layout w layout) line octets).moved ≡ is_some (answer_to s w line octets).moved }
 {}
 
 /// A call that is answered always gets both paths: whatever else stands, its two slots are silent once
@@ -73,10 +80,4 @@ pub fn law_of_legs()
         → CallsStand s (next s w e) }
     ensures always { (s : Setting) (es : List Event) → IsPlanned s → All (Fits s.dimensions.external) es
         → CallsStand s (world_after_all s (start s.dimensions) es) }
-{}
-
-/// An event that is refused makes nothing of the world: no slot, no leg and no path is another
-/// afterwards.
-pub fn law_of_refusals()
-    ensures { (s : Setting) (w : World) (e : Event) → is_refused s w e ≡ true → next s w e ≡ w }
 {}

@@ -5,10 +5,12 @@
 //!
 //! There is hardly any code here; its functions are laws of these definitions:
 //!
-//! - Every event keeps the legs standing ([`law_of_legs`]), and an event that is refused changes nothing
-//!   ([`law_of_refusals`]); a refused call ends none ([`law_of_refused_calls`]).
-//! - What is sent does not depend on the layout, so no call is cleared because a path is lacking
-//!   ([`law_of_paths`]), and an answered call gets both paths ([`law_of_answered_calls`]).
+//! - Every event keeps the legs standing ([`law_of_legs`]). A refused command changes nothing
+//!   ([`law_of_refusals`]), nor does a refused SETUP ([`law_of_refused_calls`]).
+//! - What is sent does not depend on the layout ([`law_of_paths`]); an answered call and a granted nail get
+//!   both paths ([`law_of_answered_calls`], [`law_of_granted_nails`]).
+//! - Which calls are recorded, which reference a new leg gets, what a RESTART leaves, and when a user is
+//!   told of a tone ([`law_of_records`], [`law_of_references`], [`law_of_restarts`], [`law_of_progress`]).
 //! - Whatever happens, allowed commands made the circuits and the ports of each frame
 //!   ([`worlds_are_made`]); later events change nothing of a frame ([`later_frames_change_nothing`]).
 //! - [`is_for`] returns whether a message is for a leg.
@@ -18,12 +20,17 @@
 #![tactic(auto)]
 
 mod call_laws;
+mod command_laws;
 mod laws;
+mod leg_laws;
 mod legs;
+mod worked;
 
 pub use call_laws::{
-    law_of_answered_calls, law_of_legs, law_of_paths, law_of_refusals, law_of_refused_calls,
-    worked_calls,
+    law_of_answered_calls, law_of_legs, law_of_paths, law_of_refused_calls, worked_calls,
 };
+pub use command_laws::{law_of_granted_nails, law_of_refusals};
 pub use laws::{later_frames_change_nothing, worlds_are_made};
+pub use leg_laws::{law_of_progress, law_of_records, law_of_references, law_of_restarts};
 pub use legs::is_for;
+pub use worked::worked_messages;

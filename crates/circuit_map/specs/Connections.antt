@@ -65,6 +65,10 @@ pub record Represents (m : Connections) (h : Holding) (ports : Ports) : Type 0 w
   pub taken : count_by is_some ports ≡ count_by is_member h.circuits
   pub joined : JoinsCircuits (lines_of m) m.external m.layout h.circuits ports
 
+-- the paths are laid legally: no two share an internal slot of a line
+abbrev pub IsLaid : Connections → Type 0
+IsLaid m = Legal (lines_of m) m.slots m.layout
+
 -- of whatever holding and ports the first connections are, the second ones are those after the command
 abbrev pub Obeys : Connections → Connections → Command → Type 0
 Obeys m n command = (h : Holding) (ports : Ports) → Represents m h ports → Represents n (after h command) (ports_after ports command)

@@ -7,7 +7,7 @@ ghost use Rattle.circuit_model.specs.Ports.{Ports as Members, ports_after, free_
 ghost use Rattle.control_memory.specs.Layout.{IsBare};
 ghost use Rattle.control_memory.specs.Shown.{ShowsBy};
 ghost use Rattle.control_memory.specs.Image.{SameSizes as SameImageSizes};
-ghost use Rattle.circuit_map.specs.Connections.{IsExternal, hears_at, hears_after, Represents, Obeys, SameSizes, AreMoves, joined_both, parted, is_pathless};
+ghost use Rattle.circuit_map.specs.Connections.{IsExternal, hears_at, hears_after, Represents, Obeys, IsLaid, SameSizes, AreMoves, joined_both, parted, is_pathless};
 
 use circuit_model::{Circuit, Kind, PLACES, Slot};
 use conference_ports::Ports;
@@ -104,7 +104,8 @@ impl<P: PathMap + Drop> CircuitMap<P> {
 impl<P: PathMap> CircuitMap<P> {
     /// The number of the next frame.
     pub fn next_frame(&self) -> u32
-        ensures { result ≡ self.now.next }
+        ensures number { result ≡ self.now.next }
+        ensures laid { IsLaid self.now }
     {
         self.next
     }
@@ -145,6 +146,7 @@ impl<P: PathMap> CircuitMap<P> {
         ensures ports { self.new.ports ≡ self.old.ports }
         ensures next { self.new.next ≡ self.old.next }
         ensures layout { self.new.layout ≡ self.old.layout }
+        ensures laid { IsLaid self.new }
         ensures sizes { SameSizes self.old self.new }
     {
         let at = x.number();
@@ -169,6 +171,7 @@ impl<P: PathMap> CircuitMap<P> {
         ensures layout { self.new.layout ≡ joined_both self.old x y }
         ensures moves { AreMoves result self.old x y }
         ensures few { (result.0 ≤ self.old.bound) × (result.1 ≤ self.old.bound) }
+        ensures laid { IsLaid self.new }
         ensures sizes { SameSizes self.old self.new }
     {
         let there = self.paths.connect(x, y);
@@ -207,6 +210,7 @@ impl<P: PathMap> CircuitMap<P> {
         ensures layout { IfOk result (λ moves. IfSome (port_of self.old.external self.new.ports x) (λ port. self.new.layout ≡ joined_both self.old x port)) }
         ensures moves { IfOk result (λ moves. IfSome (port_of self.old.external self.new.ports x) (AreMoves moves self.old x)) }
         ensures few { IfOk result (λ moves. (moves.0 ≤ self.old.bound) × (moves.1 ≤ self.old.bound)) }
+        ensures laid { IsLaid self.new }
         ensures sizes { SameSizes self.old self.new }
     {
         let Some(port) = self.ports.take(room, x) else {
@@ -233,6 +237,7 @@ impl<P: PathMap> CircuitMap<P> {
         ensures ports { self.new.ports ≡ ports_after self.old.ports (Clear x) }
         ensures next { self.new.next ≡ self.old.next }
         ensures layout { self.new.layout ≡ parted self.old x }
+        ensures laid { IsLaid self.new }
         ensures sizes { SameSizes self.old self.new }
     {
         match self.hears(x) {
@@ -260,6 +265,7 @@ impl<P: PathMap> CircuitMap<P> {
         ensures ports { self.new.ports ≡ self.old.ports }
         ensures next { self.new.next ≡ self.old.next + 1 }
         ensures layout { self.new.layout ≡ self.old.layout }
+        ensures laid { IsLaid self.new }
         ensures sizes { SameSizes self.old self.new }
     {
         let frame = self.next;
@@ -279,6 +285,7 @@ impl<P: PathMap> CircuitMap<P> {
         ensures ports { self.new.ports ≡ ports_after self.old.ports (Clear x) }
         ensures next { self.new.next ≡ self.old.next }
         ensures layout { self.new.layout ≡ parted self.old x }
+        ensures laid { IsLaid self.new }
         ensures sizes { SameSizes self.old self.new }
     {
         let at = x.number();
@@ -296,6 +303,7 @@ impl<P: PathMap> CircuitMap<P> {
         ensures ports { self.new.ports ≡ ports_after self.old.ports (Clear x) }
         ensures next { self.new.next ≡ self.old.next }
         ensures layout { self.new.layout ≡ parted self.old x }
+        ensures laid { IsLaid self.new }
         ensures sizes { SameSizes self.old self.new }
     {
         self.paths.disconnect(x, y);
@@ -317,6 +325,7 @@ impl<P: PathMap> CircuitMap<P> {
         ensures ports { self.new.ports ≡ ports_after self.old.ports (Clear x) }
         ensures next { self.new.next ≡ self.old.next }
         ensures layout { self.new.layout ≡ parted self.old x }
+        ensures laid { IsLaid self.new }
         ensures sizes { SameSizes self.old self.new }
     {
         let Some(port) = self.ports.port_of(x) else {

@@ -1,5 +1,5 @@
 -- A core's map and legs are those of the world of its journal, step by step.
-use Rattle.std.proofs.Common.{◌≡◌, ℕ, suc, ◌-◌, ◌<◌, ◌≤◌, List, [], ◌∷◌, ◌++◌, get_or, length, Option, Some, None, refl, sym, ◌∙◌, ap, subst, arith}
+use Rattle.std.proofs.Common.{◌≡◌, ℕ, suc, ◌+◌, ◌-◌, ◌<◌, ◌≤◌, List, [], ◌∷◌, ◌++◌, get_or, length, Option, Some, None, refl, sym, ◌∙◌, ap, subst, arith}
 use Rattle.std.specs.Prelude.{All, map, slice_get}
 use Rattle.std.specs.List.{cons_option}
 use Rattle.std.proofs.lemmas.List.{map-append}
@@ -7,7 +7,9 @@ use Rattle.std.proofs.lemmas.Option.{slice_get_within, slice_get-get_or, get_or_
 use Rattle.std.proofs.lemmas.List.Elements.{All-nil, All-cons, All-append}
 use Rattle.circuit_model.specs.Holding.{empty}
 use Rattle.circuit_model.specs.Ports.{free_ports}
-use Rattle.circuit_map.specs.Connections.{Connections, Represents}
+use Rattle.control_memory.specs.Layout.{Layout, Legal}
+use Rattle.control_memory.specs.Shown.{JoinsCircuits}
+use Rattle.circuit_map.specs.Connections.{Connections, Represents, IsLaid as Is_map_laid}
 use Rattle.exchange_events.specs.declared.trace.Event.{Event}
 use Rattle.exchange_events.specs.declared.trace.Trace.{Trace}
 use Rattle.call_control.specs.AtWork.{IsAtWork}
@@ -16,8 +18,9 @@ use Rattle.exchange_events.specs.Orders.{IsEvent}
 use Rattle.exchange_events.specs.Sound.{Fits, IsSound, setting_of}
 use Rattle.call_control.specs.Standing.{Holds}
 use Rattle.call_profile.specs.Step.{next, world_after_all, events_of}
-use Rattle.exchange_core.specs.Working.{Entry, Working, IsWorking, IsNumbered, order_of, setting, world_of}
-use Rattle.call_profile.specs.World.{World, start}
+use Rattle.exchange_core.specs.Working.{Entry, Working, IsWorking, IsNumbered, IsLaid, JoinsItsCircuits, order_of, setting, world_of}
+use Rattle.exchange_events.specs.Sizes.{Dimensions}
+use Rattle.call_profile.specs.World.{World, lines_of, start}
 use Rattle.call_profile.proofs.StandingLegLemmas.{start_stands, run_stands}
 use Rattle.call_profile.proofs.RunLemmas.{world-snoc, events_of-snoc, world_next, few_events}
 
@@ -77,6 +80,21 @@ at_work x map legs room works = record {
   stands = run_stands (setting x) (start (setting x).dimensions) (events_of x.trace.events (order_of x.journal)) works.sound.planned
       (fits_all x.trace (order_of x.journal) works.sound.events) (start_stands (setting x));
 }
+
+-- ---- the paths
+
+-- they are those of the world, as it holds them
+module _ (x : Working) (map : Connections) (legs : Legs) (room : ℕ) (works : IsWorking x map legs room) where
+  pub is_laid : Is_map_laid map → IsLaid x
+  is_laid laid =
+      subst (λ (d : Dimensions). Legal (lines_of d) d.slots (world_of x).layout) works.holds.sizes
+      (subst (λ (l : Layout). Legal (map.external + map.bridges) map.slots l) works.holds.circuits.layout laid)
+
+  pub joins_its : JoinsItsCircuits x
+  joins_its =
+      let w = world_of x in
+      subst (λ (d : Dimensions). JoinsCircuits (lines_of d) d.external w.layout w.holding.circuits w.ports) works.holds.sizes
+      (subst (λ (l : Layout). JoinsCircuits (map.external + map.bridges) map.external l w.holding.circuits w.ports) works.holds.circuits.layout works.holds.circuits.holds.joined)
 
 -- ---- the number of the next frame
 

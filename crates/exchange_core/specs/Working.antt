@@ -2,7 +2,8 @@
 use Rattle.std.specs.Prelude.{◌≡◌, ℕ, ◌-◌, ◌≤◌, List, length, map, slice_get, Some, All}
 use Rattle.circuit_map.specs.Connections.{Connections}
 use Rattle.control_memory.specs.Image.{Control}
-use Rattle.control_memory.specs.Shown.{Shows}
+use Rattle.control_memory.specs.Layout.{Legal}
+use Rattle.control_memory.specs.Shown.{JoinsCircuits, Shows}
 use Rattle.exchange_events.specs.declared.trace.Event.{Event}
 use Rattle.exchange_events.specs.declared.trace.Event.TheVariants.{Frame}
 use Rattle.exchange_events.specs.declared.trace.Trace.{Trace}
@@ -14,7 +15,7 @@ use Rattle.exchange_events.specs.Sizes.{Setting, Dimensions}
 use Rattle.exchange_events.specs.Sound.{IsSound, setting_of}
 use Rattle.call_control.specs.Standing.{Holds}
 use Rattle.call_profile.specs.Step.{events_of, world_after_all}
-use Rattle.call_profile.specs.World.{World, start}
+use Rattle.call_profile.specs.World.{World, lines_of, start}
 
 -- who did an event, and the event's number
 abbrev pub Entry : Type 0
@@ -41,6 +42,14 @@ world_after slots trace order = let s = setting_of slots trace in world_after_al
 -- the world of the journal
 abbrev pub world_of : Working → World
 world_of x = world_after x.slots x.trace (order_of x.journal)
+
+-- its paths are laid legally: no two share an internal slot of a line
+abbrev pub IsLaid : Working → Type 0
+IsLaid x = Legal (lines_of (setting x).dimensions) x.slots (world_of x).layout
+
+-- and they join exactly the circuits that are there: both ways of each connection, and each member with its port, there and back
+abbrev pub JoinsItsCircuits : Working → Type 0
+JoinsItsCircuits x = JoinsCircuits (lines_of (setting x).dimensions) x.trace.external (world_of x).layout (world_of x).holding.circuits (world_of x).ports
 
 -- the trace's event with this number
 abbrev pub IsNumbered : Trace → ℕ → Event → Type 0

@@ -3,7 +3,7 @@
 //! - [`Core`]'s `step` and `work` answer as the rules say at the world of its journal (`reply`), make of
 //!   that world the next one (`world`), and add their entry to the journal (`journal`). A frame's control
 //!   memory shows the world before it (`shows`). No live path is moved but as few as the fabric promises
-//!   (`few`).
+//!   (`few`). After each step the paths join exactly the circuits that are there (`laid`, `joins`).
 //! - [`Switchboard`] is the interface of an exchange that many callers share, each of whom may lend a
 //!   [`Desk`]; `shared_exchange` implements it.
 //!

@@ -5,7 +5,7 @@ ghost use Rattle.exchange_events.specs.Orders.{IsEvent};
 ghost use Rattle.exchange_events.specs.Responses.{reply_of};
 ghost use Rattle.exchange_events.specs.Sound.{IsSound, setting_of, Fits};
 ghost use Rattle.call_profile.specs.Step.{reply, next, MovesAtMost};
-ghost use Rattle.exchange_core.specs.Working.{IsNumbered, IsToolFor, ShowsWorld, setting, world_of};
+ghost use Rattle.exchange_core.specs.Working.{IsNumbered, IsLaid, JoinsItsCircuits, IsToolFor, ShowsWorld, setting, world_of};
 ghost use Rattle.call_profile.specs.World.{start, World, pass};
 ghost use Rattle.circuit_model.specs.FrameInput.{Input};
 ghost use Rattle.circuit_map.specs.Connections.{SameSizes};
@@ -97,6 +97,8 @@ impl<'t, P: PathMap> Core<'t, P> {
         ensures reply { (e : An_event) → IsNumbered self.old.trace event e → result ≡ reply (setting self.old) (world_of self.old) e }
         ensures journal { self.new ≡ record self.old { journal = self.old.journal ++ (by, event) ∷ [] } }
         ensures world { (e : An_event) → IsNumbered self.old.trace event e → world_of self.new ≡ next (setting self.old) (world_of self.old) e }
+        ensures laid { IsLaid self.new }
+        ensures joins { JoinsItsCircuits self.new }
         ensures few { MovesAtMost self.old.bound result }
         ensures shows { (e : An_event) → IsNumbered self.old.trace event e → ShowsWorld (world_of self.old) e tool.new }
         ensures tool { (e : An_event) → IsNumbered self.old.trace event e → IsToolFor (setting self.old).dimensions e tool.new }
@@ -115,6 +117,8 @@ impl<'t, P: PathMap> Core<'t, P> {
         ensures reply { (e : An_event) → IsNumbered self.old.trace event e → reply_of result out.new ≡ reply (setting self.old) (world_of self.old) e }
         ensures journal { self.new ≡ record self.old { journal = self.old.journal ++ (by, event) ∷ [] } }
         ensures world { (e : An_event) → IsNumbered self.old.trace event e → world_of self.new ≡ next (setting self.old) (world_of self.old) e }
+        ensures laid { IsLaid self.new }
+        ensures joins { JoinsItsCircuits self.new }
         ensures few { MovesAtMost self.old.bound (reply_of result out.new) }
         ensures shows { (e : An_event) → IsNumbered self.old.trace event e → ShowsWorld (world_of self.old) e tool.new }
         ensures tool { (e : An_event) → IsNumbered self.old.trace event e → IsToolFor (setting self.old).dimensions e tool.new }
@@ -130,6 +134,8 @@ impl<'t, P: PathMap> Core<'t, P> {
             tool,
             out,
         );
+        // Any look at the map tells that its paths are laid legally.
+        let _next = self.control.map.next_frame();
         self.journal.push_reserved((by, event));
         response
     }

@@ -9,16 +9,3 @@ pub enum Tool {
     /// The control memory of a frame.
     Image(Image),
 }
-
-impl Tool {
-    ghost use Rattle.std.specs.Prelude.{◌↔◌, ◌≢◌, IsSome};
-    ghost use Rattle.exchange_core.specs.declared.tool.Tool.TheVariants.{Nothing};
-
-    /// The control memory. `None` exactly for [`Tool::Nothing`].
-    pub fn image(&mut self) -> Option<&mut Image> {
-        match self {
-            Tool::Nothing => None,
-            Tool::Image(image) => Some(image),
-        }
-    }
-}

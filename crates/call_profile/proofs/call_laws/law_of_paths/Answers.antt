@@ -12,3 +12,9 @@ returns-clause-circuits c s w layout line octets = (done_alike s w layout line o
 
 pub returns-clause-legs : goal.returns-clause-legs
 returns-clause-legs c s w layout line octets = (done_alike s w layout line octets).making.legs
+
+pub returns-clause-ports : goal.returns-clause-ports
+returns-clause-ports c s w layout line octets = (done_alike s w layout line octets).making.ports
+
+pub returns-clause-moved : goal.returns-clause-moved
+returns-clause-moved c s w layout line octets = (done_alike s w layout line octets).making.moved

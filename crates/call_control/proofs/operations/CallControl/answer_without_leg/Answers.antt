@@ -1,9 +1,7 @@
-use Rattle.std.proofs.Common.{◌≡◌, ◌<◌, true, false, sym, ◌∙◌, subst}
+use Rattle.std.proofs.Common.{◌≡◌, true, false, sym, ◌∙◌, subst}
 use Rattle.call_profile.specs.Calls.{Request, asks_for_call, outcome_for}
 use Rattle.call_profile.specs.Operations.{making_at}
 use Rattle.call_control.specs.Standing.{Makes}
-use Rattle.exchange_events.specs.Sizes.{Dimensions}
-use Rattle.call_profile.proofs.NoCallEndedLemmas.{call_ends_none, answer_ends_none}
 use Rattle.call_profile.proofs.NoCallAnswerLemmas.{asks, asks_not}
 use Rattle.call_control.proofs.operations.CallControl.answer_without_leg.Goals as goal
 
@@ -18,9 +16,7 @@ pub returns-then-asks_for_call-clause-records : goal.returns-then-asks_for_call-
 returns-then-asks_for_call-clause-records g c s w plan tones work =
     let m = c.args.message.now in
     let is : asks_for_call m ≡ true = sym c.asks_for_call.ensures ∙ c.if-asks_for_call.true in
-    let below : c.args.line < s.dimensions.external = subst (λ (d : Dimensions). c.args.line < d.external) work.holds.sizes c.requires.line in
-    subst (λ (r : Request). c.clear.new.self ≡ (outcome_for s w c.args.line r).recorded) (sym (asks m c.if-message-eq-GLOBAL_CALL_REFERENCE.false is))
-    (c.clear.ensures ∙ sym (call_ends_none s w c.args.line m work.planned work.stands below))
+    subst (λ (r : Request). c.clear.new.self ≡ (outcome_for s w c.args.line r).recorded) (sym (asks m c.if-message-eq-GLOBAL_CALL_REFERENCE.false is)) c.clear.ensures
 
 pub returns-clause-makes : goal.returns-clause-makes
 returns-clause-makes g c s w plan tones work =
@@ -34,5 +30,4 @@ pub returns-clause-records : goal.returns-clause-records
 returns-clause-records g c s w plan tones work =
     let m = c.args.message.now in
     let is : asks_for_call m ≡ false = sym c.asks_for_call.ensures ∙ c.if-asks_for_call.false in
-    subst (λ (r : Request). c.clear-2.new.self ≡ (outcome_for s w c.args.line r).recorded) (sym (asks_not m c.if-message-eq-GLOBAL_CALL_REFERENCE.false is))
-    (c.clear-2.ensures ∙ sym (answer_ends_none s w c.args.line m))
+    subst (λ (r : Request). c.clear-2.new.self ≡ (outcome_for s w c.args.line r).recorded) (sym (asks_not m c.if-message-eq-GLOBAL_CALL_REFERENCE.false is)) c.clear-2.ensures

@@ -1,7 +1,6 @@
 use Rattle.std.proofs.Common.{◌≡◌, sym, ◌∙◌}
 use Rattle.call_profile.specs.Calls.{Request, outcome_for}
 use Rattle.call_control.specs.Standing.{Makes}
-use Rattle.call_profile.proofs.RefusalLemmas.{no_records}
 use Rattle.call_control.proofs.ReadMessageLemmas.{taken}
 use Rattle.call_control.proofs.operations.CallControl.message.Goals as goal
 
@@ -21,4 +20,4 @@ returns-in-Ok-clause-records g c s w plan tones work =
 pub returns-in-Err-clause-records : goal.returns-in-Err-clause-records
 returns-in-Err-clause-records g c s w plan tones work =
     taken _ _ c.args.line c.args.octets.now _ (λ (r : Request). c.clear.new.self ≡ (outcome_for s w c.args.line r).recorded)
-    work.holds.legs_are (sym c.in-Err.is ∙ c.read.ensures.computed) (c.clear.ensures ∙ sym (no_records w 0))
+    work.holds.legs_are (sym c.in-Err.is ∙ c.read.ensures.computed) c.clear.ensures

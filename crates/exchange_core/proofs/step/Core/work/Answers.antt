@@ -4,7 +4,7 @@ use Rattle.exchange_events.specs.Responses.{reply_of}
 use Rattle.call_profile.specs.Step.{reply, next}
 use Rattle.exchange_core.specs.Working.{Entry, Working, IsWorking, IsNumbered, IsToolFor, ShowsWorld, order_of, setting, world_of, world_after}
 use Rattle.call_profile.specs.World.{World}
-use Rattle.exchange_core.proofs.StepLemmas.{next_few, stepped, facts, of_each, world_more}
+use Rattle.exchange_core.proofs.StepLemmas.{next_few, stepped, facts, is_laid, joins_its, of_each, world_more}
 use Rattle.exchange_core.proofs.step.Core.work.Goals as goal
 
 pub happen-response-requires-clause-work : goal.happen-response-requires-clause-work
@@ -68,3 +68,9 @@ returns-clause-tool g c =
     let tools = subst (λ (x : Working). (e : Event) → IsNumbered x.trace c.args.event e → IsToolFor (setting x).dimensions e c.args.tool.now) (sym c.self.view_is) c.requires.tool in
     of_each _ c.args.self.now c.args.event e (λ (x : Working) (e : Event). IsToolFor (setting x).dimensions e c.happen-response.new.tool) c.self.view_is f.number
     (c.happen-response.ensures.tool _ (tools e f.number))
+
+pub returns-clause-laid : goal.returns-clause-laid
+returns-clause-laid g c = is_laid _ _ _ _ (invariant_of-self g c) c.next_frame-next.ensures.laid
+
+pub returns-clause-joins : goal.returns-clause-joins
+returns-clause-joins g c = joins_its _ _ _ _ (invariant_of-self g c)

@@ -1,0 +1,132 @@
+-- A progress indicator goes with each tone.
+use Rattle.std.proofs.Common.{ℕ, ◌==◌, Bool, true, false, List, [], ◌∷◌, Option, Some, None, refl, if◌then◌else◌}
+use Rattle.circuit_model.specs.declared.channel.Slot.{Slot}
+use Rattle.circuit_model.specs.declared.circuit.Kind.{Kind}
+use Rattle.q931_codec.specs.declared.kind.MessageKind.{MessageKind}
+use Rattle.q931_codec.specs.declared.kind.MessageKind.TheVariants as kind
+use Rattle.q931_codec.specs.declared.message.Message.{Message}
+use Rattle.q931_codec.specs.Outgoing.{OutgoingMessage}
+use Rattle.q931_codec.specs.Contents.{channel_in}
+use Rattle.q931_codec.specs.Causes.{temporary_failure}
+use Rattle.q931_codec.specs.CallStates.{call_delivered}
+use Rattle.call_states.specs.declared.act.Act.{Act}
+use Rattle.call_states.specs.declared.act.Act.TheVariants as act
+use Rattle.call_states.specs.declared.leg.Held.{Held}
+use Rattle.clearing_rules.specs.declared.scope.Restart.{Restart}
+use Rattle.clearing_rules.specs.Restarting.{is_restarted, global_call_reference}
+use Rattle.clearing_rules.specs.UnknownReference.{answer_to_type, answer_without_call}
+use Rattle.number_plan.specs.declared.target.Found.{Found}
+use Rattle.number_plan.specs.declared.target.Found.TheVariants.{Line, Room, More, Nothing}
+use Rattle.tone_rules.specs.declared.tones.Tones.{Tones}
+use Rattle.exchange_events.specs.Sizes.{Setting}
+use Rattle.call_profile.specs.Acts.{course_of, in_state, in_disconnect_indication, tone_of, message_to, disconnect, with_progress, peer_of, with_peer, clear_with, on_alerting, on_connect, remove_leg}
+use Rattle.call_profile.specs.Calls.{answer_back}
+use Rattle.call_profile.specs.Legs.{Legs, held_at}
+use Rattle.call_profile.specs.Operations.{Operation, Sound, Send}
+use Rattle.call_profile.specs.Progress.{TellsOfTones}
+use Rattle.call_profile.specs.Restarts.{restarts_slot, restart_peer, restart_leg, restart_slot}
+use Rattle.call_profile.specs.Setup.{target_of, caller_slot, called_slot, call, accept, setup, refusal, course_of_setup}
+use Rattle.call_profile.specs.World.{World}
+
+-- ---- the other leg of a call
+
+sounding_tells : (tone : Option Kind) (x : Slot) (m : OutgoingMessage) → TellsOfTones (Sound x tone ∷ Send x.line (with_progress tone m) ∷ [])
+sounding_tells None x m = refl
+sounding_tells (Some kind) x m = refl
+
+alerting_tells : (tones : Tones) (h : Held) (o : Option Held) → TellsOfTones (with_peer o (on_alerting tones h))
+alerting_tells tones h None = refl
+alerting_tells tones h (Some caller) = sounding_tells (tone_of tones (in_state call_delivered caller.leg)) caller.slot (message_to caller.leg kind.Alerting)
+
+answering_tells : (h : Held) (o : Option Held) → TellsOfTones (with_peer o (on_connect h))
+answering_tells h None = refl
+answering_tells h (Some caller) = refl
+
+cleared_tells : (tones : Tones) (cause : ℕ) (other : Held) → TellsOfTones (clear_with tones cause other)
+cleared_tells tones cause other = sounding_tells (tone_of tones (in_disconnect_indication cause other.leg)) other.slot (disconnect other.leg cause)
+
+peer_tells : (tones : Tones) (cause : ℕ) (o : Option Held) → TellsOfTones (with_peer o (clear_with tones cause))
+peer_tells tones cause None = refl
+peer_tells tones cause (Some other) = cleared_tells tones cause other
+
+-- ---- the acts
+
+pub act_tells : (tones : Tones) (legs : Legs) (h : Held) (type : MessageKind) (a : Act) → TellsOfTones (course_of tones legs h type a).operations
+act_tells tones legs h type act.Nothing = refl
+act_tells tones legs h type act.Unexpected = refl
+act_tells tones legs h type act.Enquiry = refl
+act_tells tones legs h type act.Proceeding = refl
+act_tells tones legs h type act.Alerting = alerting_tells tones h (peer_of legs h.leg.peer)
+act_tells tones legs h type act.Answer = answering_tells h (peer_of legs h.leg.peer)
+act_tells tones legs h type (act.Disconnect cause) = peer_tells tones cause (peer_of legs h.leg.peer)
+act_tells tones legs h type (act.Released cause) = peer_tells tones cause (peer_of legs h.leg.peer)
+act_tells tones legs h type (act.Gone cause) = peer_tells tones cause (peer_of legs h.leg.peer)
+
+-- ---- a SETUP
+
+module _ (s : Setting) (w : World) (line : ℕ) (m : Message) where
+  call_tells : (x : Slot) (t : Found) (o : Option Slot) → TellsOfTones (call w m x t o)
+  call_tells x (Line l) (Some y) = refl
+  call_tells x (Line l) None = refl
+  call_tells x (Room room) o = refl
+  call_tells x More o = refl
+  call_tells x Nothing o = refl
+
+  accept_tells : (o : Option Slot) → TellsOfTones (accept s w m o)
+  accept_tells None = refl
+  accept_tells (Some x) = call_tells x (target_of s m) (called_slot w x (target_of s m))
+
+  by_refusal : (o : Option ℕ) → TellsOfTones (setup s w line m o)
+  by_refusal None = accept_tells (caller_slot w line (channel_in m.elements))
+  by_refusal (Some cause) = refl
+
+  pub setup_tells : TellsOfTones (course_of_setup s w line m).operations
+  setup_tells = by_refusal (refusal s w line m)
+
+-- ---- a restart
+
+either_tells : (b : Bool) (p q : List Operation) → TellsOfTones p → TellsOfTones q → TellsOfTones (if b then p else q)
+either_tells true p q one other = one
+either_tells false p q one other = other
+
+restarted_peer_tells : (tones : Tones) (r : Restart) (line : ℕ) (o : Option Held) → TellsOfTones (with_peer o (restart_peer tones r line))
+restarted_peer_tells tones r line None = refl
+restarted_peer_tells tones r line (Some other) =
+    either_tells (restarts_slot r line other.slot) (remove_leg other) (clear_with tones temporary_failure other) refl (cleared_tells tones temporary_failure other)
+
+restarted_leg_tells : (tones : Tones) (r : Restart) (legs : Legs) (o : Option Held) → TellsOfTones (restart_leg tones r legs o)
+restarted_leg_tells tones r legs None = refl
+restarted_leg_tells tones r legs (Some h) = restarted_peer_tells tones r h.slot.line (peer_of legs h.leg.peer)
+
+pub restart_tells : (tones : Tones) (r : Restart) (legs : Legs) (x : Slot) → TellsOfTones (restart_slot tones r legs x)
+restart_tells tones r legs x = either_tells (is_restarted r x.place) (restart_leg tones r legs (held_at legs x)) [] (restarted_leg_tells tones r legs (held_at legs x)) refl
+
+-- ---- a message on no call
+
+type_tells : (line : ℕ) (m : Message) (k : MessageKind) → TellsOfTones (answer_back line (answer_to_type m k))
+type_tells line m kind.CallProceeding = refl
+type_tells line m kind.Alerting = refl
+type_tells line m kind.Connect = refl
+type_tells line m kind.ConnectAcknowledge = refl
+type_tells line m kind.Progress = refl
+type_tells line m kind.Notify = refl
+type_tells line m kind.Facility = refl
+type_tells line m kind.UserInformation = refl
+type_tells line m kind.Setup = refl
+type_tells line m kind.Disconnect = refl
+type_tells line m kind.Release = refl
+type_tells line m kind.ReleaseComplete = refl
+type_tells line m kind.Status = refl
+type_tells line m kind.StatusEnquiry = refl
+type_tells line m kind.SetupAcknowledge = refl
+type_tells line m kind.Restart = refl
+type_tells line m kind.RestartAcknowledge = refl
+type_tells line m kind.Information = refl
+type_tells line m (kind.Unknown octet) = refl
+
+either_answer_tells : (line : ℕ) (b : Bool) (o : Option OutgoingMessage) → TellsOfTones (answer_back line o) → TellsOfTones (answer_back line (if b then None else o))
+either_answer_tells line true o other = refl
+either_answer_tells line false o other = other
+
+pub answer_tells : (line : ℕ) (m : Message) → TellsOfTones (answer_back line (answer_without_call m))
+answer_tells line m = either_answer_tells line (m.reference == global_call_reference) (answer_to_type m m.kind) (type_tells line m m.kind)

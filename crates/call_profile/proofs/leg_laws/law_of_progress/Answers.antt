@@ -1,0 +1,14 @@
+use Rattle.call_profile.proofs.ProgressLemmas.{act_tells, setup_tells, restart_tells, answer_tells}
+use Rattle.call_profile.proofs.leg_laws.law_of_progress.Goals as goal
+
+pub returns-clause-acts : goal.returns-clause-acts
+returns-clause-acts c = act_tells
+
+pub returns-clause-setups : goal.returns-clause-setups
+returns-clause-setups c = setup_tells
+
+pub returns-clause-restarts : goal.returns-clause-restarts
+returns-clause-restarts c = restart_tells
+
+pub returns-clause-answers : goal.returns-clause-answers
+returns-clause-answers c = answer_tells

@@ -1,0 +1,8 @@
+use Rattle.call_profile.proofs.RecordedMessageLemmas.{record_is, ended_is_recorded}
+use Rattle.call_profile.proofs.leg_laws.law_of_records.Goals as goal
+
+pub returns-clause-told : goal.returns-clause-told
+returns-clause-told c = record_is
+
+pub returns-clause-ended : goal.returns-clause-ended
+returns-clause-ended c = ended_is_recorded

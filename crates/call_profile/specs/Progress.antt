@@ -1,0 +1,16 @@
+-- Where a user is told that there is something to be heard. Source: ITU-T Q.931 (05/98), 4.5.23.
+use Rattle.std.specs.Prelude.{◌≡◌, ℕ, List, filter_map, Option, Some, None, if◌then◌else◌}
+use Rattle.call_profile.specs.Operations.{Operation, Sound, Send}
+
+-- the line whose user is sent a progress indicator by an operation, and the line of a slot that gets a tone by it
+abbrev pub line_told : Operation → Option ℕ
+line_told (Send line message) = if message.progress then Some line else None
+line_told _ = None
+
+abbrev pub line_sounding : Operation → Option ℕ
+line_sounding (Sound x (Some kind)) = Some x.line
+line_sounding _ = None
+
+-- a progress indicator goes to the users of exactly those lines, in order, at which a slot gets a tone
+abbrev pub TellsOfTones : List Operation → Type 0
+TellsOfTones operations = filter_map line_told operations ≡ filter_map line_sounding operations

@@ -1,0 +1,46 @@
+-- The calls that a message ends, told by the legs before and after it. Source: this exchange's own.
+use Rattle.std.specs.Prelude.{◌≡◌, ℕ, true, false, List, Contains, Option, Some, None}
+use Rattle.circuit_model.specs.Extent.{IsExternal}
+use Rattle.q931_codec.specs.Causes.{temporary_failure}
+use Rattle.call_states.specs.Acts.{act_on, cause_of_act}
+use Rattle.call_states.specs.declared.leg.Held.{Held}
+use Rattle.exchange_events.specs.declared.record.CallRecord.{CallRecord}
+use Rattle.exchange_events.specs.declared.trace.Event.TheVariants as event
+use Rattle.exchange_events.specs.Sizes.{Setting}
+use Rattle.exchange_events.specs.Sound.{Fits, IsPlanned}
+use Rattle.call_profile.specs.CallRecords.{is_calling, record_of}
+use Rattle.call_profile.specs.Calls.{Request, For_leg, New_call, On_no_call, Restarts, Unanswered, request_of, after_message, answer_to}
+use Rattle.call_profile.specs.LegStanding.{CallsStand}
+use Rattle.call_profile.specs.Legs.{leg_at}
+use Rattle.call_profile.specs.World.{World}
+
+-- the octets come on a line of an exchange in which circuits and legs stand as they must
+pub record Arrive (s : Setting) (w : World) (line : ℕ) (octets : List ℕ) : Type 0 where
+  pub planned : IsPlanned s
+  pub fits : Fits s.dimensions.external (event.Message line octets)
+  pub stands : CallsStand s w
+
+-- a caller's leg was in state 3, 4 or 10, and is in none of them any more, or is gone
+pub record HasEnded (external : ℕ) (before afterwards : World) (h : Held) : Type 0 where
+  pub within : IsExternal external h.slot
+  pub at : leg_at before.legs h.slot ≡ Some h.leg
+  pub calls : is_calling (Some h.leg) ≡ true
+  pub stops : is_calling (leg_at afterwards.legs h.slot) ≡ false
+
+-- the cause with which a message begins to clear calls, if it clears any
+abbrev pub cause_of_clearing : Request → Option ℕ
+cause_of_clearing (For_leg h m) = cause_of_act (act_on h.leg.state m)
+cause_of_clearing (New_call setup) = None
+cause_of_clearing (On_no_call m) = None
+cause_of_clearing (Restarts r) = Some temporary_failure
+cause_of_clearing Unanswered = None
+
+-- a call ended with the cause that the message gives, and this is its record
+pub record IsRecordOf (s : Setting) (w : World) (line : ℕ) (octets : List ℕ) (h : Held) (told : CallRecord) : Type 0 where
+  pub ended : HasEnded s.dimensions.external w (after_message s w line octets) h
+  pub cause : cause_of_clearing (request_of w.legs line octets) ≡ Some told.cause
+  pub is : record_of w told.cause h ≡ Some told
+
+-- the record of a call is among those that are answered
+abbrev pub IsRecorded : Setting → World → ℕ → List ℕ → Held → Type 0
+IsRecorded s w line octets h = (told : CallRecord) × IsRecordOf s w line octets h told × Contains (answer_to s w line octets).records told

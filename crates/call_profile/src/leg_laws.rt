@@ -1,0 +1,61 @@
+//! Laws of legs: their call references, what their users are told, and what becomes of them.
+ghost use Rattle.std.specs.Prelude.{◌<◌, ◌≤◌, ℕ, List, Contains};
+ghost use Rattle.circuit_model.specs.declared.channel.Slot.{Slot};
+ghost use Rattle.q931_codec.specs.declared.kind.MessageKind.{MessageKind};
+ghost use Rattle.q931_codec.specs.declared.message.Message.{Message};
+ghost use Rattle.call_states.specs.declared.act.Act.{Act};
+ghost use Rattle.call_states.specs.declared.leg.Held.{Held};
+ghost use Rattle.clearing_rules.specs.declared.scope.Restart.{Restart};
+ghost use Rattle.clearing_rules.specs.UnknownReference.{answer_without_call};
+ghost use Rattle.tone_rules.specs.declared.tones.Tones.{Tones};
+ghost use Rattle.exchange_events.specs.declared.record.CallRecord.{CallRecord};
+ghost use Rattle.exchange_events.specs.Sizes.{Setting};
+ghost use Rattle.call_profile.specs.Acts.{course_of};
+ghost use Rattle.call_profile.specs.Calls.{after_message, answer_back, answer_to};
+ghost use Rattle.call_profile.specs.Legs.{Legs, new_reference};
+ghost use Rattle.call_profile.specs.Progress.{TellsOfTones};
+ghost use Rattle.call_profile.specs.Recorded.{Arrive, HasEnded, IsRecordOf, IsRecorded};
+ghost use Rattle.call_profile.specs.References.{HasReference, HasSlotLeft};
+ghost use Rattle.call_profile.specs.Restarts.{restart_slot};
+ghost use Rattle.call_profile.specs.Restarted.{IsRestart, RestartedAreEmpty, OthersAreLeft, UnheldStay};
+ghost use Rattle.call_profile.specs.Setup.{course_of_setup};
+ghost use Rattle.call_profile.specs.World.{World};
+
+/// The call reference of a new called leg is the lowest from 1 up that no called leg of the line has.
+pub fn law_of_references()
+    ensures unused { (legs : Legs) (line : ℕ) → HasSlotLeft legs line → ¬ HasReference legs line (new_reference legs line) }
+    ensures lower { (legs : Legs) (line reference : ℕ) → 1 ≤ reference → reference < new_reference legs line → HasReference legs line reference }
+    ensures first { (legs : Legs) (line : ℕ) → 1 ≤ new_reference legs line }
+{}
+
+/// A user is sent a progress indicator exactly where its slot gets a tone in the same step: by an act, by a
+/// SETUP, by the restart of a slot, and by the answer to a message on no call, which gives none.
+pub fn law_of_progress()
+    ensures acts { (tones : Tones) (legs : Legs) (h : Held) (kind : MessageKind) (a : Act)
+        → TellsOfTones (course_of tones legs h kind a).operations }
+    ensures setups { (s : Setting) (w : World) (line : ℕ) (m : Message) → TellsOfTones (course_of_setup s w line m).operations }
+    ensures restarts { (tones : Tones) (r : Restart) (legs : Legs) (x : Slot) → TellsOfTones (restart_slot tones r legs x) }
+    ensures answers { (line : ℕ) (m : Message) → TellsOfTones (answer_back line (answer_without_call m)) }
+{}
+
+/// A RESTART that is taken: no leg holds a restarted slot afterwards. At every other slot the other leg of a
+/// call whose leg is gone is in disconnect indication with cause 41, and each other leg is as it was. A slot
+/// that no leg holds hears what it heard, so that nails and seats stay.
+pub fn law_of_restarts()
+    ensures gone { (s : Setting) (w : World) (line : ℕ) (octets : List ℕ) (r : Restart) → IsRestart s w line octets r
+        → RestartedAreEmpty s.dimensions.external r line (after_message s w line octets) }
+    ensures others { (s : Setting) (w : World) (line : ℕ) (octets : List ℕ) (r : Restart) → IsRestart s w line octets r
+        → OthersAreLeft s.dimensions.external r line w (after_message s w line octets) }
+    ensures unheld { (s : Setting) (w : World) (line : ℕ) (octets : List ℕ) (r : Restart) → IsRestart s w line octets r
+        → UnheldStay s.dimensions.external w (after_message s w line octets) }
+{}
+
+/// An answer has the record of a call exactly where a caller's leg left states 3, 4 and 10 by the message,
+/// with the cause that the message gives. That is every such leg, so none of them stands without the other
+/// party of its call.
+pub fn law_of_records()
+    ensures told { (s : Setting) (w : World) (line : ℕ) (octets : List ℕ) → Arrive s w line octets → (told : CallRecord)
+        → Contains (answer_to s w line octets).records told → (h : Held) × IsRecordOf s w line octets h told }
+    ensures ended { (s : Setting) (w : World) (line : ℕ) (octets : List ℕ) → Arrive s w line octets → (h : Held)
+        → HasEnded s.dimensions.external w (after_message s w line octets) h → IsRecorded s w line octets h }
+{}

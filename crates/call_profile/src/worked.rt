@@ -1,0 +1,14 @@
+//! Worked messages.
+ghost use Rattle.std.specs.Prelude.{◌≡◌};
+ghost use Rattle.call_profile.specs.WorkedCalls.{two_lines, one_line, answers};
+ghost use Rattle.call_profile.specs.WorkedMessages.{refused_by_element, refused_by_element_answered, unreadable_cause, unreadable_cause_answered, null_status_received, null_status_answered, release_collision, release_collision_answered, reference_given_again, reference_given_again_answered, compatibility, compatibility_answered};
+
+/// The definitions of what is done for messages, evaluated on more of them.
+pub fn worked_messages()
+    ensures refused { answers two_lines refused_by_element ≡ refused_by_element_answered }
+    ensures no_cause { answers (one_line 1) unreadable_cause ≡ unreadable_cause_answered }
+    ensures null_state { answers (one_line 1) null_status_received ≡ null_status_answered }
+    ensures releases { answers (one_line 1) release_collision ≡ release_collision_answered }
+    ensures given_again { answers two_lines reference_given_again ≡ reference_given_again_answered }
+    ensures passed_on { answers two_lines compatibility ≡ compatibility_answered }
+{}
