@@ -4,8 +4,8 @@
 //! They stand here and not beside the shared exchange, which stands on no fabric. The crate
 //! promises nothing.
 //!
-//! It stands on `circuit_model`, `control_memory`, `number_plan`, `fabric_map`, `exchange_core` and
-//! `shared_exchange`.
+//! It stands on `circuit_model`, `seat_history`, `control_memory`, `number_plan`, `tone_rules`,
+//! `fabric_map`, `exchange_events`, `exchange_core` and `shared_exchange`.
 #![tactic(auto)]
 
 #[cfg(test)]
