@@ -16,7 +16,7 @@ use Rattle.circuit_model.proofs.Validity.{valid-clear, heard_by-clear, heard_by-
 use Rattle.control_memory.specs.Layout.{Layout, IsSlot, Joins, number_of}
 use Rattle.control_memory.specs.Connecting.{without_path}
 use Rattle.control_memory.proofs.Steps.{was_there, hop_left}
-use Rattle.circuit_map.specs.Connections.{Connections, lines_of, hears_at, seats, Represents, is_pathless}
+use Rattle.circuit_map.specs.Connections.{Connections, map_lines, hears_at, seats, Represents, is_pathless}
 use Rattle.circuit_map.proofs.Needs.{Needs, Paired, To_port, From_port, needed_is, heard_stands}
 use Rattle.circuit_map.proofs.Rows.{Hearing, cleared_row, kept_row}
 use Rattle.circuit_map.proofs.Holdings.{Heeded, joins_needed}
@@ -171,7 +171,7 @@ ported_after m h ports x z holds = elim (same_slot_cases z x) [
 ]
 
 pub holds_clear : (m n : Connections) (x : Slot) → Heeded m n (Clear x) → (h : Holding) (ports : Ports) → Represents m h ports
-    → ((a b : Slot) → IsSlot (lines_of m) a → Joins n.layout a b ↔ Needs m.external (ports_without x ports) (heard_by (after h (Clear x)).circuits) a b)
+    → ((a b : Slot) → IsSlot (map_lines m) a → Joins n.layout a b ↔ Needs m.external (ports_without x ports) (heard_by (after h (Clear x)).circuits) a b)
     → Represents n (after h (Clear x)) (ports_without x ports)
 holds_clear m n x w h ports holds joins =
     let valid = valid-clear m.bridges h x holds.valid in
@@ -202,7 +202,7 @@ clear_pathless m n x line quiet w same h ports holds =
 
 -- the paths to a partner and back go
 pub clear_paths : (m n : Connections) (x q : Slot) → x.line < m.external → Heeded m n (Clear x)
-    → ((a b : Slot) → IsSlot (lines_of m) a → Joins n.layout a b ↔ (Joins m.layout a b × (a ≡ x → ⊥) × (a ≡ q → ⊥)))
+    → ((a b : Slot) → IsSlot (map_lines m) a → Joins n.layout a b ↔ (Joins m.layout a b × (a ≡ x → ⊥) × (a ≡ q → ⊥)))
     → (h : Holding) (ports : Ports) → Represents m h ports → Partner m.external ports (ports_without x ports) (heard_by h.circuits) (heard_by (after h (Clear x)).circuits) x q → Represents n (after h (Clear x)) (ports_without x ports)
 clear_paths m n x q line w less h ports holds partner =
     let k = clears m h ports x line holds in
@@ -342,10 +342,10 @@ nobody_returns m h ports x never holds =
 pub connected_to : (m : Connections) (h : Holding) (ports : Ports) (x y to : Slot) (s : ℕ) → Represents m h ports → hears_at m x ≡ Some (Pair y to s) → hears_at m x ≡ Some (Pair y x s)
 connected_to m h ports x y to s holds e = let own : to ≡ x = (hearing_at m h ports holds).own x (Pair y to s) e in e ∙ (λ i. Some (Pair y (own i) s))
 
-pub joined_there : (m : Connections) (h : Holding) (ports : Ports) (x y : Slot) (s : ℕ) → Represents m h ports → IsSlot (lines_of m) x → hears_at m x ≡ Some (Pair y x s) → Joins m.layout x y
+pub joined_there : (m : Connections) (h : Holding) (ports : Ports) (x y : Slot) (s : ℕ) → Represents m h ports → IsSlot (map_lines m) x → hears_at m x ≡ Some (Pair y x s) → Joins m.layout x y
 joined_there m h ports x y s holds inside e = (joins_needed m h ports x y holds inside).1 (Paired s (sym (holds.heard y) ∙ (hearing_at m h ports holds).both_ways x y s e))
 
-pub joined_back : (m : Connections) (h : Holding) (ports : Ports) (x y : Slot) (s : ℕ) → Represents m h ports → IsSlot (lines_of m) y → hears_at m x ≡ Some (Pair y x s) → Joins m.layout y x
+pub joined_back : (m : Connections) (h : Holding) (ports : Ports) (x y : Slot) (s : ℕ) → Represents m h ports → IsSlot (map_lines m) y → hears_at m x ≡ Some (Pair y x s) → Joins m.layout y x
 joined_back m h ports x y s holds inside e = (joins_needed m h ports y x holds inside).1 (Paired s (sym (holds.heard x) ∙ e))
 
 pub still_joined : (lines : ℕ) (first second : Layout) (x y : Slot) → length first ≡ 30 * lines → second ≡ without_path first x → IsSlot lines x → IsSlot lines y → (y ≡ x → ⊥) → Joins first y x → Joins second y x
@@ -374,10 +374,10 @@ port_slot external bridges ports x p e size =
     let line = ap (λ (s : Slot). s.line) f.2 in let place = ap (λ (s : Slot). s.place) f.2 in
     (omega (arith, line, inside, size), omega (arith, place))
 
-pub joined_port : (m : Connections) (h : Holding) (ports : Ports) (x p : Slot) (room s : ℕ) → Represents m h ports → IsSlot (lines_of m) x → hears_at m x ≡ Some (Member room x s) → port_of m.external m.ports x ≡ Some p → Joins m.layout x p
+pub joined_port : (m : Connections) (h : Holding) (ports : Ports) (x p : Slot) (room s : ℕ) → Represents m h ports → IsSlot (map_lines m) x → hears_at m x ≡ Some (Member room x s) → port_of m.external m.ports x ≡ Some p → Joins m.layout x p
 joined_port m h ports x p room s holds inside e at_p = (joins_needed m h ports x p holds inside).1 (To_port room s (sym (holds.heard x) ∙ e) (ap (λ q. port_of m.external q x) (sym holds.members) ∙ at_p))
 
-pub port_joined : (m : Connections) (h : Holding) (ports : Ports) (x p : Slot) (room s : ℕ) → Represents m h ports → IsSlot (lines_of m) p → hears_at m x ≡ Some (Member room x s) → port_of m.external m.ports x ≡ Some p → Joins m.layout p x
+pub port_joined : (m : Connections) (h : Holding) (ports : Ports) (x p : Slot) (room s : ℕ) → Represents m h ports → IsSlot (map_lines m) p → hears_at m x ≡ Some (Member room x s) → port_of m.external m.ports x ≡ Some p → Joins m.layout p x
 port_joined m h ports x p room s holds inside e at_p = (joins_needed m h ports p x holds inside).1 (From_port room s (sym (holds.heard x) ∙ e) (ap (λ q. port_of m.external q x) (sym holds.members) ∙ at_p))
 
 pub no_member_too : (o : Option Circuit) (y x at : Slot) (s room t : ℕ) → o ≡ Some (Pair y x s) → o ≡ Some (Member room at t) → ⊥

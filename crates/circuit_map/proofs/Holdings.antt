@@ -13,7 +13,7 @@ use Rattle.circuit_model.proofs.Slots.{same_slot-refl, same_slot-false, same_slo
 use Rattle.circuit_model.proofs.Hearing.{heard_by-one, heard_by-two}
 use Rattle.circuit_model.proofs.Validity.{deaf_is_idle, count_by-append, valid-tone, valid-connect, valid-frame}
 use Rattle.control_memory.specs.Layout.{IsSlot, Joins}
-use Rattle.circuit_map.specs.Connections.{Connections, lines_of, hears_in, hears_at, hears_after, seats, Represents, Obeys}
+use Rattle.circuit_map.specs.Connections.{Connections, map_lines, hears_in, hears_at, hears_after, seats, Represents, Obeys}
 use Rattle.circuit_map.proofs.Needs.{Needs, Paired, needed_is}
 use Rattle.circuit_map.proofs.Rows.{adds, Fresh, Fresh_pair, Fresh_to, Fresh_from, needs_kept, needs_split}
 
@@ -33,7 +33,7 @@ silent (Some c) e = absurd (cc)
 pub idle_is : (m : Connections) (h : Holding) (ports : Ports) (x : Slot) → Represents m h ports → is_none (hears_at m x) ≡ is_idle h.circuits x
 idle_is m h ports x holds = one_idle (is_none (hears_at m x)) (is_idle h.circuits x) (λ e. idle_in m h ports x holds (silent (hears_at m x) e)) (λ e. ap is_none (holds.heard x ∙ idle_is_deaf h.circuits x e))
 
-pub joins_needed : (m : Connections) (h : Holding) (ports : Ports) (a b : Slot) → Represents m h ports → IsSlot (lines_of m) a → Joins m.layout a b ↔ Needs m.external ports (heard_by h.circuits) a b
+pub joins_needed : (m : Connections) (h : Holding) (ports : Ports) (a b : Slot) → Represents m h ports → IsSlot (map_lines m) a → Joins m.layout a b ↔ Needs m.external ports (heard_by h.circuits) a b
 joins_needed m h ports a b holds inside =
     let there = holds.joined a b inside in
     let needed = needed_is m.external ports m.bridges h a b holds.valid in
@@ -111,7 +111,7 @@ swapped x y z s t r apart = elim (same_slot_cases z x) [
 
 -- the layout has two paths more
 pub holds_pair : (m n : Connections) (x y : Slot) → (x ≡ y → ⊥) → hears_at m x ≡ None → hears_at m y ≡ None → Heeded m n (Connect x y)
-    → ((a b : Slot) → IsSlot (lines_of m) a → Joins n.layout a b ↔ ((Joins m.layout a b ⊎ ((a ≡ x) × (b ≡ y))) ⊎ ((a ≡ y) × (b ≡ x))))
+    → ((a b : Slot) → IsSlot (map_lines m) a → Joins n.layout a b ↔ ((Joins m.layout a b ⊎ ((a ≡ x) × (b ≡ y))) ⊎ ((a ≡ y) × (b ≡ x))))
     → Obeys m n (Connect x y)
 holds_pair m n x y apart none_x none_y w paths h ports holds =
     let idle_x = idle_in m h ports x holds none_x in
@@ -133,7 +133,7 @@ holds_pair m n x y apart none_x none_y w paths h ports holds =
       ported = λ z. holds.ported z ∙ sym (count_by-append (seats z) h.circuits (Pair x y h.next ∷ Pair y x h.next ∷ []) ∙ omega arith);
       taken = holds.taken ∙ sym (count_by-append is_member h.circuits (Pair x y h.next ∷ Pair y x h.next ∷ []) ∙ omega arith);
       joined = λ a b inside.
-          let in_m : IsSlot (lines_of m) a = subst (λ l. IsSlot l a) (λ i. w.external i + w.bridges i) inside in
+          let in_m : IsSlot (map_lines m) a = subst (λ l. IsSlot l a) (λ i. w.external i + w.bridges i) inside in
           let was = joins_needed m h ports a b holds in_m in
           let needed = needed_is m.external ports m.bridges later a b valid in
           let joins = paths a b in_m in

@@ -12,7 +12,7 @@ use Rattle.circuit_model.specs.declared.channel.Slot.{Slot}
 use Rattle.circuit_model.specs.declared.circuit.Circuit.{Circuit}
 use Rattle.circuit_model.specs.declared.circuit.Circuit.TheVariants.{Pair, Member, Tone}
 use Rattle.circuit_model.specs.Circuits.{same_slot}
-use Rattle.circuit_model.specs.Holding.{Holding, Stands, Is_idle, Has_tone, Is_seated, Is_connected, circuits_naming}
+use Rattle.circuit_model.specs.Holding.{Holding, Stands, Has_no_circuit, Has_tone, Is_seated, Is_connected, circuits_naming}
 use Rattle.circuit_model.specs.Ports.{Ports, has, ports_with, ports_without, port_of, port_numbered}
 use Rattle.circuit_model.proofs.Slots.{true_or_false, same_slot-refl, same_slot-false, same_slot_cases}
 use Rattle.conference_ports.proofs.Indexes.{no_place}
@@ -155,7 +155,7 @@ seats_by_name x [] = refl
 seats_by_name x (c ∷ cs) = seats_named x c cs (seats_by_name x cs)
 
 seats_once : (x : Slot) (cs : List Circuit) → Stands cs x → count_by (seats x) cs ≤ 1
-seats_once x cs (Is_idle e) = let all = seats_by_name x cs ∙ ap (count_by (seats x)) e in omega (arith, all)
+seats_once x cs (Has_no_circuit e) = let all = seats_by_name x cs ∙ ap (count_by (seats x)) e in omega (arith, all)
 seats_once x cs (Has_tone kind s e) = let all = seats_by_name x cs ∙ ap (count_by (seats x)) e in omega (arith, all)
 seats_once x cs (Is_seated room s e) = let same = same_slot-refl x in let all = seats_by_name x cs ∙ ap (count_by (seats x)) e in grind (arith, common_steps)
 seats_once x cs (Is_connected y s apart (inl e)) = let all = seats_by_name x cs ∙ ap (count_by (seats x)) e in omega (arith, all)

@@ -9,7 +9,7 @@ use Rattle.circuit_model.specs.Ports.{Ports}
 use Rattle.control_memory.specs.declared.hop.Hop.{Hop}
 use Rattle.control_memory.specs.Layout.{Path, Layout, IsSlot, Joins, hop_of, path_to}
 use Rattle.control_memory.proofs.Lookups.{path_to_found}
-use Rattle.circuit_map.specs.Connections.{Connections, lines_of, hears_at, Represents}
+use Rattle.circuit_map.specs.Connections.{Connections, map_lines, hears_at, Represents}
 use Rattle.circuit_map.proofs.Needs.{Needs, Paired, To_port, From_port}
 use Rattle.circuit_map.proofs.Rows.{Hearing, hearing_of, hears_external}
 use Rattle.circuit_map.proofs.Holdings.{joins_needed}
@@ -49,14 +49,14 @@ none_needs_idle external ports hears a y line none (Paired since e) = let wrong 
 none_needs_idle external ports hears a y line none (To_port room since e p) = let far = port_line external ports a y p in omega (arith, far, line)
 none_needs_idle external ports hears a y line none (From_port room since e p) = let wrong = sym none ∙ e in cc
 
-pub external_slot : (m : Connections) (x : Slot) → x.line < m.external → x.place < 30 → IsSlot (lines_of m) x
+pub external_slot : (m : Connections) (x : Slot) → x.line < m.external → x.place < 30 → IsSlot (map_lines m) x
 external_slot m x line place = (omega (arith, line), place)
 
 pub idle_joins_none : (m : Connections) (h : Holding) (ports : Ports) (x b : Slot) → Represents m h ports → x.line < m.external → x.place < 30 → hears_at m x ≡ None → Joins m.layout x b → ⊥
 idle_joins_none m h ports x b holds line place none j =
     idle_needs_none m.external ports (heard_by h.circuits) x b (hearing_in m h ports holds) line (sym (holds.heard x) ∙ none) ((joins_needed m h ports x b holds (external_slot m x line place)).0 j)
 
-pub none_joins_idle : (m : Connections) (h : Holding) (ports : Ports) (a y : Slot) → Represents m h ports → IsSlot (lines_of m) a → y.line < m.external → hears_at m y ≡ None → Joins m.layout a y → ⊥
+pub none_joins_idle : (m : Connections) (h : Holding) (ports : Ports) (a y : Slot) → Represents m h ports → IsSlot (map_lines m) a → y.line < m.external → hears_at m y ≡ None → Joins m.layout a y → ⊥
 none_joins_idle m h ports a y holds inside line none j =
     none_needs_idle m.external ports (heard_by h.circuits) a y line (sym (holds.heard y) ∙ none) ((joins_needed m h ports a y holds inside).0 j)
 

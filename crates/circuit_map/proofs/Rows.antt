@@ -7,7 +7,7 @@ use Rattle.circuit_model.specs.declared.channel.Slot.{Slot}
 use Rattle.circuit_model.specs.declared.circuit.Circuit.{Circuit}
 use Rattle.circuit_model.specs.declared.circuit.Circuit.TheVariants.{Pair, Member}
 use Rattle.circuit_model.specs.Circuits.{same_slot, listener, names, heard_by, unless_naming}
-use Rattle.circuit_model.specs.Holding.{Holding, Valid, Stands, Is_idle, Has_tone, Is_seated, Is_connected, circuits_naming}
+use Rattle.circuit_model.specs.Holding.{Holding, Valid, Stands, Has_no_circuit, Has_tone, Is_seated, Is_connected, circuits_naming}
 use Rattle.circuit_model.specs.Ports.{Ports, port_of}
 use Rattle.circuit_model.proofs.Slots.{true_or_false, same_slot-refl, same_slot_cases, same_slot-false, heard_by-naming}
 use Rattle.circuit_model.proofs.Validity.{heard_by-mutual}
@@ -67,7 +67,7 @@ pub record Hearing (external : ℕ) (hears : Slot → Option Circuit) : Type 0 w
   pub inside : (z : Slot) (c : Circuit) → hears z ≡ Some c → (z.line < external) × (z.place < 30)
 
 other_end : (circuits : List Circuit) (x y : Slot) (since : ℕ) → Stands circuits x → heard_by (circuits_naming circuits x) x ≡ Some (Pair y x since) → y ≡ x → ⊥
-other_end circuits x y since (Is_idle e) hears same = let no : None ≡ Some (Pair y x since) = rw e at hears in absurd cc
+other_end circuits x y since (Has_no_circuit e) hears same = let no : None ≡ Some (Pair y x since) = rw e at hears in absurd cc
 other_end circuits x y since (Has_tone kind s e) hears at = let same = same_slot-refl x in let no = rw e at hears in absurd (grind (arith, common_steps))
 other_end circuits x y since (Is_seated room s e) hears at = let same = same_slot-refl x in let no = rw e at hears in absurd (grind (arith, common_steps))
 other_end circuits x y since (Is_connected z s apart (inl e)) hears at =

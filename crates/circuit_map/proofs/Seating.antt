@@ -18,7 +18,7 @@ use Rattle.conference_ports.proofs.Positions.{none_passes}
 use Rattle.circuit_model.proofs.Hearing.{heard_by-one}
 use Rattle.circuit_model.proofs.Validity.{count_by-append, valid-seat}
 use Rattle.control_memory.specs.Layout.{IsSlot, Joins}
-use Rattle.circuit_map.specs.Connections.{Connections, lines_of, hears_at, hears_after, seats, Represents, Obeys}
+use Rattle.circuit_map.specs.Connections.{Connections, map_lines, hears_at, hears_after, seats, Represents, Obeys}
 use Rattle.circuit_map.proofs.Needs.{Needs, Paired, To_port, From_port, needed_is}
 use Rattle.circuit_map.proofs.Rows.{Hearing, adds, Fresh, Fresh_pair, Fresh_to, Fresh_from, needs_kept, needs_split}
 use Rattle.circuit_map.proofs.Holdings.{idle_in, joins_needed}
@@ -34,7 +34,7 @@ pub record Seated (m n : Connections) (x p : Slot) (room k : ℕ) : Type 0 where
   pub lowest : position is_none m.ports ≡ Some k
   pub port : p ≡ port_numbered m.external k
   pub members : n.ports ≡ ports_with x m.ports
-  pub joins : (a b : Slot) → IsSlot (lines_of m) a → Joins n.layout a b ↔ ((Joins m.layout a b ⊎ ((a ≡ x) × (b ≡ p))) ⊎ ((a ≡ p) × (b ≡ x)))
+  pub joins : (a b : Slot) → IsSlot (map_lines m) a → Joins n.layout a b ↔ ((Joins m.layout a b ⊎ ((a ≡ x) × (b ≡ p))) ⊎ ((a ≡ p) × (b ≡ x)))
 
 -- who isn't x has the port that it had
 moved_needs : (external : ℕ) (before ports : Ports) (hears : Slot → Option Circuit) (x a b : Slot) → hears x ≡ None → ((z : Slot) → (z ≡ x → ⊥) → port_of external ports z ≡ port_of external before z) → Needs external before hears a b → Needs external ports hears a b
@@ -84,7 +84,7 @@ holds_seat m n x p room k sockets none w h ports holds =
       ported = λ z. count-given (has z) x ports k refl lowest ∙ ap (λ c. c + count_by (has z) (Some x ∷ [])) (holds.ported z) ∙ sym (count_by-append (seats z) h.circuits (Member room x h.next ∷ []));
       taken = count-given is_some x ports k refl lowest ∙ ap (λ c. c + 1) holds.taken ∙ sym (count_by-append is_member h.circuits (Member room x h.next ∷ []));
       joined = λ a b inside.
-          let in_m : IsSlot (lines_of m) a = subst (λ l. IsSlot l a) (λ i. w.external i + w.bridges i) inside in
+          let in_m : IsSlot (map_lines m) a = subst (λ l. IsSlot l a) (λ i. w.external i + w.bridges i) inside in
           let was = joins_needed m h ports a b holds in_m in
           let needed = needed_is m.external (ports_with x ports) m.bridges later a b valid in
           let joins = w.joins a b in_m in
@@ -180,11 +180,11 @@ none_needs_port external ports hears a p k hearing far free is (Paired since e) 
 none_needs_port external ports hears a p k hearing far free is (To_port room since e q) = had_port external ports a p k free is q
 none_needs_port external ports hears a p k hearing far free is (From_port room since e q) = let near = (hearing.inside p _ e).0 in omega (arith, near, far)
 
-pub port_joins_none : (m : Connections) (h : Holding) (ports : Ports) (p b : Slot) (k : ℕ) → Represents m h ports → IsSlot (lines_of m) p → m.external ≤ p.line → position is_none m.ports ≡ Some k → p ≡ port_numbered m.external k → Joins m.layout p b → ⊥
+pub port_joins_none : (m : Connections) (h : Holding) (ports : Ports) (p b : Slot) (k : ℕ) → Represents m h ports → IsSlot (map_lines m) p → m.external ≤ p.line → position is_none m.ports ≡ Some k → p ≡ port_numbered m.external k → Joins m.layout p b → ⊥
 port_joins_none m h ports p b k holds inside far free is j =
     port_needs_none m.external ports (heard_by h.circuits) p b k (hearing_in m h ports holds) far (subst (λ q. position is_none q ≡ Some k) holds.members free) is ((joins_needed m h ports p b holds inside).0 j)
 
-pub none_joins_port : (m : Connections) (h : Holding) (ports : Ports) (a p : Slot) (k : ℕ) → Represents m h ports → IsSlot (lines_of m) a → m.external ≤ p.line → position is_none m.ports ≡ Some k → p ≡ port_numbered m.external k → Joins m.layout a p → ⊥
+pub none_joins_port : (m : Connections) (h : Holding) (ports : Ports) (a p : Slot) (k : ℕ) → Represents m h ports → IsSlot (map_lines m) a → m.external ≤ p.line → position is_none m.ports ≡ Some k → p ≡ port_numbered m.external k → Joins m.layout a p → ⊥
 none_joins_port m h ports a p k holds inside far free is j =
     none_needs_port m.external ports (heard_by h.circuits) a p k (hearing_in m h ports holds) far (subst (λ q. position is_none q ≡ Some k) holds.members free) is ((joins_needed m h ports a p holds inside).0 j)
 
@@ -208,7 +208,7 @@ pub record FreePort (m : Connections) (p : Slot) : Type 0 where
   pub number : ℕ
   pub lowest : position is_none m.ports ≡ Some number
   pub is : p ≡ port_numbered m.external number
-  pub inside : IsSlot (lines_of m) p
+  pub inside : IsSlot (map_lines m) p
   pub far : m.external ≤ p.line
 
 pub free_port : (external : ℕ) (owners : List (Option Owner)) (p : Slot) (m : Connections) → external ≡ m.external → members owners ≡ m.ports → length m.ports ≡ 30 * m.bridges → option_map (port_numbered external) (position is_none owners) ≡ Some p → FreePort m p

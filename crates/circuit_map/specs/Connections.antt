@@ -5,14 +5,15 @@ use Rattle.circuit_model.specs.declared.circuit.Circuit.{Circuit}
 use Rattle.circuit_model.specs.declared.circuit.Circuit.TheVariants.{Pair, Member, Tone}
 use Rattle.circuit_model.specs.Circuits.{same_slot, heard_by, is_member, unless_naming}
 use Rattle.circuit_model.specs.Holding.{Holding, Valid, Command, Connect, Seat, Give_tone, Clear, Frame, after}
-use Rattle.circuit_model.specs.Ports.{Ports, has, port_of, ports_after}
+use Rattle.circuit_model.specs.Ports.{Ports, has, ports_after}
 use Rattle.conference_ports.specs.declared.owner.Owner.{Owner}
+use Rattle.conference_ports.specs.Owners.{members}
 use Rattle.control_memory.specs.declared.heard.Heard.{Heard}
 use Rattle.control_memory.specs.declared.heard.Heard.TheVariants.{Silent}
 use Rattle.control_memory.specs.Layout.{Layout, Legal, number_of}
-use Rattle.control_memory.specs.Connecting.{connect, without_path, moved}
+use Rattle.control_memory.specs.Connecting.{connect, moved}
 use Rattle.control_memory.specs.Image.{EachSlot, port_entry}
-use Rattle.control_memory.specs.Shown.{JoinsCircuits, served_by, heard_as, seated_as}
+use Rattle.control_memory.specs.Shown.{JoinsCircuits, served_by, heard_as, partner, seated_as, without_both}
 
 -- for each external slot, line by line, the circuit by which it hears; the member of each conference port; and the layout of the paths
 pub record Connections : Type 0 where
@@ -25,9 +26,22 @@ pub record Connections : Type 0 where
   pub ports : Ports
   pub layout : Layout
 
+-- those of a map that keeps the owner of each port, whose member has it
+abbrev pub kept_connections : ℕ → ℕ → ℕ → ℕ → ℕ → List (Option Circuit) → List (Option Owner) → Layout → Connections
+kept_connections external bridges slots bound next heard owners layout = record {
+  external = external;
+  bridges = bridges;
+  slots = slots;
+  bound = bound;
+  next = next;
+  heard = heard;
+  ports = members owners;
+  layout = layout;
+}
+
 -- all lines: the external ones, and behind them the bridge lines
-abbrev pub lines_of : Connections → ℕ
-lines_of m = m.external + m.bridges
+abbrev pub map_lines : Connections → ℕ
+map_lines m = m.external + m.bridges
 
 abbrev pub IsExternal : Connections → Slot → Type 0
 IsExternal m x = (x.line < m.external) × (x.place < 30)
@@ -63,7 +77,7 @@ pub record Represents (m : Connections) (h : Holding) (ports : Ports) : Type 0 w
   pub members : m.ports ≡ ports
   pub ported : (x : Slot) → count_by (has x) ports ≡ count_by (seats x) h.circuits
   pub taken : count_by is_some ports ≡ count_by is_member h.circuits
-  pub joined : JoinsCircuits (lines_of m) m.external m.layout h.circuits ports
+  pub joined : JoinsCircuits (map_lines m) m.external m.layout h.circuits ports
 
 -- the paths are laid legally: no two share an internal slot of a line
 abbrev pub IsLaid : Connections → Type 0
@@ -99,8 +113,8 @@ AreRoomed hears owners = (k : ℕ) (owner : Owner) → slice_index_or owners k N
 -- how large the parts are, that they are those of some holding, which room each port is owned for, and that what is kept for the next control
 -- memory is what they show
 pub record IsSound (m : Connections) (lines first_line bridge_lines : ℕ) (owners : List (Option Owner)) (hearing : List Heard) (sitting : List (Option (ℕ × ℕ))) : Type 0 where
-  pub few : lines_of m ≤ 34
-  pub width : lines ≡ lines_of m
+  pub few : map_lines m ≤ 34
+  pub width : lines ≡ map_lines m
   pub first : first_line ≡ m.external
   pub rows : bridge_lines ≡ m.bridges
   pub listeners : length m.heard ≡ 30 * m.external
@@ -119,26 +133,14 @@ pub record SameSizes (a b : Connections) : Type 0 where
 
 -- the layout with a path from one slot to the other, and then with one back
 abbrev pub joined_one : Connections → Slot → Slot → Layout
-joined_one m x y = connect (lines_of m) m.slots m.layout x y
+joined_one m x y = connect (map_lines m) m.slots m.layout x y
 
 abbrev pub joined_both : Connections → Slot → Slot → Layout
-joined_both m x y = connect (lines_of m) m.slots (joined_one m x y) y x
+joined_both m x y = connect (map_lines m) m.slots (joined_one m x y) y x
 
 -- how many live paths the path from one slot to the other moved, and how many the path back
 abbrev pub AreMoves : ℕ × ℕ → Connections → Slot → Slot → Type 0
 AreMoves moves m x y = (moves.0 ≡ moved m.layout (joined_one m x y)) × (moves.1 ≡ moved (joined_one m x y) (joined_both m x y))
-
--- the layout without the paths of the circuits that go with the one by which a slot hears: both directions of a connection, or those
--- between a member and its port
-abbrev pub without_both : Layout → Slot → Option Slot → Layout
-without_both layout x None = layout
-without_both layout x (Some y) = without_path (without_path layout x) y
-
-abbrev pub partner : ℕ → Ports → Option Circuit → Option Slot
-partner external ports None = None
-partner external ports (Some (Pair from to since)) = Some from
-partner external ports (Some (Member room at since)) = port_of external ports at
-partner external ports (Some (Tone kind to since)) = None
 
 -- a circuit that needs no path, or none at all
 abbrev pub is_pathless : Option Circuit → Bool
@@ -147,5 +149,6 @@ is_pathless (Some (Pair from to since)) = false
 is_pathless (Some (Member room at since)) = false
 is_pathless (Some (Tone kind to since)) = true
 
+-- the layout once a slot is cleared
 abbrev pub parted : Connections → Slot → Layout
 parted m x = without_both m.layout x (partner m.external m.ports (hears_at m x))

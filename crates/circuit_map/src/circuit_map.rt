@@ -40,32 +40,14 @@ pub struct CircuitMap<P: PathMap> {
 
 impl<P: PathMap> Model for CircuitMap<P> {
     ghost use Rattle.std.specs.Prelude.{◌≡◌};
-    ghost use Rattle.conference_ports.specs.Owners.{members};
-    ghost use Rattle.circuit_map.specs.Connections.{Connections, IsSound};
+    ghost use Rattle.circuit_map.specs.Connections.{Connections, IsSound, kept_connections};
 
     ghost Value = { Connections };
 
-    ghost view = { λ m. record {
-      external = m.external;
-      bridges = m.bridges;
-      slots = P.depth m.paths;
-      bound = P.bound m.paths;
-      next = m.next;
-      heard = m.heard.items;
-      ports = members m.ports.owners;
-      layout = P.layout m.paths;
-    } };
+    ghost view = { λ m. kept_connections m.external m.bridges (P.depth m.paths) (P.bound m.paths) m.next m.heard.items m.ports.owners (P.layout m.paths) };
 
-    ghost invariant = { λ m. IsSound (record {
-      external = m.external;
-      bridges = m.bridges;
-      slots = P.depth m.paths;
-      bound = P.bound m.paths;
-      next = m.next;
-      heard = m.heard.items;
-      ports = members m.ports.owners;
-      layout = P.layout m.paths;
-    }) (P.width m.paths) m.ports.external m.ports.lines m.ports.owners m.hearing m.sitting.items };
+    ghost invariant = { λ m. IsSound (kept_connections m.external m.bridges (P.depth m.paths) (P.bound m.paths) m.next m.heard.items m.ports.owners (P.layout m.paths))
+        (P.width m.paths) m.ports.external m.ports.lines m.ports.owners m.hearing m.sitting.items };
 }
 
 impl<P: PathMap + Drop> CircuitMap<P> {

@@ -8,7 +8,7 @@ use Rattle.circuit_model.specs.declared.channel.Slot.{Slot}
 use Rattle.circuit_model.specs.declared.circuit.Circuit.{Circuit}
 use Rattle.circuit_model.specs.declared.circuit.Circuit.TheVariants.{Pair, Member, Tone}
 use Rattle.circuit_model.specs.Circuits.{same_slot, names, is_member}
-use Rattle.circuit_model.specs.Holding.{Holding, empty, Command, Connect, Seat, Give_tone, Clear, Frame, after, frames, circuits_of, circuits_naming, Stands, Is_idle, Has_tone, Is_seated, Is_connected, IsAllowed, AreAllowed}
+use Rattle.circuit_model.specs.Holding.{Holding, empty, Command, Connect, Seat, Give_tone, Clear, Frame, after, frames, circuits_of, circuits_naming, Stands, Has_no_circuit, Has_tone, Is_seated, Is_connected, IsAllowed, AreAllowed}
 use Rattle.circuit_model.specs.Ports.{Ports, free_ports, ports_with, ports_without, ports_after, port_frames, ports_of, owner_of, sum_of_owners, sum_of_members}
 use Rattle.circuit_model.proofs.Slots.{true_or_false, same_slot-refl, same_slot-true}
 use Rattle.circuit_model.proofs.Age.{cons_cases, at_head, in_tail, none_in_nil, first_frame, age}
@@ -254,7 +254,7 @@ count_by-wider p q wider [] = refl
 count_by-wider p q wider (x ∷ xs) = let rest = count_by-wider p q wider xs in grind (arith, common_steps, wider x)
 
 seated_among : (x : Slot) (circuits : List Circuit) → Stands circuits x → count_by (seat_is (same_slot x)) (circuits_naming circuits x) ≤ 1
-seated_among x circuits (Is_idle e) = rw e (omega arith)
+seated_among x circuits (Has_no_circuit e) = rw e (omega arith)
 seated_among x circuits (Has_tone kind since e) = rw e (omega arith)
 seated_among x circuits (Is_seated room since e) = rw e (let same = same_slot-refl x in grind (arith, common_steps))
 seated_among x circuits (Is_connected y since apart (inl e)) = rw e (omega arith)

@@ -6,7 +6,7 @@ use Rattle.circuit_model.specs.declared.channel.Slot.{Slot}
 use Rattle.circuit_model.specs.declared.circuit.Circuit.{Circuit}
 use Rattle.circuit_model.specs.declared.circuit.Circuit.TheVariants.{Member}
 use Rattle.circuit_model.specs.Circuits.{names, is_member, heard_by}
-use Rattle.circuit_model.specs.Holding.{circuits_naming, Stands, Is_idle, Has_tone, Is_seated, Is_connected}
+use Rattle.circuit_model.specs.Holding.{circuits_naming, Stands, Has_no_circuit, Has_tone, Is_seated, Is_connected}
 use Rattle.circuit_model.proofs.Slots.{same_slot-refl, heard_by-naming}
 
 -- what a test takes out and what it leaves
@@ -16,7 +16,7 @@ count_by-filter_both p q (x ∷ xs) = let rest = count_by-filter_both p q xs in 
 
 -- a member that is cleared is one member fewer
 members_named-seat : (circuits : List Circuit) (x : Slot) (room since : ℕ) → Stands circuits x → heard_by (circuits_naming circuits x) x ≡ Some (Member room x since) → count_by is_member (circuits_naming circuits x) ≡ 1
-members_named-seat circuits x room since (Is_idle e) hears = let no = rw e at hears in absurd (grind (arith, common_steps))
+members_named-seat circuits x room since (Has_no_circuit e) hears = let no = rw e at hears in absurd (grind (arith, common_steps))
 members_named-seat circuits x room since (Has_tone kind s e) hears = let same = same_slot-refl x in let no = rw e at hears in absurd (grind (arith, common_steps))
 members_named-seat circuits x room since (Is_seated r s e) hears = rw e refl
 members_named-seat circuits x room since (Is_connected y s apart (inl e)) hears = let same = same_slot-refl x in let no = rw e at hears in absurd (grind (arith, common_steps))
@@ -28,7 +28,7 @@ count-clear_member circuits x room since s hears =
 
 -- any other slot that is cleared leaves the members alone
 members_named-other : (circuits : List Circuit) (x : Slot) → Stands circuits x → ((room since : ℕ) → ¬ (heard_by (circuits_naming circuits x) x ≡ Some (Member room x since))) → count_by is_member (circuits_naming circuits x) ≡ 0
-members_named-other circuits x (Is_idle e) other = rw e refl
+members_named-other circuits x (Has_no_circuit e) other = rw e refl
 members_named-other circuits x (Has_tone kind s e) other = rw e refl
 members_named-other circuits x (Is_seated r s e) other = absurd (other r s (rw e (let same = same_slot-refl x in grind (arith, common_steps))))
 members_named-other circuits x (Is_connected y s apart (inl e)) other = rw e refl

@@ -8,7 +8,7 @@ use Rattle.circuit_model.specs.declared.circuit.Kind.{Kind}
 use Rattle.circuit_model.specs.declared.circuit.Circuit.{Circuit}
 use Rattle.circuit_model.specs.declared.circuit.Circuit.TheVariants.{Pair, Member, Tone}
 use Rattle.circuit_model.specs.Circuits.{same_slot, listener, names, is_idle, is_member, since_of, heard_by, unless_naming}
-use Rattle.circuit_model.specs.Holding.{Holding, empty, Command, Connect, Seat, Give_tone, Clear, Frame, after, circuits_naming, Stands, Is_idle, Has_tone, Is_seated, Is_connected, Valid, IsAllowed}
+use Rattle.circuit_model.specs.Holding.{Holding, empty, Command, Connect, Seat, Give_tone, Clear, Frame, after, circuits_naming, Stands, Has_no_circuit, Has_tone, Is_seated, Is_connected, Valid, IsAllowed}
 use Rattle.circuit_model.proofs.Slots.{true_or_false, same_slot-refl, same_slot_cases, same_slot-false, naming-idle, is_idle-naming, heard_by-naming, listener_is_named, filter_filter}
 use Rattle.circuit_model.proofs.Age.{cons_cases, at_head, in_tail, none_in_nil, within_filtered}
 
@@ -47,7 +47,7 @@ none_name_other x y z n off_x off_y = grind (arith, common_steps)
 -- ---- how a slot stands
 -- what names a slot says how it stands
 stands_alike : (cs ds : List Circuit) (z : Slot) → circuits_naming ds z ≡ circuits_naming cs z → Stands cs z → Stands ds z
-stands_alike cs ds z same (Is_idle e) = Is_idle (same ∙ e)
+stands_alike cs ds z same (Has_no_circuit e) = Has_no_circuit (same ∙ e)
 stands_alike cs ds z same (Has_tone kind since e) = Has_tone kind since (same ∙ e)
 stands_alike cs ds z same (Is_seated room since e) = Is_seated room since (same ∙ e)
 stands_alike cs ds z same (Is_connected y since apart (inl e)) = Is_connected y since apart (inl (same ∙ e))
@@ -89,23 +89,23 @@ cleared_both : (x y z : Slot) (n : ℕ) → (filter (λ c. not (names x c)) (Pai
 cleared_both x y z n = elim (true_or_false (names x (Pair z y n))) [ inl gone ↦ inl (grind (arith, common_steps)) | inr stays ↦ inr (grind (arith, common_steps)) ]
 
 stands-clear : (circuits : List Circuit) (x z : Slot) → Stands circuits z → Stands (filter (λ c. not (names x c)) circuits) z
-stands-clear circuits x z (Is_idle e) = Is_idle (naming-clear circuits x z ∙ ap (filter (λ c. not (names x c))) e)
+stands-clear circuits x z (Has_no_circuit e) = Has_no_circuit (naming-clear circuits x z ∙ ap (filter (λ c. not (names x c))) e)
 stands-clear circuits x z (Has_tone kind since e) =
     let cleared = naming-clear circuits x z ∙ ap (filter (λ c. not (names x c))) e in
-    elim (cleared_one x z (Tone kind z since) refl) [ inl gone ↦ Is_idle (cleared ∙ gone) | inr stays ↦ Has_tone kind since (cleared ∙ stays) ]
+    elim (cleared_one x z (Tone kind z since) refl) [ inl gone ↦ Has_no_circuit (cleared ∙ gone) | inr stays ↦ Has_tone kind since (cleared ∙ stays) ]
 stands-clear circuits x z (Is_seated room since e) =
     let cleared = naming-clear circuits x z ∙ ap (filter (λ c. not (names x c))) e in
-    elim (cleared_one x z (Member room z since) refl) [ inl gone ↦ Is_idle (cleared ∙ gone) | inr stays ↦ Is_seated room since (cleared ∙ stays) ]
+    elim (cleared_one x z (Member room z since) refl) [ inl gone ↦ Has_no_circuit (cleared ∙ gone) | inr stays ↦ Is_seated room since (cleared ∙ stays) ]
 stands-clear circuits x z (Is_connected y since apart (inl e)) =
     let cleared = naming-clear circuits x z ∙ ap (filter (λ c. not (names x c))) e in
-    elim (cleared_both x y z since) [ inl gone ↦ Is_idle (cleared ∙ gone) | inr stays ↦ Is_connected y since apart (inl (cleared ∙ stays)) ]
+    elim (cleared_both x y z since) [ inl gone ↦ Has_no_circuit (cleared ∙ gone) | inr stays ↦ Is_connected y since apart (inl (cleared ∙ stays)) ]
 stands-clear circuits x z (Is_connected y since apart (inr e)) =
     let cleared = naming-clear circuits x z ∙ ap (filter (λ c. not (names x c))) e in
-    elim (cleared_both x z y since) [ inl gone ↦ Is_idle (cleared ∙ gone) | inr stays ↦ Is_connected y since apart (inr (cleared ∙ stays)) ]
+    elim (cleared_both x z y since) [ inl gone ↦ Has_no_circuit (cleared ∙ gone) | inr stays ↦ Is_connected y since apart (inr (cleared ∙ stays)) ]
 
 -- ---- holdings
 pub valid-empty : (bridges : ℕ) → Valid bridges empty
-valid-empty bridges = record { young = λ k d h. absurd (omega arith); seated = omega arith; standing = λ x. Is_idle refl }
+valid-empty bridges = record { young = λ k d h. absurd (omega arith); seated = omega arith; standing = λ x. Has_no_circuit refl }
 
 pub valid-connect : (bridges : ℕ) (h : Holding) (x y : Slot) → Valid bridges h → ¬ (x ≡ y) → is_idle h.circuits x ≡ true → is_idle h.circuits y ≡ true → Valid bridges (after h (Connect x y))
 valid-connect bridges h x y v apart idle_x idle_y =
@@ -154,7 +154,7 @@ valid-after bridges h Frame v allowed = valid-frame bridges h v
 -- ---- whom a slot hears in a valid holding
 -- a slot that hears nothing is named by nothing
 named_by_none : (circuits : List Circuit) (x : Slot) → Stands circuits x → heard_by (circuits_naming circuits x) x ≡ None → circuits_naming circuits x ≡ []
-named_by_none circuits x (Is_idle e) none = e
+named_by_none circuits x (Has_no_circuit e) none = e
 named_by_none circuits x (Has_tone kind since e) none = let same = same_slot-refl x in let found = rw e at none in absurd (grind (arith, common_steps))
 named_by_none circuits x (Is_seated room since e) none = let same = same_slot-refl x in let found = rw e at none in absurd (grind (arith, common_steps))
 named_by_none circuits x (Is_connected y since apart (inl e)) none = let same = same_slot-refl x in let found = rw e at none in absurd (grind (arith, common_steps))
@@ -165,7 +165,7 @@ deaf_is_idle circuits x s none = is_idle-naming circuits x (named_by_none circui
 
 -- after a slot is cleared each hears what it heard, unless that named the slot
 cleared_among : (circuits : List Circuit) (x z : Slot) → Stands circuits z → heard_by (filter (λ c. not (names x c)) (circuits_naming circuits z)) z ≡ unless_naming x (heard_by (circuits_naming circuits z) z)
-cleared_among circuits x z (Is_idle e) = rw e refl
+cleared_among circuits x z (Has_no_circuit e) = rw e refl
 cleared_among circuits x z (Has_tone kind since e) = rw e (let same = same_slot-refl z in grind (arith, common_steps))
 cleared_among circuits x z (Is_seated room since e) = rw e (let same = same_slot-refl z in grind (arith, common_steps))
 cleared_among circuits x z (Is_connected y since apart (inl e)) = rw e (let same = same_slot-refl z in grind (arith, common_steps))
@@ -196,7 +196,7 @@ one_of_two d e c inside = ⊎_elim (λ (first : d ≡ c). inl first) (λ (rest :
 
 -- of what names the slot, only what it hears by is for it
 heard_alone : (circuits : List Circuit) (x : Slot) (c : Circuit) → Stands circuits x → Contains (circuits_naming circuits x) c → same_slot x (listener c) ≡ true → heard_by (circuits_naming circuits x) x ≡ Some c
-heard_alone circuits x c (Is_idle e) inside for_x = absurd (none_in_nil c (rw e at inside))
+heard_alone circuits x c (Has_no_circuit e) inside for_x = absurd (none_in_nil c (rw e at inside))
 heard_alone circuits x c (Has_tone kind since e) inside for_x = let same = only_one _ c (rw e at inside) in rw e (grind (arith, common_steps))
 heard_alone circuits x c (Is_seated room since e) inside for_x = let same = only_one _ c (rw e at inside) in rw e (grind (arith, common_steps))
 heard_alone circuits x c (Is_connected y since apart (inl e)) inside for_x =
@@ -215,7 +215,7 @@ heard_by-listener circuits c s inside =
 
 -- where x hears y, the other direction stands too
 other_way : (circuits : List Circuit) (x y : Slot) (since : ℕ) → Stands circuits x → heard_by (circuits_naming circuits x) x ≡ Some (Pair y x since) → Contains (circuits_naming circuits x) (Pair x y since)
-other_way circuits x y since (Is_idle e) hears = let no : None ≡ Some (Pair y x since) = rw e at hears in absurd cc
+other_way circuits x y since (Has_no_circuit e) hears = let no : None ≡ Some (Pair y x since) = rw e at hears in absurd cc
 other_way circuits x y since (Has_tone kind s e) hears = let same = same_slot-refl x in let no = rw e at hears in absurd (grind (arith, common_steps))
 other_way circuits x y since (Is_seated room s e) hears = let same = same_slot-refl x in let no = rw e at hears in absurd (grind (arith, common_steps))
 other_way circuits x y since (Is_connected z s apart (inl e)) hears =

@@ -87,7 +87,7 @@ circuits_naming circuits x = filter (names x) circuits
 
 -- a slot stands in one way: idle, with one tone, as one room's member, or in a connection with one other slot, both ways
 pub data Stands (circuits : List Circuit) (x : Slot) : Type 0 where
-  Is_idle : circuits_naming circuits x ≡ [] → Stands circuits x
+  Has_no_circuit : circuits_naming circuits x ≡ [] → Stands circuits x
   Has_tone : (kind : Kind) (since : ℕ) → circuits_naming circuits x ≡ Tone kind x since ∷ [] → Stands circuits x
   Is_seated : (room since : ℕ) → circuits_naming circuits x ≡ Member room x since ∷ [] → Stands circuits x
   Is_connected : (y : Slot) (since : ℕ) → ¬ (y ≡ x) → (circuits_naming circuits x ≡ Pair x y since ∷ Pair y x since ∷ []) ⊎ (circuits_naming circuits x ≡ Pair y x since ∷ Pair x y since ∷ []) → Stands circuits x

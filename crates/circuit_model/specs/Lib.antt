@@ -7,3 +7,4 @@ pub mod Hears
 pub mod Examples
 pub mod Ports
 pub mod Extent
+pub mod Dimensions

@@ -1,6 +1,7 @@
 -- The control memory of one frame. Source: this exchange's own.
 use Rattle.std.specs.Prelude.{◌≡◌, ℕ, ◌+◌, ◌-◌, ◌*◌, ◌<◌, nat_lt, List, Option, None, slice_index_or, if◌then◌else◌}
 use Rattle.circuit_model.specs.declared.channel.Slot.{Slot}
+use Rattle.circuit_model.specs.Dimensions.{Dimensions}
 use Rattle.control_memory.specs.declared.heard.Heard.{Heard}
 use Rattle.control_memory.specs.declared.heard.Heard.TheVariants.{Silent}
 use Rattle.control_memory.specs.Layout.{Layout, number_of}
@@ -56,6 +57,12 @@ port_entry external entries at = if nat_lt at.line external then None else slice
 -- the room of a port's member, and since when it sits there; an external slot has no room
 abbrev pub room_at : Control → Slot → Option (ℕ × ℕ)
 room_at m at = port_entry m.external m.rooms at
+
+-- it is a control memory of an exchange of this size
+pub record IsOfSize (d : Dimensions) (image : Control) : Type 0 where
+  pub external : image.external ≡ d.external
+  pub bridges : image.bridges ≡ d.bridges
+  pub slots : image.slots ≡ d.slots
 
 -- the second has the sizes of the first
 pub record SameSizes (a b : Control) : Type 0 where

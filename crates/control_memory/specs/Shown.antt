@@ -8,6 +8,7 @@ use Rattle.circuit_model.specs.Ports.{Ports, port_of}
 use Rattle.control_memory.specs.declared.heard.Heard.{Heard}
 use Rattle.control_memory.specs.declared.heard.Heard.TheVariants.{Silent, Path, Tone}
 use Rattle.control_memory.specs.Layout.{Layout, Legal, IsSlot, Joins}
+use Rattle.control_memory.specs.Connecting.{without_path}
 use Rattle.control_memory.specs.Image.{Control, lines_of, port_number, HasLayout, EachSlot, heard_at, room_at}
 
 -- to a conference port and back
@@ -28,6 +29,18 @@ IsNeeded external circuits ports x y = (c : Circuit) × Contains circuits c × C
 -- the layout joins exactly what the circuits need
 abbrev pub JoinsCircuits : ℕ → ℕ → Layout → List Circuit → Ports → Type 0
 JoinsCircuits lines external layout circuits ports = (x y : Slot) → IsSlot lines x → Joins layout x y ↔ IsNeeded external circuits ports x y
+
+-- the slot at the other end of the paths that belong to the circuit by which a slot hears: whom it hears, or its conference port
+abbrev pub partner : ℕ → Ports → Option Circuit → Option Slot
+partner external ports None = None
+partner external ports (Some (Pair from to since)) = Some from
+partner external ports (Some (Member room at since)) = port_of external ports at
+partner external ports (Some (Tone_circuit kind to since)) = None
+
+-- the layout without the paths from a slot and from its partner
+abbrev pub without_both : Layout → Slot → Option Slot → Layout
+without_both layout x None = layout
+without_both layout x (Some y) = without_path (without_path layout x) y
 
 -- the member that has a port, by the port's slot
 abbrev pub member_at : ℕ → Ports → Slot → Option Slot

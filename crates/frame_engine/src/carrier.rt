@@ -6,7 +6,8 @@ ghost use Rattle.circuit_model.specs.declared.circuit.Kind.{Kind};
 ghost use Rattle.circuit_model.specs.declared.circuit.Circuit.{Circuit};
 ghost use Rattle.circuit_model.specs.FrameInput.{Input};
 ghost use Rattle.circuit_model.specs.Ports.{Ports};
-ghost use Rattle.control_memory.specs.Image.{SameSizes};
+ghost use Rattle.circuit_model.specs.Dimensions.{Dimensions};
+ghost use Rattle.control_memory.specs.Image.{IsOfSize, SameSizes};
 ghost use Rattle.tone_rules.specs.Tables.{table_of};
 ghost use Rattle.frame_engine.specs.Frames.{AreCounted, Boundary, IsNext, PlaysFrame, TonesGiven, held_with, inputs_with, ports_with};
 
@@ -16,14 +17,8 @@ use tone_rules::Tones;
 
 /// An engine: it takes the octets of each frame in, and plays what each external slot hears.
 pub trait Carrier: Sized + Send + Drop {
-    /// How many external lines it has.
-    ghost external_lines: { Self → ℕ };
-
-    /// How many bridge lines it has.
-    ghost bridge_lines: { Self → ℕ };
-
-    /// How many internal slots it has.
-    ghost depth: { Self → ℕ };
+    /// How many external lines, bridge lines and internal slots it has.
+    ghost sizes: { Self → Dimensions };
 
     /// The number of its next frame.
     ghost next: { Self → ℕ };
@@ -41,9 +36,7 @@ pub trait Carrier: Sized + Send + Drop {
         requires external { 1 ≤ external × (external ≤ 32) }
         requires bridges { bridges ≤ 2 }
         requires slots { 1 ≤ slots × (slots ≤ 59) }
-        ensures external { IfOk result (λ e. external_lines e ≡ external) }
-        ensures bridges { IfOk result (λ e. bridge_lines e ≡ bridges) }
-        ensures slots { IfOk result (λ e. depth e ≡ slots) }
+        ensures sizes { IfOk result (λ e. sizes e ≡ record { external = external; bridges = bridges; slots = slots }) }
         ensures next { IfOk result (λ e. next e ≡ 0) }
         ensures carries { IfOk result (λ e. carries e [] [] []) };
 
@@ -57,20 +50,16 @@ pub trait Carrier: Sized + Send + Drop {
         input: &[Option<[u8; 30]>],
         out: &mut [[u8; 30]],
     )
-        requires external { image.old.external ≡ external_lines self.old }
-        requires bridges { image.old.bridges ≡ bridge_lines self.old }
-        requires slots { image.old.slots ≡ depth self.old }
+        requires sizes { IsOfSize (sizes self.old) image.old }
         requires frame { image.old.frame ≡ next self.old }
         requires last { next self.old < 4294967295 }
-        requires input { length input.now ≡ external_lines self.old }
-        requires out { length out.old ≡ external_lines self.old }
+        requires input { length input.now ≡ (sizes self.old).external }
+        requires out { length out.old ≡ (sizes self.old).external }
         requires tones { TonesGiven tones.now image.old }
         ensures plays { (b : Boundary) → IsNext (carries self.old) image.old b → PlaysFrame (plays (table_of tones.now)) image.old b input.now out.new }
         ensures carries { (b : Boundary) → IsNext (carries self.old) image.old b → carries self.new (inputs_with b input.now) (held_with b) (ports_with b) }
         ensures next { next self.new ≡ next self.old + 1 }
-        ensures external { external_lines self.new ≡ external_lines self.old }
-        ensures bridges { bridge_lines self.new ≡ bridge_lines self.old }
-        ensures slots { depth self.new ≡ depth self.old }
+        ensures sizes { sizes self.new ≡ sizes self.old }
         ensures image { SameSizes image.old image.new };
 
     /// An engine that carries frames is at the frame after them.

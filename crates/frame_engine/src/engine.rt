@@ -63,11 +63,7 @@ impl Model for Engine {
 }
 
 impl Carrier for Engine {
-    ghost external_lines = { λ e. e.external };
-
-    ghost bridge_lines = { λ e. e.bridges };
-
-    ghost depth = { λ e. e.slots };
+    ghost sizes = { λ e. record { external = e.external; bridges = e.bridges; slots = e.slots } };
 
     ghost next = { λ e. e.next };
 

@@ -22,11 +22,7 @@ pub struct Marker {
 }
 
 impl Carrier for Marker {
-    ghost external_lines = { λ m. m.external };
-
-    ghost bridge_lines = { λ m. m.bridges };
-
-    ghost depth = { λ m. m.slots };
+    ghost sizes = { λ m. record { external = m.external; bridges = m.bridges; slots = m.slots } };
 
     ghost next = { λ m. m.next };
 

@@ -21,11 +21,11 @@ use Rattle.traffic_gen.proofs.Counts.{events_are_few, traffic_length}
 use Rattle.traffic_gen.proofs.Fit.{lines_fit}
 use Rattle.trace_text.specs.declared.said.Said.{Said}
 use Rattle.trace_text.specs.TraceLines.{says}
-use Rattle.trace_text.specs.TraceGrammar.{EachSays, IsTold, IsTrace, events_in, numbers_in, plan_of, tones_in, tones_of, segment_ends, sizes_in, so_far}
+use Rattle.trace_text.specs.TraceGrammar.{EachSays, IsWhatLinesSay, IsTrace, events_in, numbers_in, plan_of, tones_in, tones_of, segment_ends, sizes_in, so_far}
 use Rattle.trace_text.proofs.TraceHolds.{events-append, sizes_first}
 use Rattle.trace_text.proofs.TraceReadings.{one_trace}
 use Rattle.generated_trace.specs.Told.{said_by}
-use Rattle.generated_trace.specs.Generated.{HasSizes, IsTrafficOf, traffic_told}
+use Rattle.generated_trace.specs.Generated.{HasExchangeSizes, IsTrafficOf, traffic_told}
 use Rattle.generated_trace.proofs.Cutting.{text_lines}
 use Rattle.generated_trace.proofs.Saying.{HasRoom, eight, header_says, is_running, running_says, to_line_says, to_room_says}
 
@@ -212,7 +212,7 @@ sizes_told : (seed calls : ℕ) → sizes_in (traffic_told seed calls) ≡ Some 
 unfolding traffic_lines header
 sizes_told seed calls = refl
 
-is_told : (seed calls : ℕ) → IsTold (trace_of (traffic_told seed calls)) (traffic_told seed calls)
+is_told : (seed calls : ℕ) → IsWhatLinesSay (trace_of (traffic_told seed calls)) (traffic_told seed calls)
 unfolding trace_of
 is_told seed calls = record { sizes = sizes_told seed calls; plan = refl; tones = refl; events = refl; segments = refl }
 
@@ -231,14 +231,14 @@ some_trace seed calls few = (trace_of (traffic_told seed calls), is_traffic seed
 pub one_told : (seed calls : ℕ) (t u : Trace) → IsTrafficOf seed calls t → IsTrafficOf seed calls u → t ≡ u
 one_told seed calls t u is other = one_trace (traffic seed calls) t u is other
 
-pub told_so : (seed calls : ℕ) (t : Trace) → calls ≤ 2000 → IsTrafficOf seed calls t → IsTold t (traffic_told seed calls)
+pub told_so : (seed calls : ℕ) (t : Trace) → calls ≤ 2000 → IsTrafficOf seed calls t → IsWhatLinesSay t (traffic_told seed calls)
 told_so seed calls t few is =
-    subst (λ u. IsTold u (traffic_told seed calls)) (one_told seed calls (trace_of (traffic_told seed calls)) t (is_traffic seed calls few) is) (is_told seed calls)
+    subst (λ u. IsWhatLinesSay u (traffic_told seed calls)) (one_told seed calls (trace_of (traffic_told seed calls)) t (is_traffic seed calls few) is) (is_told seed calls)
 
-pub has_sizes : (seed calls : ℕ) (t : Trace) → calls ≤ 2000 → IsTrafficOf seed calls t → HasSizes t 8 1 4
+pub has_sizes : (seed calls : ℕ) (t : Trace) → calls ≤ 2000 → IsTrafficOf seed calls t → HasExchangeSizes t 8 1 4
 unfolding trace_of
 has_sizes seed calls t few is =
-    subst (λ u. HasSizes u 8 1 4) (one_told seed calls (trace_of (traffic_told seed calls)) t (is_traffic seed calls few) is)
+    subst (λ u. HasExchangeSizes u 8 1 4) (one_told seed calls (trace_of (traffic_told seed calls)) t (is_traffic seed calls few) is)
     (record { external_is = refl; bridges_is = refl; processors_is = refl })
 
 all_events : (ls : List Line) → length (events_in (map said_by ls)) ≡ event_count ls

@@ -15,7 +15,7 @@ abbrev pub traffic_told : ℕ → ℕ → List Said
 traffic_told seed calls = map said_by (traffic_lines seed calls)
 
 -- the trace is of an exchange with so many external lines, bridge lines and call processors
-pub record HasSizes (t : Trace) (external bridges processors : ℕ) : Type 0 where
+pub record HasExchangeSizes (t : Trace) (external bridges processors : ℕ) : Type 0 where
   pub external_is : t.external ≡ external
   pub bridges_is : t.bridges ≡ bridges
   pub processors_is : t.processors ≡ processors

@@ -1,4 +1,12 @@
 //! The traces that are generated from a seed: each is a trace of the grammar, whatever the seed.
+//!
+//! - [`generated`] returns the trace that the octets are which `traffic_gen` draws of a seed.
+//! - [`law_of_generated_traces`]: there is one of each seed and count of calls (`some`, `one`); it is
+//!   what the lines say that were drawn (`told`); and its exchange and its number of events are those
+//!   of the definition (`sizes`, `events`).
+//!
+//! It stands on `circuit_model`, `number_plan`, `exchange_events`, `traffic_gen` and `trace_text`, and
+//! on the kit's `hex`.
 #![tactic(auto)]
 
 mod laws;

@@ -3,7 +3,7 @@ ghost use Rattle.exchange_events.specs.declared.record.CallRecord.{CallRecord};
 ghost use Rattle.meters.specs.Registers.{IsHeldBy, holding_text, holding_text_with};
 
 use crate::meter::Meter;
-use crate::texts::put_registers;
+use crate::texts::append_registers;
 use exchange_events::CallRecord;
 use std::alloc::AllocError;
 use std::marker::Model;
@@ -61,11 +61,6 @@ impl Meter for HoldingTime {
         ensures calls { OnOk result ((calls : List CallRecord) → IsHeldBy calls self.now → out.new.items ≡ out.old.items ++ holding_text calls) }
         ensures kept { OnErr result (out.new.items ≡ out.old.items) }
     {
-        let start = out.len();
-        let done = put_registers(out, b"holding ", self.total, self.longest);
-        if done.is_err() {
-            out.truncate(start);
-        }
-        done
+        append_registers(out, b"holding ", self.total, self.longest)
     }
 }

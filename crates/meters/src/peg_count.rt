@@ -3,7 +3,7 @@ ghost use Rattle.exchange_events.specs.declared.record.CallRecord.{CallRecord};
 ghost use Rattle.meters.specs.Registers.{ArePegsOf, peg_text, peg_text_with};
 
 use crate::meter::Meter;
-use crate::texts::put_registers;
+use crate::texts::append_registers;
 use exchange_events::CallRecord;
 use std::alloc::AllocError;
 use std::marker::Model;
@@ -62,11 +62,6 @@ impl Meter for PegCount {
         ensures calls { OnOk result ((calls : List CallRecord) → ArePegsOf calls self.now → out.new.items ≡ out.old.items ++ peg_text calls) }
         ensures kept { OnErr result (out.new.items ≡ out.old.items) }
     {
-        let start = out.len();
-        let done = put_registers(out, b"peg ", self.calls, self.answered);
-        if done.is_err() {
-            out.truncate(start);
-        }
-        done
+        append_registers(out, b"peg ", self.calls, self.answered)
     }
 }

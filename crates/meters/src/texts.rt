@@ -1,5 +1,5 @@
 // The pieces of the meters' texts. Each leaves a front of what it appends where memory is wanting.
-ghost use Rattle.std.specs.Prelude.{◌≡◌, ◌++◌, length, take, codes, decimal, OnOk};
+ghost use Rattle.std.specs.Prelude.{◌≡◌, ◌++◌, length, take, codes, decimal, OnOk, OnErr};
 ghost use Rattle.circuit_model.specs.Channels.{channel_at};
 ghost use Rattle.meters.specs.Details.{slot_text, party_text, figure, call_line};
 
@@ -8,8 +8,26 @@ use exchange_events::{CallRecord, Party};
 use itoa::Buffer;
 use std::alloc::AllocError;
 
+// Appends the line of two registers. A refusal leaves the text as it was.
+pub(crate) fn append_registers(
+    out: &mut Vec<u8>,
+    word: &[u8],
+    a: u64,
+    b: u64,
+) -> Result<(), AllocError>
+    ensures line { OnOk result (out.new.items ≡ out.old.items ++ word.now ++ decimal a ++ codes " " ++ decimal b ++ codes "\n") }
+    ensures kept { OnErr result (out.new.items ≡ out.old.items) }
+{
+    let start = out.len();
+    let done = put_registers(out, word, a, b);
+    if done.is_err() {
+        out.truncate(start);
+    }
+    done
+}
+
 // A word and two numbers, each behind a blank but the first.
-pub(crate) fn put_registers(
+fn put_registers(
     out: &mut Vec<u8>,
     word: &[u8],
     a: u64,

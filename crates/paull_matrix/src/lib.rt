@@ -11,9 +11,8 @@
 //!   a look, are not counted.
 //!
 //! Source: M. C. Paull, "Reswitching of connection networks", Bell System Technical Journal 41
-//! (1962). There a cell holds switches of the middle stage, which are internal slots here.
-//!
-//! It stands on no other crate.
+//! (1962). There a cell holds switches of the middle stage, which are internal slots here. It stands
+//! on no other crate.
 #![tactic(auto)]
 
 mod matrix;

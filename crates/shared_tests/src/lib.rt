@@ -4,9 +4,9 @@
 //! They stand here and not beside the shared exchange, which stands on no fabric. The crate
 //! promises nothing.
 //!
-//! It stands on `circuit_model`, `control_memory`, `number_plan`, `fabric_map`, `frame_engine`,
-//! `exchange_core`, `shared_exchange`, `gate`, `call_processor`, `segment_run`, `trace_text` and
-//! `report_text`.
+//! It stands on `circuit_model`, `seat_history`, `control_memory`, `number_plan`, `tone_rules`,
+//! `fabric_map`, `frame_engine`, `exchange_events`, `exchange_core`, `shared_exchange`, `gate`,
+//! `call_processor`, `segment_run`, `trace_text` and `report_text`.
 #![tactic(auto)]
 
 #[cfg(test)]

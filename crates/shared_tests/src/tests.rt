@@ -17,7 +17,7 @@ use std::sync::Wait;
 use std::test::Fail;
 use std::thread::Threads;
 use traces::{nails_and_frames, spelled, with_idle_octets};
-use work::{Told, do_all, side_by_side};
+use work::{Outcome, do_all, side_by_side};
 
 // What one thread does with two seats. The place and the answer of each event, and the journal.
 fn by_turns<R: Wait>(
@@ -25,7 +25,7 @@ fn by_turns<R: Wait>(
     alloc: Global,
     trace: &Trace,
     steps: &[(u32, u32)],
-) -> Option<(Vec<(u32, Told)>, Vec<(u32, u32)>)>
+) -> Option<(Vec<(u32, Outcome)>, Vec<(u32, u32)>)>
     requires sound { IsSound trace.now }
     requires sizes { (trace.now.external ≡ 4) × (trace.now.bridges ≡ 0) × (length trace.now.events ≡ 62) }
     requires few { length steps.now ≤ 30 }
@@ -76,11 +76,11 @@ fn two_seats_share_one_history(rt: HostRuntime) -> Result<(), Fail> {
     let steps = [(1, 1), (0, 1), (0, 61), (1, 2), (0, 62)];
     let (answers, journal) = by_turns(&rt, rt.alloc(), &trace, &steps).ok_or("no run")?;
     let expected = [
-        (0, Told::Granted(0, 0)),
-        (1, Told::Busy),
-        (2, Told::Frame(0)),
-        (3, Told::Granted(0, 0)),
-        (4, Told::Frame(1)),
+        (0, Outcome::Granted(0, 0)),
+        (1, Outcome::Busy),
+        (2, Outcome::Frame(0)),
+        (3, Outcome::Granted(0, 0)),
+        (4, Outcome::Frame(1)),
     ];
     assert_eq!(rt; answers.as_slice(), expected.as_slice());
     assert_eq!(rt; journal.as_slice(), steps.as_slice());

@@ -6,7 +6,7 @@ use Rattle.std.proofs.lemmas.List.Elements.{All-nil, All-cons, All-weaker}
 use Rattle.std.proofs.lemmas.List.Kept.{AllPairs-cons}
 use Rattle.trace_text.specs.declared.said.Said.{Said}
 use Rattle.trace_text.specs.declared.said.Said.TheVariants.{Nothing, Header, Numbered, Toned, Happens, Sync}
-use Rattle.trace_text.specs.TraceGrammar.{events_in, ended, ends_after, segment_ends}
+use Rattle.trace_text.specs.TraceGrammar.{events_in, open_segment_end, ends_after, segment_ends}
 use Rattle.exchange_events.specs.Sound.{last_of, AreSegments}
 
 -- the ends of some segments, behind so many events, of which so many came before the first of these segments
@@ -30,7 +30,7 @@ one_end begun count last later lt e = record {
 }
 
 -- the end of a segment, where it has events, before others
-with_end : (begun count last : ℕ) (later : List ℕ) → begun ≤ count → AreEnds count last later → AreEnds begun last (ended begun count ++ later)
+with_end : (begun count last : ℕ) (later : List ℕ) → begun ≤ count → AreEnds count last later → AreEnds begun last (open_segment_end begun count ++ later)
 with_end begun count last later le e =
     elim (cases_eq begun count) [
       | inl same ↦ rw (eq-eqb begun count same, same) e
@@ -41,7 +41,7 @@ are_ends : (begun count : ℕ) (told : List Said) → begun ≤ count → AreEnd
 are_ends begun count [] le =
     let e = with_end begun count count [] le (no_ends count) in
     let none : count ≡ count + 0 = omega arith in
-    subst (λ n. AreEnds begun n (ended begun count)) none (rw (append-nil (ended begun count)) at e)
+    subst (λ n. AreEnds begun n (open_segment_end begun count)) none (rw (append-nil (open_segment_end begun count)) at e)
 are_ends begun count (Nothing ∷ told) le = are_ends begun count told le
 are_ends begun count (Header sizes ∷ told) le = are_ends begun count told le
 are_ends begun count (Numbered number ∷ told) le = are_ends begun count told le

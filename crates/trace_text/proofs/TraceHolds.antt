@@ -11,7 +11,7 @@ use Rattle.trace_text.specs.declared.said.Sizes.{Sizes}
 use Rattle.trace_text.specs.declared.said.GivenTone.{GivenTone}
 use Rattle.trace_text.specs.declared.said.Said.{Said}
 use Rattle.trace_text.specs.declared.said.Said.TheVariants.{Nothing, Header, Numbered, Toned, Happens, Sync}
-use Rattle.trace_text.specs.TraceGrammar.{sizes_in, numbers_in, plan_of, tones_in, no_tones, tones_of, events_in, ended, ends_after, segment_ends}
+use Rattle.trace_text.specs.TraceGrammar.{sizes_in, numbers_in, plan_of, tones_in, no_tones, tones_of, events_in, open_segment_end, ends_after, segment_ends}
 use Rattle.trace_text.specs.TraceLines.{with_tone}
 use Rattle.trace_text.specs.TraceDraft.{Holds}
 
@@ -147,8 +147,8 @@ module _ (d n : Draft) (told : List Said) where
     events = b ∙ h.events ∙ sym (events-append told (Sync ∷ []) ∙ append-nil (events_in told));
     ends = λ more.
         let count = length d.events.items in
-        let now : ended d.begun count ≡ count ∷ [] = rw (ne_eqb d.begun count other) refl in
-        let told_all : segment_ends (told ++ (Sync ∷ more)) ≡ d.ends.items ++ (ended d.begun count ++ ends_after count count more) = h.ends (Sync ∷ more) in
+        let now : open_segment_end d.begun count ≡ count ∷ [] = rw (ne_eqb d.begun count other) refl in
+        let told_all : segment_ends (told ++ (Sync ∷ more)) ≡ d.ends.items ++ (open_segment_end d.begun count ++ ends_after count count more) = h.ends (Sync ∷ more) in
         rw (b, c, e, append_assoc told (Sync ∷ []) more) (told_all ∙ ap (λ (front : List ℕ). d.ends.items ++ (front ++ ends_after count count more)) now ∙ sym (append_assoc d.ends.items (count ∷ []) (ends_after count count more)));
   }
 
@@ -161,11 +161,11 @@ module _ (d n : Draft) (told : List Said) where
     events = b ∙ h.events ∙ sym (events-append told (Sync ∷ []) ∙ append-nil (events_in told));
     ends = λ more.
         let count = length d.events.items in
-        let now : ended d.begun count ≡ [] = rw (eq-eqb d.begun count same) refl in
-        let told_all : segment_ends (told ++ (Sync ∷ more)) ≡ d.ends.items ++ (ended d.begun count ++ ends_after count count more) = h.ends (Sync ∷ more) in
+        let now : open_segment_end d.begun count ≡ [] = rw (eq-eqb d.begun count same) refl in
+        let told_all : segment_ends (told ++ (Sync ∷ more)) ≡ d.ends.items ++ (open_segment_end d.begun count ++ ends_after count count more) = h.ends (Sync ∷ more) in
         rw (b, c, e, append_assoc told (Sync ∷ []) more) (told_all ∙ ap (λ (front : List ℕ). d.ends.items ++ (front ++ ends_after count count more)) now ∙ ap (λ k. d.ends.items ++ ends_after k count more) (sym same));
   }
 
 -- the ends of all segments, once the open one has ended
-pub segments_all : (d : Draft) (told : List Said) → Holds d told → segment_ends told ≡ d.ends.items ++ ended d.begun (length d.events.items)
+pub segments_all : (d : Draft) (told : List Said) → Holds d told → segment_ends told ≡ d.ends.items ++ open_segment_end d.begun (length d.events.items)
 segments_all d told h = ap segment_ends (sym (append-nil told)) ∙ h.ends []

@@ -15,7 +15,7 @@ use Rattle.number_plan.specs.declared.plan.Number.{Number}
 use Rattle.exchange_events.specs.declared.trace.Trace.{Trace}
 use Rattle.trace_text.specs.TraceWords.{lines}
 use Rattle.trace_text.specs.TraceLines.{SoFar, says, Fails}
-use Rattle.trace_text.specs.TraceGrammar.{most_bytes, so_far, EachSays, IsTold, IsTrace, IsRefused, At_line, At_end}
+use Rattle.trace_text.specs.TraceGrammar.{most_bytes, so_far, EachSays, IsWhatLinesSay, IsTrace, IsRefused, At_line, At_end}
 use Rattle.trace_text.specs.TraceDraft.{kept, Holds, at_line, IsFault}
 
 -- the lines before the rest were read, each met its checks, and the draft holds what they said
@@ -97,7 +97,7 @@ whole : (bytes rest : List ℕ) (number : ℕ) (d : Draft) (p : Progress bytes r
 whole bytes rest number d p empty = p.parts ∙ ap (λ (r : List ℕ). p.front ++ lines r) (nil_from_length rest empty) ∙ append-nil p.front
 
 pub is_read : (bytes rest : List ℕ) (number : ℕ) (d : Draft) (t : Trace) (p : Progress bytes rest number d)
-    → length bytes ≤ most_bytes → length rest ≡ 0 → ((told : List Said) → Holds d told → IsTold t told) → IsTrace bytes t
+    → length bytes ≤ most_bytes → length rest ≡ 0 → ((told : List Said) → Holds d told → IsWhatLinesSay t told) → IsTrace bytes t
 is_read bytes rest number d t p few empty told = record {
   few = few;
   told = p.told;

@@ -12,7 +12,7 @@ use Rattle.exchange_events.specs.declared.trace.Trace.{Trace}
 use Rattle.trace_text.specs.TraceWords.{lines}
 use Rattle.trace_text.specs.TraceLines.{says}
 use Rattle.tone_rules.specs.declared.tones.Tones.{Tones}
-use Rattle.trace_text.specs.TraceGrammar.{most_bytes, sizes_in, numbers_in, plan_of, tones_in, tones_of, events_in, so_far, segment_ends, EachSays, IsTold, IsTrace, IsFirstFault, IsRefused, Too_long, At_line, At_end}
+use Rattle.trace_text.specs.TraceGrammar.{most_bytes, sizes_in, numbers_in, plan_of, tones_in, tones_of, events_in, so_far, segment_ends, EachSays, IsWhatLinesSay, IsTrace, IsFirstFault, IsRefused, Too_long, At_line, At_end}
 
 -- what became of a row of lines: what each says, or the place of the first that fails and why
 pub data Outcome : Type 0 where
@@ -88,7 +88,7 @@ same_trace t u a b c p k d e =
 sizes_of : Trace → Sizes
 sizes_of t = record { external = t.external; bridges = t.bridges; processors = t.processors }
 
-told_once : (t u : Trace) (told : List Said) → IsTold t told → IsTold u told → t ≡ u
+told_once : (t u : Trace) (told : List Said) → IsWhatLinesSay t told → IsWhatLinesSay u told → t ≡ u
 unfolding sizes_of
 told_once t u told x y =
     let both : Some (sizes_of t) ≡ Some (sizes_of u) = sym x.sizes ∙ y.sizes in
@@ -96,7 +96,7 @@ told_once t u told x y =
     same_trace t u (ap (λ s. s.external) same) (ap (λ s. s.bridges) same) (ap (λ s. s.processors) same) (x.plan ∙ sym y.plan) (x.tones ∙ sym y.tones) (x.events ∙ sym y.events) (x.segments ∙ sym y.segments)
 
 pub one_trace : (bytes : List ℕ) (t u : Trace) → IsTrace bytes t → IsTrace bytes u → t ≡ u
-one_trace bytes t u x y = told_once t u x.told x.all (subst (λ told. IsTold u told) (sym (same_told [] (lines bytes) x.told y.told x.meets y.meets)) y.all)
+one_trace bytes t u x y = told_once t u x.told x.all (subst (λ told. IsWhatLinesSay u told) (sym (same_told [] (lines bytes) x.told y.told x.meets y.meets)) y.all)
 
 pub never_both : (bytes : List ℕ) (t : Trace) (number : ℕ) (why : Reason) → IsTrace bytes t → IsRefused bytes number why → ⊥
 unfolding sizes_of

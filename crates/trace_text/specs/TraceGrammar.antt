@@ -74,18 +74,18 @@ abbrev pub so_far : List Said → SoFar
 so_far told = record { sizes = sizes_in told; events = length (events_in told); plan = plan_of (numbers_in told); tones = tones_of (tones_in told) }
 
 -- a segment ends with the last event so far, where it has any
-abbrev pub ended : ℕ → ℕ → List ℕ
-ended begun count = if begun == count then [] else count ∷ []
+abbrev pub open_segment_end : ℕ → ℕ → List ℕ
+open_segment_end begun count = if begun == count then [] else count ∷ []
 
 -- the numbers of the last events of the segments that have any. So many events came before, and so many before the segment that is open
 abbrev pub ends_after : ℕ → ℕ → List Said → List ℕ
-ends_after begun count [] = ended begun count
+ends_after begun count [] = open_segment_end begun count
 ends_after begun count (Nothing ∷ others) = ends_after begun count others
 ends_after begun count (Header sizes ∷ others) = ends_after begun count others
 ends_after begun count (Numbered number ∷ others) = ends_after begun count others
 ends_after begun count (Toned given ∷ others) = ends_after begun count others
 ends_after begun count (Happens event ∷ others) = ends_after begun (count + 1) others
-ends_after begun count (Sync ∷ others) = ended begun count ++ ends_after count count others
+ends_after begun count (Sync ∷ others) = open_segment_end begun count ++ ends_after count count others
 
 abbrev pub segment_ends : List Said → List ℕ
 segment_ends told = ends_after 0 0 told
@@ -98,7 +98,7 @@ EachSays before (line ∷ others) [] = ⊥
 EachSays before (line ∷ others) (said ∷ told) = (says (so_far before) line ≡ Ok said) × EachSays (before ++ said ∷ []) others told
 
 -- the trace is what the lines say: the sizes of the header, the plan of the numbers, the tones, the events, and the ends of the segments
-pub record IsTold (t : Trace) (told : List Said) : Type 0 where
+pub record IsWhatLinesSay (t : Trace) (told : List Said) : Type 0 where
   pub sizes : sizes_in told ≡ Some (record { external = t.external; bridges = t.bridges; processors = t.processors })
   pub plan : t.plan ≡ plan_of (numbers_in told)
   pub tones : t.tones ≡ tones_of (tones_in told)
@@ -110,7 +110,7 @@ pub record IsTrace (bytes : List ℕ) (t : Trace) : Type 0 where
   pub few : length bytes ≤ most_bytes
   pub told : List Said
   pub meets : EachSays [] (lines bytes) told
-  pub all : IsTold t told
+  pub all : IsWhatLinesSay t told
 
 -- a line of the bytes is the first that fails, and a check of it is the first that does
 pub record IsFirstFault (bytes : List ℕ) (number : ℕ) (why : Reason) : Type 0 where

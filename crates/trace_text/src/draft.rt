@@ -48,7 +48,7 @@ impl Draft {
     ghost use Rattle.std.specs.Prelude.{◌≡◌, ◌<◌, ◌++◌, ◌∷◌, [], List, length, Ok, OnOk, IfOk, IfErr, IfSome, vec_len};
     ghost use Rattle.trace_text.specs.TraceWords.{words};
     ghost use Rattle.trace_text.specs.TraceLines.{number, numbered, tone, toned, before_events, by_kind, reads, joins, says, Fails, Gives};
-    ghost use Rattle.trace_text.specs.TraceGrammar.{ended, IsTold};
+    ghost use Rattle.trace_text.specs.TraceGrammar.{open_segment_end, IsWhatLinesSay};
     ghost use Rattle.trace_text.specs.TraceDraft.{kept, Holds, Suits, FailsAtEnd};
 
     /// The draft of no lines.
@@ -70,7 +70,7 @@ impl Draft {
         ensures taken { OnOk result ((told : List Said) →
             Holds self.old told → Holds self.new (told ++ Said.Sync ∷ [])) }
         ensures ended { OnOk result (self.new.ends.items
-            ≡ self.old.ends.items ++ ended self.old.begun (vec_len self.old.events)) }
+            ≡ self.old.ends.items ++ open_segment_end self.old.begun (vec_len self.old.events)) }
         ensures plan { OnOk result (self.new.plan ≡ self.old.plan) }
         ensures tones { OnOk result (self.new.tones ≡ self.old.tones) }
         ensures events { OnOk result (self.new.events.items ≡ self.old.events.items) }
@@ -211,7 +211,7 @@ impl Draft {
     /// The trace of so many lines.
     pub fn finish(mut self, lines: u32) -> Result<Trace, TraceFault>
         requires { lines < 4294967295 }
-        ensures read { IfOk result (λ t. (told : List Said) → Holds self told → IsTold t told) }
+        ensures read { IfOk result (λ t. (told : List Said) → Holds self told → IsWhatLinesSay t told) }
         ensures refused { IfErr result (λ e. FailsAtEnd self.sizes lines e) }
     {
         let Some(sizes) = self.sizes else {

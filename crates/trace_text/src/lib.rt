@@ -8,7 +8,8 @@
 //! - Every trace that is read is sound: its lines exist, and its sizes are those of an exchange
 //!   ([`traces_are_sound`]).
 //!
-//! It stands on `circuit_model`, `number_plan` and `exchange_events`, and on the kit's `memchr`.
+//! It stands on `circuit_model`, `number_plan`, `tone_rules` and `exchange_events`, and on the
+//! kit's `memchr`.
 #![tactic(auto)]
 
 mod cut;

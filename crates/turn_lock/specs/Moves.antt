@@ -62,6 +62,10 @@ module _ {S C : Type 0} (setting : S → C) (journal : S → List Entry) (room :
   abbrev pub HoldsState : Me (Option S) (View C) → List Entry → Type 0
   HoldsState m log = (x : S) × (m.1 ≡ (0, Some x) ∷ []) × IsAt setting journal room m.0.setting m.0.budget log x
 
+  -- with its own entry behind the history that it has seen
+  abbrev pub HoldsOwnEntry : Me (Option S) (View C) → Type 0
+  HoldsOwnEntry m = HoldsState m (m.0.known.seen ++ (m.0.known.number, m.0.event) ∷ [])
+
 module _ {S C : Type 0} (setting : S → C) (journal : S → List Entry) (room : S → ℕ) (reserved : C → ℕ → Type 0) where
   -- draw: one turn less, the ticket that was found, and its event
   abbrev pub IsDraw : ℕ → Step (Option S) → Me (Option S) (View C) → ℕ → Me (Option S) (View C) → Type 0

@@ -27,7 +27,7 @@ ghost use Rattle.seat_history.specs.Histories.{StartsWith};
 ghost use Rattle.seat_history.specs.Seats.{HasJoinedAll};
 ghost use Rattle.turn_lock.specs.Views.{IsLive, Under};
 ghost use Rattle.turn_lock.specs.Rule.{Reserves};
-ghost use Rattle.turn_lock.specs.Moves.{Gets, HoldsState, IsFree, IsEnd, KnowsAll, IsStep, first_view, view_after_draw, view_after_split, new_view, view_after_join, view_after_meet, view_after_pass};
+ghost use Rattle.turn_lock.specs.Moves.{Gets, HoldsOwnEntry, HoldsState, IsFree, IsEnd, KnowsAll, IsStep, first_view, view_after_draw, view_after_split, new_view, view_after_join, view_after_meet, view_after_pass};
 
 use crate::board::{Aim, Gift, Opening, Token, Turns, View};
 use crate::plays::{Cut, Draw, Glue, Look, Meet, Pass};
@@ -198,7 +198,7 @@ impl<S: Stepper> Board<S> {
     fn pass(&self, seat: &mut Token<S>)
         requires lock { seat.old.table_id ≡ self.now.table.shared.table_id }
         requires served { IsLive seat.old.me.0.setting × ((t : ℕ) × (seat.old.me.0.stage ≡ Served t)) }
-        requires state { HoldsState S.setting S.journal S.room seat.old.me (seat.old.me.0.known.seen ++ (seat.old.me.0.known.number, seat.old.me.0.event) ∷ []) }
+        requires state { HoldsOwnEntry S.setting S.journal S.room seat.old.me }
         ensures lock { seat.new.table_id ≡ seat.old.table_id }
         ensures view { seat.new.me ≡ (view_after_pass seat.old.me.0, []) }
         ensures settled { seat.old.me.0.known.number ≡ 0 → KnowsAll seat.new.me.0 }

@@ -3,6 +3,7 @@ ghost use Rattle.std.specs.Prelude.{◌≡◌, ◌≤◌, ◌<◌, ◌+◌, ◌^
 ghost use Rattle.std.specs.Thread.{IsSync};
 ghost use Rattle.exchange_core.specs.Boards.{IsToolAt};
 ghost use Rattle.control_memory.specs.Image.{Control};
+ghost use Rattle.shared_tests.specs.Steps.{HasStepped};
 
 use control_memory::Image;
 use exchange_core::{Desk, Switchboard, Tool};
@@ -13,102 +14,48 @@ use std::thread::{Threads, join};
 
 /// What an event is answered.
 #[derive(Clone, Copy, Debug, PartialEq, Eq)]
-pub enum Told {
+pub enum Outcome {
     Granted(u32, u32),
     Busy,
     Frame(u32),
     Other,
 }
 
-fn answer_of(reply: &Reply) -> Told {
+fn answer_of(reply: &Reply) -> Outcome {
     match reply {
-        Reply::Granted(there, back) => Told::Granted(*there, *back),
-        Reply::Busy => Told::Busy,
-        Reply::Frame { number, .. } => Told::Frame(*number),
-        _ => Told::Other,
+        Reply::Granted(there, back) => Outcome::Granted(*there, *back),
+        Reply::Busy => Outcome::Busy,
+        Reply::Frame { number, .. } => Outcome::Frame(*number),
+        _ => Outcome::Other,
     }
 }
 
-// Does a nail. `None` where the event is none.
+// Does a nail, at a desk or with a tool in hand. `None` where the event is none.
 fn nail<B: Switchboard, R: Wait>(
     rt: &R,
     board: &B,
     trace: &Trace,
     seat: &mut B::Seat,
     event: u32,
-) -> Option<(u32, Told)>
+    at_desk: bool,
+) -> Option<(u32, Outcome)>
     requires trace { trace.now ≡ (B.board board.now).trace }
     requires seated { B.seated board.now seat.old }
     requires turn { 0 < (B.known seat.old).left }
     ensures seated { B.seated board.now seat.new }
-    ensures left { (B.known seat.old).left ≤ (B.known seat.new).left + 1 }
-    ensures baton { (B.known seat.new).baton ≡ (B.known seat.old).baton }
-    ensures number { (B.known seat.new).number ≡ (B.known seat.old).number }
-    ensures seats { ((B.known seat.new).made ≡ (B.known seat.old).made) × (length (B.known seat.new).kept ≡ length (B.known seat.old).kept) }
+    ensures stepped { HasStepped (B.known seat.old) (B.known seat.new) }
 {
     let index = (event as usize).checked_sub(1)?;
     match trace.events.as_slice().get(index)? {
         Event::Nail(_, _) => {}
         _ => return None,
+    }
+    if at_desk {
+        let mut desk = Desk::new(Tool::Nothing);
+        let (place, response) = board.work(rt, seat, event, &mut desk);
+        return Some((place, answer_of(&response.with(desk.out))));
     }
     let mut tool = Tool::Nothing;
-    let (place, reply) = board.handle(rt, seat, event, &mut tool);
-    Some((place, answer_of(&reply)))
-}
-
-// The same at a desk.
-fn nail_at_desk<B: Switchboard, R: Wait>(
-    rt: &R,
-    board: &B,
-    trace: &Trace,
-    seat: &mut B::Seat,
-    event: u32,
-) -> Option<(u32, Told)>
-    requires trace { trace.now ≡ (B.board board.now).trace }
-    requires seated { B.seated board.now seat.old }
-    requires turn { 0 < (B.known seat.old).left }
-    ensures seated { B.seated board.now seat.new }
-    ensures left { (B.known seat.old).left ≤ (B.known seat.new).left + 1 }
-    ensures baton { (B.known seat.new).baton ≡ (B.known seat.old).baton }
-    ensures number { (B.known seat.new).number ≡ (B.known seat.old).number }
-    ensures seats { ((B.known seat.new).made ≡ (B.known seat.old).made) × (length (B.known seat.new).kept ≡ length (B.known seat.old).kept) }
-{
-    let index = (event as usize).checked_sub(1)?;
-    match trace.events.as_slice().get(index)? {
-        Event::Nail(_, _) => {}
-        _ => return None,
-    }
-    let mut desk = Desk::new(Tool::Nothing);
-    let (place, response) = board.work(rt, seat, event, &mut desk);
-    Some((place, answer_of(&response.with(desk.out))))
-}
-
-// Does a frame, by the holder of the baton. `None` where the event is none.
-fn frame<B: Switchboard, R: Wait>(
-    rt: &R,
-    board: &B,
-    trace: &Trace,
-    seat: &mut B::Seat,
-    event: u32,
-    image: Image,
-) -> Option<(u32, Told)>
-    requires trace { trace.now ≡ (B.board board.now).trace }
-    requires image { (image.external ≡ trace.now.external) × (image.bridges ≡ trace.now.bridges) × (image.slots ≡ (B.board board.now).slots) }
-    requires seated { B.seated board.now seat.old }
-    requires turn { 0 < (B.known seat.old).left }
-    requires baton { IsTrue (B.known seat.old).baton }
-    ensures seated { B.seated board.now seat.new }
-    ensures left { (B.known seat.old).left ≤ (B.known seat.new).left + 1 }
-    ensures baton { (B.known seat.new).baton ≡ (B.known seat.old).baton }
-    ensures number { (B.known seat.new).number ≡ (B.known seat.old).number }
-    ensures seats { ((B.known seat.new).made ≡ (B.known seat.old).made) × (length (B.known seat.new).kept ≡ length (B.known seat.old).kept) }
-{
-    let index = (event as usize).checked_sub(1)?;
-    match trace.events.as_slice().get(index)? {
-        Event::Frame(_) => {}
-        _ => return None,
-    }
-    let mut tool = Tool::Image(image);
     let (place, reply) = board.handle(rt, seat, event, &mut tool);
     Some((place, answer_of(&reply)))
 }
@@ -121,23 +68,26 @@ fn nail_or_frame<B: Switchboard, R: Wait>(
     trace: &Trace,
     seat: &mut B::Seat,
     event: u32,
-) -> Option<(u32, Told)>
-    requires trace { trace.now ≡ (B.board board.now).trace }
+) -> Option<(u32, Outcome)>
     requires sizes { (trace.now.external ≡ 4) × (trace.now.bridges ≡ 0) × ((B.board board.now).slots ≡ 30) }
+    requires trace { trace.now ≡ (B.board board.now).trace }
     requires seated { B.seated board.now seat.old }
     requires turn { 0 < (B.known seat.old).left }
     requires baton { IsTrue (B.known seat.old).baton }
     ensures seated { B.seated board.now seat.new }
-    ensures left { (B.known seat.old).left ≤ (B.known seat.new).left + 1 }
-    ensures baton { (B.known seat.new).baton ≡ (B.known seat.old).baton }
-    ensures number { (B.known seat.new).number ≡ (B.known seat.old).number }
-    ensures seats { ((B.known seat.new).made ≡ (B.known seat.old).made) × (length (B.known seat.new).kept ≡ length (B.known seat.old).kept) }
+    ensures stepped { HasStepped (B.known seat.old) (B.known seat.new) }
 {
     if event <= 60 {
-        return nail(rt, board, trace, seat, event);
+        return nail(rt, board, trace, seat, event, false);
     }
-    let image = Image::new(alloc, 4, 0, 30).ok()?;
-    frame(rt, board, trace, seat, event, image)
+    let index = (event as usize).checked_sub(1)?;
+    match trace.events.as_slice().get(index)? {
+        Event::Frame(_) => {}
+        _ => return None,
+    }
+    let mut tool = Tool::Image(Image::new(alloc, 4, 0, 30).ok()?);
+    let (place, reply) = board.handle(rt, seat, event, &mut tool);
+    Some((place, answer_of(&reply)))
 }
 
 /// Steps of two seats in this order, each a seat's number and an event; seat 0 holds the baton, and the other one works at a desk. The place
@@ -150,7 +100,7 @@ pub fn do_all<B: Switchboard, R: Wait>(
     zero: &mut B::Seat,
     one: &mut B::Seat,
     steps: &[(u32, u32)],
-) -> Option<Vec<(u32, Told)>>
+) -> Option<Vec<(u32, Outcome)>>
     requires trace { trace.now ≡ (B.board board.now).trace }
     requires sizes { (trace.now.external ≡ 4) × (trace.now.bridges ≡ 0) × ((B.board board.now).slots ≡ 30) }
     requires zero { B.seated board.now zero.old × IsTrue (B.known zero.old).baton × (length steps.now ≤ (B.known zero.old).left) }
@@ -163,7 +113,7 @@ pub fn do_all<B: Switchboard, R: Wait>(
     for &(number, event) in steps {
         let answer = match number {
             0 => nail_or_frame(rt, alloc, board, trace, zero, event),
-            _ => nail_at_desk(rt, board, trace, one, event),
+            _ => nail(rt, board, trace, one, event, true),
         };
         answers.push(answer?).ok()?;
     }
@@ -188,7 +138,7 @@ pub fn every_second<B: Switchboard, R: Wait>(
 {
     let mut granted = 0;
     for i in 0..count {
-        if let Some((_, Told::Granted(0, 0))) = nail(rt, board, trace, seat, first + 2 * i) {
+        if let Some((_, Outcome::Granted(0, 0))) = nail(rt, board, trace, seat, first + 2 * i, false) {
             granted += 1;
         }
     }
@@ -216,7 +166,10 @@ pub fn side_by_side<B: Switchboard, R: Threads + Wait + Sync>(
             requires seated { B.seated board.now seat }
             requires turns { 30 ≤ (B.known seat).left }
             requires chief { ((B.known seat).number ≡ 0) × ((B.known seat).made ≡ 1) × (length (B.known seat).kept ≡ 0) }
-            ensures { B.seated board.entry.now result.1 × ((B.known result.1).number ≡ 0) × ((B.known result.1).made ≡ 1) × (length (B.known result.1).kept ≡ 0) }
+            ensures seated { B.seated board.entry.now result.1 }
+            ensures number { (B.known result.1).number ≡ 0 }
+            ensures made { (B.known result.1).made ≡ 1 }
+            ensures kept { length (B.known result.1).kept ≡ 0 }
         {
             let odd = every_second(rt, board, trace, &mut seat, 1, 30);
             (odd, seat)

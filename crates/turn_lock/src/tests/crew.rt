@@ -97,12 +97,20 @@ pub fn crew<R: Threads + Wait + Sync>(
     let (other, mut seat) = join(
         rt,
         move || -> Seat<Sum>
-            requires { IsSeatOf lock.now other × (count < 1000000) }
+            requires of { IsSeatOf lock.now other }
+            requires few { count < 1000000 }
             ensures { IsSeatOf lock.entry.now result }
         { steps(rt, lock, other, count) },
         move || -> Seat<Sum>
-            requires { IsSync R.row × IsSeatOf lock.now seat × (seat.known.number ≡ 0) × (count < 1000000) × (seat.known.made + next < 2 ^ 32) }
-            ensures { IsSeatOf lock.entry.now result × (result.known.number ≡ 0) × (result.known.made ≡ seat.known.made + next) × (length result.known.kept ≡ length seat.known.kept + next) }
+            requires threads { IsSync R.row }
+            requires of { IsSeatOf lock.now seat }
+            requires chief { seat.known.number ≡ 0 }
+            requires few { count < 1000000 }
+            requires seats { seat.known.made + next < 2 ^ 32 }
+            ensures of { IsSeatOf lock.entry.now result }
+            ensures chief { result.known.number ≡ 0 }
+            ensures made { result.known.made ≡ seat.known.made + next }
+            ensures kept { length result.known.kept ≡ length seat.known.kept + next }
         { crew(rt, lock, seat, next, count) },
     );
     seat.join(lock, other);

@@ -1,4 +1,4 @@
-use Rattle.std.proofs.Common.{◌≡◌, ◌++◌, List, ℕ, length, ap, ◌∙◌}
+use Rattle.std.proofs.Common.{◌++◌, List, ℕ, length, ap}
 use Rattle.std.proofs.lemmas.List.{drop-replicate}
 use Rattle.circuit_model.specs.FrameInput.{idle_octet}
 use Rattle.report_text.proofs.digits.wide_row.Goals as goal

@@ -1,4 +1,4 @@
-use Rattle.std.proofs.Common.{◌≡◌, ◌++◌, List, ℕ, length, take, drop, arith}
+use Rattle.std.proofs.Common.{◌≡◌, ◌++◌, List, ℕ, take, drop, arith}
 use Rattle.std.proofs.Transfers.{starts_with_trans}
 use Rattle.hex.specs.Hex.{encode_upper}
 use Rattle.report_text.proofs.Texts.{octets_more, octets_done}

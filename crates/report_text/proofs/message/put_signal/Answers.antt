@@ -1,5 +1,4 @@
-use Rattle.std.proofs.Common.{rules, ◌≡◌, ◌++◌, ◌∷◌, [], List, ℕ, take, drop, decimal, sym, ◌∙◌, arith}
-use Rattle.hex.specs.Hex.{encode_upper}
+use Rattle.std.proofs.Common.{rules, ◌≡◌, ◌++◌, ◌∷◌, [], List, ℕ, take, drop, decimal, sym, arith}
 use Rattle.report_text.proofs.Texts.{parts_joined}
 use Rattle.report_text.proofs.message.put_signal.Goals as goal
 

@@ -1,4 +1,4 @@
-use Rattle.std.proofs.Common.{rules, ◌≡◌, List, ℕ, decimal, length, arith}
+use Rattle.std.proofs.Common.{rules, List, ℕ, decimal, arith}
 use Rattle.report_text.proofs.Texts.{numbers_line, tail_from}
 use Rattle.report_text.proofs.report.put_numbers.Goals as goal
 

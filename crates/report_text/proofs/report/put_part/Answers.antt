@@ -1,4 +1,4 @@
-use Rattle.std.proofs.Common.{rules, ◌≡◌, ◌==◌, ◌-◌, ◌*◌, ◌∙◌, false, List, ℕ, length, take, replicate, sym, ap, refl, arith}
+use Rattle.std.proofs.Common.{rules, ◌≡◌, ◌==◌, ◌-◌, ◌*◌, ◌∙◌, false, List, ℕ, length, take, replicate, sym, ap, arith}
 use Rattle.std.specs.List.{list_all}
 use Rattle.circuit_model.specs.FrameInput.{idle_octet}
 use Rattle.hex.specs.Hex.{encode_upper}

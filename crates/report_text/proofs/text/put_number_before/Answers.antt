@@ -1,4 +1,4 @@
-use Rattle.std.proofs.Common.{◌≡◌, arith, decimal}
+use Rattle.std.proofs.Common.{◌≡◌, arith}
 use Rattle.std.proofs.lemmas.Fmt.{length-decimal-le}
 use Rattle.report_text.proofs.text.put_number_before.Goals as goal
 

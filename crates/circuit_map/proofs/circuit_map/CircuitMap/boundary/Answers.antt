@@ -4,7 +4,7 @@ use Rattle.control_memory.specs.Layout.{Legal}
 use Rattle.control_memory.specs.Image.{HasLayout, port_entry}
 use Rattle.control_memory.specs.Shown.{heard_as}
 use Rattle.control_memory.specs.declared.heard.Heard.TheVariants.{Silent}
-use Rattle.circuit_map.specs.Connections.{Connections, lines_of, Represents, served_in, room_in, entry_at}
+use Rattle.circuit_map.specs.Connections.{Connections, map_lines, Represents, served_in, room_in, entry_at}
 use Rattle.circuit_map.proofs.Holdings.{holds_frame}
 use Rattle.circuit_map.proofs.Paths.{own_ports}
 use Rattle.circuit_map.proofs.Showing.{shows}
@@ -44,8 +44,8 @@ returns-clause-shows g c = λ h ports holds.
     let is = c.self.view_is in
     let a = c.begin.ensures in
     let b = c.write_tables.ensures in
-    let width = c.self.invariant.width ∙ ap lines_of is in
-    let lines = ap lines_of is in
+    let width = c.self.invariant.width ∙ ap map_lines is in
+    let lines = ap map_lines is in
     let shown = c.self.invariant.shown in
     let external = b.sizes.external ∙ a.sizes.external ∙ c.requires.external ∙ sym (ap (λ (m : Connections). m.external) is) in
     shows c.args.self.now c.write_tables.new.image h ports

@@ -5,7 +5,7 @@ use Rattle.circuit_model.specs.Circuits.{same_slot}
 use Rattle.circuit_model.specs.Holding.{Holding, Connect, after}
 use Rattle.control_memory.specs.Layout.{IsSlot, Joins}
 use Rattle.control_memory.specs.Connecting.{connect, moved}
-use Rattle.circuit_map.specs.Connections.{Connections, lines_of, joined_one, joined_both, Represents, AreRoomed, hears_in, hears_at, hears_after}
+use Rattle.circuit_map.specs.Connections.{Connections, map_lines, joined_one, joined_both, Represents, AreRoomed, hears_in, hears_at, hears_after}
 use Rattle.circuit_map.proofs.Rows.{hears_set, two_keep}
 use Rattle.circuit_map.proofs.OwnersRooms.{roomed_on}
 use Rattle.circuit_map.proofs.Holdings.{holds_pair, swapped}
@@ -24,14 +24,14 @@ pub connect-there-requires-clause-outlet : goal.connect-there-requires-clause-ou
 connect-there-requires-clause-outlet g c =
     let held = subst (λ (m : Connections). (h : Holding) × Represents m h m.ports) c.self.view_is c.self.invariant.held in
     let layout = ap (λ (m : Connections). m.layout) c.self.view_is in
-    let lines = c.self.invariant.width ∙ ap lines_of c.self.view_is in
+    let lines = c.self.invariant.width ∙ ap map_lines c.self.view_is in
     no_outlet _ _ c.args.y c.self.invariant.legal.inlets (λ a inside j. none_joins_idle c.args.self.now held.0 c.args.self.now.ports a c.args.y held.1 (subst (λ w. IsSlot w a) lines inside) c.requires.external_y.0 c.requires.idle_y (subst (λ l. Joins l a c.args.y) layout j))
 
 pub connect-back-requires-clause-inlet : goal.connect-back-requires-clause-inlet
 connect-back-requires-clause-inlet g c =
     let held = subst (λ (m : Connections). (h : Holding) × Represents m h m.ports) c.self.view_is c.self.invariant.held in
     let layout = ap (λ (m : Connections). m.layout) c.self.view_is in
-    let lines = c.self.invariant.width ∙ ap lines_of c.self.view_is in
+    let lines = c.self.invariant.width ∙ ap map_lines c.self.view_is in
     let y_in = c.requires.external_y in
     no_inlet _ c.args.y (λ b j. ⊎_elim
     (λ (old : Joins _ c.args.y b). idle_joins_none c.args.self.now held.0 c.args.self.now.ports c.args.y b held.1 y_in.0 y_in.1 c.requires.idle_y (subst (λ l. Joins l c.args.y b) layout old))
@@ -42,7 +42,7 @@ pub connect-back-requires-clause-outlet : goal.connect-back-requires-clause-outl
 connect-back-requires-clause-outlet g c =
     let held = subst (λ (m : Connections). (h : Holding) × Represents m h m.ports) c.self.view_is c.self.invariant.held in
     let layout = ap (λ (m : Connections). m.layout) c.self.view_is in
-    let lines = c.self.invariant.width ∙ ap lines_of c.self.view_is in
+    let lines = c.self.invariant.width ∙ ap map_lines c.self.view_is in
     no_outlet _ _ c.args.x c.connect-there.ensures.legal.inlets (λ a inside j.
     let was : IsSlot (g.P.PathMap.width c.self.inside.paths) a = subst (λ w. IsSlot w a) c.connect-there.ensures.width inside in
     ⊎_elim
@@ -83,7 +83,7 @@ returns-clause-hears g c = λ z.
 pub returns-clause-holds : goal.returns-clause-holds
 returns-clause-holds g c =
     let is = c.self.view_is in
-    let lines = c.self.invariant.width ∙ ap lines_of is in
+    let lines = c.self.invariant.width ∙ ap map_lines is in
     holds_pair c.args.self.now _ c.args.x c.args.y c.requires.distinct c.requires.idle_x c.requires.idle_y
     (record {
       external = ap (λ (m : Connections). m.external) is;

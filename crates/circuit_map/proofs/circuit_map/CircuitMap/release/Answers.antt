@@ -5,7 +5,7 @@ use Rattle.circuit_model.specs.Circuits.{same_slot, heard_by}
 use Rattle.circuit_model.specs.Holding.{Holding, Clear, after}
 use Rattle.control_memory.specs.Layout.{IsSlot, Joins, number_of}
 use Rattle.control_memory.specs.Connecting.{without_path}
-use Rattle.circuit_map.specs.Connections.{Connections, Represents, AreRoomed, lines_of, hears_in, hears_at}
+use Rattle.circuit_map.specs.Connections.{Connections, Represents, AreRoomed, map_lines, hears_in, hears_at}
 use Rattle.circuit_map.proofs.OwnersRooms.{roomed_on, others_hear_on}
 use Rattle.circuit_map.proofs.Rows.{hears_written, row_inside}
 use Rattle.circuit_map.proofs.Paths.{own_ports, external_slot}
@@ -31,7 +31,7 @@ disconnect-requires-2-clause-from g c =
     let m = c.args.self.now in
     let hx = connected_to m held.0 m.ports c.args.x c.args.y c.requires.connected.0 c.requires.connected.1 held.1 c.requires.connected.2 in
     let near = other_end m held.0 c.args.x c.args.y c.requires.connected.1 held.1 hx in
-    subst (λ w. IsSlot w c.args.y) (sym (c.disconnect.ensures.width ∙ c.self.invariant.width ∙ ap lines_of c.self.view_is)) (external_slot m c.args.y near.0 near.1)
+    subst (λ w. IsSlot w c.args.y) (sym (c.disconnect.ensures.width ∙ c.self.invariant.width ∙ ap map_lines c.self.view_is)) (external_slot m c.args.y near.0 near.1)
 
 pub disconnect-requires-2-clause-stands : goal.disconnect-requires-2-clause-stands
 disconnect-requires-2-clause-stands g c =
@@ -40,9 +40,9 @@ disconnect-requires-2-clause-stands g c =
     let hx = connected_to m held.0 m.ports c.args.x c.args.y c.requires.connected.0 c.requires.connected.1 held.1 c.requires.connected.2 in
     let near = other_end m held.0 c.args.x c.args.y c.requires.connected.1 held.1 hx in
     let in_y = external_slot m c.args.y near.0 near.1 in
-    let lines = c.self.invariant.width ∙ ap lines_of c.self.view_is in
+    let lines = c.self.invariant.width ∙ ap map_lines c.self.view_is in
     let layout = ap (λ (m : Connections). m.layout) c.self.view_is in
-    still_joined (lines_of m) m.layout _ c.args.x c.args.y (sym (ap length layout) ∙ c.self.invariant.legal.inlets ∙ ap (λ w. 30 * w) lines) (c.disconnect.ensures.layout ∙ ap (λ l. without_path l c.args.x) layout)
+    still_joined (map_lines m) m.layout _ c.args.x c.args.y (sym (ap length layout) ∙ c.self.invariant.legal.inlets ∙ ap (λ w. 30 * w) lines) (c.disconnect.ensures.layout ∙ ap (λ l. without_path l c.args.x) layout)
     (external_slot m c.args.x c.requires.external.0 c.requires.external.1) in_y ((hearing_at m held.0 m.ports held.1).apart c.args.x c.args.y c.requires.connected.1 hx) (joined_back m held.0 m.ports c.args.x c.args.y c.requires.connected.1 held.1 in_y hx)
 
 pub index_mut-requires-2 : goal.index_mut-requires-2
@@ -108,7 +108,7 @@ returns-clause-holds g c = λ h ports holds.
     let k = hearing_at m h ports holds in
     let hx = connected_to m h ports x y c.requires.connected.0 s holds c.requires.connected.2 in
     let near = k.inside y _ (k.both_ways x y s hx) in
-    let lines = c.self.invariant.width ∙ ap lines_of is in
+    let lines = c.self.invariant.width ∙ ap map_lines is in
     let layout = ap (λ (m : Connections). m.layout) is in
     clear_paths m _ x y c.requires.external.0
     (record {
@@ -118,7 +118,7 @@ returns-clause-holds g c = λ h ports holds.
       hears = returns-clause-hears g c;
       members = returns-clause-ports g c;
     })
-    (λ a b inside. less_two (lines_of m) m.layout _ _ x y a b (sym (ap length layout) ∙ c.self.invariant.legal.inlets ∙ ap (λ w. 30 * w) lines) (c.disconnect.ensures.layout ∙ ap (λ l. without_path l x) layout) c.disconnect-2.ensures.layout
+    (λ a b inside. less_two (map_lines m) m.layout _ _ x y a b (sym (ap length layout) ∙ c.self.invariant.legal.inlets ∙ ap (λ w. 30 * w) lines) (c.disconnect.ensures.layout ∙ ap (λ l. without_path l x) layout) c.disconnect-2.ensures.layout
     (external_slot m x c.requires.external.0 c.requires.external.1) (external_slot m y near.0 near.1) inside) h ports holds (pair_partner m.external ports _ (heard_by h.circuits) _ x y s (clears m h ports x c.requires.external.0 holds) (sym (holds.heard x) ∙ hx))
 
 pub invariant_of-self : goal.invariant_of-self

@@ -5,7 +5,7 @@ use Rattle.circuit_model.specs.Holding.{Holding, Seat, after}
 use Rattle.circuit_model.specs.Ports.{Ports, port_of, port_numbered, ports_with}
 use Rattle.control_memory.specs.Layout.{IsSlot, Joins}
 use Rattle.control_memory.specs.Connecting.{connect, moved}
-use Rattle.circuit_map.specs.Connections.{Connections, lines_of, joined_one, joined_both, hears_in, hears_at, hears_after, Represents, AreRoomed}
+use Rattle.circuit_map.specs.Connections.{Connections, map_lines, joined_one, joined_both, hears_in, hears_at, hears_after, Represents, AreRoomed}
 use Rattle.circuit_map.proofs.OwnersRooms.{roomed_given}
 use Rattle.circuit_map.proofs.Paths.{own_ports, no_inlet, no_outlet, idle_joins_none, none_joins_idle, two_more}
 use Rattle.circuit_map.proofs.Sockets.{length-given}
@@ -84,7 +84,7 @@ connect-there-requires-clause-inlet g c =
     let f = free_port c.self.inside.ports.external c.self.inside.ports.owners p m (c.self.invariant.first ∙ ap (λ (m : Connections). m.external) is) (ap (λ (m : Connections). m.ports) is) long (sym c.take.ensures.lowest ∙ c.in-Some.is) in
     let held = subst (λ (m : Connections). (h : Holding) × Represents m h m.ports) is c.self.invariant.held in
     let layout = ap (λ (m : Connections). m.layout) is in
-    let lines = c.self.invariant.width ∙ ap lines_of is in
+    let lines = c.self.invariant.width ∙ ap map_lines is in
     no_inlet _ x (λ b j. idle_joins_none m held.0 m.ports x b held.1 c.requires.external.0 c.requires.external.1 c.requires.idle (subst (λ l. Joins l x b) layout j))
 
 pub connect-there-requires-clause-outlet : goal.connect-there-requires-clause-outlet
@@ -97,7 +97,7 @@ connect-there-requires-clause-outlet g c =
     let f = free_port c.self.inside.ports.external c.self.inside.ports.owners p m (c.self.invariant.first ∙ ap (λ (m : Connections). m.external) is) (ap (λ (m : Connections). m.ports) is) long (sym c.take.ensures.lowest ∙ c.in-Some.is) in
     let held = subst (λ (m : Connections). (h : Holding) × Represents m h m.ports) is c.self.invariant.held in
     let layout = ap (λ (m : Connections). m.layout) is in
-    let lines = c.self.invariant.width ∙ ap lines_of is in
+    let lines = c.self.invariant.width ∙ ap map_lines is in
     no_outlet _ _ p c.self.invariant.legal.inlets (λ a inside j. none_joins_port m held.0 m.ports a p f.number held.1 (subst (λ w. IsSlot w a) lines inside) f.far f.lowest f.is (subst (λ l. Joins l a p) layout j))
 
 pub connect-back-requires-clause-inlet : goal.connect-back-requires-clause-inlet
@@ -110,7 +110,7 @@ connect-back-requires-clause-inlet g c =
     let f = free_port c.self.inside.ports.external c.self.inside.ports.owners p m (c.self.invariant.first ∙ ap (λ (m : Connections). m.external) is) (ap (λ (m : Connections). m.ports) is) long (sym c.take.ensures.lowest ∙ c.in-Some.is) in
     let held = subst (λ (m : Connections). (h : Holding) × Represents m h m.ports) is c.self.invariant.held in
     let layout = ap (λ (m : Connections). m.layout) is in
-    let lines = c.self.invariant.width ∙ ap lines_of is in
+    let lines = c.self.invariant.width ∙ ap map_lines is in
     no_inlet _ p (λ b j. ⊎_elim
     (λ (old : Joins _ p b). port_joins_none m held.0 m.ports p b f.number held.1 f.inside f.far f.lowest f.is (subst (λ l. Joins l p b) layout old))
     (λ (new : (p ≡ x) × (b ≡ p)). port_beyond m.external x p c.requires.external.0 f.far new.0)
@@ -126,7 +126,7 @@ connect-back-requires-clause-outlet g c =
     let f = free_port c.self.inside.ports.external c.self.inside.ports.owners p m (c.self.invariant.first ∙ ap (λ (m : Connections). m.external) is) (ap (λ (m : Connections). m.ports) is) long (sym c.take.ensures.lowest ∙ c.in-Some.is) in
     let held = subst (λ (m : Connections). (h : Holding) × Represents m h m.ports) is c.self.invariant.held in
     let layout = ap (λ (m : Connections). m.layout) is in
-    let lines = c.self.invariant.width ∙ ap lines_of is in
+    let lines = c.self.invariant.width ∙ ap map_lines is in
     no_outlet _ _ x c.connect-there.ensures.legal.inlets (λ a inside j.
     let was : IsSlot (g.P.PathMap.width c.self.inside.paths) a = subst (λ w. IsSlot w a) c.connect-there.ensures.width inside in
     ⊎_elim
@@ -211,7 +211,7 @@ returns-clause-holds g c =
     let p = c.in-Some.port in
     let long = subst (λ (m : Connections). length m.ports ≡ 30 * m.bridges) is c.self.invariant.sockets in
     let f = free_port c.self.inside.ports.external c.self.inside.ports.owners p m (c.self.invariant.first ∙ ap (λ (m : Connections). m.external) is) (ap (λ (m : Connections). m.ports) is) long (sym c.take.ensures.lowest ∙ c.in-Some.is) in
-    let lines = c.self.invariant.width ∙ ap lines_of is in
+    let lines = c.self.invariant.width ∙ ap map_lines is in
     holds_seat m _ x p c.args.room f.number long c.requires.idle
     (record {
       external = ap (λ (m : Connections). m.external) is;

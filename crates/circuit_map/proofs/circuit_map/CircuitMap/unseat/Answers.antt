@@ -4,7 +4,8 @@ use Rattle.circuit_model.specs.Holding.{Holding, Clear, after}
 use Rattle.circuit_model.specs.Ports.{port_of, ports_without}
 use Rattle.control_memory.specs.Layout.{Joins}
 use Rattle.control_memory.specs.Connecting.{without_path}
-use Rattle.circuit_map.specs.Connections.{Connections, Represents, AreRoomed, lines_of, hears_in, hears_at, without_both, partner, parted}
+use Rattle.circuit_map.specs.Connections.{Connections, Represents, AreRoomed, map_lines, hears_in, hears_at, parted}
+use Rattle.control_memory.specs.Shown.{without_both, partner}
 use Rattle.circuit_map.proofs.OwnersRooms.{roomed_returned}
 use Rattle.circuit_map.proofs.Rows.{hears_written}
 use Rattle.circuit_map.proofs.Paths.{own_ports, external_slot}
@@ -46,9 +47,9 @@ disconnect-requires-2-clause-stands g c =
     let same : port_of c.self.inside.ports.external _ c.args.x ≡ port_of m.external m.ports c.args.x = λ i. port_of ((c.self.invariant.first ∙ ap (λ (m : Connections). m.external) is) i) (ap (λ (m : Connections). m.ports) is i) c.args.x in
     let at_p = sym same ∙ sym c.port_of.ensures ∙ c.in-Some.is in
     let in_p = port_slot m.external m.bridges m.ports c.args.x c.in-Some.port at_p (subst (λ (m : Connections). length m.ports ≡ 30 * m.bridges) is c.self.invariant.sockets) in
-    let lines = c.self.invariant.width ∙ ap lines_of is in
+    let lines = c.self.invariant.width ∙ ap map_lines is in
     let layout = ap (λ (m : Connections). m.layout) is in
-    still_joined (lines_of m) m.layout _ c.args.x c.in-Some.port (sym (ap length layout) ∙ c.self.invariant.legal.inlets ∙ ap (λ w. 30 * w) lines) (c.disconnect.ensures.layout ∙ ap (λ l. without_path l c.args.x) layout)
+    still_joined (map_lines m) m.layout _ c.args.x c.in-Some.port (sym (ap length layout) ∙ c.self.invariant.legal.inlets ∙ ap (λ w. 30 * w) lines) (c.disconnect.ensures.layout ∙ ap (λ l. without_path l c.args.x) layout)
     (external_slot m c.args.x c.requires.external.0 c.requires.external.1) in_p (port_apart m.external m.ports c.args.x c.in-Some.port c.requires.external.0 at_p) (port_joined m held.0 m.ports c.args.x c.in-Some.port s.0 s.2 held.1 in_p hx at_p)
 
 pub returns-clause-layout : goal.returns-clause-layout
@@ -101,7 +102,7 @@ returns-clause-holds g c = λ h ports holds.
     let same : port_of c.self.inside.ports.external _ x ≡ port_of m.external m.ports x = λ i. port_of ((c.self.invariant.first ∙ ap (λ (m : Connections). m.external) is) i) (ap (λ (m : Connections). m.ports) is i) x in
     let at_p = sym same ∙ sym c.port_of.ensures ∙ c.in-Some.is in
     let in_p = port_slot m.external m.bridges m.ports x p at_p (subst (λ (m : Connections). length m.ports ≡ 30 * m.bridges) is c.self.invariant.sockets) in
-    let lines = c.self.invariant.width ∙ ap lines_of is in
+    let lines = c.self.invariant.width ∙ ap map_lines is in
     let layout = ap (λ (m : Connections). m.layout) is in
     clear_paths m _ x p c.requires.external.0
     (record {
@@ -111,7 +112,7 @@ returns-clause-holds g c = λ h ports holds.
       hears = returns-clause-hears g c;
       members = returns-clause-ports g c;
     })
-    (λ a b inside. less_two (lines_of m) m.layout _ _ x p a b (sym (ap length layout) ∙ c.self.invariant.legal.inlets ∙ ap (λ w. 30 * w) lines) (c.disconnect.ensures.layout ∙ ap (λ l. without_path l x) layout) c.disconnect-2.ensures.layout
+    (λ a b inside. less_two (map_lines m) m.layout _ _ x p a b (sym (ap length layout) ∙ c.self.invariant.legal.inlets ∙ ap (λ w. 30 * w) lines) (c.disconnect.ensures.layout ∙ ap (λ l. without_path l x) layout) c.disconnect-2.ensures.layout
     (external_slot m x c.requires.external.0 c.requires.external.1) in_p inside) h ports holds
     (member_partner m.external ports _ (heard_by h.circuits) _ x p s.0 s.2 (clears m h ports x c.requires.external.0 holds) (sym (holds.heard x) ∙ hx) (ap (λ q. port_of m.external q x) (sym holds.members) ∙ at_p))
 

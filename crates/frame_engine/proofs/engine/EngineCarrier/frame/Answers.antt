@@ -29,9 +29,9 @@ sizes c =
       kept_external = c.self.invariant.kept_external;
       kept_bridges = c.self.invariant.kept_bridges;
       kept_slots = c.self.invariant.kept_slots;
-      external = c.requires.external ∙ sym (ap (λ (s : Stages). s.external) view);
-      bridges = c.requires.bridges ∙ sym (ap (λ (s : Stages). s.bridges) view);
-      slots = c.requires.slots ∙ sym (ap (λ (s : Stages). s.slots) view);
+      external = c.requires.sizes.external ∙ sym (ap (λ (s : Stages). s.external) view);
+      bridges = c.requires.sizes.bridges ∙ sym (ap (λ (s : Stages). s.bridges) view);
+      slots = c.requires.sizes.slots ∙ sym (ap (λ (s : Stages). s.slots) view);
       frame = c.requires.frame ∙ sym (ap (λ (s : Stages). s.next) view);
       read_out = λ at inside near.
           ap (λ (b : Speech). octet_in_half b.readable at) c.swap.ensures

@@ -6,7 +6,7 @@ use Rattle.frame_engine.proofs.marker.MarkerCarrier.frame.Goals as goal
 pub returns-clause-plays : goal.returns-clause-plays
 returns-clause-plays c b next at line place =
     let many = c.requires.out in
-    ap (λ (row : List ℕ). slice_index row at.place) (c.fill.ensures at.line (let long = c.told-out in let lines = c.requires.external in omega (arith, line, many, long, lines)))
+    ap (λ (row : List ℕ). slice_index row at.place) (c.fill.ensures at.line (let long = c.told-out in let lines = c.requires.sizes.external in omega (arith, line, many, long, lines)))
     ∙ get_or-replicate 30 at.place (c.args.self.now.next % 256) 0 place
     ∙ ap (λ n. n % 256) (sym c.requires.frame)
 

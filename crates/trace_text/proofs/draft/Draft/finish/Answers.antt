@@ -1,5 +1,5 @@
 use Rattle.std.proofs.Common.{◌≡◌, ◌++◌, length, sym, ◌∙◌, arith}
-use Rattle.trace_text.specs.TraceGrammar.{ended}
+use Rattle.trace_text.specs.TraceGrammar.{open_segment_end}
 use Rattle.trace_text.proofs.TraceHolds.{segments_all}
 use Rattle.trace_text.proofs.draft.Draft.finish.Goals as goal
 
@@ -7,7 +7,7 @@ pub returns-clause-read : goal.returns-clause-read
 returns-clause-read c = λ told h.
     let d = c.args.self in
     let n = c.end_segment.new.self in
-    let closed : n.ends.items ≡ d.ends.items ++ ended d.begun (length d.events.items) = grind arith in
+    let closed : n.ends.items ≡ d.ends.items ++ open_segment_end d.begun (length d.events.items) = grind arith in
     let kept : n.events.items ≡ d.events.items = grind arith in
     let planned : n.plan ≡ d.plan = grind arith in
     let toned : n.tones ≡ d.tones = grind arith in

@@ -1,0 +1,11 @@
+-- What a step leaves of what a seat knows. Source: this exchange's own.
+use Rattle.std.specs.Prelude.{◌≡◌, ◌+◌, ◌≤◌, length}
+use Rattle.seat_history.specs.declared.known.Known.{Known}
+
+-- one turn was taken at the most, and the number, the baton and the seats made and joined are as they were
+pub record HasStepped (v w : Known) : Type 0 where
+  pub left : v.left ≤ w.left + 1
+  pub baton : w.baton ≡ v.baton
+  pub number : w.number ≡ v.number
+  pub made : w.made ≡ v.made
+  pub kept : length w.kept ≡ length v.kept
