@@ -35,7 +35,8 @@ use Rattle.report_text.specs.Report.{answer_line, frame_line, lines_sent, octet_
 use Rattle.exchange_top.specs.Outcomes.{MovesFew}
 use Rattle.exchange_top.specs.Report.{Played, report, event_line, event_lines, lines_of, report_with, sent_at}
 use Rattle.exchange_top.specs.Running.{GrewFew, fabric_at, grown_calls, grown_lines}
-use Rattle.exchange_top.specs.Telling.{calls_answered, calls_ended, calls_kept, calls_told}
+use Rattle.line_list.specs.Lines.{calls_kept}
+use Rattle.exchange_top.specs.Telling.{calls_answered, calls_ended, calls_told}
 use Rattle.exchange_top.proofs.Reports.{sent_played, take_snoc, within_get}
 
 -- ---- the lines of answers

@@ -11,7 +11,7 @@ use Rattle.trace_text.specs.TraceGrammar.{IsTrace, IsRefused, most_bytes}
 use Rattle.command_words.specs.declared.command.Command.{Command}
 use Rattle.command_words.specs.declared.command.Command.TheVariants.{Run, Generate}
 use Rattle.command_words.specs.Words.{command_of}
-use Rattle.exchange_top.specs.declared.listing.Listing.TheVariants as listing
+use Rattle.line_list.specs.declared.listing.Listing.TheVariants as listing
 use Rattle.exchange_top.specs.Commands.{Parties, Refuses, Told_so, Untold, IsUnfinished, fabric_of, IsRun, IsGeneration, IsNoCommand, IsInput, IsWholeInput, IsDone, IsSummed, IsTurnedDown, In_refusal, In_report, By_write, By_memory, IsUndone, In_words, Unheard, In_answer, In_generation, Runs, Whole, Unwritten_from, No_memory_from, Answers, Done, Turned_down, Unwritten, No_memory, Sums, Summed, Sum_unwritten, Sum_no_memory, Told, Ends, Wrong_words, Words_unwritten, Unread, No_room, Answered, Generated, refusal, words_refusal}
 use Rattle.trace_text.proofs.TraceReadings.{never_both}
 

@@ -3,6 +3,7 @@ pub mod Parts
 pub mod Pending
 pub mod Answered
 pub mod Underway
+pub mod Kept
 pub mod Tellings
 pub mod Endings
 pub mod Sums

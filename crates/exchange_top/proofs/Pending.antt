@@ -35,6 +35,10 @@ pub on_ok : {T E P : Type 0} (r : Result T E) → P → OnOk r P
 on_ok (Ok x) p = p
 on_ok (Err e) p = tt
 
+pub on_ok_then : {T E P Q : Type 0} (r : Result T E) → OnOk r P → (P → Q) → OnOk r Q
+on_ok_then (Ok x) p then = then p
+on_ok_then (Err e) p then = tt
+
 pub ok_both : {T E P Q R : Type 0} (r : Result T E) → OnOk r P → OnOk r Q → (P → Q → R) → OnOk r R
 ok_both (Ok x) p q both = both p q
 ok_both (Err e) p q both = tt

@@ -8,7 +8,7 @@ use Rattle.seat_history.specs.declared.known.Known.{Known}
 use Rattle.seat_history.specs.Histories.{Entry}
 use Rattle.exchange_core.specs.Boards.{Board}
 use Rattle.generated_trace.specs.Generated.{IsTrafficOf}
-use Rattle.exchange_top.specs.declared.listing.Listing.TheVariants as listing
+use Rattle.line_list.specs.declared.listing.Listing.TheVariants as listing
 use Rattle.exchange_top.specs.Commands.{Handing, Parties, Runs, Whole, Unwritten_from, No_memory_from, Sums, Summed, Sum_unwritten, Sum_no_memory, In_run, In_summary, Before_summary, By_write, By_memory, IsHandedOut}
 use Rattle.segment_run.specs.Segment.{IsChief}
 use Rattle.exchange_top.specs.Streams.{AppendsFront}

@@ -17,9 +17,10 @@ use Rattle.call_processor.specs.Frames.{Plays}
 use Rattle.segment_run.specs.Segment.{IsChief, Ran, RanWhole, new_events}
 use Rattle.segment_run.specs.Segments.{IsDoneBelow}
 use Rattle.segment_run.proofs.OrderLemmas.{none, one_more, cut_short, all_done, first_chief, order_grown}
-use Rattle.exchange_top.specs.declared.listing.Listing.{Listing}
-use Rattle.exchange_top.specs.declared.listing.Listing.TheVariants as listing
-use Rattle.exchange_top.specs.Outcomes.{EndsWithSegment, IsFlushed, IsInterrupted, IsRunWhole, IsUnwritten, MovesFew, listed}
+use Rattle.line_list.specs.declared.listing.Listing.{Listing}
+use Rattle.line_list.specs.declared.listing.Listing.TheVariants as listing
+use Rattle.exchange_top.specs.Outcomes.{EndsWithSegment, IsFlushed, IsInterrupted, IsRunWhole, IsUnwritten, MovesFew}
+use Rattle.line_list.specs.Lines.{listed}
 use Rattle.exchange_top.specs.Telling.{Telling, calls_told}
 use Rattle.exchange_top.specs.Report.{report}
 use Rattle.exchange_top.specs.Running.{GrewFew, fabric_at, grown_calls, grown_lines}

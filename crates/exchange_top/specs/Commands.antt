@@ -18,8 +18,8 @@ use Rattle.exchange_core.specs.Working.{world_after}
 use Rattle.exchange_events.specs.Sizes.{Dimensions}
 use Rattle.call_profile.specs.World.{World}
 use Rattle.call_processor.specs.Frames.{Carrying, Plays}
-use Rattle.exchange_top.specs.declared.listing.Listing.{Listing}
-use Rattle.exchange_top.specs.declared.listing.Listing.TheVariants as listing
+use Rattle.line_list.specs.declared.listing.Listing.{Listing}
+use Rattle.line_list.specs.declared.listing.Listing.TheVariants as listing
 use Rattle.exchange_top.specs.Outcomes.{Fabric, IsInterrupted, IsRunWhole, IsUnwritten, listed}
 use Rattle.exchange_top.specs.Report.{HandsOut, report}
 use Rattle.exchange_top.specs.Streams.{AppendsFront}

@@ -11,8 +11,8 @@ use Rattle.call_profile.specs.World.{start}
 use Rattle.segment_run.specs.Segment.{IsOfSegment}
 use Rattle.segment_run.specs.Segments.{IsDoneBelow}
 use Rattle.call_processor.specs.Frames.{Plays}
-use Rattle.exchange_top.specs.declared.listing.Listing.{Listing}
-use Rattle.exchange_top.specs.declared.listing.Listing.TheVariants as listing
+use Rattle.line_list.specs.declared.listing.Listing.{Listing}
+use Rattle.line_list.specs.Lines.{listed}
 use Rattle.exchange_top.specs.Report.{report}
 use Rattle.exchange_top.specs.Streams.{AppendsFront}
 use Rattle.exchange_top.specs.Telling.{Telling, calls_told}
@@ -32,11 +32,6 @@ pub record IsRunWhole (fabric : Fabric) (told : Telling) (trace : Trace) (order 
   pub lawful : IsLawful trace order
   pub few : MovesFew fabric trace order
   pub calls : told (calls_told fabric.slots trace order)
-
--- what a run writes of a report
-abbrev pub listed : Listing → List ℕ → List ℕ
-listed listing.Report text = text
-listed listing.Nothing text = []
 
 -- the text is what is written of the first few segments of an order
 pub record EndsWithSegment (plays : Plays) (l : Listing) (slots : ℕ) (trace : Trace) (order text : List ℕ) : Type 0 where

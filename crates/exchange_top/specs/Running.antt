@@ -1,5 +1,5 @@
 -- A run of a trace, segment by segment. Source: this exchange's own.
-use Rattle.std.specs.Prelude.{◌≡◌, ◌≤◌, ◌*◌, ℕ, List, None, All, replicate}
+use Rattle.std.specs.Prelude.{◌≡◌, ◌≤◌, ◌*◌, ◌++◌, ℕ, List, None, All, map, replicate}
 use Rattle.tone_rules.specs.Tables.{table_of}
 use Rattle.control_memory.specs.Layout.{Layout}
 use Rattle.seat_history.specs.declared.known.Known.{Known}
@@ -7,6 +7,9 @@ use Rattle.exchange_core.specs.Boards.{Board, setting_at, world_at}
 use Rattle.call_profile.specs.Step.{run, events_of, MovesAtMost}
 use Rattle.segment_run.specs.Segment.{new_events}
 use Rattle.call_processor.specs.Frames.{Plays}
+use Rattle.call_processor.specs.declared.worked.Placed.{Placed}
+use Rattle.line_list.specs.declared.listing.Listing.{Listing}
+use Rattle.line_list.specs.Lines.{Line, line_of, listed, text_of}
 use Rattle.exchange_top.specs.Outcomes.{Fabric}
 use Rattle.exchange_events.specs.declared.record.CallRecord.{CallRecord}
 use Rattle.exchange_top.specs.Report.{event_lines}
@@ -37,3 +40,11 @@ grown_calls board v w = calls_ended (run (setting_at board) (world_at board v.se
 -- meters were told so of the calls that ended in them
 abbrev pub GrowthIsTold : Telling → Board → Known → Known → Type 0
 GrowthIsTold told board v w = told (grown_calls board v w)
+
+-- the lines of the events that the history grew by were put behind a text, as far as they are listed
+abbrev pub AddsText : Plays → Listing → Board → Known → Known → List Line → List Line → Type 0
+AddsText plays l board v w before after = text_of after ≡ text_of before ++ listed l (grown_lines plays board v w)
+
+-- the lines are those of some answers
+abbrev pub AreOfAnswers : Listing → List Line → Type 0
+AreOfAnswers l lines = (answers : List Placed) × (lines ≡ map (line_of l) answers)

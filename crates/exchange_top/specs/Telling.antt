@@ -2,8 +2,6 @@
 use Rattle.std.specs.Prelude.{◌≡◌, ℕ, List, [], ◌∷◌, ◌++◌}
 use Rattle.std.specs.List.{AllZip}
 use Rattle.exchange_events.specs.declared.answer.Answer.{Answer}
-use Rattle.exchange_events.specs.declared.answer.Kept.{Kept}
-use Rattle.exchange_events.specs.declared.answer.Kept.TheVariants as k
 use Rattle.exchange_events.specs.declared.record.CallRecord.{CallRecord}
 use Rattle.exchange_events.specs.declared.reply.Reply.{Reply}
 use Rattle.exchange_events.specs.declared.trace.Trace.{Trace}
@@ -11,18 +9,8 @@ use Rattle.exchange_events.specs.Kept.{kept_of}
 use Rattle.exchange_events.specs.Sound.{setting_of}
 use Rattle.call_profile.specs.Step.{run, events_of}
 use Rattle.call_profile.specs.World.{start}
+use Rattle.line_list.specs.Lines.{calls_kept}
 use Rattle.meters.specs.Telling.{IsTold, IsToldFront}
-
--- the calls that ended with what is kept of a reply
-abbrev pub calls_kept : Kept → List CallRecord
-calls_kept (k.Granted a b) = []
-calls_kept k.Busy = []
-calls_kept (k.Seated a b) = []
-calls_kept k.NoPort = []
-calls_kept k.Freed = []
-calls_kept k.NotNailed = []
-calls_kept (k.Sent sends moved records) = records
-calls_kept (k.Frame number sends records) = records
 
 -- the calls of these answers, and of these replies, in order
 abbrev pub calls_answered : List Answer → List CallRecord

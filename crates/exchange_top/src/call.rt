@@ -12,7 +12,6 @@ ghost use Rattle.exchange_top.specs.Streams.{AppendsFront, ConsumesAtMost};
 ghost use Rattle.exchange_top.specs.Summary.{summary_text};
 ghost use Rattle.exchange_top.specs.Telling.{AreTold};
 
-use crate::listing::Listing;
 use crate::run::{RunFault, run};
 use crate::streams::{ReadFault, read_all, write_all};
 use crate::summary::summary;
@@ -24,6 +23,7 @@ use frame_engine::Carrier;
 use gate::Gate;
 use generated_trace::generated;
 use itoa::Buffer;
+use line_list::{LineList, ListingKind, NoLines, ReportLines};
 use meters::Meter;
 use std::alloc::{AllocError, Global};
 use std::sync::Wait;
@@ -98,23 +98,22 @@ fn refuse<K: Sink, C: Carrier>(alloc: Global, sink: &mut K, line: &[u8], status:
     }
 }
 
-// Runs a trace, once there is room for the numbers of its events. Lines stand in `out` until they are
-// written.
-fn run_trace<K: Sink, G: Gate, C: Carrier, R: Threads + Wait + Sync>(
+// Runs a trace, once there is room for the numbers of its events. Lines are kept in `lines` until they
+// are written.
+fn run_trace<K: Sink, G: Gate, C: Carrier, L: ListingKind + Send + Drop, R: Threads + Wait + Sync>(
     rt: &R,
     alloc: Global,
     trace: &Trace,
-    listing: Listing,
-    out: &mut Vec<u8>,
+    lines: &mut LineList<L>,
     sink: &mut K,
     gate: &G,
     meters: &mut Vec<Box<dyn Meter>>,
 ) -> Outcome<C>
     requires sound { IsSound trace.now }
-    requires blank { out.old.items ≡ [] }
+    requires blank { lines.old ≡ [] }
     ensures runs { Runs (parties C.plays (engine_dimensions C.external_lines C.bridge_lines C.depth) C.carries result.engine
         (λ m. stands m) (λ m. text m) meters.old.items meters.new.items)
-        listing trace.now result.status result.order.items (K.written sink.old) (K.written sink.new) (K.faults sink.old) (K.faults sink.new) }
+        L.listing trace.now result.status result.order.items (K.written sink.old) (K.written sink.new) (K.faults sink.old) (K.faults sink.new) }
     ensures engine { IsSome result.engine ↔ (result.status ≡ 0) }
     ensures writes { (result.status ≡ 4) ⊎ (K.faults sink.new ≡ K.faults sink.old) }
 {
@@ -125,7 +124,7 @@ fn run_trace<K: Sink, G: Gate, C: Carrier, R: Threads + Wait + Sync>(
         return ended(alloc, 5);
     };
     match run(
-        rt, alloc, trace, paths, &mut order, listing, out, sink, gate, meters,
+        rt, alloc, trace, paths, &mut order, lines, sink, gate, meters,
     ) {
         Ok(engine) => Outcome {
             status: 0,
@@ -163,18 +162,8 @@ fn answer<K: Sink, G: Gate, C: Carrier, R: Threads + Wait + Sync>(
     match read_trace(alloc, bytes.as_slice()) {
         Ok(trace) => {
             // The lines take the memory that the input had, so that its pages are not faulted in anew.
-            let mut out = bytes;
-            out.clear();
-            run_trace(
-                rt,
-                alloc,
-                &trace,
-                Listing::Report,
-                &mut out,
-                sink,
-                gate,
-                meters,
-            )
+            let mut lines: LineList<ReportLines> = LineList::new(alloc, bytes);
+            run_trace(rt, alloc, &trace, &mut lines, sink, gate, meters)
         }
         Err(TraceFault::Memory) => ended(alloc, 5),
         Err(TraceFault::Line { number, reason }) => match refusal(alloc, number, reason) {
@@ -247,17 +236,8 @@ fn run_generated<K: Sink, G: Gate, C: Carrier, R: Threads + Wait + Sync>(
     let Ok(trace) = generated(alloc, u64::from(seed), calls) else {
         return ended(alloc, 5);
     };
-    let mut out = Vec::new(alloc);
-    let outcome = run_trace(
-        rt,
-        alloc,
-        &trace,
-        Listing::Nothing,
-        &mut out,
-        sink,
-        gate,
-        meters,
-    );
+    let mut lines: LineList<NoLines> = LineList::new(alloc, Vec::new(alloc));
+    let outcome = run_trace(rt, alloc, &trace, &mut lines, sink, gate, meters);
     if outcome.status != 0 {
         return outcome;
     }

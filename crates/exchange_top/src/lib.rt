@@ -15,12 +15,11 @@
 //!   front that ends with a segment (`cut_short`).
 //!
 //! It stands on `ex_io`, `circuit_model`, `seat_history`, `control_memory`, `tone_rules`, `fabric_map`,
-//! `frame_engine`, `exchange_core`, `shared_exchange`, `gate`, `call_processor`, `segment_run`,
+//! `frame_engine`, `exchange_core`, `shared_exchange`, `gate`, `call_processor`, `line_list`, `segment_run`,
 //! `trace_text`, `report_text`, `generated_trace`, `command_words` and `meters`, and on the kit's `itoa`.
 #![tactic(auto)]
 
 mod call;
-mod listing;
 mod run;
 mod segments;
 mod streams;

@@ -7,20 +7,20 @@ ghost use Rattle.exchange_core.specs.Working.{order_of, world_after};
 ghost use Rattle.seat_history.specs.Seats.{first_seat};
 ghost use Rattle.shared_exchange.specs.Sharing.{IsSeated};
 ghost use Rattle.call_processor.specs.Frames.{CarriesFrames, IsReady, engine_dimensions};
-ghost use Rattle.exchange_top.specs.Outcomes.{IsInterrupted, IsRunWhole, IsUnwritten, listed};
+ghost use Rattle.line_list.specs.Lines.{listed};
+ghost use Rattle.exchange_top.specs.Outcomes.{IsInterrupted, IsRunWhole, IsUnwritten};
 ghost use Rattle.exchange_top.specs.Report.{report};
 ghost use Rattle.exchange_top.specs.Telling.{AreTold, AreToldBeyond};
 ghost use Rattle.exchange_top.specs.Running.{IsUnused};
 
-use crate::listing::Listing;
 use crate::segments::{Carried, report_segments};
-use call_processor::AnswerList;
 use control_memory::{Image, PathMap};
 use ex_io::{Failed, Sink};
 use exchange_core::{Core, Tool};
 use exchange_events::Trace;
 use frame_engine::Carrier;
 use gate::Gate;
+use line_list::{LineList, ListingKind};
 use meters::Meter;
 use segment_run::Workroom;
 use shared_exchange::{Seat, SharedExchange};
@@ -55,22 +55,28 @@ impl From<Failed> for RunFault {
 
 /// Runs a trace on a map of paths, segment after segment, each by its call processors and its frame
 /// worker side by side; writes what is listed of it, tells the meters of the calls that end, and notes
-/// the numbers of the events of the journal in `order`, which has room for them. Lines stand in `out`
-/// until they are written. Returns the engine that carried the octets.
+/// the numbers of the events of the journal in `order`, which has room for them. Lines are kept in
+/// `lines` until they are written. Returns the engine that carried the octets.
 ///
 /// # Errors
 ///
 /// [`RunFault::Write`] where a write failed and the sink's count of faults rose, and
 /// [`RunFault::Memory`] for want of memory, where no write failed. By then a front of the report of the
 /// segments that were done was written, which for want of memory ends with a segment.
-pub fn run<P: PathMap + Drop + Send, K: Sink, G: Gate, C: Carrier, R: Threads + Wait + Sync>(
+pub fn run<
+    P: PathMap + Drop + Send,
+    K: Sink,
+    G: Gate,
+    C: Carrier,
+    L: ListingKind + Send + Drop,
+    R: Threads + Wait + Sync,
+>(
     rt: &R,
     alloc: Global,
     trace: &Trace,
     paths: P,
     order: &mut Vec<u32>,
-    listing: Listing,
-    out: &mut Vec<u8>,
+    lines: &mut LineList<L>,
     sink: &mut K,
     gate: &G,
     meters: &mut Vec<Box<dyn Meter>>,
@@ -78,27 +84,27 @@ pub fn run<P: PathMap + Drop + Send, K: Sink, G: Gate, C: Carrier, R: Threads + 
     requires sound { IsSound trace.now }
     requires paths { IsUnused (trace.now.external + trace.now.bridges) (P.width paths) (P.depth paths) (P.layout paths) }
     requires empty { order.old.items ≡ [] }
-    requires blank { out.old.items ≡ [] }
+    requires blank { lines.old ≡ [] }
     requires room { length trace.now.events ≤ vec_capacity order.old }
     ensures whole { OnOk result (IsRunWhole (record { slots = P.depth paths; most_moves = P.bound paths })
         (AreTold (λ m. stands m) (λ m. text m) meters.old.items meters.new.items) trace.now order.new.items) }
     ensures text { OnOk result (Appends (K.written sink.old) (K.written sink.new)
-        (listed listing (report C.plays (P.depth paths) trace.now order.new.items))) }
+        (listed L.listing (report C.plays (P.depth paths) trace.now order.new.items))) }
     ensures carried { IfOk result (λ e. CarriesFrames C.carries e (world_after (P.depth paths) trace.now order.new.items)) }
     ensures sized { IfOk result (λ e. engine_dimensions C.external_lines C.bridge_lines C.depth e ≡ (setting_of (P.depth paths) trace.now).dimensions) }
     ensures steady { OnOk result (K.faults sink.new ≡ K.faults sink.old) }
 
-    ensures unwritten { IsErrOf result RunFault.Write → IsUnwritten C.plays listing (P.depth paths)
+    ensures unwritten { IsErrOf result RunFault.Write → IsUnwritten C.plays L.listing (P.depth paths)
         (AreTold (λ m. stands m) (λ m. text m) meters.old.items meters.new.items) trace.now order.new.items (K.written sink.old) (K.written sink.new) }
-    ensures interrupted { IsErrOf result RunFault.Memory → IsInterrupted C.plays listing (P.depth paths)
+    ensures interrupted { IsErrOf result RunFault.Memory → IsInterrupted C.plays L.listing (P.depth paths)
         (AreToldBeyond (λ m. stands m) (λ m. text m) meters.old.items meters.new.items) trace.now order.new.items (K.written sink.old) (K.written sink.new) }
     ensures cause { IsErrOf result RunFault.Write → Rose (K.faults sink.old) (K.faults sink.new) }
     ensures no_fault { IsErrOf result RunFault.Memory → K.faults sink.new ≡ K.faults sink.old }
 {
-    let (board, seat, carried) = equipped(alloc, trace, paths)?;
+    let (board, seat, carried) = equipped(alloc, trace, paths, lines)?;
     let mut seat = seat;
     let done = report_segments(
-        rt, alloc, &board, &mut seat, trace, carried, listing, out, sink, gate, meters,
+        rt, alloc, &board, &mut seat, trace, carried, lines, sink, gate, meters,
     );
     note_order(order, board.close(seat).journal());
     done
@@ -106,11 +112,19 @@ pub fn run<P: PathMap + Drop + Send, K: Sink, G: Gate, C: Carrier, R: Threads + 
 
 // What a run needs before its first event: the exchange that its workers share, with seat 0 of it, the
 // engine, a control memory, and a workroom.
-fn equipped<'t, P: PathMap + Drop, C: Carrier>(
+fn equipped<'t, P: PathMap + Drop, C: Carrier, L: ListingKind + Send + Drop>(
     alloc: Global,
     trace: &'t Trace,
     paths: P,
-) -> Result<(SharedExchange<'t, P>, Seat<'t, P>, Carried<Seat<'t, P>, C>), AllocError>
+    lines: &LineList<L>,
+) -> Result<
+    (
+        SharedExchange<'t, P>,
+        Seat<'t, P>,
+        Carried<Seat<'t, P>, C, L>,
+    ),
+    AllocError,
+>
     requires sound { IsSound trace.now }
     requires paths { IsUnused (trace.now.external + trace.now.bridges) (P.width paths) (P.depth paths) (P.layout paths) }
     ensures board { IfOk result (λ r. r.0.setting ≡ record { trace = trace.now; slots = P.depth paths; bound = P.bound paths }) }
@@ -124,7 +138,7 @@ fn equipped<'t, P: PathMap + Drop, C: Carrier>(
     let carried = Carried {
         engine: C::new(alloc, external, bridges, slots)?,
         tool: Tool::Image(Image::new(alloc, external, bridges, slots)?),
-        workroom: Workroom::new(alloc, &AnswerList::new(alloc))?,
+        workroom: Workroom::new(alloc, lines)?,
     };
     Ok((board, seat, carried))
 }

@@ -1,9 +1,8 @@
 //! The segments of a run, and what is written of each.
-ghost use Rattle.std.specs.Prelude.{◌≡◌, ℕ, ◌+◌, ◌*◌, ◌<◌, ◌≤◌, ◌++◌, ◌^◌, List, [], length, IfOk, OnOk, OnErr, IsErrOf};
+ghost use Rattle.std.specs.Prelude.{◌≡◌, ◌⊎◌, ℕ, ◌+◌, ◌*◌, ◌<◌, ◌≤◌, ◌++◌, ◌^◌, List, [], drop, length, IfOk, OnOk, OnErr, IsErrOf};
 ghost use Rattle.std.specs.declared.option.Option.{Option};
 ghost use Rattle.std.specs.Io.KnownBytes.{Appends};
 ghost use Rattle.ex_io.specs.Ends.{Rose};
-ghost use Rattle.exchange_events.specs.declared.answer.Answer.{Answer};
 ghost use Rattle.seat_history.specs.Seats.{first_seat};
 ghost use Rattle.exchange_core.specs.Boards.{turns_of, setting_at, world_at};
 ghost use Rattle.exchange_events.specs.Sound.{IsSound};
@@ -12,25 +11,25 @@ ghost use Rattle.call_processor.specs.Frames.{CarriesFrames, IsReady, IsReadyFor
 ghost use Rattle.segment_run.specs.Segment.{IsChief, Ran, RanWhole};
 ghost use Rattle.segment_run.specs.Segments.{IsDoneBelow};
 ghost use Rattle.exchange_top.specs.declared.run.RunFault.TheVariants.{Memory, Write};
-ghost use Rattle.exchange_top.specs.Outcomes.{IsFlushed, IsInterrupted, IsRunWhole, IsUnwritten, listed};
-ghost use Rattle.exchange_top.specs.Report.{lines_of, report};
-ghost use Rattle.exchange_top.specs.Running.{GrewFew, GrowthIsTold, fabric_at, grown_lines};
+ghost use Rattle.line_list.specs.Lines.{calls_of, listed, text_of};
+ghost use Rattle.exchange_top.specs.Outcomes.{IsFlushed, IsInterrupted, IsRunWhole, IsUnwritten};
+ghost use Rattle.exchange_top.specs.Report.{report};
+ghost use Rattle.exchange_top.specs.Running.{AddsText, AreOfAnswers, GrewFew, GrowthIsTold, fabric_at};
 ghost use Rattle.exchange_top.specs.Streams.{AppendsFront};
 ghost use Rattle.exchange_top.specs.Telling.{AreTold, AreToldBeyond, AreToldFront};
 
-use crate::listing::Listing;
 use crate::run::RunFault;
 use crate::streams::write_all;
 use crate::telling::tell;
-use call_processor::AnswerList;
+use call_processor::Keeper;
 use ex_io::{Failed, Sink};
 use exchange_core::{Switchboard, Tool};
-use exchange_events::{Answer, Trace};
+use exchange_events::{CallRecord, Trace};
 use frame_engine::Carrier;
 use gate::Gate;
+use line_list::{LineList, ListingKind};
 use meters::Meter;
-use report_text::append_answer;
-use segment_run::{Workroom, run_segment_in};
+use segment_run::{Workroom, run_segment_with};
 use std::alloc::{AllocError, Global};
 use std::sync::Wait;
 use std::thread::Threads;
@@ -39,34 +38,40 @@ use std::thread::Threads;
 const PIECE: usize = 65_536;
 
 /// What goes from one segment to the next: the engine, the control memory of its next frame, and the
-/// workroom. `T` is the type of the workers' seats.
+/// workroom. `T` is the type of the workers' seats, and `L` says what is listed.
 #[derive(Drop)]
-pub struct Carried<T, C> {
+pub struct Carried<T, C, L> {
     /// The engine, which has carried the frames so far.
     pub engine: C,
     /// The control memory.
     pub tool: Tool,
     /// Where the workers of a segment work.
-    pub workroom: Workroom<T, AnswerList>,
+    pub workroom: Workroom<T, LineList<L>>,
 }
 
 /// Runs the segments of a board's trace one after the other, writes of them what is listed, and tells
 /// the meters of the calls that end. The lines of a segment are written once all of its events are
-/// answered and told; until then they stand in `out`.
-pub fn report_segments<B: Switchboard, K: Sink, G: Gate, C: Carrier, R: Threads + Wait + Sync>(
+/// answered and told; until then they are kept in `lines`.
+pub fn report_segments<
+    B: Switchboard,
+    K: Sink,
+    G: Gate,
+    C: Carrier,
+    L: ListingKind + Send + Drop,
+    R: Threads + Wait + Sync,
+>(
     rt: &R,
     alloc: Global,
     board: &B,
     seat: &mut B::Seat,
     trace: &Trace,
-    carried: Carried<B::Seat, C>,
-    listing: Listing,
-    out: &mut Vec<u8>,
+    carried: Carried<B::Seat, C, L>,
+    lines: &mut LineList<L>,
     sink: &mut K,
     gate: &G,
     meters: &mut Vec<Box<dyn Meter>>,
 ) -> Result<C, RunFault>
-    requires blank { out.old.items ≡ [] }
+    requires blank { lines.old ≡ [] }
     requires seated { B.seated board.now seat.old }
     requires trace { trace.now ≡ (B.board board.now).trace }
     requires sound { IsSound trace.now }
@@ -77,14 +82,14 @@ pub fn report_segments<B: Switchboard, K: Sink, G: Gate, C: Carrier, R: Threads 
     ensures whole { OnOk result (IsRunWhole (fabric_at (B.board board.now)) (AreTold (λ m. stands m) (λ m. text m) meters.old.items meters.new.items)
         trace.now (order_of (B.known seat.new).seen)) }
     ensures text { OnOk result (Appends (K.written sink.old) (K.written sink.new)
-        (listed listing (report C.plays (B.board board.now).slots trace.now (order_of (B.known seat.new).seen)))) }
+        (listed L.listing (report C.plays (B.board board.now).slots trace.now (order_of (B.known seat.new).seen)))) }
     ensures carried { IfOk result (λ e. CarriesFrames C.carries e (world_at (B.board board.now) (B.known seat.new).seen)) }
     ensures sized { IfOk result (λ e. engine_dimensions C.external_lines C.bridge_lines C.depth e ≡ (setting_at (B.board board.now)).dimensions) }
     ensures steady { OnOk result (K.faults sink.new ≡ K.faults sink.old) }
 
-    ensures unwritten { IsErrOf result RunFault.Write → IsUnwritten C.plays listing (B.board board.now).slots
+    ensures unwritten { IsErrOf result RunFault.Write → IsUnwritten C.plays L.listing (B.board board.now).slots
         (AreTold (λ m. stands m) (λ m. text m) meters.old.items meters.new.items) trace.now (order_of (B.known seat.new).seen) (K.written sink.old) (K.written sink.new) }
-    ensures interrupted { IsErrOf result RunFault.Memory → IsInterrupted C.plays listing (B.board board.now).slots
+    ensures interrupted { IsErrOf result RunFault.Memory → IsInterrupted C.plays L.listing (B.board board.now).slots
         (AreToldBeyond (λ m. stands m) (λ m. text m) meters.old.items meters.new.items) trace.now (order_of (B.known seat.new).seen) (K.written sink.old) (K.written sink.new) }
     ensures cause { IsErrOf result RunFault.Write → Rose (K.faults sink.old) (K.faults sink.new) }
     ensures no_fault { IsErrOf result RunFault.Memory → K.faults sink.new ≡ K.faults sink.old }
@@ -92,41 +97,48 @@ pub fn report_segments<B: Switchboard, K: Sink, G: Gate, C: Carrier, R: Threads 
     let mut carried = carried;
     for segment in 0..trace.segments.as_slice().len() as u32 {
         carried = report_segment(
-            rt, alloc, board, seat, trace, segment, carried, listing, out, gate, meters,
+            rt, alloc, board, seat, trace, segment, carried, lines, gate, meters,
         )?;
-        flush_full(sink, out)?;
+        flush_full(sink, lines)?;
     }
-    flush(sink, out)?;
+    flush(sink, lines)?;
     Ok(carried.engine)
 }
 
-// Runs one segment, and appends the lines of its events to `out`.
-fn report_segment<B: Switchboard, G: Gate, C: Carrier, R: Threads + Wait + Sync>(
+// Runs one segment, and keeps the lines of its events behind those before them.
+fn report_segment<
+    B: Switchboard,
+    G: Gate,
+    C: Carrier,
+    L: ListingKind + Send + Drop,
+    R: Threads + Wait + Sync,
+>(
     rt: &R,
     alloc: Global,
     board: &B,
     seat: &mut B::Seat,
     trace: &Trace,
     segment: u32,
-    carried: Carried<B::Seat, C>,
-    listing: Listing,
-    out: &mut Vec<u8>,
+    carried: Carried<B::Seat, C, L>,
+    lines: &mut LineList<L>,
     gate: &G,
     meters: &mut Vec<Box<dyn Meter>>,
-) -> Result<Carried<B::Seat, C>, AllocError>
+) -> Result<Carried<B::Seat, C, L>, AllocError>
     requires seated { B.seated board.now seat.old }
     requires trace { trace.now ≡ (B.board board.now).trace }
     requires sound { IsSound trace.now }
     requires segment { segment < length trace.now.segments }
     requires chief { IsChief (turns_of (B.board board.now)) (B.known seat.old) }
     requires numbers { (B.known seat.old).made ≤ 9 * segment }
+    requires kept { AreOfAnswers L.listing lines.old }
     requires done { IsDoneBelow trace.now segment (order_of (B.known seat.old).seen) }
     requires ready { IsReadyFor C.carries C.next C.external_lines C.bridge_lines C.depth (B.board board.now) (B.known seat.old) carried.engine carried.tool }
     ensures seated { B.seated board.now seat.new }
     ensures chief { IsChief (turns_of (B.board board.now)) (B.known seat.new) }
     ensures ran { Ran trace.now segment (B.known seat.old) (B.known seat.new) }
     ensures whole { OnOk result (RanWhole trace.now segment (B.known seat.old) (B.known seat.new)) }
-    ensures lines { OnOk result (out.new.items ≡ out.old.items ++ listed listing (grown_lines C.plays (B.board board.now) (B.known seat.old) (B.known seat.new))) }
+    ensures kept { OnOk result (AreOfAnswers L.listing lines.new) }
+    ensures lines { OnOk result (AddsText C.plays L.listing (B.board board.now) (B.known seat.old) (B.known seat.new) lines.old lines.new) }
     ensures few { OnOk result (GrewFew (B.board board.now) (B.known seat.old) (B.known seat.new)) }
     ensures told { OnOk result (GrowthIsTold (AreTold (λ m. stands m) (λ m. text m) meters.old.items meters.new.items)
         (B.board board.now) (B.known seat.old) (B.known seat.new)) }
@@ -139,66 +151,58 @@ fn report_segment<B: Switchboard, G: Gate, C: Carrier, R: Threads + Wait + Sync>
         tool,
         workroom,
     } = carried;
-    let (done, workroom) = run_segment_in(
-        rt, alloc, board, seat, trace, segment, engine, tool, workroom, gate,
+    let told = lines.records().len();
+    let done = run_segment_with(
+        rt, alloc, board, seat, trace, segment, engine, tool, workroom, lines, gate,
     )?;
-    append_answers(out, listing, done.answers.as_slice())?;
-    tell(meters, done.answers.as_slice())?;
+    tell(meters, records_behind(lines, told))?;
     Ok(Carried {
         engine: done.engine,
         tool: done.tool,
-        workroom,
+        workroom: done.workroom,
     })
 }
 
-// Appends what is written of each answer.
-fn append_answers(
-    text: &mut Vec<u8>,
-    listing: Listing,
-    answers: &[Answer],
-) -> Result<(), AllocError>
-    ensures lines { OnOk result (text.new.items ≡ text.old.items ++ listed listing (lines_of answers.now)) }
+// The records of the calls that ended, behind the first so many.
+fn records_behind<L>(lines: &LineList<L>, told: usize) -> &[CallRecord]
+    requires { told ≤ length (calls_of lines.now) }
+    ensures { result.now ≡ drop told (calls_of lines.now) }
 {
-    match listing {
-        Listing::Report => append_lines(text, answers),
-        Listing::Nothing => Ok(()),
-    }
+    &lines.records()[told..]
 }
 
-// Appends the line of each answer.
-fn append_lines(text: &mut Vec<u8>, answers: &[Answer]) -> Result<(), AllocError>
-    ensures { OnOk result (text.new.items ≡ text.old.items ++ lines_of answers.now) }
-{
-    for answer in answers {
-        append_answer(text, answer)?;
-    }
-    Ok(())
-}
-
-// Writes what is pending, once it is a whole piece.
-fn flush_full<K: Sink>(sink: &mut K, text: &mut Vec<u8>) -> Result<(), Failed>
-    ensures flushed { OnOk result (IsFlushed (K.written sink.old) (K.written sink.new) text.old.items text.new.items) }
+// Writes what is pending, once it is a whole piece; where nothing is listed, it is none.
+fn flush_full<K: Sink, L: ListingKind + Send + Drop>(
+    sink: &mut K,
+    lines: &mut LineList<L>,
+) -> Result<(), Failed>
+    ensures flushed { OnOk result (IsFlushed (K.written sink.old) (K.written sink.new) (text_of lines.old) (text_of lines.new)) }
+    ensures kept { OnOk result ((lines.new ≡ lines.old) ⊎ (lines.new ≡ [])) }
     ensures steady { OnOk result (K.faults sink.new ≡ K.faults sink.old) }
 
-    ensures front { OnErr result (AppendsFront (K.written sink.old) (K.written sink.new) text.old.items) }
+    ensures front { OnErr result (AppendsFront (K.written sink.old) (K.written sink.new) (text_of lines.old)) }
     ensures cause { OnErr result (Rose (K.faults sink.old) (K.faults sink.new)) }
 {
-    if text.len() < PIECE {
+    let pending = lines.text().len();
+    if 0 < pending && pending < PIECE {
         return Ok(());
     }
-    flush(sink, text)
+    flush(sink, lines)
 }
 
 // Writes all that is pending.
-fn flush<K: Sink>(sink: &mut K, text: &mut Vec<u8>) -> Result<(), Failed>
-    ensures whole { OnOk result (Appends (K.written sink.old) (K.written sink.new) text.old.items) }
-    ensures empty { OnOk result (text.new.items ≡ []) }
+fn flush<K: Sink, L: ListingKind + Send + Drop>(
+    sink: &mut K,
+    lines: &mut LineList<L>,
+) -> Result<(), Failed>
+    ensures whole { OnOk result (Appends (K.written sink.old) (K.written sink.new) (text_of lines.old)) }
+    ensures empty { OnOk result (lines.new ≡ []) }
     ensures steady { OnOk result (K.faults sink.new ≡ K.faults sink.old) }
 
-    ensures front { OnErr result (AppendsFront (K.written sink.old) (K.written sink.new) text.old.items) }
+    ensures front { OnErr result (AppendsFront (K.written sink.old) (K.written sink.new) (text_of lines.old)) }
     ensures cause { OnErr result (Rose (K.faults sink.old) (K.faults sink.new)) }
 {
-    write_all(sink, text.as_slice())?;
-    text.clear();
+    write_all(sink, lines.text())?;
+    lines.clear();
     Ok(())
 }

@@ -1,48 +1,25 @@
 //! The calls that ended, told to meters.
-ghost use Rattle.std.specs.Prelude.{◌≡◌, [], ◌∷◌, List, OnOk, OnErr};
-ghost use Rattle.exchange_events.specs.declared.record.CallRecord.{CallRecord};
+ghost use Rattle.std.specs.Prelude.{[], ◌∷◌, OnOk, OnErr};
 ghost use Rattle.meters.specs.Telling.{IsTold};
-ghost use Rattle.exchange_top.specs.Telling.{AreTold, AreToldFront, calls_answered, calls_kept};
+ghost use Rattle.exchange_top.specs.Telling.{AreTold, AreToldFront};
 
-use exchange_events::{Answer, CallRecord, Kept};
+use exchange_events::CallRecord;
 use meters::Meter;
 use std::alloc::AllocError;
 
-/// Tells each meter of the calls that ended with these answers, call by call.
+/// Tells each meter of some calls, call by call.
 ///
 /// # Errors
 ///
 /// [`AllocError`] for want of memory. Then each meter was told of the first few of the calls.
-pub fn tell(meters: &mut Vec<Box<dyn Meter>>, answers: &[Answer]) -> Result<(), AllocError>
-    ensures told { OnOk result (AreTold (λ m. stands m) (λ m. text m) meters.old.items meters.new.items (calls_answered answers.now)) }
-    ensures front { OnErr result (AreToldFront (λ m. stands m) (λ m. text m) meters.old.items meters.new.items (calls_answered answers.now)) }
+pub fn tell(meters: &mut Vec<Box<dyn Meter>>, calls: &[CallRecord]) -> Result<(), AllocError>
+    ensures told { OnOk result (AreTold (λ m. stands m) (λ m. text m) meters.old.items meters.new.items calls.now) }
+    ensures front { OnErr result (AreToldFront (λ m. stands m) (λ m. text m) meters.old.items meters.new.items calls.now) }
 {
-    tell_answers(meters.as_mut_slice(), answers)
+    tell_calls(meters.as_mut_slice(), calls)
 }
 
 // The same, of meters that stand in a row.
-fn tell_answers(meters: &mut [Box<dyn Meter>], answers: &[Answer]) -> Result<(), AllocError>
-    ensures told { OnOk result (AreTold (λ m. stands m) (λ m. text m) meters.old meters.new (calls_answered answers.now)) }
-    ensures front { OnErr result (AreToldFront (λ m. stands m) (λ m. text m) meters.old meters.new (calls_answered answers.now)) }
-{
-    for answer in answers {
-        tell_calls(meters, calls_of(answer))?;
-    }
-    Ok(())
-}
-
-// The calls that ended with an answer.
-fn calls_of(answer: &Answer) -> &[CallRecord]
-    ensures { result.now ≡ calls_kept answer.now.reply }
-{
-    match &answer.reply {
-        Kept::Sent { records, .. } => records.as_slice(),
-        Kept::Frame { records, .. } => records.as_slice(),
-        _ => &[],
-    }
-}
-
-// Tells each meter of some calls.
 fn tell_calls(meters: &mut [Box<dyn Meter>], calls: &[CallRecord]) -> Result<(), AllocError>
     ensures told { OnOk result (AreTold (λ m. stands m) (λ m. text m) meters.old meters.new calls.now) }
     ensures front { OnErr result (AreToldFront (λ m. stands m) (λ m. text m) meters.old meters.new calls.now) }

@@ -3,7 +3,8 @@ use Rattle.std.specs.Io.KnownBytes.{Appends}
 use Rattle.exchange_core.specs.Boards.{Board}
 use Rattle.exchange_core.specs.Working.{order_of}
 use Rattle.exchange_top.specs.declared.run.RunFault.TheVariants.{Memory, Write}
-use Rattle.exchange_top.specs.Outcomes.{IsInterrupted, IsRunWhole, IsUnwritten, listed}
+use Rattle.exchange_top.specs.Outcomes.{IsInterrupted, IsRunWhole, IsUnwritten}
+use Rattle.line_list.specs.Lines.{listed}
 use Rattle.exchange_top.specs.Report.{report}
 use Rattle.exchange_top.specs.Running.{fabric_at}
 use Rattle.exchange_top.specs.Telling.{AreTold, AreToldBeyond}
@@ -32,19 +33,19 @@ pub returns-clause-text : goal.returns-clause-text
 returns-clause-text g c =
     let journal = c.journal-2.ensures ∙ c.close.ensures.journal in
     let order = c.note_order.ensures ∙ (λ i. c.requires.empty i ++ order_of (journal i)) in
-    moved (λ b o. OnOk c.report_segments-done.result (Appends (g.K.Sink.written c.args.sink.now) (g.K.Sink.written c.report_segments-done.new.sink) (listed c.args.listing (report g.C.Carrier.plays b.slots c.args.trace.now o))))
+    moved (λ b o. OnOk c.report_segments-done.result (Appends (g.K.Sink.written c.args.sink.now) (g.K.Sink.written c.report_segments-done.new.sink) (listed g.L.ListingKind.listing (report g.C.Carrier.plays b.slots c.args.trace.now o))))
     _ _ _ _ c.in_ok-board.ensures.board order c.report_segments-done.ensures.text
 
 pub returns-clause-unwritten : goal.returns-clause-unwritten
 returns-clause-unwritten g c =
     let journal = c.journal-2.ensures ∙ c.close.ensures.journal in
     let order = c.note_order.ensures ∙ (λ i. c.requires.empty i ++ order_of (journal i)) in
-    moved (λ b o. IsErrOf c.report_segments-done.result Write → IsUnwritten g.C.Carrier.plays c.args.listing b.slots (AreTold (λ m. (goal.Meter-dyn g (m.vtable, m.value)).stands m.value) (λ m. (goal.Meter-dyn g (m.vtable, m.value)).text m.value) c.args.meters.now.items c.report_segments-done.new.meters.items) c.args.trace.now o (g.K.Sink.written c.args.sink.now) (g.K.Sink.written c.report_segments-done.new.sink))
+    moved (λ b o. IsErrOf c.report_segments-done.result Write → IsUnwritten g.C.Carrier.plays g.L.ListingKind.listing b.slots (AreTold (λ m. (goal.Meter-dyn g (m.vtable, m.value)).stands m.value) (λ m. (goal.Meter-dyn g (m.vtable, m.value)).text m.value) c.args.meters.now.items c.report_segments-done.new.meters.items) c.args.trace.now o (g.K.Sink.written c.args.sink.now) (g.K.Sink.written c.report_segments-done.new.sink))
     _ _ _ _ c.in_ok-board.ensures.board order c.report_segments-done.ensures.unwritten
 
 pub returns-clause-interrupted : goal.returns-clause-interrupted
 returns-clause-interrupted g c =
     let journal = c.journal-2.ensures ∙ c.close.ensures.journal in
     let order = c.note_order.ensures ∙ (λ i. c.requires.empty i ++ order_of (journal i)) in
-    moved (λ b o. IsErrOf c.report_segments-done.result Memory → IsInterrupted g.C.Carrier.plays c.args.listing b.slots (AreToldBeyond (λ m. (goal.Meter-dyn g (m.vtable, m.value)).stands m.value) (λ m. (goal.Meter-dyn g (m.vtable, m.value)).text m.value) c.args.meters.now.items c.report_segments-done.new.meters.items) c.args.trace.now o (g.K.Sink.written c.args.sink.now) (g.K.Sink.written c.report_segments-done.new.sink))
+    moved (λ b o. IsErrOf c.report_segments-done.result Memory → IsInterrupted g.C.Carrier.plays g.L.ListingKind.listing b.slots (AreToldBeyond (λ m. (goal.Meter-dyn g (m.vtable, m.value)).stands m.value) (λ m. (goal.Meter-dyn g (m.vtable, m.value)).text m.value) c.args.meters.now.items c.report_segments-done.new.meters.items) c.args.trace.now o (g.K.Sink.written c.args.sink.now) (g.K.Sink.written c.report_segments-done.new.sink))
     _ _ _ _ c.in_ok-board.ensures.board order c.report_segments-done.ensures.interrupted

@@ -1,4 +1,4 @@
-use Rattle.std.proofs.Common.{ℕ, ◌≡◌, ◌+◌, ◌≤◌, List, length, ap, sym, ◌∙◌, arith, subst, refl}
+use Rattle.std.proofs.Common.{ℕ, ◌≡◌, ◌+◌, ◌≤◌, List, [], length, ap, sym, ◌∙◌, arith, subst, refl, inl, inr}
 use Rattle.exchange_events.specs.declared.trace.Trace.{Trace}
 use Rattle.exchange_events.specs.Sound.{IsSound}
 use Rattle.exchange_core.specs.Working.{order_of}
@@ -6,12 +6,13 @@ use Rattle.segment_run.specs.Segment.{Ran, RanWhole}
 use Rattle.segment_run.proofs.OrderLemmas.{few_segments}
 use Rattle.std.specs.Io.KnownBytes.{Appends}
 use Rattle.ex_io.specs.Ends.{Rose}
-use Rattle.exchange_top.specs.Outcomes.{IsInterrupted, IsRunWhole, IsUnwritten, listed}
+use Rattle.exchange_top.specs.Outcomes.{IsInterrupted, IsRunWhole, IsUnwritten}
+use Rattle.line_list.specs.Lines.{listed, text_of}
 use Rattle.exchange_top.specs.Report.{report}
 use Rattle.exchange_top.specs.Telling.{AreTold, AreToldBeyond}
 use Rattle.exchange_top.proofs.Answered.{calls_grown}
 use Rattle.exchange_top.proofs.Tellings.{both_beyond, both_told, none_told}
-use Rattle.exchange_top.specs.Running.{fabric_at}
+use Rattle.exchange_top.specs.Running.{AreOfAnswers, fabric_at}
 use Rattle.exchange_top.proofs.Underway.{underway_first, underway_more, underway_written, begun_segment, begun_flush, run_whole, all_written}
 use Rattle.exchange_top.proofs.segments.report_segments.Goals as goal
 
@@ -24,8 +25,9 @@ overflow_cast-segment-end g c =
 
 pub loop-segment-init : goal.loop-segment-init
 loop-segment-init g c = record {
+  kept = ([], c.requires.blank);
   seated = c.requires.seated;
-  underway = underway_first g.C.Carrier.plays c.args.listing (g.B.Switchboard.board c.args.board.now) (g.B.Switchboard.known c.args.seat.now) _ c.args.out.now.items c.requires.fresh c.requires.blank;
+  underway = underway_first g.C.Carrier.plays g.L.ListingKind.listing (g.B.Switchboard.board c.args.board.now) (g.B.Switchboard.known c.args.seat.now) _ (text_of c.args.lines.now) c.requires.fresh (ap text_of c.requires.blank);
   ready = rw c.requires.fresh c.requires.ready;
   steady = refl;
   told = rw c.requires.fresh (none_told _ _ _);
@@ -39,8 +41,8 @@ returns-in_err-carried-clause-interrupted g c memory =
     let w = K c.report_segment.new.seat in
     let k = c.loop-segment.segment in
     let ran = subst (λ (t : Trace). Ran t k v w) c.requires.trace c.report_segment.ensures.ran in
-    subst (λ (t : Trace). IsInterrupted g.C.Carrier.plays c.args.listing board.slots (AreToldBeyond (λ m. (goal.Meter-dyn g (m.vtable, m.value)).stands m.value) (λ m. (goal.Meter-dyn g (m.vtable, m.value)).text m.value) c.args.meters.now.items c.report_segment.new.meters.items) t (order_of w.seen) (g.K.Sink.written c.args.sink.now) (g.K.Sink.written c.loop-segment.sink)) (sym c.requires.trace)
-    (begun_segment g.C.Carrier.plays c.args.listing board k v _ _ c.loop-segment.out.items c.loop-segment.invariant.underway _ w ran
+    subst (λ (t : Trace). IsInterrupted g.C.Carrier.plays g.L.ListingKind.listing board.slots (AreToldBeyond (λ m. (goal.Meter-dyn g (m.vtable, m.value)).stands m.value) (λ m. (goal.Meter-dyn g (m.vtable, m.value)).text m.value) c.args.meters.now.items c.report_segment.new.meters.items) t (order_of w.seen) (g.K.Sink.written c.args.sink.now) (g.K.Sink.written c.loop-segment.sink)) (sym c.requires.trace)
+    (begun_segment g.C.Carrier.plays g.L.ListingKind.listing board k v _ _ (text_of c.loop-segment.lines) c.loop-segment.invariant.underway _ w ran
     (both_beyond _ _ _ _ _ _ _ c.loop-segment.invariant.told c.in_err-carried.ensures.told_front))
 
 pub returns-in_err-flush_full-clause-unwritten : goal.returns-in_err-flush_full-clause-unwritten
@@ -52,9 +54,9 @@ returns-in_err-flush_full-clause-unwritten g c write =
     let k = c.loop-segment.segment in
     let ran = subst (λ (t : Trace). Ran t k v w) c.requires.trace c.report_segment.ensures.ran in
     let whole = subst (λ (t : Trace). RanWhole t k v w) c.requires.trace c.in_ok-carried.ensures.whole in
-    let more = underway_more g.C.Carrier.plays c.args.listing board k v _ _ c.loop-segment.out.items c.loop-segment.invariant.underway w c.report_segment.new.out.items c.report_segment.ensures.chief ran whole c.in_ok-carried.ensures.lines c.in_ok-carried.ensures.few in
-    subst (λ (t : Trace). IsUnwritten g.C.Carrier.plays c.args.listing board.slots (AreTold (λ m. (goal.Meter-dyn g (m.vtable, m.value)).stands m.value) (λ m. (goal.Meter-dyn g (m.vtable, m.value)).text m.value) c.args.meters.now.items c.report_segment.new.meters.items) t (order_of w.seen) (g.K.Sink.written c.args.sink.now) (g.K.Sink.written c.flush_full.new.sink)) (sym c.requires.trace)
-    (begun_flush g.C.Carrier.plays c.args.listing board (k + 1) w _ _ c.report_segment.new.out.items more _ _ c.in_err-flush_full.ensures.front
+    let more = underway_more g.C.Carrier.plays g.L.ListingKind.listing board k v _ _ (text_of c.loop-segment.lines) c.loop-segment.invariant.underway w (text_of c.report_segment.new.lines) c.report_segment.ensures.chief ran whole c.in_ok-carried.ensures.lines c.in_ok-carried.ensures.few in
+    subst (λ (t : Trace). IsUnwritten g.C.Carrier.plays g.L.ListingKind.listing board.slots (AreTold (λ m. (goal.Meter-dyn g (m.vtable, m.value)).stands m.value) (λ m. (goal.Meter-dyn g (m.vtable, m.value)).text m.value) c.args.meters.now.items c.report_segment.new.meters.items) t (order_of w.seen) (g.K.Sink.written c.args.sink.now) (g.K.Sink.written c.flush_full.new.sink)) (sym c.requires.trace)
+    (begun_flush g.C.Carrier.plays g.L.ListingKind.listing board (k + 1) w _ _ (text_of c.report_segment.new.lines) more _ _ c.in_err-flush_full.ensures.front
     (subst (AreTold (λ m. (goal.Meter-dyn g (m.vtable, m.value)).stands m.value) (λ m. (goal.Meter-dyn g (m.vtable, m.value)).text m.value) c.args.meters.now.items c.report_segment.new.meters.items) (sym (calls_grown board v w ran.begins)) (both_told _ _ _ _ _ _ _ c.loop-segment.invariant.told c.in_ok-carried.ensures.told)))
 
 pub loop-segment-preserved : goal.loop-segment-preserved
@@ -66,10 +68,14 @@ loop-segment-preserved g c =
     let k = c.loop-segment.segment in
     let ran = subst (λ (t : Trace). Ran t k v w) c.requires.trace c.report_segment.ensures.ran in
     let whole = subst (λ (t : Trace). RanWhole t k v w) c.requires.trace c.in_ok-carried.ensures.whole in
-    let more = underway_more g.C.Carrier.plays c.args.listing board k v _ _ c.loop-segment.out.items c.loop-segment.invariant.underway w c.report_segment.new.out.items c.report_segment.ensures.chief ran whole c.in_ok-carried.ensures.lines c.in_ok-carried.ensures.few in
+    let more = underway_more g.C.Carrier.plays g.L.ListingKind.listing board k v _ _ (text_of c.loop-segment.lines) c.loop-segment.invariant.underway w (text_of c.report_segment.new.lines) c.report_segment.ensures.chief ran whole c.in_ok-carried.ensures.lines c.in_ok-carried.ensures.few in
     record {
+      kept = elim c.in_ok-flush_full.ensures.kept [
+        | inl same ↦ subst (AreOfAnswers g.L.ListingKind.listing) (sym same) c.in_ok-carried.ensures.kept
+        | inr none ↦ ([], none)
+      ];
       seated = c.report_segment.ensures.seated;
-      underway = underway_written g.C.Carrier.plays c.args.listing board (k + 1) w _ _ c.report_segment.new.out.items more _ _ c.in_ok-flush_full.ensures.flushed;
+      underway = underway_written g.C.Carrier.plays g.L.ListingKind.listing board (k + 1) w _ _ (text_of c.report_segment.new.lines) more _ _ c.in_ok-flush_full.ensures.flushed;
       ready = c.in_ok-carried.ensures.ready;
       steady = c.in_ok-flush_full.ensures.steady ∙ c.loop-segment.invariant.steady;
       told = subst (AreTold (λ m. (goal.Meter-dyn g (m.vtable, m.value)).stands m.value) (λ m. (goal.Meter-dyn g (m.vtable, m.value)).text m.value) c.args.meters.now.items c.report_segment.new.meters.items) (sym (calls_grown board v w ran.begins)) (both_told _ _ _ _ _ _ _ c.loop-segment.invariant.told c.in_ok-carried.ensures.told);
@@ -80,8 +86,8 @@ returns-in_err-flush-clause-unwritten g c write =
     let K = g.B.Switchboard.known in
     let board = g.B.Switchboard.board c.args.board.now in
     let v = K c.loop-segment.seat in
-    subst (λ (t : Trace). IsUnwritten g.C.Carrier.plays c.args.listing board.slots (AreTold (λ m. (goal.Meter-dyn g (m.vtable, m.value)).stands m.value) (λ m. (goal.Meter-dyn g (m.vtable, m.value)).text m.value) c.args.meters.now.items c.loop-segment.meters.items) t (order_of v.seen) (g.K.Sink.written c.args.sink.now) (g.K.Sink.written c.flush.new.sink)) (sym c.requires.trace)
-    (begun_flush g.C.Carrier.plays c.args.listing board c.loop-segment.segment v _ _ c.loop-segment.out.items c.loop-segment.invariant.underway _ _ c.in_err-flush.ensures.front c.loop-segment.invariant.told)
+    subst (λ (t : Trace). IsUnwritten g.C.Carrier.plays g.L.ListingKind.listing board.slots (AreTold (λ m. (goal.Meter-dyn g (m.vtable, m.value)).stands m.value) (λ m. (goal.Meter-dyn g (m.vtable, m.value)).text m.value) c.args.meters.now.items c.loop-segment.meters.items) t (order_of v.seen) (g.K.Sink.written c.args.sink.now) (g.K.Sink.written c.flush.new.sink)) (sym c.requires.trace)
+    (begun_flush g.C.Carrier.plays g.L.ListingKind.listing board c.loop-segment.segment v _ _ (text_of c.loop-segment.lines) c.loop-segment.invariant.underway _ _ c.in_err-flush.ensures.front c.loop-segment.invariant.told)
 
 pub returns-clause-whole : goal.returns-clause-whole
 returns-clause-whole g c =
@@ -95,15 +101,15 @@ returns-clause-whole g c =
     let within = c.loop-segment.auto.segment-end in
     let all : k ≡ length board.trace.segments = omega (arith, same, over, within) in
     subst (λ (t : Trace). IsRunWhole (fabric_at board) (AreTold (λ m. (goal.Meter-dyn g (m.vtable, m.value)).stands m.value) (λ m. (goal.Meter-dyn g (m.vtable, m.value)).text m.value) c.args.meters.now.items c.loop-segment.meters.items) t (order_of v.seen)) (sym c.requires.trace)
-    (run_whole g.C.Carrier.plays c.args.listing board k v _ _ c.loop-segment.out.items c.loop-segment.invariant.underway _ sound all c.loop-segment.invariant.told)
+    (run_whole g.C.Carrier.plays g.L.ListingKind.listing board k v _ _ (text_of c.loop-segment.lines) c.loop-segment.invariant.underway _ sound all c.loop-segment.invariant.told)
 
 pub returns-clause-text : goal.returns-clause-text
 returns-clause-text g c =
     let K = g.B.Switchboard.known in
     let board = g.B.Switchboard.board c.args.board.now in
     let v = K c.loop-segment.seat in
-    subst (λ (t : Trace). Appends (g.K.Sink.written c.args.sink.now) (g.K.Sink.written c.flush.new.sink) (listed c.args.listing (report g.C.Carrier.plays board.slots t (order_of v.seen)))) (sym c.requires.trace)
-    (all_written g.C.Carrier.plays c.args.listing board c.loop-segment.segment v _ _ c.loop-segment.out.items c.loop-segment.invariant.underway _ c.in_ok-flush.ensures.whole)
+    subst (λ (t : Trace). Appends (g.K.Sink.written c.args.sink.now) (g.K.Sink.written c.flush.new.sink) (listed g.L.ListingKind.listing (report g.C.Carrier.plays board.slots t (order_of v.seen)))) (sym c.requires.trace)
+    (all_written g.C.Carrier.plays g.L.ListingKind.listing board c.loop-segment.segment v _ _ (text_of c.loop-segment.lines) c.loop-segment.invariant.underway _ c.in_ok-flush.ensures.whole)
 
 pub returns-in_err-flush_full-clause-cause : goal.returns-in_err-flush_full-clause-cause
 returns-in_err-flush_full-clause-cause g c = λ write.

@@ -1,0 +1,58 @@
+-- Lines of events, as they are kept until they are written. Source: this exchange's own.
+use Rattle.std.specs.Prelude.{◌≡◌, ℕ, ◌<◌, List, [], ◌∷◌, ◌++◌, length, drop, All, Option, Some, None}
+use Rattle.exchange_events.specs.declared.answer.Kept.{Kept}
+use Rattle.exchange_events.specs.declared.answer.Kept.TheVariants as k
+use Rattle.exchange_events.specs.declared.record.CallRecord.{CallRecord}
+use Rattle.report_text.specs.Report.{answer_line}
+use Rattle.call_processor.specs.declared.worked.Placed.{Placed}
+use Rattle.line_list.specs.declared.listing.Listing.{Listing}
+use Rattle.line_list.specs.declared.listing.Listing.TheVariants as listing
+
+-- what is kept of an event: its place in the history, its line, and the records of the calls that ended with it
+pub record Line : Type 0 where
+  pub place : ℕ
+  pub text : List ℕ
+  pub records : List CallRecord
+
+-- what a run writes of a report
+abbrev pub listed : Listing → List ℕ → List ℕ
+listed listing.Report text = text
+listed listing.Nothing text = []
+
+-- the calls that ended with what is kept of a reply
+abbrev pub calls_kept : Kept → List CallRecord
+calls_kept (k.Granted a b) = []
+calls_kept k.Busy = []
+calls_kept (k.Seated a b) = []
+calls_kept k.NoPort = []
+calls_kept k.Freed = []
+calls_kept k.NotNailed = []
+calls_kept (k.Sent sends moved records) = records
+calls_kept (k.Frame number sends records) = records
+
+-- the line of an answer at its place; where nothing is listed, it is empty
+abbrev pub line_of : Listing → Placed → Line
+line_of l p = record { place = p.place; text = listed l (answer_line p.answer); records = calls_kept p.answer.reply }
+
+-- the text of lines, one after another
+abbrev pub text_of : List Line → List ℕ
+text_of [] = []
+text_of (l ∷ ls) = l.text ++ text_of ls
+
+-- the records of lines, one line after another
+abbrev pub calls_of : List Line → List CallRecord
+calls_of [] = []
+calls_of (l ∷ ls) = l.records ++ calls_of ls
+
+-- the place of the first of these lines
+abbrev pub first_line : List Line → Option ℕ
+first_line [] = None
+first_line (l ∷ ls) = Some l.place
+
+-- The first lines were handed to others: the first of all, and those behind it that come before a place.
+pub record HandsLines (below : ℕ) (lines others from to : List Line) : Type 0 where
+  pub run : List Line
+  pub parts : lines ≡ run ++ from
+  pub some : 0 < length lines → 0 < length run
+  pub before : All (λ (l : Line). l.place < below) (drop 1 run)
+  pub got : to ≡ others ++ run

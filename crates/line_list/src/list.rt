@@ -1,0 +1,92 @@
+ghost use Rattle.std.specs.Prelude.{◌≡◌, [], map};
+ghost use Rattle.line_list.specs.Lines.{calls_of, line_of, text_of};
+
+use crate::lines::Lines;
+use crate::listing::ListingKind;
+use call_processor::Keeper;
+use exchange_events::{CallRecord, Outbox, Response};
+use std::alloc::{AllocError, Global};
+use std::marker::{Model, PhantomData};
+
+/// A keeper of lines. Contracts see their list. `L` says whether lines are made.
+#[derive(Drop)]
+pub struct LineList<L> {
+    lines: Lines,
+    kind: PhantomData<L>,
+}
+
+impl<L> Model for LineList<L> {
+    ghost use Rattle.std.specs.Prelude.{List};
+    ghost use Rattle.line_list.specs.Lines.{Line};
+
+    ghost Value = { List Line };
+
+    ghost view = { λ k. k.lines };
+}
+
+impl<L> LineList<L> {
+    /// No lines yet. Their text takes the memory of another text, which is gone.
+    pub fn new(alloc: Global, text: Vec<u8>) -> LineList<L>
+        ensures { result ≡ [] }
+    {
+        LineList {
+            lines: Lines::new(alloc, text),
+            kind: PhantomData,
+        }
+    }
+
+    /// The text of the lines.
+    pub fn text(&self) -> &[u8]
+        ensures { result.now ≡ text_of self.now }
+    {
+        self.lines.text()
+    }
+
+    /// The records of the calls that ended, line by line.
+    pub fn records(&self) -> &[CallRecord]
+        ensures { result.now ≡ calls_of self.now }
+    {
+        self.lines.records()
+    }
+}
+
+impl<L: ListingKind + Send + Drop> Keeper for LineList<L> {
+    ghost holds = { λ k answers. k ≡ map (line_of L.listing) answers };
+
+    fn another(&self, alloc: Global) -> LineList<L> {
+        LineList::new(alloc, Vec::new(alloc))
+    }
+
+    fn clear(&mut self) {
+        self.lines.clear();
+    }
+
+    fn keep(
+        &mut self,
+        alloc: Global,
+        place: u32,
+        event: u32,
+        response: Response,
+        outbox: &Outbox,
+        octets: &[[u8; 30]],
+    ) -> Result<(), AllocError> {
+        self.lines
+            .push(L::listing(), place, event, response, outbox, octets)
+    }
+
+    fn count(&self) -> usize {
+        self.lines.count()
+    }
+
+    fn cut(&mut self, count: usize) {
+        self.lines.truncate(count);
+    }
+
+    fn first_place(&self) -> Option<u32> {
+        self.lines.first_place()
+    }
+
+    fn hand_on(&mut self, to: &mut Self, below: u32) -> Result<(), AllocError> {
+        self.lines.hand_on(&mut to.lines, below)
+    }
+}
