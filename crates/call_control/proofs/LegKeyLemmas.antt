@@ -6,15 +6,15 @@ use Rattle.std.proofs.lemmas.List.{get_or_past}
 use Rattle.call_states.specs.declared.leg.Leg.{Leg}
 use Rattle.call_states.specs.declared.leg.Side.{Side}
 use Rattle.call_states.specs.declared.leg.Side.TheVariants.{Caller, Called}
-use Rattle.call_states.specs.Status.{IsTold}
+use Rattle.call_states.specs.Status.{FitsMessages}
 use Rattle.call_profile.specs.Legs.{Legs, leg_at, held_at, leg_named, same_side, side_named}
 use Rattle.call_profile.proofs.LineLemmas.{found_from, found_all, found_end, found_none, found_other, found_here}
 use Rattle.call_control.specs.LegKeys.{key_named, key_by, key_of, no_key, leg_on, IsRowOf}
 
-pub told_at : (legs : Legs) (n : ℕ) → All (λ leg. IfSome leg IsTold) legs → IfSome (get_or legs n None) IsTold
+pub told_at : (legs : Legs) (n : ℕ) → All (λ leg. IfSome leg FitsMessages) legs → IfSome (get_or legs n None) FitsMessages
 told_at legs n told = elim (cases_lt n (length legs)) [
   | inl inside ↦ told n None inside
-  | inr past ↦ subst (λ (o : Option Leg). IfSome o IsTold) (sym (get_or_past legs n None past)) tt
+  | inr past ↦ subst (λ (o : Option Leg). IfSome o FitsMessages) (sym (get_or_past legs n None past)) tt
 ]
 
 -- ---- a key and the message that it is of
@@ -34,13 +34,13 @@ other_side false reference Called r apart = refl
 
 -- ---- a look along the row of a line
 
-module _ (legs : Legs) (line : ℕ) (row : List ℕ) (of : IsRowOf legs line row) (told : All (λ leg. IfSome leg IsTold) legs) (flag : Bool) (reference : ℕ) (small : reference < 2 ^ 16) where
+module _ (legs : Legs) (line : ℕ) (row : List ℕ) (of : IsRowOf legs line row) (told : All (λ leg. IfSome leg FitsMessages) legs) (flag : Bool) (reference : ℕ) (small : reference < 2 ^ 16) where
   passed : (place : ℕ) → place < 30 → (o : Option Leg) → leg_at legs (record { line = line; place = place }) ≡ o → key_of o ≢ key_named flag reference
       → found_from legs line flag reference place ≡ found_from legs line flag reference (place + 1)
   passed place within None at apart = found_none legs line flag reference place within at
   passed place within (Some leg) at apart = found_other legs line flag reference place within leg at (other_side flag reference leg.side leg.reference apart)
 
-  held : (place : ℕ) → place < 30 → (o : Option Leg) → leg_at legs (record { line = line; place = place }) ≡ o → IfSome o IsTold → key_of o ≡ key_named flag reference
+  held : (place : ℕ) → place < 30 → (o : Option Leg) → leg_at legs (record { line = line; place = place }) ≡ o → IfSome o FitsMessages → key_of o ≡ key_named flag reference
       → found_from legs line flag reference place ≡ held_at legs (record { line = line; place = place })
   held place within None at tell same = absurd (no_message flag same)
     where

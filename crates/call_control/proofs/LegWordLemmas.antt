@@ -9,7 +9,7 @@ use Rattle.call_states.specs.declared.leg.Leg.{Leg}
 use Rattle.call_states.specs.declared.leg.Side.{Side}
 use Rattle.call_states.specs.declared.leg.Side.TheVariants.{Caller, Called}
 use Rattle.call_states.specs.declared.leg.Held.{Held}
-use Rattle.call_states.specs.Status.{IsTold}
+use Rattle.call_states.specs.Status.{FitsMessages}
 use Rattle.call_profile.specs.Legs.{Legs, held_at, leg_named, is_unused, new_reference}
 use Rattle.call_profile.proofs.LineLemmas.{unused_from, unused_all, unused_end, unused_here, unused_other}
 use Rattle.call_profile.proofs.VacantSlotLemmas.{none_named}
@@ -60,7 +60,7 @@ hits_other row key count word near hits apart = record {
 }
 
 -- what the word tells of the leg that a message is for
-module _ (legs : Legs) (line : ℕ) (row : List ℕ) (of : IsRowOf legs line row) (told : All (λ leg. IfSome leg IsTold) legs) (flag : Bool) (reference : ℕ) (small : reference < 2 ^ 16)
+module _ (legs : Legs) (line : ℕ) (row : List ℕ) (of : IsRowOf legs line row) (told : All (λ leg. IfSome leg FitsMessages) legs) (flag : Bool) (reference : ℕ) (small : reference < 2 ^ 16)
     (word : ℕ) (fits : word < 2 ^ 32) (bits : (place : ℕ) → place < 32 → bit_at word place ≡ hit (key_named flag reference) (slice_index row place)) where
   lacks_at : (place : ℕ) → place < 32 → bit_at word place ≡ 0 → slice_index row place ≢ key_named flag reference
   lacks_at place near clear = hit_not (key_named flag reference) (slice_index row place) (sym (bits place near) ∙ clear)
@@ -120,13 +120,13 @@ uses_other row count word uses apart = record {
   ];
 }
 
-module _ (legs : Legs) (line : ℕ) (row : List ℕ) (of : IsRowOf legs line row) (told : All (λ leg. IfSome leg IsTold) legs) where
+module _ (legs : Legs) (line : ℕ) (row : List ℕ) (of : IsRowOf legs line row) (told : All (λ leg. IfSome leg FitsMessages) legs) where
   -- a called leg with this reference
   called_key : (side : Side) (r reference : ℕ) → r < 2 ^ 15 → key_by side r ≡ 2 ^ 16 + reference → (side ≡ Called) × (r ≡ reference)
   called_key Caller r reference few e = absurd (omega (arith, e, few))
   called_key Called r reference few e = (refl, omega (arith, e))
 
-  names : (reference place : ℕ) → place < 30 → (o : Option Leg) → leg_on legs line place ≡ o → IfSome o IsTold → key_of o ≡ 2 ^ 16 + reference → reference < 32
+  names : (reference place : ℕ) → place < 30 → (o : Option Leg) → leg_on legs line place ≡ o → IfSome o FitsMessages → key_of o ≡ 2 ^ 16 + reference → reference < 32
       → leg_named legs line true reference ≡ None → ⊥
   names reference place within None at tell e few none = omega (arith, e, few)
   names reference place within (Some leg) at tell e few none =

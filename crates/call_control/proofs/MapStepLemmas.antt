@@ -10,7 +10,8 @@ use Rattle.circuit_model.specs.Ports.{ports_with, ports_without, port_of}
 use Rattle.circuit_model.proofs.Slots.{same_slot-refl}
 use Rattle.circuit_model.proofs.Validity.{count_by-append}
 use Rattle.control_memory.specs.Connecting.{moved}
-use Rattle.circuit_map.specs.Connections.{Connections, Represents, seats, joined_one, joined_both, parted, without_both, partner}
+use Rattle.circuit_map.specs.Connections.{Connections, Represents, seats, joined_one, joined_both, parted}
+use Rattle.control_memory.specs.Shown.{without_both, partner}
 use Rattle.circuit_map.proofs.Sockets.{ported}
 use Rattle.exchange_events.specs.declared.reply.Reply.TheVariants.{Granted, Seated}
 use Rattle.call_control.specs.Standing.{StandsFor, dimensions_of}

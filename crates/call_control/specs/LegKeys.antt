@@ -4,7 +4,7 @@ use Rattle.std.specs.Prelude.{◌≡◌, ◌≢◌, ℕ, ◌+◌, ◌*◌, ◌^�
 use Rattle.call_states.specs.declared.leg.Leg.{Leg}
 use Rattle.call_states.specs.declared.leg.Side.{Side}
 use Rattle.call_states.specs.declared.leg.Side.TheVariants.{Caller, Called}
-use Rattle.call_states.specs.Status.{IsTold}
+use Rattle.call_states.specs.Status.{FitsMessages}
 use Rattle.call_profile.specs.Legs.{Legs}
 
 -- the key of a call reference: its value, and above sixteen bits the flag that the user of the line sends with it
@@ -38,7 +38,7 @@ leg_on legs line place = slice_index_or legs (30 * line + place) None
 pub record AreKeysOf (lines : ℕ) (legs : Legs) (keys : List ℕ) : Type 0 where
   pub slots : length legs ≡ 30 * lines
   pub rows : length keys ≡ 32 * lines
-  pub told : All (λ leg. IfSome leg IsTold) legs
+  pub told : All (λ leg. IfSome leg FitsMessages) legs
   pub each : (line place : ℕ) → place < 30 → key_on keys line place ≡ key_of (leg_on legs line place)
   pub behind : (line place : ℕ) → 30 ≤ place → place < 32 → key_on keys line place ≡ no_key
 

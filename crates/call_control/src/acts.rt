@@ -105,11 +105,11 @@ impl<P: PathMap> CallControl<P> {
                 self.on_disconnect(out, held);
                 self.clear_peer(out, tones, peer, cause);
             }
-            Act::Released(cause) => {
+            Act::Release(cause) => {
                 self.on_release(out, held);
                 self.clear_peer(out, tones, peer, cause);
             }
-            Act::Gone(cause) => {
+            Act::ReleaseComplete(cause) => {
                 self.remove_leg(held);
                 self.clear_peer(out, tones, peer, cause);
             }

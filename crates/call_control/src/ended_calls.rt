@@ -122,7 +122,7 @@ fn cause_of_act(act: Act) -> Option<u8>
     ensures { result ≡ cause_of_act act }
 {
     match act {
-        Act::Disconnect(cause) | Act::Released(cause) | Act::Gone(cause) => Some(cause),
+        Act::Disconnect(cause) | Act::Release(cause) | Act::ReleaseComplete(cause) => Some(cause),
         _ => None,
     }
 }

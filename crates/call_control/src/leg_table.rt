@@ -1,7 +1,7 @@
 //! The legs of all calls, by the slots that they hold.
 ghost use Rattle.std.specs.Prelude.{◌≡◌, ◌+◌, ◌*◌, ◌<◌, ◌≤◌, length, All, IfOk, IfSome};
 ghost use Rattle.control_memory.specs.Layout.{number_of};
-ghost use Rattle.call_states.specs.Status.{IsTold};
+ghost use Rattle.call_states.specs.Status.{FitsMessages};
 ghost use Rattle.call_control.specs.LegKeys.{IsRowOf};
 ghost use Rattle.call_profile.specs.Legs.{no_legs, leg_at, with_leg, without_leg, leg_named, held_at, new_reference};
 
@@ -52,7 +52,7 @@ impl LegTable {
     pub fn at(&self, x: Slot) -> Option<Leg>
         ensures found { result ≡ leg_at self.now x }
         ensures inside { IfSome result (λ _. number_of x < length self.now) }
-        ensures told { IfSome result IsTold }
+        ensures told { IfSome result FitsMessages }
     {
         match self.legs.get(x.number()) {
             Some(leg) => *leg,
@@ -64,7 +64,7 @@ impl LegTable {
     pub(crate) fn put(&mut self, x: Slot, leg: Leg)
         requires inside { number_of x < length self.old }
         requires place { x.place < 30 }
-        requires told { IsTold leg }
+        requires told { FitsMessages leg }
         ensures { self.new ≡ with_leg self.old x leg }
     {
         self.legs[x.number()] = Some(leg);
@@ -118,7 +118,7 @@ impl LegTable {
     fn row(&self, line: u8) -> &[u32]
         requires { 30 * line + 30 ≤ length self.now }
         ensures row { IsRowOf self.now line result.now }
-        ensures told { All (λ leg. IfSome leg IsTold) self.now }
+        ensures told { All (λ leg. IfSome leg FitsMessages) self.now }
     {
         let start = ROW * usize::from(line);
         &self.keys[start..start + ROW]

@@ -4,7 +4,7 @@ ghost use Rattle.circuit_model.specs.declared.channel.Slot.{Slot};
 ghost use Rattle.circuit_model.specs.Extent.{IsExternal};
 ghost use Rattle.circuit_model.specs.Holding.{Connect, Seat as Take_seat, Clear};
 ghost use Rattle.circuit_map.specs.Connections.{SameSizes, hears_at, hears_after};
-ghost use Rattle.call_states.specs.Status.{IsTold};
+ghost use Rattle.call_states.specs.Status.{FitsMessages};
 ghost use Rattle.call_profile.specs.IdleSlots.{idle};
 ghost use Rattle.call_profile.specs.Legs.{leg_at, with_leg, without_leg};
 ghost use Rattle.call_profile.specs.Operations.{moves_for, moves_of_seat, with_tone};
@@ -103,7 +103,7 @@ impl<P: PathMap> CallControl<P> {
     pub(crate) fn put(&mut self, x: Slot, leg: Leg)
         requires external { IsExternal self.old.map.external x }
         requires count { length self.old.legs ≡ 30 * self.old.map.external }
-        requires told { IsTold leg }
+        requires told { FitsMessages leg }
         ensures legs { self.new.legs ≡ with_leg self.old.legs x leg }
         ensures map { self.new.map ≡ self.old.map }
     {

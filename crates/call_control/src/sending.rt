@@ -4,7 +4,7 @@ ghost use Rattle.std.specs.List.{cons_option};
 ghost use Rattle.circuit_map.specs.Connections.{Connections};
 ghost use Rattle.q931_codec.specs.declared.kind.MessageKind.TheVariants as kind;
 ghost use Rattle.q931_codec.specs.Outgoing.{IsWritable, encoding, outgoing_of, bare};
-ghost use Rattle.call_states.specs.Status.{IsTold};
+ghost use Rattle.call_states.specs.Status.{FitsMessages};
 ghost use Rattle.clearing_rules.specs.UnknownReference.{answer_without_call};
 ghost use Rattle.q931_codec.specs.MessageType.{IsNamed};
 ghost use Rattle.call_profile.specs.Acts.{message_to};
@@ -36,7 +36,7 @@ pub(crate) fn send(out: &mut Outbox, line: u8, message: &Outgoing)
 /// Sends a message of a type, without elements, to the user of a leg.
 pub(crate) fn send_bare(out: &mut Outbox, held: Held, kind: MessageKind)
     requires room { length out.old.sends < most_sends }
-    requires told { IsTold held.leg }
+    requires told { FitsMessages held.leg }
     requires named { IsNamed kind }
     ensures sends { out.new.sends ≡ out.old.sends ++ record { line = held.slot.line; octets = encoding (message_to held.leg kind) } ∷ [] }
     ensures moved { out.new.moved ≡ out.old.moved }

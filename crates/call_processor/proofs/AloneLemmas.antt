@@ -1,25 +1,24 @@
 -- Seat 0 alone: one event after another, in the order of the file.
-use Rattle.std.proofs.Common.{◌≡◌, ◌-◌, arith, ℕ, true, false, Bool, IsTrue, List, [], ◌∷◌, ◌++◌, get_or, length, refl, sym, ap, ◌∙◌, subst, append_assoc, append-nil}
-use Rattle.std.specs.List.{All, range_with_len}
+use Rattle.std.proofs.Common.{◌≡◌, ◌-◌, arith, ℕ, true, false, List, [], ◌∷◌, ◌++◌, get_or, length, refl, sym, ap, ◌∙◌, subst, append_assoc, append-nil}
+use Rattle.std.specs.List.{range_with_len}
 use Rattle.std.proofs.lemmas.List.{map-append}
 use Rattle.std.proofs.lemmas.List.Elements.{All-cons, All-nil}
 use Rattle.circuit_model.specs.declared.circuit.Kind.{Kind}
-use Rattle.circuit_model.specs.FrameInput.{Input}
 use Rattle.exchange_core.specs.declared.tool.Tool.{Tool}
-use Rattle.exchange_core.specs.Boards.{Board, IsFrame, NoFrames}
+use Rattle.exchange_core.specs.Boards.{Board, IsFrame}
 use Rattle.exchange_core.specs.Working.{Entry}
 use Rattle.exchange_events.specs.declared.trace.Trace.{Trace}
 use Rattle.exchange_events.specs.Orders.{Frame_worker}
 use Rattle.exchange_events.specs.Sizes.{Dimensions}
 use Rattle.seat_history.specs.declared.known.Known.{Known}
-use Rattle.seat_history.specs.Histories.{StartsWith, before}
+use Rattle.seat_history.specs.Histories.{before}
 use Rattle.seat_history.specs.Seats.{Settled, after_step}
 use Rattle.call_processor.specs.declared.worked.Placed.{Placed}
 use Rattle.call_processor.specs.Alone.{DidInOrder, DidNext, HasOctets, HoldsBehind, IsOnly}
 use Rattle.call_processor.specs.Frames.{Carrying, HasFrame, IsReady, Plays}
 use Rattle.call_processor.specs.Keeping.{HasKept, KeepsWork, has_no_octets}
 use Rattle.call_processor.specs.Parts.{is_its}
-use Rattle.call_processor.specs.Work.{Did, DidEvent, IsAnswer, entries_for}
+use Rattle.call_processor.specs.Work.{Did, DidEvent, entries_for}
 use Rattle.call_processor.proofs.EventLemmas.{did_more, frame_stays, next_of, nothing_done}
 use Rattle.call_processor.proofs.FrameLemmas.{frame_its, still_ready}
 use Rattle.call_processor.proofs.KeepingLemmas.{Keeps, Stays, keeps_front, keeps_lacking, keeps_more, keeps_none, keeps_whole}

@@ -1,8 +1,8 @@
 -- A frame at its place in the history, and what the engine makes of it.
-use Rattle.std.proofs.Common.{true, ◌≡◌, ℕ, ◌+◌, ◌-◌, ◌<◌, ◌≤◌, List, ◌++◌, Option, Some, None, [], ◌∷◌, length, take, drop, drop_of_length-le, append-nil, take_all, slice_get, refl, sym, subst, arith, ◌∙◌, ap}
+use Rattle.std.proofs.Common.{true, ◌≡◌, ℕ, ◌+◌, ◌-◌, ◌<◌, List, ◌++◌, Option, Some, None, [], ◌∷◌, length, take, drop, drop_of_length-le, append-nil, take_all, slice_get, refl, sym, subst, arith, ◌∙◌, ap}
 use Rattle.std.specs.Prelude.{All}
 use Rattle.std.specs.List.{cons_option}
-use Rattle.std.proofs.lemmas.List.{map-append}
+use Rattle.std.proofs.lemmas.List.{map-append, length-map}
 use Rattle.std.proofs.lemmas.List.Elements.{All-nil, All-cons, All-head, All-tail, filter_map-append}
 use Rattle.std.proofs.lemmas.Option.{slice_get_within, get_or_from_slice_get}
 use Rattle.circuit_model.specs.declared.circuit.Circuit.{Circuit}
@@ -13,7 +13,7 @@ use Rattle.control_memory.specs.Shown.{Shows}
 use Rattle.tone_rules.specs.declared.tones.Tones.{Tones}
 use Rattle.frame_engine.specs.Frames.{Boundary, Come, IsNext, PlaysOut}
 use Rattle.exchange_events.specs.declared.trace.Event.{Event}
-use Rattle.exchange_events.specs.declared.trace.Event.TheVariants.{Nail, Seat, Free, Message, Frame}
+use Rattle.exchange_events.specs.declared.trace.Event.TheVariants.{Frame}
 use Rattle.exchange_events.specs.declared.trace.Trace.{Trace}
 use Rattle.exchange_events.specs.Orders.{Frame_worker}
 use Rattle.exchange_core.specs.declared.tool.Tool.{Tool}
@@ -29,6 +29,7 @@ use Rattle.exchange_core.specs.Working.{Entry, IsNumbered, IsOfSize, IsToolFor, 
 use Rattle.call_profile.specs.World.{World, start, pass}
 use Rattle.call_profile.proofs.HistoryLemmas.{made, made_pass}
 use Rattle.call_profile.proofs.QuietEventLemmas.{SameFrames, same_self, then_same as same_then, quiet}
+use Rattle.call_profile.proofs.RunLemmas.{few_events, world_next}
 use Rattle.exchange_core.proofs.StepLemmas.{world_more}
 use Rattle.call_processor.specs.Parts.{does, is_its}
 use Rattle.call_processor.specs.Frames.{Plays, Carrying, CarriesFrames, IsReady, IsPlayed}
@@ -87,38 +88,14 @@ same_frames board seen history begins none =
 
 -- ---- how many frames there have been
 
-next_grows : (s : Setting) (w : World) (e : Event) → (next s w e).holding.next ≤ w.holding.next + 1
-next_grows s w (Nail x y) = let same = (quiet s w (Nail x y) (λ input e. cc)).next in omega (arith, same)
-next_grows s w (Seat x room) = let same = (quiet s w (Seat x room) (λ input e. cc)).next in omega (arith, same)
-next_grows s w (Free x) = let same = (quiet s w (Free x) (λ input e. cc)).next in omega (arith, same)
-next_grows s w (Message line octets) = let same = (quiet s w (Message line octets) (λ input e. cc)).next in omega (arith, same)
-next_grows s w (Frame input) = omega arith
-
-world_grows : (s : Setting) (w : World) (es : List Event) → (world_after_all s w es).holding.next ≤ w.holding.next + length es
-world_grows s w [] = omega arith
-world_grows s w (e ∷ es) =
-    let one = next_grows s w e in
-    let rest = world_grows s (next s w e) es in
-    omega (arith, one, rest)
-
-few_more : (o : Option Event) (es : List Event) → length (cons_option o es) ≤ 1 + length es
-few_more None es = omega arith
-few_more (Some e) es = omega arith
-
-few_events : (events : List Event) (history : List Entry) → length (events_of events (order_of history)) ≤ length history
-few_events events [] = omega arith
-few_events events (entry ∷ history) =
-    let rest = few_events events history in
-    let one = few_more (slice_get events (entry.1 - 1)) (events_of events (order_of history)) in
-    omega (arith, rest, one)
-
 pub frames_few : (board : Board) (history : List Entry) → IsSound board.trace → length history < length board.trace.events → (world_at board history).holding.next < 4294967295
 frames_few board history sound room =
     let s = setting_at board in
-    let grows = world_grows s (start s.dimensions) (events_of board.trace.events (order_of history)) in
-    let few = few_events board.trace.events history in
+    let grows = world_next s (start s.dimensions) (events_of board.trace.events (order_of history)) in
+    let few = few_events board.trace.events (order_of history) in
+    let long : length (order_of history) ≡ length history = length-map history (λ (entry : Entry). entry.1) in
     let most = sound.count in
-    omega (arith, grows, few, room, most)
+    omega (arith, grows, few, long, room, most)
 
 -- ---- a frame
 

@@ -6,8 +6,11 @@ use Rattle.seat_history.specs.Seats.{HasJoinedAll, Settled}
 use Rattle.exchange_core.specs.Boards.{Board, IsFrame}
 use Rattle.call_processor.specs.declared.worked.Placed.{Placed}
 use Rattle.call_processor.specs.Frames.{HasFrame, Plays}
-use Rattle.call_processor.specs.Keeping.{has_no_octets}
+use Rattle.call_processor.specs.Keeping.{HasKept, KeepsWork, has_no_octets}
 use Rattle.call_processor.specs.Work.{Did, entries_for}
+use Rattle.tone_rules.specs.Tables.{table_of}
+use Rattle.exchange_events.specs.declared.trace.Trace.{Trace}
+use Rattle.call_processor.specs.Parts.{events_of_segment}
 
 -- it is seat 0, and all other seats are joined, so that nobody else can do an event
 abbrev pub IsOnly : Known → Type 0
@@ -34,3 +37,12 @@ HasOctets plays tones board seat p = HasFrame plays tones board seat p × ((IsFr
 -- behind whatever the one keeper held, the other holds these answers
 abbrev pub HoldsBehind : {K : Type 0} → (K → List Placed → Type 0) → K → K → List Placed → Type 0
 HoldsBehind holds before after answers = (kept : List Placed) → holds before kept → holds after (kept ++ answers)
+
+-- the event was done by the seat and kept, with the octets that the engine plays where it is a frame
+abbrev pub KeepsNext : {K : Type 0} → (K → List Placed → Type 0) → Plays → (Kind → List ℕ) → Board → Known → ℕ → K → K → Type 0
+KeepsNext holds plays tones board seat event before after = HasKept holds board seat event (HasOctets plays tones board seat) before after
+
+-- From v to w the first events of the segment were done in the order of the file, and their answers are kept behind what the keeper kept before.
+abbrev pub KeepsSegment : {K : Type 0} → (K → List Placed → Type 0) → Plays → Board → Trace → ℕ → Known → K → K → Bool → Known → Type 0
+KeepsSegment holds plays board trace segment v before after whole w =
+    KeepsWork (HoldsBehind holds before) board (HasOctets plays (table_of trace.tones) board) (events_of_segment trace segment) v after whole w

@@ -28,10 +28,6 @@ Carrying E = E → List Input → List (List Circuit) → List Ports → Type 0
 abbrev pub CarriesFrames : {E : Type 0} → Carrying E → E → World → Type 0
 CarriesFrames carries engine w = carries engine w.inputs w.held w.seated
 
--- how many lines and internal slots an engine has, by what its type tells of each
-abbrev pub engine_dimensions : {E : Type 0} → (E → ℕ) → (E → ℕ) → (E → ℕ) → E → Dimensions
-engine_dimensions external bridges slots engine = record { external = external engine; bridges = bridges engine; slots = slots engine }
-
 -- the tool of every frame, whatever arrives in it: a control memory of this size
 abbrev pub IsFrameTool : Dimensions → Tool → Type 0
 IsFrameTool d tool = IsToolFor d (Frame []) tool
@@ -44,9 +40,9 @@ pub record IsReady {E : Type 0} (carries : Carrying E) (next : E → ℕ) (sizes
   pub sized : sizes engine ≡ (setting_at board).dimensions
   pub image : IsFrameTool (setting_at board).dimensions tool
 
--- so for what a seat has seen, by what the engine's type tells of an engine
-abbrev pub IsReadyFor : {E : Type 0} → Carrying E → (E → ℕ) → (E → ℕ) → (E → ℕ) → (E → ℕ) → Board → Known → E → Tool → Type 0
-IsReadyFor carries next external bridges slots board v engine tool = IsReady carries next (engine_dimensions external bridges slots) board v.seen engine tool
+-- so for what a seat has seen
+abbrev pub IsReadyFor : {E : Type 0} → Carrying E → (E → ℕ) → (E → Dimensions) → Board → Known → E → Tool → Type 0
+IsReadyFor carries next sizes board v engine tool = IsReady carries next sizes board v.seen engine tool
 
 -- in the frame that begins in this world with this input, the octets are those that the engine plays, for each external line
 pub record IsPlayed (plays : Plays) (tones : Kind → List ℕ) (external : ℕ) (w : World) (input : Input) (octets : List (List ℕ)) : Type 0 where

@@ -8,6 +8,12 @@ use Rattle.seat_history.specs.declared.known.Known.{Known}
 use Rattle.exchange_core.specs.Boards.{Board}
 use Rattle.call_processor.specs.declared.worked.Placed.{Placed}
 use Rattle.call_processor.specs.Work.{IsAnswer, Works}
+use Rattle.circuit_model.specs.declared.circuit.Kind.{Kind}
+use Rattle.tone_rules.specs.Tables.{table_of}
+use Rattle.exchange_events.specs.declared.trace.Trace.{Trace}
+use Rattle.exchange_events.specs.Orders.{Frame_worker, Processor}
+use Rattle.call_processor.specs.Frames.{HasFrame, Plays}
+use Rattle.call_processor.specs.Parts.{part_of}
 
 -- the answer of an event at its place, from the response and the outbox of its step and from what each line sends
 abbrev pub placed : ℕ → ℕ → Response → Outbox → List (List ℕ) → Placed
@@ -17,6 +23,10 @@ placed place event response outbox octets = record { place = place; answer = rec
 abbrev pub first_place : List Placed → Option ℕ
 first_place [] = None
 first_place (p ∷ ps) = Some p.place
+
+-- a keeper that held some answers holds one more behind them
+abbrev pub IsKept : {K : Type 0} → (K → List Placed → Type 0) → Placed → K → K → Type 0
+IsKept holds p before after = (answers : List Placed) → holds before answers → holds after (answers ++ p ∷ [])
 
 -- A keeper that held these answers handed the first ones to another: the first of all, and those behind it that come before a place. The other has
 -- them behind its own.
@@ -64,3 +74,17 @@ pub record KeepsWork {K : Type 0} (holds : K → List Placed → Type 0) (board 
   pub held : holds keeper answers
   pub works : Works board part v answers whole w
   pub said : All (octets w) answers
+
+-- The frame was done by the seat and kept, with the octets that the engine plays in it.
+abbrev pub KeepsFrame : {K : Type 0} → (K → List Placed → Type 0) → Plays → (Kind → List ℕ) → Board → Known → ℕ → K → K → Type 0
+KeepsFrame holds plays tones board seat event before after = HasKept holds board seat event (HasFrame plays tones board seat) before after
+
+-- From v to w a call processor did the first events of its part, and their answers are kept, without octets.
+abbrev pub KeepsEvents : {K : Type 0} → (K → List Placed → Type 0) → Board → Trace → ℕ → ℕ → Known → K → Bool → Known → Type 0
+KeepsEvents holds board trace segment n v keeper whole w =
+    KeepsWork holds board (λ seat. has_no_octets) (part_of trace segment (Processor n)) v keeper whole w
+
+-- From v to w the frame worker did the first frames of the segment, and their answers are kept, with the octets that the engine plays.
+abbrev pub KeepsFrames : {K : Type 0} → (K → List Placed → Type 0) → Plays → Board → Trace → ℕ → Known → K → Bool → Known → Type 0
+KeepsFrames holds plays board trace segment v keeper whole w =
+    KeepsWork holds board (HasFrame plays (table_of trace.tones) board) (part_of trace segment Frame_worker) v keeper whole w

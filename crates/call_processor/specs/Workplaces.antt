@@ -7,12 +7,31 @@ use Rattle.call_processor.specs.declared.worked.Finished.{Finished}
 use Rattle.call_processor.specs.declared.worked.FinishedFrames.{FinishedFrames}
 use Rattle.call_processor.specs.declared.worked.Framed.{Framed}
 use Rattle.call_processor.specs.declared.worked.Placed.{Placed}
-use Rattle.call_processor.specs.Frames.{Carrying, IsReady}
-use Rattle.call_processor.specs.Keeping.{KeepsWork}
+use Rattle.call_processor.specs.Frames.{Carrying, IsReady, HasFrame, Plays}
+use Rattle.call_processor.specs.Keeping.{KeepsWork, has_no_octets}
+use Rattle.tone_rules.specs.Tables.{table_of}
+use Rattle.exchange_events.specs.declared.trace.Trace.{Trace}
+use Rattle.exchange_events.specs.Orders.{Frame_worker, Processor}
+use Rattle.call_processor.specs.declared.worked.Worked.{Worked}
+use Rattle.call_processor.specs.Parts.{part_of}
+use Rattle.call_processor.specs.Work.{Works}
 
 -- the worker did this part from what its seat knew at first, and its answers are what the workplace's keeper keeps
 abbrev pub HasWorked : {T K : Type 0} → (K → List Placed → Type 0) → (T → Known) → Board → (Known → Placed → Type 0) → List ℕ → Known → Finished T K → Type 0
 HasWorked holds known board octets part v f = KeepsWork holds board octets part v f.workplace.keeper f.whole (known f.seat)
+
+-- a call processor did its part of a segment, and no answer has octets
+abbrev pub HasDoneEvents : {T K : Type 0} → (K → List Placed → Type 0) → (T → Known) → Board → Trace → ℕ → ℕ → Known → Finished T K → Type 0
+HasDoneEvents holds known board trace segment n v f = HasWorked holds known board (λ seat. has_no_octets) (part_of trace segment (Processor n)) v f
+
+-- the frame worker did the frames of a segment, and their answers have the octets that the engine plays
+abbrev pub HasDoneFrames : {T K : Type 0} → (K → List Placed → Type 0) → Plays → (T → Known) → Board → Trace → ℕ → Known → Finished T K → Type 0
+HasDoneFrames holds plays known board trace segment v f =
+    HasWorked holds known board (HasFrame plays (table_of trace.tones) board) (part_of trace segment Frame_worker) v f
+
+-- the worker did this part from what its seat knew at first, and these are its answers
+abbrev pub HasAnswered : {T : Type 0} → (T → Known) → Board → List ℕ → Known → Worked T → Type 0
+HasAnswered known board part v d = Works board part v d.answers.items d.whole (known d.seat)
 
 -- the engine and the tool come back ready for the frame after what the frame worker has seen
 abbrev pub EndsReady : {T E : Type 0} → Carrying E → (E → ℕ) → (E → Dimensions) → (T → Known) → Board → Framed T E → Type 0

@@ -5,12 +5,12 @@ ghost use Rattle.exchange_core.specs.Boards.{turns_of};
 ghost use Rattle.exchange_core.specs.Working.{IsNumbered};
 ghost use Rattle.tone_rules.specs.Tables.{table_of};
 ghost use Rattle.call_processor.specs.Alone.{DidNext, IsOnly};
-ghost use Rattle.call_processor.specs.Frames.{IsReady, IsReadyFor, HasFrame, engine_dimensions};
+ghost use Rattle.call_processor.specs.Frames.{IsReady, IsReadyFor, HasFrame};
 ghost use Rattle.call_processor.specs.Parts.{part_of};
 ghost use Rattle.call_processor.specs.declared.worked.Placed.{Placed};
-ghost use Rattle.call_processor.specs.Keeping.{HasKept, KeepsWork};
-ghost use Rattle.call_processor.specs.Work.{DidEvent, MayWork, Works};
-ghost use Rattle.call_processor.specs.Workplaces.{EndsReady, FinishesReady, HasWorked};
+ghost use Rattle.call_processor.specs.Keeping.{KeepsFrame, KeepsFrames};
+ghost use Rattle.call_processor.specs.Work.{DidEvent, MayWork};
+ghost use Rattle.call_processor.specs.Workplaces.{EndsReady, FinishesReady, HasAnswered, HasDoneFrames};
 
 use crate::answer_list::AnswerList;
 use crate::keeper::Keeper;
@@ -49,15 +49,15 @@ pub(crate) fn do_frame<B: Switchboard, G: Gate, C: Carrier, K: Keeper, R: Wait>(
     requires frame { IsNumbered (B.board board.now).trace event (Frame input.now) }
     requires turn { 0 < (B.known seat.old).left }
     requires baton { IsTrue (B.known seat.old).baton }
-    requires ready { IsReadyFor C.carries C.next C.external_lines C.bridge_lines C.depth (B.board board.now) (B.known seat.old) engine.old desk.old.tool }
+    requires ready { IsReadyFor C.carries C.next C.sizes (B.board board.now) (B.known seat.old) engine.old desk.old.tool }
     requires tones { tones.now ≡ (B.board board.now).trace.tones }
     requires lines { length octets.old.items ≡ (B.board board.now).trace.external }
     ensures seated { B.seated board.now seat.new }
     ensures handled { DidEvent (B.known seat.old) event (B.known seat.new) }
     ensures next { IsOnly (B.known seat.old) → DidNext (turns_of (B.board board.now)) (B.known seat.old) event (B.known seat.new) }
-    ensures ready { IsReadyFor C.carries C.next C.external_lines C.bridge_lines C.depth (B.board board.now) (B.known seat.new) engine.new desk.new.tool }
+    ensures ready { IsReadyFor C.carries C.next C.sizes (B.board board.now) (B.known seat.new) engine.new desk.new.tool }
     ensures lines { length octets.new.items ≡ (B.board board.now).trace.external }
-    ensures kept { OnOk result (HasKept K.holds (B.board board.now) (B.known seat.new) event (HasFrame C.plays (table_of tones.now) (B.board board.now) (B.known seat.new)) keeper.old keeper.new) }
+    ensures kept { OnOk result (KeepsFrame K.holds C.plays (table_of tones.now) (B.board board.now) (B.known seat.new) event keeper.old keeper.new) }
     ensures refused { OnErr result ((answers : List Placed) → K.holds keeper.old answers → K.holds keeper.new answers) }
 {
     gate.before_turn(worker, event);
@@ -105,10 +105,10 @@ fn do_frames<B: Switchboard, G: Gate, C: Carrier, K: Keeper, R: Wait>(
     requires seated { B.seated board.now seat.old }
     requires may { MayWork (B.board board.now) trace.now segment Frame_worker (B.known seat.old) }
     requires baton { IsTrue (B.known seat.old).baton }
-    requires ready { IsReadyFor C.carries C.next C.external_lines C.bridge_lines C.depth (B.board board.now) (B.known seat.old) engine.old desk.old.tool }
+    requires ready { IsReadyFor C.carries C.next C.sizes (B.board board.now) (B.known seat.old) engine.old desk.old.tool }
     ensures seated { B.seated board.now seat.new }
-    ensures works { KeepsWork K.holds (B.board board.now) (HasFrame C.plays (table_of trace.now.tones) (B.board board.now)) (part_of trace.now segment Frame_worker) (B.known seat.old) keeper.new (is_ok result) (B.known seat.new) }
-    ensures ready { IsReadyFor C.carries C.next C.external_lines C.bridge_lines C.depth (B.board board.now) (B.known seat.new) engine.new desk.new.tool }
+    ensures works { KeepsFrames K.holds C.plays (B.board board.now) trace.now segment (B.known seat.old) keeper.new (is_ok result) (B.known seat.new) }
+    ensures ready { IsReadyFor C.carries C.next C.sizes (B.board board.now) (B.known seat.new) engine.new desk.new.tool }
 {
     keeper.clear();
     let worker = u32::from(trace.processors);
@@ -166,10 +166,10 @@ pub fn run_frames<B: Switchboard, G: Gate, C: Carrier, R: Wait>(
     requires turns { length (part_of trace.now segment Frame_worker) ≤ (B.known seat).left }
     requires baton { IsTrue (B.known seat).baton }
     // The engine carries the frames of the history that the seat has seen, and the tool is of its size.
-    requires ready { IsReady C.carries C.next (engine_dimensions C.external_lines C.bridge_lines C.depth) (B.board board.now) (B.known seat).seen engine tool }
+    requires ready { IsReady C.carries C.next C.sizes (B.board board.now) (B.known seat).seen engine tool }
     ensures seated { B.seated board.now result.worked.seat }
-    ensures works { Works (B.board board.now) (part_of trace.now segment Frame_worker) (B.known seat) result.worked.answers.items result.worked.whole (B.known result.worked.seat) }
-    ensures ready { EndsReady C.carries C.next (engine_dimensions C.external_lines C.bridge_lines C.depth) B.known (B.board board.now) result }
+    ensures works { HasAnswered B.known (B.board board.now) (part_of trace.now segment Frame_worker) (B.known seat) result.worked }
+    ensures ready { EndsReady C.carries C.next C.sizes B.known (B.board board.now) result }
     ensures octets { All (HasFrame C.plays (table_of trace.now.tones) (B.board board.now) (B.known result.worked.seat)) result.worked.answers.items }
 {
     let mut seat = seat;
@@ -221,10 +221,10 @@ pub fn run_frames_at<B: Switchboard, G: Gate, C: Carrier, K: Keeper, R: Wait>(
     requires seated { B.seated board.now seat }
     requires may { MayWork (B.board board.now) trace.now segment Frame_worker (B.known seat) }
     requires baton { IsTrue (B.known seat).baton }
-    requires ready { IsReadyFor C.carries C.next C.external_lines C.bridge_lines C.depth (B.board board.now) (B.known seat) engine tool }
+    requires ready { IsReadyFor C.carries C.next C.sizes (B.board board.now) (B.known seat) engine tool }
     ensures seated { B.seated board.now result.finished.seat }
-    ensures works { HasWorked K.holds B.known (B.board board.now) (HasFrame C.plays (table_of trace.now.tones) (B.board board.now)) (part_of trace.now segment Frame_worker) (B.known seat) result.finished }
-    ensures ready { FinishesReady C.carries C.next (engine_dimensions C.external_lines C.bridge_lines C.depth) B.known (B.board board.now) result }
+    ensures works { HasDoneFrames K.holds C.plays B.known (B.board board.now) trace.now segment (B.known seat) result.finished }
+    ensures ready { FinishesReady C.carries C.next C.sizes B.known (B.board board.now) result }
 {
     let mut seat = seat;
     let mut engine = engine;

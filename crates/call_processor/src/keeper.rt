@@ -1,7 +1,7 @@
 //! What a worker keeps of the events that it did.
-ghost use Rattle.std.specs.Prelude.{◌≡◌, List, [], ◌∷◌, ◌++◌, length, OnOk, OnErr};
+ghost use Rattle.std.specs.Prelude.{◌≡◌, List, [], ◌++◌, length, OnOk, OnErr};
 ghost use Rattle.call_processor.specs.declared.worked.Placed.{Placed};
-ghost use Rattle.call_processor.specs.Keeping.{HandsOn, StillHolds, first_place, placed};
+ghost use Rattle.call_processor.specs.Keeping.{HandsOn, StillHolds, IsKept, first_place, placed};
 
 use crate::worked::Placed;
 use exchange_events::{Outbox, Response};
@@ -36,7 +36,7 @@ pub trait Keeper: Sized + Send + Drop {
         outbox: &Outbox,
         octets: &[[u8; 30]],
     ) -> Result<(), AllocError>
-        ensures kept { OnOk result ((answers : List Placed) → holds self.old answers → holds self.new (answers ++ placed place event response outbox.now octets.now ∷ [])) }
+        ensures kept { OnOk result (IsKept (λ k. holds k) (placed place event response outbox.now octets.now) self.old self.new) }
         ensures refused { OnErr result ((answers : List Placed) → holds self.old answers → holds self.new answers) };
 
     /// How many events it keeps.

@@ -13,7 +13,7 @@
 //! - [`numbers_of`] returns the numbers of a segment's events, and [`processor_of`] who does one.
 //!
 //! It stands on `circuit_model`, `seat_history`, `control_memory`, `tone_rules`, `frame_engine`,
-//! `exchange_core` and `gate`.
+//! `exchange_core`, `gate`, `exchange_events` and `call_profile`.
 #![tactic(auto)]
 
 mod alone;

@@ -4,10 +4,10 @@ ghost use Rattle.exchange_core.specs.declared.tool.Tool.TheVariants.{Nothing};
 ghost use Rattle.exchange_events.specs.Orders.{IsEvent, Processor};
 ghost use Rattle.call_processor.specs.Alone.{DidNext, IsOnly};
 ghost use Rattle.call_processor.specs.declared.worked.Placed.{Placed};
-ghost use Rattle.call_processor.specs.Keeping.{HasKept, KeepsWork, has_no_octets};
+ghost use Rattle.call_processor.specs.Keeping.{HasKept, KeepsEvents, has_no_octets};
 ghost use Rattle.call_processor.specs.Parts.{is_its, part_of};
-ghost use Rattle.call_processor.specs.Work.{DidEvent, MayWork, Works};
-ghost use Rattle.call_processor.specs.Workplaces.{HasWorked};
+ghost use Rattle.call_processor.specs.Work.{DidEvent, MayWork};
+ghost use Rattle.call_processor.specs.Workplaces.{HasAnswered, HasDoneEvents};
 
 use crate::answer_list::AnswerList;
 use crate::keeper::Keeper;
@@ -69,7 +69,7 @@ fn do_events<B: Switchboard, G: Gate, K: Keeper, R: Wait>(
     requires processor { processor < trace.now.processors }
     requires tool { desk.old.tool ≡ Nothing }
     ensures seated { B.seated board.now seat.new }
-    ensures works { KeepsWork K.holds (B.board board.now) (λ w. has_no_octets) (part_of trace.now segment (Processor processor)) (B.known seat.old) keeper.new (is_ok result) (B.known seat.new) }
+    ensures works { KeepsEvents K.holds (B.board board.now) trace.now segment processor (B.known seat.old) keeper.new (is_ok result) (B.known seat.new) }
 {
     keeper.clear();
     let (first, end) = numbers_of(trace, segment);
@@ -105,7 +105,7 @@ pub fn process<B: Switchboard, G: Gate, R: Wait>(
     requires processor { processor < trace.now.processors }
     requires turns { length (part_of trace.now segment (Processor processor)) ≤ (B.known seat).left }
     ensures seated { B.seated board.now result.seat }
-    ensures works { Works (B.board board.now) (part_of trace.now segment (Processor processor)) (B.known seat) result.answers.items result.whole (B.known result.seat) }
+    ensures works { HasAnswered B.known (B.board board.now) (part_of trace.now segment (Processor processor)) (B.known seat) result }
     // An event that is no frame has no octets.
     ensures octets { All (λ p. p.answer.octets ≡ []) result.answers.items }
 {
@@ -151,7 +151,7 @@ pub fn process_at<B: Switchboard, G: Gate, K: Keeper, R: Wait>(
     requires may { MayWork (B.board board.now) trace.now segment (Processor processor) (B.known seat) }
     requires processor { processor < trace.now.processors }
     ensures seated { B.seated board.now result.seat }
-    ensures works { HasWorked K.holds B.known (B.board board.now) (λ w. has_no_octets) (part_of trace.now segment (Processor processor)) (B.known seat) result }
+    ensures works { HasDoneEvents K.holds B.known (B.board board.now) trace.now segment processor (B.known seat) result }
 {
     let mut seat = seat;
     let mut workplace = workplace;

@@ -50,12 +50,12 @@ answer_among : (b : Bool) → (if b then act.Answer else act.Unexpected) ≡ act
 answer_among true e = refl
 answer_among false e = absurd cc
 
-not_release : (a b : Bool) (cause : ℕ) → (if a then act.Gone cause else (if b then act.Released cause else act.Unexpected)) ≡ act.Answer → ⊥
+not_release : (a b : Bool) (cause : ℕ) → (if a then act.ReleaseComplete cause else (if b then act.Release cause else act.Unexpected)) ≡ act.Answer → ⊥
 not_release true b cause e = cc
 not_release false true cause e = cc
 not_release false false cause e = cc
 
-not_status : (a b : Bool) (cause : ℕ) → (if a then (if b then act.Gone cause else act.Nothing) else act.Unexpected) ≡ act.Answer → ⊥
+not_status : (a b : Bool) (cause : ℕ) → (if a then (if b then act.ReleaseComplete cause else act.Nothing) else act.Unexpected) ≡ act.Answer → ⊥
 not_status true true cause e = cc
 not_status true false cause e = cc
 not_status false b cause e = cc
@@ -72,7 +72,7 @@ answers_among state kind.UserInformation cause b e = absurd (not_answer _ act.No
 answers_among state kind.Setup cause b e = absurd (not_answer _ act.Nothing (λ f. cc) e)
 answers_among state kind.Disconnect cause b e = absurd (not_answer _ (act.Disconnect cause) (λ f. cc) e)
 answers_among state kind.Release cause b e = absurd (not_release _ _ cause e)
-answers_among state kind.ReleaseComplete cause b e = absurd (not_answer _ (act.Gone cause) (λ f. cc) e)
+answers_among state kind.ReleaseComplete cause b e = absurd (not_answer _ (act.ReleaseComplete cause) (λ f. cc) e)
 answers_among state kind.Status cause b e = absurd (not_status _ b _ e)
 answers_among state kind.StatusEnquiry cause b e = absurd (not_answer _ act.Enquiry (λ f. cc) e)
 answers_among state kind.SetupAcknowledge cause b e = absurd cc

@@ -93,8 +93,8 @@ module _ (s : Setting) (w : World) (h : Held) (k : MessageKind) (cause : ℕ) (s
   pub disconnect_kept : Kept s.dimensions s.tones (making_by s w (course_of s.tones w.legs h k (act.Disconnect cause))).world
   disconnect_kept = clearing_kept s.dimensions s.tones w h.slot h.leg (Some (in_release_request h.leg)) cause small valid stand within at (inr refl) (making_after_all s.dimensions (making_at w) (on_disconnect h)) refl refl
 
-  pub released_kept : Kept s.dimensions s.tones (making_by s w (course_of s.tones w.legs h k (act.Released cause))).world
+  pub released_kept : Kept s.dimensions s.tones (making_by s w (course_of s.tones w.legs h k (act.Release cause))).world
   released_kept = clearing_kept s.dimensions s.tones w h.slot h.leg None cause small valid stand within at (inl refl) (making_after_all s.dimensions (making_at w) (on_release h)) refl refl
 
-  pub gone_kept : Kept s.dimensions s.tones (making_by s w (course_of s.tones w.legs h k (act.Gone cause))).world
+  pub gone_kept : Kept s.dimensions s.tones (making_by s w (course_of s.tones w.legs h k (act.ReleaseComplete cause))).world
   gone_kept = clearing_kept s.dimensions s.tones w h.slot h.leg None cause small valid stand within at (inl refl) (making_after_all s.dimensions (making_at w) (remove_leg h)) refl refl

@@ -43,8 +43,8 @@ Asked state act.Proceeding = is_among (call_present ∷ []) state ≡ true
 Asked state act.Alerting = is_among (call_present ∷ incoming_call_proceeding ∷ []) state ≡ true
 Asked state act.Answer = is_among ringing state ≡ true
 Asked state (act.Disconnect cause) = cause < 128
-Asked state (act.Released cause) = cause < 128
-Asked state (act.Gone cause) = cause < 128
+Asked state (act.Release cause) = cause < 128
+Asked state (act.ReleaseComplete cause) = cause < 128
 
 expected : (b : Bool) (state : ℕ) (a : Act) → (b ≡ true → Asked state a) → Asked state (if b then a else act.Unexpected)
 expected true state a asked = asked refl
@@ -66,10 +66,10 @@ asked state kind.UserInformation cause tells_null small = expected (is_among eve
 asked state kind.Setup cause tells_null small = expected (is_among every_state state) state act.Nothing (λ among. tt)
 asked state kind.Disconnect cause tells_null small = expected (is_among before_release_request state) state (act.Disconnect cause) (λ among. small)
 asked state kind.Release cause tells_null small =
-    either (state == release_request) state (act.Gone cause) (expected_in before_release_request state (act.Released cause)) small (expected (is_among before_release_request state) state (act.Released cause) (λ among. small))
-asked state kind.ReleaseComplete cause tells_null small = expected (is_among every_state state) state (act.Gone cause) (λ among. small)
+    either (state == release_request) state (act.ReleaseComplete cause) (expected_in before_release_request state (act.Release cause)) small (expected (is_among before_release_request state) state (act.Release cause) (λ among. small))
+asked state kind.ReleaseComplete cause tells_null small = expected (is_among every_state state) state (act.ReleaseComplete cause) (λ among. small)
 asked state kind.Status cause tells_null small =
-    expected (is_among every_state state) state (if tells_null then act.Gone temporary_failure else act.Nothing) (λ among. either tells_null state (act.Gone temporary_failure) act.Nothing (omega arith) tt)
+    expected (is_among every_state state) state (if tells_null then act.ReleaseComplete temporary_failure else act.Nothing) (λ among. either tells_null state (act.ReleaseComplete temporary_failure) act.Nothing (omega arith) tt)
 asked state kind.StatusEnquiry cause tells_null small = expected (is_among every_state state) state act.Enquiry (λ among. tt)
 asked state kind.SetupAcknowledge cause tells_null small = tt
 asked state kind.Restart cause tells_null small = tt
@@ -122,8 +122,8 @@ module _ (s : Setting) (w : World) (h : Held) (valid : Valid s.dimensions.bridge
       ringing_kept rings (on_alerting s.tones h) (λ y other peers call. alerting_kept s.dimensions s.tones w h.slot y h.leg other valid stand peers call (silent rings) asks)
   act_kept k act.Answer asks = ringing_kept asks (on_connect h) (λ y other peers call. answer_kept s.dimensions s.tones w h.slot y h.leg other valid stand peers call (silent asks))
   act_kept k (act.Disconnect cause) asks = disconnect_kept s w h k cause asks valid stand within at
-  act_kept k (act.Released cause) asks = released_kept s w h k cause asks valid stand within at
-  act_kept k (act.Gone cause) asks = gone_kept s w h k cause asks valid stand within at
+  act_kept k (act.Release cause) asks = released_kept s w h k cause asks valid stand within at
+  act_kept k (act.ReleaseComplete cause) asks = gone_kept s w h k cause asks valid stand within at
 
   pub leg_kept : (m : Message) → Kept s.dimensions s.tones (making_by s w (course_of s.tones w.legs h m.kind (act_on h.leg.state m))).world
   leg_kept m = act_kept m.kind (act_on h.leg.state m) (asked h.leg.state m.kind (clearing_cause m.elements) (is_null (call_state_in m.elements)) (cause_fits m.elements))

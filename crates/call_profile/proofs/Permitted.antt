@@ -5,7 +5,7 @@ use Rattle.circuit_model.specs.declared.circuit.Kind.{Kind}
 use Rattle.circuit_model.specs.Circuits.{is_idle}
 use Rattle.circuit_model.specs.Extent.{IsExternal}
 use Rattle.q931_codec.specs.Outgoing.{IsWritable}
-use Rattle.call_states.specs.Status.{IsTold}
+use Rattle.call_states.specs.Status.{FitsMessages}
 use Rattle.tone_rules.specs.declared.tones.Tones.{Tones}
 use Rattle.tone_rules.specs.Tables.{IsGiven}
 use Rattle.call_profile.specs.Operations.{Operation, Clear, Pair, Seat, Sound, Put, Remove, Send, Making, making_after}
@@ -32,7 +32,7 @@ IsPermitted d tones m (Clear x) = IsExternal d.external x
 IsPermitted d tones m (Pair x y) = CanPair d m.world x y
 IsPermitted d tones m (Seat x room) = CanSeat d m.world x
 IsPermitted d tones m (Sound x kind) = CanSound d tones m.world x kind
-IsPermitted d tones m (Put x leg) = IsExternal d.external x × IsTold leg
+IsPermitted d tones m (Put x leg) = IsExternal d.external x × FitsMessages leg
 IsPermitted d tones m (Remove x) = IsExternal d.external x
 IsPermitted d tones m (Send line message) = (line < d.external) × IsWritable message
 

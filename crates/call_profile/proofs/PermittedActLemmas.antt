@@ -18,7 +18,7 @@ use Rattle.q931_codec.specs.Contents.{call_state_in}
 use Rattle.q931_codec.specs.MessageType.{IsNamed}
 use Rattle.q931_codec.specs.Outgoing.{OutgoingMessage, IsWritable}
 use Rattle.call_states.specs.Acts.{act_on, clearing_cause, is_null, is_among, every_state}
-use Rattle.call_states.specs.Status.{IsTold, status, unexpected_cause}
+use Rattle.call_states.specs.Status.{FitsMessages, status, unexpected_cause}
 use Rattle.call_states.specs.declared.act.Act.{Act}
 use Rattle.call_states.specs.declared.act.Act.TheVariants as act
 use Rattle.call_states.specs.declared.leg.Leg.{Leg}
@@ -45,10 +45,10 @@ use Rattle.call_profile.proofs.ToneLemmas.{cleared_is_idle, tone_octets}
 told_state : (state : ℕ) → is_among every_state state ≡ true → state < 64
 told_state state among = grind (arith, common_steps, among)
 
-pub stands_told : (external : ℕ) (tones : Tones) (w : World) (x : Slot) (leg : Leg) → LegStands external tones w x leg → IsTold leg
+pub stands_told : (external : ℕ) (tones : Tones) (w : World) (x : Slot) (leg : Leg) → LegStands external tones w x leg → FitsMessages leg
 stands_told external tones w x leg stands = record { state = told_state leg.state stands.state; reference = stands.reference.1 }
 
-pub message_writable : (leg : Leg) (k : MessageKind) → IsTold leg → IsNamed k → IsWritable (message_to leg k)
+pub message_writable : (leg : Leg) (k : MessageKind) → FitsMessages leg → IsNamed k → IsWritable (message_to leg k)
 message_writable leg k told named = record {
   reference = told.reference;
   kind = named;
@@ -62,7 +62,7 @@ message_writable leg k told named = record {
   high = omega arith;
 }
 
-pub disconnect_writable : (leg : Leg) (cause : ℕ) → IsTold leg → cause < 128 → IsWritable (disconnect leg cause)
+pub disconnect_writable : (leg : Leg) (cause : ℕ) → FitsMessages leg → cause < 128 → IsWritable (disconnect leg cause)
 disconnect_writable leg cause told small = record {
   reference = told.reference;
   kind = tt;
@@ -90,7 +90,7 @@ announced_writable tone m can = record {
   high = can.high;
 }
 
-pub status_writable : (leg : Leg) (cause : ℕ) → IsTold leg → cause < 128 → IsWritable (status leg cause)
+pub status_writable : (leg : Leg) (cause : ℕ) → FitsMessages leg → cause < 128 → IsWritable (status leg cause)
 status_writable leg cause told small = record {
   reference = told.reference;
   kind = tt;
@@ -148,9 +148,9 @@ abbrev Sends : Dimensions → Held → OutgoingMessage → Type 0
 Sends d h message = (h.slot.line < d.external) × IsWritable message
 
 abbrev Puts : Dimensions → Held → Leg → Type 0
-Puts d h leg = IsExternal d.external h.slot × IsTold leg
+Puts d h leg = IsExternal d.external h.slot × FitsMessages leg
 
-in_state_told : (leg : Leg) (state : ℕ) → IsTold leg → state < 64 → IsTold (in_state state leg)
+in_state_told : (leg : Leg) (state : ℕ) → FitsMessages leg → state < 64 → FitsMessages (in_state state leg)
 in_state_told leg state told small = record { state = small; reference = told.reference }
 
 pub clear_permitted : (d : Dimensions) (tones : Tones) (m : Making) (cause : ℕ) (c : Held) → IsThere d.external c → cause < 128
@@ -229,10 +229,10 @@ module _ (s : Setting) (w : World) (h : Held) (stand : CallsStand s w) (within :
       let sends : Sends d h (message_to h.leg kind.Release) = (within.0, message_writable h.leg kind.Release there.told tt) in
       let goes : Puts d h (in_release_request h.leg) = (within, record { state = omega arith; reference = there.told.reference }) in
       (within, (goes, (sends, peer_permitted d tones _ h cause (peer_of w.legs h.leg.peer) peer_too asks)))
-  asked_permitted k (act.Released cause) asks =
+  asked_permitted k (act.Release cause) asks =
       let sends : Sends d h (message_to h.leg kind.ReleaseComplete) = (within.0, message_writable h.leg kind.ReleaseComplete there.told tt) in
       (within, (within, (sends, peer_permitted d tones _ h cause (peer_of w.legs h.leg.peer) peer_too asks)))
-  asked_permitted k (act.Gone cause) asks = (within, (within, peer_permitted d tones _ h cause (peer_of w.legs h.leg.peer) peer_too asks))
+  asked_permitted k (act.ReleaseComplete cause) asks = (within, (within, peer_permitted d tones _ h cause (peer_of w.legs h.leg.peer) peer_too asks))
 
   pub act_permitted : (m : Message) → ArePermitted s.dimensions s.tones (making_at w) (course_of s.tones w.legs h m.kind (act_on h.leg.state m)).operations
   act_permitted m = asked_permitted m.kind (act_on h.leg.state m) (asked h.leg.state m.kind (clearing_cause m.elements) (is_null (call_state_in m.elements)) (cause_fits m.elements))

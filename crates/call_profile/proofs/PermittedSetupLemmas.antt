@@ -14,7 +14,7 @@ use Rattle.q931_codec.specs.declared.kind.MessageKind.TheVariants as kind
 use Rattle.q931_codec.specs.declared.message.Message.{Message}
 use Rattle.q931_elements.specs.InformationElement.{first_of}
 use Rattle.call_states.specs.declared.leg.Leg.{Leg}
-use Rattle.call_states.specs.Status.{IsTold}
+use Rattle.call_states.specs.Status.{FitsMessages}
 use Rattle.number_plan.specs.declared.target.Found.{Found}
 use Rattle.number_plan.specs.declared.target.Found.TheVariants.{Line, Room, More, Nothing}
 use Rattle.call_profile.specs.LegStanding.{CallsStand}
@@ -71,7 +71,7 @@ refusal_writable reference cause small few = record {
   high = omega arith;
 }
 
-proceeding_writable : (x : Slot) (leg : Leg) → x.place < 30 → IsTold leg → IsWritable (call_proceeding x leg)
+proceeding_writable : (x : Slot) (leg : Leg) → x.place < 30 → FitsMessages leg → IsWritable (call_proceeding x leg)
 proceeding_writable x leg within told = record {
   reference = told.reference;
   kind = tt;
@@ -85,7 +85,7 @@ proceeding_writable x leg within told = record {
   high = omega arith;
 }
 
-offer_writable : (m : Message) (y : Slot) (leg : Leg) → y.place < 30 → IsTold leg → is_unreadable (option_map bearer_of (bearer_in m.elements)) ≡ false → IsWritable (offer m y leg)
+offer_writable : (m : Message) (y : Slot) (leg : Leg) → y.place < 30 → FitsMessages leg → is_unreadable (option_map bearer_of (bearer_in m.elements)) ≡ false → IsWritable (offer m y leg)
 offer_writable m y leg within told readable = record {
   reference = told.reference;
   kind = tt;
@@ -105,8 +105,8 @@ module _ (s : Setting) (w : World) (line : ℕ) (m : Message) (planned : IsPlann
   line_permitted : (x y : Slot) (reference : ℕ) → IsExternal s.dimensions.external x → IsExternal s.dimensions.external y → reference < 2 ^ 15 → is_unreadable (option_map bearer_of (bearer_in m.elements)) ≡ false
       → ArePermitted s.dimensions s.tones (making_at w) (call_line m x y reference)
   line_permitted x y reference in_x in_y small readable =
-      let caller : IsTold _ = record { state = omega arith; reference = own.1 } in
-      let called : IsTold _ = record { state = omega arith; reference = small } in (
+      let caller : FitsMessages _ = record { state = omega arith; reference = own.1 } in
+      let called : FitsMessages _ = record { state = omega arith; reference = small } in (
         (in_x, caller),
         (
           (in_y, called),
@@ -119,7 +119,7 @@ module _ (s : Setting) (w : World) (line : ℕ) (m : Message) (planned : IsPlann
 
   room_permitted : (x : Slot) (room : ℕ) → IsExternal s.dimensions.external x → CanSeat s.dimensions w x → ArePermitted s.dimensions s.tones (making_at w) (call_room m x room)
   room_permitted x room in_x can =
-      let told : IsTold _ = record { state = omega arith; reference = own.1 } in (
+      let told : FitsMessages _ = record { state = omega arith; reference = own.1 } in (
         (in_x, told),
         (
           can_still s.dimensions w x _ can,

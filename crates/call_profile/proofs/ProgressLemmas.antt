@@ -59,8 +59,8 @@ act_tells tones legs h type act.Proceeding = refl
 act_tells tones legs h type act.Alerting = alerting_tells tones h (peer_of legs h.leg.peer)
 act_tells tones legs h type act.Answer = answering_tells h (peer_of legs h.leg.peer)
 act_tells tones legs h type (act.Disconnect cause) = peer_tells tones cause (peer_of legs h.leg.peer)
-act_tells tones legs h type (act.Released cause) = peer_tells tones cause (peer_of legs h.leg.peer)
-act_tells tones legs h type (act.Gone cause) = peer_tells tones cause (peer_of legs h.leg.peer)
+act_tells tones legs h type (act.Release cause) = peer_tells tones cause (peer_of legs h.leg.peer)
+act_tells tones legs h type (act.ReleaseComplete cause) = peer_tells tones cause (peer_of legs h.leg.peer)
 
 -- ---- a SETUP
 

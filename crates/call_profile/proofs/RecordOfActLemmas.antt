@@ -228,9 +228,9 @@ module _ (s : Setting) (w : World) (h : Held) (k : MessageKind) (stand : LegsSta
       (Some (in_state active h.leg)) (in_state active other) c.2 (apart_from c) (active_calls other c.3.2.calls) refl)
   act_records (act.Disconnect cause) asks =
       clearing_records s.dimensions s.tones w h.slot h.leg (Some (in_release_request h.leg)) cause stand within at (inr refl) (making_after_all s.dimensions (making_at w) (on_disconnect h)) refl
-  act_records (act.Released cause) asks =
+  act_records (act.Release cause) asks =
       clearing_records s.dimensions s.tones w h.slot h.leg None cause stand within at (inl refl) (making_after_all s.dimensions (making_at w) (on_release h)) refl
-  act_records (act.Gone cause) asks =
+  act_records (act.ReleaseComplete cause) asks =
       clearing_records s.dimensions s.tones w h.slot h.leg None cause stand within at (inl refl) (making_after_all s.dimensions (making_at w) (remove_leg h)) refl
 
   given_records : (a : Act) → Asked h.leg.state a → records_by w (making_by s w (course_of s.tones w.legs h k a)).world (course_of s.tones w.legs h k a).cause ≡ records_of_act w h a
@@ -241,8 +241,8 @@ module _ (s : Setting) (w : World) (h : Held) (k : MessageKind) (stand : LegsSta
   given_records act.Alerting asks = refl
   given_records act.Answer asks = refl
   given_records (act.Disconnect cause) asks = act_records (act.Disconnect cause) asks
-  given_records (act.Released cause) asks = act_records (act.Released cause) asks
-  given_records (act.Gone cause) asks = act_records (act.Gone cause) asks
+  given_records (act.Release cause) asks = act_records (act.Release cause) asks
+  given_records (act.ReleaseComplete cause) asks = act_records (act.ReleaseComplete cause) asks
 
   asked_by : (m : Message) → Asked h.leg.state (act_of h.leg.state k (clearing_cause m.elements) (is_null (call_state_in m.elements)))
   asked_by m = asked h.leg.state k (clearing_cause m.elements) (is_null (call_state_in m.elements)) (cause_fits m.elements)

@@ -217,8 +217,8 @@ act_clears w h act.Proceeding = inr refl
 act_clears w h act.Alerting = inr refl
 act_clears w h act.Answer = inr refl
 act_clears w h (act.Disconnect cause) = inl refl
-act_clears w h (act.Released cause) = inl refl
-act_clears w h (act.Gone cause) = inl refl
+act_clears w h (act.Release cause) = inl refl
+act_clears w h (act.ReleaseComplete cause) = inl refl
 
 module _ (s : Setting) (w : World) (line : ℕ) (octets : List ℕ) (may : Arrive s w line octets) where
   abbrev size : length w.legs ≡ 30 * s.dimensions.external

@@ -133,5 +133,5 @@ course_of tones legs h type act.Proceeding = only (Put h.slot (in_state incoming
 course_of tones legs h type act.Alerting = only (with_peer (peer_of legs h.leg.peer) (on_alerting tones h))
 course_of tones legs h type act.Answer = only (with_peer (peer_of legs h.leg.peer) (on_connect h))
 course_of tones legs h type (act.Disconnect cause) = record { operations = on_disconnect h ++ with_peer (peer_of legs h.leg.peer) (clear_with tones cause); cause = Some cause }
-course_of tones legs h type (act.Released cause) = record { operations = on_release h ++ with_peer (peer_of legs h.leg.peer) (clear_with tones cause); cause = Some cause }
-course_of tones legs h type (act.Gone cause) = record { operations = on_release_complete h ++ with_peer (peer_of legs h.leg.peer) (clear_with tones cause); cause = Some cause }
+course_of tones legs h type (act.Release cause) = record { operations = on_release h ++ with_peer (peer_of legs h.leg.peer) (clear_with tones cause); cause = Some cause }
+course_of tones legs h type (act.ReleaseComplete cause) = record { operations = on_release_complete h ++ with_peer (peer_of legs h.leg.peer) (clear_with tones cause); cause = Some cause }

@@ -22,3 +22,4 @@ pub mod References
 pub mod Restarted
 pub mod Recorded
 pub mod WorkedMessages
+pub mod CallsTold

@@ -1,14 +1,14 @@
 -- The leg that a message is for, and the other leg of its call. Source: this exchange's own.
 use Rattle.std.specs.Prelude.{◌≡◌, ◌≢◌, IfSome, ℕ, Option, Some, None}
 use Rattle.circuit_model.specs.Extent.{IsExternal}
-use Rattle.call_states.specs.Status.{IsTold}
+use Rattle.call_states.specs.Status.{FitsMessages}
 use Rattle.circuit_map.specs.Connections.{Connections, hears_at}
 use Rattle.call_states.specs.declared.leg.Held.{Held}
 
 -- a leg of an external slot that can be told
 pub record IsThere (external : ℕ) (h : Held) : Type 0 where
   pub within : IsExternal external h.slot
-  pub told : IsTold h.leg
+  pub told : FitsMessages h.leg
 
 -- so is its peer, where it has one, at another slot
 abbrev pub PeerIsThere : ℕ → Held → Option Held → Type 0

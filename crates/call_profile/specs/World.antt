@@ -8,14 +8,14 @@ use Rattle.circuit_model.specs.Holding.{Holding, empty, Command, Connect, Seat a
 use Rattle.circuit_model.specs.Ports.{Ports, free_ports, ports_after, port_of, ports_with}
 use Rattle.control_memory.specs.Layout.{Layout}
 use Rattle.control_memory.specs.Connecting.{connect, moved}
-use Rattle.circuit_map.specs.Connections.{without_both, partner}
+use Rattle.control_memory.specs.Shown.{without_both, partner}
 use Rattle.exchange_events.specs.Sizes.{Dimensions}
 use Rattle.call_profile.specs.Legs.{Legs, no_legs}
 use Rattle.exchange_events.specs.declared.reply.Reply.{Reply}
 use Rattle.exchange_events.specs.declared.reply.Reply.TheVariants.{Granted, Seated}
 
-abbrev pub lines_of : Dimensions → ℕ
-lines_of d = d.external + d.bridges
+abbrev pub exchange_lines : Dimensions → ℕ
+exchange_lines d = d.external + d.bridges
 
 -- what the exchange holds: the circuits that stand, the legs of the calls, the member of each conference port and the layout of the paths;
 -- and of each frame so far its input, and the circuits and ports at its boundary
@@ -34,7 +34,7 @@ start d = record {
   holding = empty;
   legs = no_legs d.external;
   ports = free_ports d.bridges;
-  layout = replicate (30 * lines_of d) None;
+  layout = replicate (30 * exchange_lines d) None;
   inputs = [];
   held = [];
   seated = [];
@@ -42,10 +42,10 @@ start d = record {
 
 -- the layout once a path joins it from x to y, and once another joins it back
 abbrev pub one_way : Dimensions → Layout → Slot → Slot → Layout
-one_way d layout x y = connect (lines_of d) d.slots layout x y
+one_way d layout x y = connect (exchange_lines d) d.slots layout x y
 
 abbrev pub both_ways : Dimensions → Layout → Slot → Slot → Layout
-both_ways d layout x y = connect (lines_of d) d.slots (one_way d layout x y) y x
+both_ways d layout x y = connect (exchange_lines d) d.slots (one_way d layout x y) y x
 
 -- the layout once a member is connected with its port
 abbrev pub with_port : Dimensions → Layout → Slot → Option Slot → Layout

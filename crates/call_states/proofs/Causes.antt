@@ -34,9 +34,9 @@ act_fits state kind.Facility cause tells_null small = row every_state state act.
 act_fits state kind.UserInformation cause tells_null small = row every_state state act.Nothing tt
 act_fits state kind.Setup cause tells_null small = row every_state state act.Nothing tt
 act_fits state kind.Disconnect cause tells_null small = row before_release_request state (act.Disconnect cause) small
-act_fits state kind.Release cause tells_null small = either (state == release_request) (act.Gone cause) (expected_in before_release_request state (act.Released cause)) small (row before_release_request state (act.Released cause) small)
-act_fits state kind.ReleaseComplete cause tells_null small = row every_state state (act.Gone cause) small
-act_fits state kind.Status cause tells_null small = row every_state state (if tells_null then act.Gone temporary_failure else act.Nothing) (either tells_null (act.Gone temporary_failure) act.Nothing (omega arith) tt)
+act_fits state kind.Release cause tells_null small = either (state == release_request) (act.ReleaseComplete cause) (expected_in before_release_request state (act.Release cause)) small (row before_release_request state (act.Release cause) small)
+act_fits state kind.ReleaseComplete cause tells_null small = row every_state state (act.ReleaseComplete cause) small
+act_fits state kind.Status cause tells_null small = row every_state state (if tells_null then act.ReleaseComplete temporary_failure else act.Nothing) (either tells_null (act.ReleaseComplete temporary_failure) act.Nothing (omega arith) tt)
 act_fits state kind.StatusEnquiry cause tells_null small = row every_state state act.Enquiry tt
 act_fits state kind.SetupAcknowledge cause tells_null small = tt
 act_fits state kind.Restart cause tells_null small = tt

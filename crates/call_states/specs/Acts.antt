@@ -43,9 +43,9 @@ act_of state kind.Facility cause tells_null = expected_in every_state state act.
 act_of state kind.UserInformation cause tells_null = expected_in every_state state act.Nothing
 act_of state kind.Setup cause tells_null = expected_in every_state state act.Nothing
 act_of state kind.Disconnect cause tells_null = expected_in before_release_request state (act.Disconnect cause)
-act_of state kind.Release cause tells_null = if state == release_request then act.Gone cause else expected_in before_release_request state (act.Released cause)
-act_of state kind.ReleaseComplete cause tells_null = expected_in every_state state (act.Gone cause)
-act_of state kind.Status cause tells_null = expected_in every_state state (if tells_null then act.Gone temporary_failure else act.Nothing)
+act_of state kind.Release cause tells_null = if state == release_request then act.ReleaseComplete cause else expected_in before_release_request state (act.Release cause)
+act_of state kind.ReleaseComplete cause tells_null = expected_in every_state state (act.ReleaseComplete cause)
+act_of state kind.Status cause tells_null = expected_in every_state state (if tells_null then act.ReleaseComplete temporary_failure else act.Nothing)
 act_of state kind.StatusEnquiry cause tells_null = expected_in every_state state act.Enquiry
 act_of state kind.SetupAcknowledge cause tells_null = act.Unexpected
 act_of state kind.Restart cause tells_null = act.Unexpected
@@ -71,6 +71,6 @@ act_on state m = act_of state m.kind (clearing_cause m.elements) (is_null (call_
 
 abbrev pub cause_of_act : Act → Option ℕ
 cause_of_act (act.Disconnect cause) = Some cause
-cause_of_act (act.Released cause) = Some cause
-cause_of_act (act.Gone cause) = Some cause
+cause_of_act (act.Release cause) = Some cause
+cause_of_act (act.ReleaseComplete cause) = Some cause
 cause_of_act _ = None

@@ -23,6 +23,6 @@ unexpected_cause (kind.Unknown octet) = message_type_not_implemented
 unexpected_cause _ = message_not_compatible_with_call_state
 
 -- a leg whose numbers a message can carry
-pub record IsTold (leg : Leg) : Type 0 where
+pub record FitsMessages (leg : Leg) : Type 0 where
   pub state : leg.state < 64
   pub reference : leg.reference < 2 ^ 15

@@ -18,7 +18,7 @@ pub enum Act {
     /// The user asks for the call to be cleared.
     Disconnect(u8),
     /// The user has released the channel, and waits for the exchange to do so.
-    Released(u8),
+    Release(u8),
     /// The user has released the channel and the call reference.
-    Gone(u8),
+    ReleaseComplete(u8),
 }

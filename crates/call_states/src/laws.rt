@@ -6,7 +6,7 @@ ghost use Rattle.q931_codec.specs.Contents.{is_bearer_channel};
 ghost use Rattle.q931_codec.specs.Outgoing.{IsWritable};
 ghost use Rattle.call_states.specs.declared.leg.Leg.{Leg};
 ghost use Rattle.call_states.specs.Acts.{act_on, cause_of_act};
-ghost use Rattle.call_states.specs.Status.{status, IsTold};
+ghost use Rattle.call_states.specs.Status.{status, FitsMessages};
 
 /// The cause that a message asks to be passed on fits a message.
 pub fn law_of_passed_causes()
@@ -21,5 +21,5 @@ pub fn law_of_channels()
 
 /// The STATUS to a leg can be written.
 pub fn law_of_status()
-    ensures { (leg : Leg) (cause : ℕ) → IsTold leg → cause < 128 → IsWritable (status leg cause) }
+    ensures { (leg : Leg) (cause : ℕ) → FitsMessages leg → cause < 128 → IsWritable (status leg cause) }
 {}

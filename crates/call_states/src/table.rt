@@ -40,11 +40,13 @@ fn act_of(state: u8, kind: MessageKind, cause: u8, tells_null: bool) -> Act
             ) => { Act::Answer }
         MessageKind::ConnectAcknowledge if state == ACTIVE => Act::Nothing,
         MessageKind::Disconnect if before_release_request => Act::Disconnect(cause),
-        MessageKind::Release if before_release_request => Act::Released(cause),
-        MessageKind::Release if releasing => Act::Gone(cause),
-        MessageKind::ReleaseComplete if before_release_request || releasing => Act::Gone(cause),
+        MessageKind::Release if before_release_request => Act::Release(cause),
+        MessageKind::Release if releasing => Act::ReleaseComplete(cause),
+        MessageKind::ReleaseComplete if before_release_request || releasing => Act::ReleaseComplete(
+            cause,
+        ),
         MessageKind::Status if (before_release_request || releasing) && tells_null => {
-            Act::Gone(TEMPORARY_FAILURE)
+            Act::ReleaseComplete(TEMPORARY_FAILURE)
         }
         MessageKind::Status if before_release_request || releasing => Act::Nothing,
         MessageKind::StatusEnquiry if before_release_request || releasing => Act::Enquiry,

@@ -81,7 +81,7 @@ pub record Represents (m : Connections) (h : Holding) (ports : Ports) : Type 0 w
 
 -- the paths are laid legally: no two share an internal slot of a line
 abbrev pub IsLaid : Connections → Type 0
-IsLaid m = Legal (lines_of m) m.slots m.layout
+IsLaid m = Legal (map_lines m) m.slots m.layout
 
 -- of whatever holding and ports the first connections are, the second ones are those after the command
 abbrev pub Obeys : Connections → Connections → Command → Type 0

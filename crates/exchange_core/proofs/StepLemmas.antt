@@ -20,7 +20,7 @@ use Rattle.call_control.specs.Standing.{Holds}
 use Rattle.call_profile.specs.Step.{next, world_after_all, events_of}
 use Rattle.exchange_core.specs.Working.{Entry, Working, IsWorking, IsNumbered, IsLaid, JoinsItsCircuits, order_of, setting, world_of}
 use Rattle.exchange_events.specs.Sizes.{Dimensions}
-use Rattle.call_profile.specs.World.{World, lines_of, start}
+use Rattle.call_profile.specs.World.{World, exchange_lines, start}
 use Rattle.call_profile.proofs.StandingLegLemmas.{start_stands, run_stands}
 use Rattle.call_profile.proofs.RunLemmas.{world-snoc, events_of-snoc, world_next, few_events}
 
@@ -87,13 +87,13 @@ at_work x map legs room works = record {
 module _ (x : Working) (map : Connections) (legs : Legs) (room : ℕ) (works : IsWorking x map legs room) where
   pub is_laid : Is_map_laid map → IsLaid x
   is_laid laid =
-      subst (λ (d : Dimensions). Legal (lines_of d) d.slots (world_of x).layout) works.holds.sizes
+      subst (λ (d : Dimensions). Legal (exchange_lines d) d.slots (world_of x).layout) works.holds.sizes
       (subst (λ (l : Layout). Legal (map.external + map.bridges) map.slots l) works.holds.circuits.layout laid)
 
   pub joins_its : JoinsItsCircuits x
   joins_its =
       let w = world_of x in
-      subst (λ (d : Dimensions). JoinsCircuits (lines_of d) d.external w.layout w.holding.circuits w.ports) works.holds.sizes
+      subst (λ (d : Dimensions). JoinsCircuits (exchange_lines d) d.external w.layout w.holding.circuits w.ports) works.holds.sizes
       (subst (λ (l : Layout). JoinsCircuits (map.external + map.bridges) map.external l w.holding.circuits w.ports) works.holds.circuits.layout works.holds.circuits.holds.joined)
 
 -- ---- the number of the next frame

@@ -1,7 +1,8 @@
 -- What contracts see of a core. Source: this exchange's own.
 use Rattle.std.specs.Prelude.{◌≡◌, ℕ, ◌-◌, ◌≤◌, List, length, map, slice_get, Some, All}
+pub use Rattle.seat_history.specs.Histories.{Entry}
 use Rattle.circuit_map.specs.Connections.{Connections}
-use Rattle.control_memory.specs.Image.{Control}
+pub use Rattle.control_memory.specs.Image.{IsOfSize}
 use Rattle.control_memory.specs.Layout.{Legal}
 use Rattle.control_memory.specs.Shown.{JoinsCircuits, Shows}
 use Rattle.exchange_events.specs.declared.trace.Event.{Event}
@@ -15,11 +16,7 @@ use Rattle.exchange_events.specs.Sizes.{Setting, Dimensions}
 use Rattle.exchange_events.specs.Sound.{IsSound, setting_of}
 use Rattle.call_control.specs.Standing.{Holds}
 use Rattle.call_profile.specs.Step.{events_of, world_after_all}
-use Rattle.call_profile.specs.World.{World, lines_of, start}
-
--- who did an event, and the event's number
-abbrev pub Entry : Type 0
-Entry = ℕ × ℕ
+use Rattle.call_profile.specs.World.{World, exchange_lines, start}
 
 -- the numbers of the events of a journal, in the order in which they were done
 abbrev pub order_of : List Entry → List ℕ
@@ -45,11 +42,11 @@ world_of x = world_after x.slots x.trace (order_of x.journal)
 
 -- its paths are laid legally: no two share an internal slot of a line
 abbrev pub IsLaid : Working → Type 0
-IsLaid x = Legal (lines_of (setting x).dimensions) x.slots (world_of x).layout
+IsLaid x = Legal (exchange_lines (setting x).dimensions) x.slots (world_of x).layout
 
 -- and they join exactly the circuits that are there: both ways of each connection, and each member with its port, there and back
 abbrev pub JoinsItsCircuits : Working → Type 0
-JoinsItsCircuits x = JoinsCircuits (lines_of (setting x).dimensions) x.trace.external (world_of x).layout (world_of x).holding.circuits (world_of x).ports
+JoinsItsCircuits x = JoinsCircuits (exchange_lines (setting x).dimensions) x.trace.external (world_of x).layout (world_of x).holding.circuits (world_of x).ports
 
 -- the trace's event with this number
 abbrev pub IsNumbered : Trace → ℕ → Event → Type 0
@@ -64,12 +61,6 @@ pub record IsWorking (x : Working) (map : Connections) (legs : Legs) (room : ℕ
   pub reserved : length x.trace.events ≤ room
 
 -- ---- the tool of a step
-
--- a control memory of an exchange of this size
-pub record IsOfSize (d : Dimensions) (image : Control) : Type 0 where
-  pub external : image.external ≡ d.external
-  pub bridges : image.bridges ≡ d.bridges
-  pub slots : image.slots ≡ d.slots
 
 -- the tool is a control memory of the exchange's size exactly where the event is a frame
 abbrev pub IsToolFor : Dimensions → Event → Tool → Type 0

@@ -7,9 +7,11 @@
 //! - [`Switchboard`] is the interface of an exchange that many callers share, each of whom may lend a
 //!   [`Desk`]; `shared_exchange` implements it.
 //!
-//! What the events are stands in `exchange_events`, the rules of calls in `call_profile`, and their code in
-//! `call_control`. It stands on these, and on `circuit_model`, `seat_history`, `control_memory`,
-//! `circuit_map`, `number_plan` and `tone_rules`.
+//! What the events are is told by `exchange_events`, the rules of calls by `call_profile`; their code is in
+//! `call_control`.
+//!
+//! It stands on `circuit_model`, `seat_history`, `control_memory`, `circuit_map`, `tone_rules`,
+//! `number_plan`, `exchange_events`, `call_profile` and `call_control`.
 #![tactic(auto)]
 
 mod commands;

@@ -1,9 +1,9 @@
 -- The answers of a run and the lines of its report.
-use Rattle.std.proofs.Common.{◌≡◌, ℕ, suc, ◌+◌, ◌-◌, ◌<◌, ◌≤◌, Bool, true, false, not, if◌then◌else◌, List, [], ◌∷◌, ◌++◌, length, map, take, drop, Option, Some, None, slice_get, slice_index, refl, sym, ap, subst, ◌∙◌, arith, add-one, append_assoc, append-nil, length-append, take_all}
+use Rattle.std.proofs.Common.{◌≡◌, ℕ, suc, ◌+◌, ◌-◌, Bool, true, false, not, if◌then◌else◌, List, [], ◌∷◌, ◌++◌, length, map, take, drop, Option, Some, None, slice_get, slice_index, refl, sym, ap, subst, ◌∙◌, arith, add-one, append_assoc, append-nil, length-append}
 use Rattle.std.specs.Prelude.{All}
 use Rattle.std.specs.List.{cons_option}
-use Rattle.std.proofs.lemmas.List.{take-append-drop, take-append-le}
-use Rattle.std.proofs.lemmas.List.Elements.{All-nil, All-cons, All-head, All-tail, All-append, All-weaker, filter_map-append}
+use Rattle.std.proofs.lemmas.List.{take-append-drop}
+use Rattle.std.proofs.lemmas.List.Elements.{All-nil, All-cons, All-head, All-tail, All-append, filter_map-append}
 use Rattle.std.proofs.Math.Seq.{take-append_seam, drop-append_seam}
 use Rattle.circuit_model.specs.declared.channel.Slot.{Slot}
 use Rattle.circuit_model.specs.declared.circuit.Kind.{Kind}
@@ -33,28 +33,28 @@ use Rattle.segment_run.specs.Segment.{AreAnswered, IsAnswered, new_events}
 use Rattle.segment_run.proofs.OrderLemmas.{order_grown}
 use Rattle.report_text.specs.Report.{answer_line, frame_line, lines_sent, octet_of, report_line}
 use Rattle.exchange_top.specs.Outcomes.{MovesFew}
-use Rattle.exchange_top.specs.Report.{Played, report, event_line, event_lines, lines_of, report_with, sent_at}
+use Rattle.exchange_top.specs.Report.{Played, report, event_line, event_lines, answer_lines, report_with, sent_at}
 use Rattle.exchange_top.specs.Running.{GrewFew, fabric_at, grown_calls, grown_lines}
-use Rattle.line_list.specs.Lines.{calls_kept}
-use Rattle.exchange_top.specs.Telling.{calls_answered, calls_ended, calls_told}
+use Rattle.exchange_top.specs.Telling.{calls_answered}
+use Rattle.call_profile.specs.CallsTold.{calls_ended, calls_told, calls_kept}
 use Rattle.exchange_top.proofs.Reports.{sent_played, take_snoc, within_get}
 
 -- ---- the lines of answers
 
-pub lines_append : (xs ys : List Answer) → lines_of (xs ++ ys) ≡ lines_of xs ++ lines_of ys
+pub lines_append : (xs ys : List Answer) → answer_lines (xs ++ ys) ≡ answer_lines xs ++ answer_lines ys
 lines_append [] ys = refl
-lines_append (a ∷ xs) ys = ap (λ (l : List ℕ). answer_line a ++ l) (lines_append xs ys) ∙ sym (append_assoc (answer_line a) (lines_of xs) (lines_of ys))
+lines_append (a ∷ xs) ys = ap (λ (l : List ℕ). answer_line a ++ l) (lines_append xs ys) ∙ sym (append_assoc (answer_line a) (answer_lines xs) (answer_lines ys))
 
 -- one answer more is told
-pub lines_more : (answers : List Answer) (i : ℕ) (a : Answer) → slice_get answers i ≡ Some a → lines_of (take (i + 1) answers) ≡ lines_of (take i answers) ++ answer_line a
+pub lines_more : (answers : List Answer) (i : ℕ) (a : Answer) → slice_get answers i ≡ Some a → answer_lines (take (i + 1) answers) ≡ answer_lines (take i answers) ++ answer_line a
 lines_more answers i a found =
-    ap (λ (n : ℕ). lines_of (take n answers)) (add-one i)
-    ∙ (ap lines_of (take_snoc answers i a found)
-    ∙ (lines_append (take i answers) (a ∷ []) ∙ ap (λ (l : List ℕ). lines_of (take i answers) ++ l) (append-nil (answer_line a))))
+    ap (λ (n : ℕ). answer_lines (take n answers)) (add-one i)
+    ∙ (ap answer_lines (take_snoc answers i a found)
+    ∙ (lines_append (take i answers) (a ∷ []) ∙ ap (λ (l : List ℕ). answer_lines (take i answers) ++ l) (append-nil (answer_line a))))
 
 -- what is told so far, and the rest
-pub lines_split : (answers : List Answer) (i : ℕ) → lines_of answers ≡ lines_of (take i answers) ++ lines_of (drop i answers)
-lines_split answers i = ap lines_of (sym (take-append-drop i answers)) ∙ lines_append (take i answers) (drop i answers)
+pub lines_split : (answers : List Answer) (i : ℕ) → answer_lines answers ≡ answer_lines (take i answers) ++ answer_lines (drop i answers)
+lines_split answers i = ap answer_lines (sym (take-append-drop i answers)) ∙ lines_append (take i answers) (drop i answers)
 
 -- ---- an order that goes on
 
@@ -146,14 +146,14 @@ module _ (plays : Plays) (tones : Kind → List ℕ) (board : Board) (front : Li
 -- ---- the answers of what came behind a history
 
 -- they have the lines of these events, which moved few paths
-record Told (plays : Plays) (tones : Kind → List ℕ) (board : Board) (front : List Entry) (order : List ℕ) (answers : List Answer) : Type 0 where
-  lines : lines_of answers ≡ event_lines (plays tones) (setting_at board) (world_at board front) order (events_of board.trace.events order)
+record AreReplied (plays : Plays) (tones : Kind → List ℕ) (board : Board) (front : List Entry) (order : List ℕ) (answers : List Answer) : Type 0 where
+  lines : answer_lines answers ≡ event_lines (plays tones) (setting_at board) (world_at board front) order (events_of board.trace.events order)
   few : All (MovesAtMost board.bound) (run (setting_at board) (world_at board front) (events_of board.trace.events order))
   calls : calls_answered answers ≡ calls_ended (run (setting_at board) (world_at board front) (events_of board.trace.events order))
 
 module _ (plays : Plays) (tones : Kind → List ℕ) (board : Board) (history : List Entry) where
   told_more : (front : List Entry) (entry : Entry) (order : List ℕ) (a : Answer) (answers : List Answer) → IsEvent board.trace entry.1 → a.event ≡ entry.1 → before (length front) history ≡ front
-      → IsAnswered plays tones board history (length front) a → Told plays tones board (front ++ entry ∷ []) order answers → Told plays tones board front (entry.1 ∷ order) (a ∷ answers)
+      → IsAnswered plays tones board history (length front) a → AreReplied plays tones board (front ++ entry ∷ []) order answers → AreReplied plays tones board front (entry.1 ∷ order) (a ∷ answers)
   told_more front entry order a answers is same at here rest =
       let n = entry.1 in
       let s = setting_at board in
@@ -184,7 +184,7 @@ module _ (plays : Plays) (tones : Kind → List ℕ) (board : Board) (history : 
       }
 
   told : (front rest : List Entry) (answers : List Answer) → history ≡ front ++ rest → All (IsEvent board.trace) (order_of rest) → map (λ (a : Answer). a.event) answers ≡ order_of rest
-      → ((i : ℕ) (a : Answer) → slice_get answers i ≡ Some a → IsAnswered plays tones board history (length front + i) a) → Told plays tones board front (order_of rest) answers
+      → ((i : ℕ) (a : Answer) → slice_get answers i ≡ Some a → IsAnswered plays tones board history (length front + i) a) → AreReplied plays tones board front (order_of rest) answers
   told front [] [] is known same each = record { lines = refl; few = All-nil (MovesAtMost board.bound); calls = refl }
   told front [] (a ∷ answers) is known same each = absurd (omega (arith, ap length same))
   told front (entry ∷ rest) [] is known same each = absurd (omega (arith, ap length same))
@@ -202,18 +202,18 @@ module _ (plays : Plays) (tones : Kind → List ℕ) (board : Board) (history : 
 
 module _ (plays : Plays) (tones : Kind → List ℕ) (board : Board) (v w : Known) (answers : List Answer) (answered : AreAnswered plays tones board v w answers) (begins : StartsWith w.seen v.seen)
     (known : All (IsEvent board.trace) (new_events v w)) where
-  all_told : Told plays tones board v.seen (new_events v w) answers
+  all_told : AreReplied plays tones board v.seen (new_events v w) answers
   all_told =
       let new : unseen v.seen w.seen ≡ begins.0 = ap (drop (length v.seen)) begins.1 ∙ drop-append_seam v.seen begins.0 in
       told plays tones board w.seen v.seen (unseen v.seen w.seen) answers (begins.1 ∙ ap (λ (l : List Entry). v.seen ++ l) (sym new)) known answered.events answered.each
 
   -- the lines of the answers are those of the events, in the order of the history
-  pub lines_told : lines_of answers ≡ event_lines (plays tones) (setting_at board) (world_at board v.seen) (new_events v w) (events_of board.trace.events (new_events v w))
+  pub lines_told : answer_lines answers ≡ event_lines (plays tones) (setting_at board) (world_at board v.seen) (new_events v w) (events_of board.trace.events (new_events v w))
   lines_told = all_told.lines
 
   module _ (before_known : All (IsEvent board.trace) (order_of v.seen)) where
     -- the report grows by the lines of the answers
-    pub report_grown : report_with (plays tones) board.slots board.trace (order_of w.seen) ≡ report_with (plays tones) board.slots board.trace (order_of v.seen) ++ lines_of answers
+    pub report_grown : report_with (plays tones) board.slots board.trace (order_of w.seen) ≡ report_with (plays tones) board.slots board.trace (order_of v.seen) ++ answer_lines answers
     report_grown =
         ap (report_with (plays tones) board.slots board.trace) (order_grown v w begins)
         ∙ (report_append (plays tones) board.slots board.trace (order_of v.seen) (new_events v w) before_known
@@ -221,10 +221,10 @@ module _ (plays : Plays) (tones : Kind → List ℕ) (board : Board) (v w : Know
 
     -- what was told of the answers so far is a front of the report
     pub report_front : (i : ℕ) → report_with (plays tones) board.slots board.trace (order_of w.seen)
-        ≡ (report_with (plays tones) board.slots board.trace (order_of v.seen) ++ lines_of (take i answers)) ++ lines_of (drop i answers)
+        ≡ (report_with (plays tones) board.slots board.trace (order_of v.seen) ++ answer_lines (take i answers)) ++ answer_lines (drop i answers)
     report_front i =
         let done = report_with (plays tones) board.slots board.trace (order_of v.seen) in
-        report_grown ∙ (ap (λ (l : List ℕ). done ++ l) (lines_split answers i) ∙ sym (append_assoc done (lines_of (take i answers)) (lines_of (drop i answers))))
+        report_grown ∙ (ap (λ (l : List ℕ). done ++ l) (lines_split answers i) ∙ sym (append_assoc done (answer_lines (take i answers)) (answer_lines (drop i answers))))
 
   -- few paths were moved
   pub few_told : GrewFew board v w

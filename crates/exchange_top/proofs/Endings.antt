@@ -1,18 +1,15 @@
 -- How a call ends, and what each status says.
-use Rattle.std.proofs.Common.{◌≡◌, ◌⊎◌, ℕ, ◌+◌, ◌<◌, ◌≤◌, List, [], ◌++◌, length, Option, Some, None, refl, arith, sym, ◌∙◌, ap, inl, inr, length-append}
+use Rattle.std.proofs.Common.{◌≡◌, ◌⊎◌, ℕ, ◌+◌, ◌<◌, ◌≤◌, List, [], ◌++◌, length, Option, Some, None, arith, sym, ◌∙◌, ap, inl, inr, length-append}
 use Rattle.std.proofs.lemmas.Bool.{cases_lt}
 use Rattle.std.proofs.lemmas.List.{append-nil}
 use Rattle.std.specs.Io.KnownBytes.{Appends, Keeps}
-use Rattle.std.proofs.KnownBytes.{Appends-trans}
 use Rattle.ex_io.specs.Ends.{Rose}
 use Rattle.trace_text.specs.declared.fault.Reason.{Reason}
 use Rattle.exchange_events.specs.declared.trace.Trace.{Trace}
 use Rattle.trace_text.specs.TraceGrammar.{IsTrace, IsRefused, most_bytes}
-use Rattle.command_words.specs.declared.command.Command.{Command}
 use Rattle.command_words.specs.declared.command.Command.TheVariants.{Run, Generate}
-use Rattle.command_words.specs.Words.{command_of}
 use Rattle.line_list.specs.declared.listing.Listing.TheVariants as listing
-use Rattle.exchange_top.specs.Commands.{Parties, Refuses, Told_so, Untold, IsUnfinished, fabric_of, IsRun, IsGeneration, IsNoCommand, IsInput, IsWholeInput, IsDone, IsSummed, IsTurnedDown, In_refusal, In_report, By_write, By_memory, IsUndone, In_words, Unheard, In_answer, In_generation, Runs, Whole, Unwritten_from, No_memory_from, Answers, Done, Turned_down, Unwritten, No_memory, Sums, Summed, Sum_unwritten, Sum_no_memory, Told, Ends, Wrong_words, Words_unwritten, Unread, No_room, Answered, Generated, refusal, words_refusal}
+use Rattle.exchange_top.specs.Commands.{Parties, Refuses, Told_so, Untold, IsUnfinished, IsRun, IsGeneration, IsNoCommand, IsInput, IsWholeInput, IsDone, IsSummed, IsTurnedDown, In_refusal, In_report, By_write, By_memory, IsUndone, In_words, Unheard, In_answer, In_generation, Runs, Whole, Unwritten_from, No_memory_from, Answers, Done, Turned_down, Unwritten, No_memory, Summed, Sum_unwritten, Sum_no_memory, SourceAndSink, Ends, Wrong_words, Words_unwritten, Unread, No_room, Answered, Generated, refusal, words_refusal}
 use Rattle.trace_text.proofs.TraceReadings.{never_both}
 
 -- ---- words ask for one thing
@@ -68,14 +65,14 @@ module _ (x : Parties) where
       Turned_down s (record { number = number; why = why; refused = refused; none = none; text = rw same at written }) told
   answers_refused bytes number why status order line old new before after refused none same told (Untold s rose cut) = Unwritten s rose (In_refusal s number why refused none (rw same at cut) told)
 
-  pub ends_words : (words : List (List ℕ)) (status : ℕ) (order : List ℕ) (old new : Told) → IsNoCommand words → order ≡ [] → x.told []
+  pub ends_words : (words : List (List ℕ)) (status : ℕ) (order : List ℕ) (old new : SourceAndSink) → IsNoCommand words → order ≡ [] → x.told []
       → Refuses 2 words_refusal status old.written new.written old.writes new.writes → Ends x words status order old new
   ends_words words status order old new unasked none told (Told_so s written) = Wrong_words unasked s none written told
   ends_words words status order old new unasked none told (Untold s rose cut) = Words_unwritten unasked s none rose cut told
 
   -- ---- what each status says
 
-  pub done_says : (words : List (List ℕ)) (status : ℕ) (order : List ℕ) (old new : Told) → Ends x words status order old new → status ≡ 0 → IsRun words → (bytes : List ℕ) × IsWholeInput old.left new.left bytes × IsDone x bytes order old.written new.written
+  pub done_says : (words : List (List ℕ)) (status : ℕ) (order : List ℕ) (old new : SourceAndSink) → Ends x words status order old new → status ≡ 0 → IsRun words → (bytes : List ℕ) × IsWholeInput old.left new.left bytes × IsDone x bytes order old.written new.written
   done_says words status order old new (Wrong_words unasked s none text told) h run = absurd (omega (arith, s, h))
   done_says words status order old new (Words_unwritten unasked s none rose text told) h run = absurd (omega (arith, s, h))
   done_says words status order old new (Unread is s none rose kept told) h run = absurd (omega (arith, s, h))
@@ -88,7 +85,7 @@ module _ (x : Parties) where
   done_says words status order old new (Generated seed calls is (Sum_unwritten s rose cut)) h run = absurd (omega (arith, s, h))
   done_says words status order old new (Generated seed calls is (Sum_no_memory s cut)) h run = absurd (omega (arith, s, h))
 
-  pub summed_says : (words : List (List ℕ)) (status : ℕ) (order : List ℕ) (old new : Told) (a n : ℕ) → Ends x words status order old new → status ≡ 0 → IsGeneration words a n → IsSummed x a n order old.written new.written
+  pub summed_says : (words : List (List ℕ)) (status : ℕ) (order : List ℕ) (old new : SourceAndSink) (a n : ℕ) → Ends x words status order old new → status ≡ 0 → IsGeneration words a n → IsSummed x a n order old.written new.written
   summed_says words status order old new a n (Wrong_words unasked s none text told) h gen = absurd (omega (arith, s, h))
   summed_says words status order old new a n (Words_unwritten unasked s none rose text told) h gen = absurd (omega (arith, s, h))
   summed_says words status order old new a n (Unread is s none rose kept told) h gen = absurd (omega (arith, s, h))
@@ -101,7 +98,7 @@ module _ (x : Parties) where
   summed_says words status order old new a n (Generated seed calls is (Sum_unwritten s rose cut)) h gen = absurd (omega (arith, s, h))
   summed_says words status order old new a n (Generated seed calls is (Sum_no_memory s cut)) h gen = absurd (omega (arith, s, h))
 
-  pub turned_down_says : (words : List (List ℕ)) (status : ℕ) (order : List ℕ) (old new : Told) → Ends x words status order old new → status ≡ 1 → IsRun words × ((bytes : List ℕ) × IsInput old.left new.left bytes × IsTurnedDown bytes order old.written new.written × x.told [])
+  pub turned_down_says : (words : List (List ℕ)) (status : ℕ) (order : List ℕ) (old new : SourceAndSink) → Ends x words status order old new → status ≡ 1 → IsRun words × ((bytes : List ℕ) × IsInput old.left new.left bytes × IsTurnedDown bytes order old.written new.written × x.told [])
   turned_down_says words status order old new (Wrong_words unasked s none text told) h = absurd (omega (arith, s, h))
   turned_down_says words status order old new (Words_unwritten unasked s none rose text told) h = absurd (omega (arith, s, h))
   turned_down_says words status order old new (Unread is s none rose kept told) h = absurd (omega (arith, s, h))
@@ -114,7 +111,7 @@ module _ (x : Parties) where
   turned_down_says words status order old new (Generated seed calls is (Sum_unwritten s rose cut)) h = absurd (omega (arith, s, h))
   turned_down_says words status order old new (Generated seed calls is (Sum_no_memory s cut)) h = absurd (omega (arith, s, h))
 
-  pub wrong_words_says : (words : List (List ℕ)) (status : ℕ) (order : List ℕ) (old new : Told) → Ends x words status order old new → status ≡ 2 → IsNoCommand words × (order ≡ []) × Appends old.written new.written words_refusal × x.told []
+  pub wrong_words_says : (words : List (List ℕ)) (status : ℕ) (order : List ℕ) (old new : SourceAndSink) → Ends x words status order old new → status ≡ 2 → IsNoCommand words × (order ≡ []) × Appends old.written new.written words_refusal × x.told []
   wrong_words_says words status order old new (Wrong_words unasked s none text told) h = (unasked, none, text, told)
   wrong_words_says words status order old new (Words_unwritten unasked s none rose text told) h = absurd (omega (arith, s, h))
   wrong_words_says words status order old new (Unread is s none rose kept told) h = absurd (omega (arith, s, h))
@@ -127,7 +124,7 @@ module _ (x : Parties) where
   wrong_words_says words status order old new (Generated seed calls is (Sum_unwritten s rose cut)) h = absurd (omega (arith, s, h))
   wrong_words_says words status order old new (Generated seed calls is (Sum_no_memory s cut)) h = absurd (omega (arith, s, h))
 
-  pub read_failed_says : (words : List (List ℕ)) (status : ℕ) (order : List ℕ) (old new : Told) → Ends x words status order old new → status ≡ 3 → Rose old.reads new.reads × (order ≡ []) × Keeps old.written new.written × x.told []
+  pub read_failed_says : (words : List (List ℕ)) (status : ℕ) (order : List ℕ) (old new : SourceAndSink) → Ends x words status order old new → status ≡ 3 → Rose old.reads new.reads × (order ≡ []) × Keeps old.written new.written × x.told []
   read_failed_says words status order old new (Wrong_words unasked s none text told) h = absurd (omega (arith, s, h))
   read_failed_says words status order old new (Words_unwritten unasked s none rose text told) h = absurd (omega (arith, s, h))
   read_failed_says words status order old new (Unread is s none rose kept told) h = (rose, none, kept, told)
@@ -140,7 +137,7 @@ module _ (x : Parties) where
   read_failed_says words status order old new (Generated seed calls is (Sum_unwritten s rose cut)) h = absurd (omega (arith, s, h))
   read_failed_says words status order old new (Generated seed calls is (Sum_no_memory s cut)) h = absurd (omega (arith, s, h))
 
-  pub write_failed_says : (words : List (List ℕ)) (status : ℕ) (order : List ℕ) (old new : Told) → Ends x words status order old new → status ≡ 4 → Rose old.writes new.writes
+  pub write_failed_says : (words : List (List ℕ)) (status : ℕ) (order : List ℕ) (old new : SourceAndSink) → Ends x words status order old new → status ≡ 4 → Rose old.writes new.writes
   write_failed_says words status order old new (Wrong_words unasked s none text told) h = absurd (omega (arith, s, h))
   write_failed_says words status order old new (Words_unwritten unasked s none rose text told) h = rose
   write_failed_says words status order old new (Unread is s none rose kept told) h = absurd (omega (arith, s, h))
@@ -153,7 +150,7 @@ module _ (x : Parties) where
   write_failed_says words status order old new (Generated seed calls is (Sum_unwritten s rose cut)) h = rose
   write_failed_says words status order old new (Generated seed calls is (Sum_no_memory s cut)) h = absurd (omega (arith, s, h))
 
-  pub cut_short_says : (words : List (List ℕ)) (status : ℕ) (order : List ℕ) (old new : Told) → Ends x words status order old new → 4 ≤ status → IsUndone x status words old.left new.left order old.written new.written
+  pub cut_short_says : (words : List (List ℕ)) (status : ℕ) (order : List ℕ) (old new : SourceAndSink) → Ends x words status order old new → 4 ≤ status → IsUndone x status words old.left new.left order old.written new.written
   cut_short_says words status order old new (Wrong_words unasked s none text told) h = absurd (omega (arith, s, h))
   cut_short_says words status order old new (Words_unwritten unasked s none rose text told) h = In_words s unasked none text told
   cut_short_says words status order old new (Unread is s none rose kept told) h = absurd (omega (arith, s, h))
@@ -166,7 +163,7 @@ module _ (x : Parties) where
   cut_short_says words status order old new (Generated seed calls is (Sum_unwritten s rose cut)) h = In_generation seed calls is cut
   cut_short_says words status order old new (Generated seed calls is (Sum_no_memory s cut)) h = In_generation seed calls is cut
 
-  pub statuses_say : (words : List (List ℕ)) (status : ℕ) (order : List ℕ) (old new : Told) → Ends x words status order old new → status ≤ 5
+  pub statuses_say : (words : List (List ℕ)) (status : ℕ) (order : List ℕ) (old new : SourceAndSink) → Ends x words status order old new → status ≤ 5
   statuses_say words status order old new (Wrong_words unasked s none text told) = omega (arith, s)
   statuses_say words status order old new (Words_unwritten unasked s none rose text told) = omega (arith, s)
   statuses_say words status order old new (Unread is s none rose kept told) = omega (arith, s)
@@ -179,7 +176,7 @@ module _ (x : Parties) where
   statuses_say words status order old new (Generated seed calls is (Sum_unwritten s rose cut)) = omega (arith, s)
   statuses_say words status order old new (Generated seed calls is (Sum_no_memory s cut)) = omega (arith, s)
 
-  pub other_words_say : (words : List (List ℕ)) (status : ℕ) (order : List ℕ) (old new : Told) → Ends x words status order old new → IsNoCommand words → (status ≡ 2) ⊎ (status ≡ 4) ⊎ (status ≡ 5)
+  pub other_words_say : (words : List (List ℕ)) (status : ℕ) (order : List ℕ) (old new : SourceAndSink) → Ends x words status order old new → IsNoCommand words → (status ≡ 2) ⊎ (status ≡ 4) ⊎ (status ≡ 5)
   other_words_say words status order old new (Wrong_words unasked s none text told) other = inl s
   other_words_say words status order old new (Words_unwritten unasked s none rose text told) other = inr (inl s)
   other_words_say words status order old new (Unread is s none rose kept told) other = absurd (never_run words other is)
@@ -192,7 +189,7 @@ module _ (x : Parties) where
   other_words_say words status order old new (Generated seed calls is (Sum_unwritten s rose cut)) other = absurd (never_generation words seed calls other is)
   other_words_say words status order old new (Generated seed calls is (Sum_no_memory s cut)) other = absurd (never_generation words seed calls other is)
 
-  pub command_says : (words : List (List ℕ)) (status : ℕ) (order : List ℕ) (old new : Told) → Ends x words status order old new → IsRun words → (status ≡ 0) ⊎ (status ≡ 1) ⊎ IsUnfinished status
+  pub command_says : (words : List (List ℕ)) (status : ℕ) (order : List ℕ) (old new : SourceAndSink) → Ends x words status order old new → IsRun words → (status ≡ 0) ⊎ (status ≡ 1) ⊎ IsUnfinished status
   command_says words status order old new (Wrong_words unasked s none text told) run = absurd (never_run words unasked run)
   command_says words status order old new (Words_unwritten unasked s none rose text told) run = absurd (never_run words unasked run)
   command_says words status order old new (Unread is s none rose kept told) run = inr (inr (inl s))
@@ -205,7 +202,7 @@ module _ (x : Parties) where
   command_says words status order old new (Generated seed calls is (Sum_unwritten s rose cut)) run = absurd (never_one words seed calls run is)
   command_says words status order old new (Generated seed calls is (Sum_no_memory s cut)) run = absurd (never_one words seed calls run is)
 
-  pub generation_says : (words : List (List ℕ)) (status : ℕ) (order : List ℕ) (old new : Told) (a n : ℕ) → Ends x words status order old new → IsGeneration words a n → (status ≡ 0) ⊎ (status ≡ 4) ⊎ (status ≡ 5)
+  pub generation_says : (words : List (List ℕ)) (status : ℕ) (order : List ℕ) (old new : SourceAndSink) (a n : ℕ) → Ends x words status order old new → IsGeneration words a n → (status ≡ 0) ⊎ (status ≡ 4) ⊎ (status ≡ 5)
   generation_says words status order old new a n (Wrong_words unasked s none text told) gen = absurd (never_generation words a n unasked gen)
   generation_says words status order old new a n (Words_unwritten unasked s none rose text told) gen = absurd (never_generation words a n unasked gen)
   generation_says words status order old new a n (Unread is s none rose kept told) gen = absurd (never_one words a n is gen)
@@ -218,7 +215,7 @@ module _ (x : Parties) where
   generation_says words status order old new a n (Generated seed calls is (Sum_unwritten s rose cut)) gen = inr (inl s)
   generation_says words status order old new a n (Generated seed calls is (Sum_no_memory s cut)) gen = inr (inr s)
 
-  pub trace_says : (words : List (List ℕ)) (status : ℕ) (order : List ℕ) (old new : Told) (known : List ℕ) (t : Trace) → Ends x words status order old new → old.left ≡ Some known → IsTrace known t → IsRun words → (status ≡ 0) ⊎ IsUnfinished status
+  pub trace_says : (words : List (List ℕ)) (status : ℕ) (order : List ℕ) (old new : SourceAndSink) (known : List ℕ) (t : Trace) → Ends x words status order old new → old.left ≡ Some known → IsTrace known t → IsRun words → (status ≡ 0) ⊎ IsUnfinished status
   trace_says words status order old new known t (Wrong_words unasked s none text told) left is_trace run = absurd (never_run words unasked run)
   trace_says words status order old new known t (Words_unwritten unasked s none rose text told) left is_trace run = absurd (never_run words unasked run)
   trace_says words status order old new known t (Unread is s none rose kept told) left is_trace run = inr (inl s)
@@ -231,7 +228,7 @@ module _ (x : Parties) where
   trace_says words status order old new known t (Generated seed calls is (Sum_unwritten s rose cut)) left is_trace run = absurd (never_one words seed calls run is)
   trace_says words status order old new known t (Generated seed calls is (Sum_no_memory s cut)) left is_trace run = absurd (never_one words seed calls run is)
 
-  pub no_trace_says : (words : List (List ℕ)) (status : ℕ) (order : List ℕ) (old new : Told) (known : List ℕ) (number : ℕ) (why : Reason) → Ends x words status order old new → old.left ≡ Some known → IsRefused known number why → IsRun words → (status ≡ 1) ⊎ IsUnfinished status
+  pub no_trace_says : (words : List (List ℕ)) (status : ℕ) (order : List ℕ) (old new : SourceAndSink) (known : List ℕ) (number : ℕ) (why : Reason) → Ends x words status order old new → old.left ≡ Some known → IsRefused known number why → IsRun words → (status ≡ 1) ⊎ IsUnfinished status
   no_trace_says words status order old new known number why (Wrong_words unasked s none text told) left refused run = absurd (never_run words unasked run)
   no_trace_says words status order old new known number why (Words_unwritten unasked s none rose text told) left refused run = absurd (never_run words unasked run)
   no_trace_says words status order old new known number why (Unread is s none rose kept told) left refused run = inr (inl s)

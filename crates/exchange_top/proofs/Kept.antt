@@ -14,9 +14,10 @@ use Rattle.segment_run.proofs.OrderLemmas.{grown_known}
 use Rattle.call_processor.specs.declared.worked.Placed.{Placed}
 use Rattle.line_list.specs.declared.listing.Listing.{Listing}
 use Rattle.line_list.specs.declared.listing.Listing.TheVariants as listing
-use Rattle.line_list.specs.Lines.{Line, calls_kept, calls_of, line_of, listed, text_of}
+use Rattle.line_list.specs.Lines.{Line, calls_of, line_of, listed, text_of}
+use Rattle.call_profile.specs.CallsTold.{calls_kept}
 use Rattle.report_text.specs.Report.{answer_line}
-use Rattle.exchange_top.specs.Report.{lines_of}
+use Rattle.exchange_top.specs.Report.{answer_lines}
 use Rattle.exchange_top.specs.Running.{AreOfAnswers, GrewFew, grown_calls, grown_lines}
 use Rattle.exchange_top.specs.Telling.{calls_answered}
 use Rattle.exchange_top.proofs.Answered.{calls_told_of, few_told, lines_told}
@@ -30,7 +31,7 @@ calls_append [] ys = refl
 calls_append (x ∷ xs) ys = ap (λ (l : List CallRecord). x.records ++ l) (calls_append xs ys) ∙ sym (append_assoc x.records (calls_of xs) (calls_of ys))
 
 -- the text of answers' lines, where they are listed, and their calls
-text_answers : (l : Listing) (ps : List Placed) → text_of (map (line_of l) ps) ≡ listed l (lines_of (map (λ (p : Placed). p.answer) ps))
+text_answers : (l : Listing) (ps : List Placed) → text_of (map (line_of l) ps) ≡ listed l (answer_lines (map (λ (p : Placed). p.answer) ps))
 text_answers listing.Report [] = refl
 text_answers listing.Report (p ∷ ps) = ap (λ (t : List ℕ). answer_line p.answer ++ t) (text_answers listing.Report ps)
 text_answers listing.Nothing [] = refl
@@ -45,7 +46,7 @@ module _ (l : Listing) (before after : List Line) (kept answers : List Placed) (
   grown : after ≡ before ++ map (line_of l) answers
   grown = is ∙ map-append (line_of l) kept answers ∙ ap (λ (ls : List Line). ls ++ map (line_of l) answers) (sym are)
 
-  pub text_added : text_of after ≡ text_of before ++ listed l (lines_of (map (λ (p : Placed). p.answer) answers))
+  pub text_added : text_of after ≡ text_of before ++ listed l (answer_lines (map (λ (p : Placed). p.answer) answers))
   text_added = ap text_of grown ∙ text_append before (map (line_of l) answers) ∙ ap (λ (t : List ℕ). text_of before ++ t) (text_answers l answers)
 
   pub calls_added : calls_of after ≡ calls_of before ++ calls_answered (map (λ (p : Placed). p.answer) answers)

@@ -2,9 +2,8 @@
 use Rattle.std.proofs.Common.{◌≡◌, ℕ, zero, suc, ◌+◌, ◌<◌, ◌≤◌, List, [], ◌∷◌, ◌++◌, length, take, drop, Some, slice_get, get_or, refl, sym, ap, ◌∙◌, arith, add-one, append_assoc, take_all, take-append-drop}
 use Rattle.std.proofs.lemmas.List.{append-nil}
 use Rattle.exchange_events.specs.declared.answer.Answer.{Answer}
-use Rattle.exchange_events.specs.declared.record.CallRecord.{CallRecord}
 use Rattle.exchange_top.proofs.Reports.{take_snoc as snoc}
-use Rattle.line_list.specs.Lines.{calls_kept}
+use Rattle.call_profile.specs.CallsTold.{calls_kept}
 use Rattle.exchange_top.specs.Telling.{calls_answered}
 
 pub take_snoc : {X : Type 0} (xs : List X) (i : ℕ) (x : X) → slice_get xs i ≡ Some x → take i xs ++ x ∷ [] ≡ take (i + 1) xs

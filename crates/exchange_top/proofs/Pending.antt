@@ -1,22 +1,9 @@
 -- What was written of a report when a run ends.
-use Rattle.std.proofs.Common.{◌≡◌, ℕ, ◌+◌, ◌-◌, ◌<◌, ◌≤◌, List, [], ◌∷◌, ◌++◌, length, take, Option, Result, Ok, Err, OnErr, OnOk, refl, arith, sym, subst, ◌∙◌, ap, length-append, Some, slice_get, add-one, inl, inr}
+use Rattle.std.proofs.Common.{◌≡◌, ℕ, ◌+◌, ◌-◌, List, [], ◌++◌, length, take, Option, Result, Ok, Err, OnErr, OnOk, refl, arith, sym, subst, ◌∙◌, ap, length-append, inl, inr}
 use Rattle.std.proofs.KnownBytes.{Appends-nil, Appends-trans}
-use Rattle.std.proofs.lemmas.List.{append_assoc, append-nil, length-map, map-append}
-use Rattle.std.proofs.lemmas.List.FromFn.{length-range_with_len}
-use Rattle.std.proofs.Math.Seq.{take-append_seam, take-append-add}
+use Rattle.std.proofs.lemmas.List.{append_assoc, append-nil}
+use Rattle.std.proofs.Math.Seq.{take-append-add}
 use Rattle.std.specs.Io.KnownBytes.{Appends}
-use Rattle.std.specs.Prelude.{All}
-use Rattle.std.proofs.lemmas.List.Elements.{All-push}
-use Rattle.std.proofs.lemmas.Option.{slice_get_within}
-use Rattle.exchange_events.specs.declared.trace.Event.{Event}
-use Rattle.exchange_events.specs.declared.trace.Trace.{Trace}
-use Rattle.exchange_events.specs.declared.reply.Reply.{Reply}
-use Rattle.exchange_events.specs.Orders.{file_order}
-use Rattle.exchange_events.specs.Sizes.{Setting}
-use Rattle.exchange_events.specs.Sound.{setting_of}
-use Rattle.call_profile.specs.Step.{run, reply, MovesAtMost}
-use Rattle.exchange_core.specs.Working.{Entry, Working, IsNumbered, order_of, setting, world_of, world_after}
-use Rattle.call_profile.specs.World.{World, start}
 use Rattle.exchange_top.specs.Outcomes.{IsFlushed}
 use Rattle.exchange_top.specs.Streams.{AppendsFront}
 

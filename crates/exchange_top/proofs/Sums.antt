@@ -1,7 +1,7 @@
 -- A generated trace that is run and summed up, and a run on another board.
-use Rattle.std.proofs.Common.{rules, ◌≡◌, ◌≢◌, ◌⊎◌, ℕ, ◌+◌, ◌≤◌, List, [], ◌++◌, length, Option, Some, None, refl, sym, ap, subst, ◌∙◌, inl, inr, arith}
+use Rattle.std.proofs.Common.{rules, ◌≡◌, ◌≢◌, ◌⊎◌, ℕ, ◌+◌, ◌≤◌, List, [], length, Option, Some, None, sym, ap, subst, inl, inr, arith}
 use Rattle.std.specs.Io.KnownBytes.{Appends, Keeps}
-use Rattle.std.proofs.KnownBytes.{Appends-nil, Appends-trans}
+use Rattle.std.proofs.KnownBytes.{Appends-trans}
 use Rattle.ex_io.specs.Ends.{Rose}
 use Rattle.exchange_events.specs.declared.trace.Trace.{Trace}
 use Rattle.seat_history.specs.declared.known.Known.{Known}
@@ -9,7 +9,7 @@ use Rattle.seat_history.specs.Histories.{Entry}
 use Rattle.exchange_core.specs.Boards.{Board}
 use Rattle.generated_trace.specs.Generated.{IsTrafficOf}
 use Rattle.line_list.specs.declared.listing.Listing.TheVariants as listing
-use Rattle.exchange_top.specs.Commands.{Handing, Parties, Runs, Whole, Unwritten_from, No_memory_from, Sums, Summed, Sum_unwritten, Sum_no_memory, In_run, In_summary, Before_summary, By_write, By_memory, IsHandedOut}
+use Rattle.exchange_top.specs.Commands.{Handing, Parties, Runs, Whole, Unwritten_from, No_memory_from, Sums, Summed, Sum_unwritten, Sum_no_memory, In_run, In_summary, Before_summary, By_write, By_memory}
 use Rattle.segment_run.specs.Segment.{IsChief}
 use Rattle.exchange_top.specs.Streams.{AppendsFront}
 use Rattle.exchange_top.specs.Summary.{summary_text}

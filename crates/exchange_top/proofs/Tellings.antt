@@ -1,5 +1,5 @@
 -- Meters that are told of calls, and then of more.
-use Rattle.std.proofs.Common.{◌≡◌, ℕ, List, [], ◌++◌, refl}
+use Rattle.std.proofs.Common.{ℕ, List, [], ◌++◌, refl}
 use Rattle.exchange_events.specs.declared.record.CallRecord.{CallRecord}
 use Rattle.meters.proofs.Zips.{zip-same, zip-then}
 use Rattle.meters.proofs.Told.{told-same, told-then, told_front-none}

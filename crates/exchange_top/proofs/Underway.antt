@@ -1,13 +1,11 @@
 -- A run, segment after segment, and how it ends.
-use Rattle.std.proofs.Common.{◌≡◌, ℕ, ◌+◌, ◌*◌, ◌<◌, ◌≤◌, List, [], ◌++◌, length, Option, refl, sym, ap, subst, ◌∙◌, arith, append-nil}
-use Rattle.std.specs.Prelude.{All}
+use Rattle.std.proofs.Common.{◌≡◌, ℕ, ◌+◌, ◌*◌, ◌≤◌, List, [], ◌++◌, length, Option, refl, sym, ap, subst, ◌∙◌, arith, append-nil}
 use Rattle.std.specs.Io.KnownBytes.{Appends}
 use Rattle.std.proofs.KnownBytes.{Appends-nil}
 use Rattle.std.proofs.lemmas.List.{append_assoc}
 use Rattle.std.proofs.lemmas.List.Elements.{All-nil}
 use Rattle.exchange_events.specs.declared.record.CallRecord.{CallRecord}
 use Rattle.exchange_events.specs.declared.trace.Trace.{Trace}
-use Rattle.exchange_events.specs.Orders.{IsEvent}
 use Rattle.seat_history.specs.declared.known.Known.{Known}
 use Rattle.seat_history.specs.Seats.{first_seat}
 use Rattle.exchange_core.specs.Boards.{Board, turns_of}
@@ -21,7 +19,8 @@ use Rattle.line_list.specs.declared.listing.Listing.{Listing}
 use Rattle.line_list.specs.declared.listing.Listing.TheVariants as listing
 use Rattle.exchange_top.specs.Outcomes.{EndsWithSegment, IsFlushed, IsInterrupted, IsRunWhole, IsUnwritten, MovesFew}
 use Rattle.line_list.specs.Lines.{listed}
-use Rattle.exchange_top.specs.Telling.{Telling, calls_told}
+use Rattle.exchange_top.specs.Telling.{Telling}
+use Rattle.call_profile.specs.CallsTold.{calls_told}
 use Rattle.exchange_top.specs.Report.{report}
 use Rattle.exchange_top.specs.Running.{GrewFew, fabric_at, grown_calls, grown_lines}
 use Rattle.exchange_top.specs.Streams.{AppendsFront}

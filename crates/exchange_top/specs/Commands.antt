@@ -1,5 +1,5 @@
 -- The commands, and what a call answers to them. Source: this exchange's own.
-use Rattle.std.specs.Prelude.{◌≡◌, ◌⊎◌, ℕ, ◌+◌, ◌≤◌, List, [], ◌++◌, length, map, codes, decimal, Some, None}
+use Rattle.std.specs.Prelude.{ℕ, List, Some, None, String, [], codes, decimal, length, map, string_bytes, ◌++◌, ◌+◌, ◌≡◌, ◌≤◌, ◌⊎◌}
 use Rattle.std.specs.List.{concat}
 use Rattle.std.specs.Io.KnownBytes.{Appends, Consumes, IsAtEnd, Keeps}
 use Rattle.std.specs.declared.option.Option.{Option}
@@ -39,6 +39,10 @@ IsGeneration words seed calls = command_of words ≡ Some (Generate seed calls)
 -- they are no command
 abbrev pub IsNoCommand : List (List ℕ) → Type 0
 IsNoCommand words = command_of words ≡ None
+
+-- the words of a command as octets
+abbrev pub texts : List String → List (List ℕ)
+texts words = map string_bytes words
 
 -- ---- refusals
 
@@ -132,6 +136,10 @@ pub record IsSummed (x : Parties) (seed calls : ℕ) (order : List ℕ) (old new
   pub text : Appends old new (summary_text trace x.said)
   pub engine : IsHandedOut x.handed trace order
 
+-- all of the input was read; it is a trace, which was run, and its report was written
+abbrev pub ReportsInput : Parties → (left_old left_new : Option (List ℕ)) → List ℕ → (old new : Option (List ℕ)) → Type 0
+ReportsInput x left_old left_new order old new = (bytes : List ℕ) × IsWholeInput left_old left_new bytes × IsDone x bytes order old new
+
 -- ---- other ends
 
 -- the bytes were answered by the refusal of the line that they are no trace for
@@ -141,6 +149,10 @@ pub record IsTurnedDown (bytes order : List ℕ) (old new : Option (List ℕ)) :
   pub refused : IsRefused bytes number why
   pub none : order ≡ []
   pub text : Appends old new (refusal number why)
+
+-- the input was read and answered by the refusal of a line, and no meter was told of a call
+abbrev pub RefusesInput : Telling → (left_old left_new : Option (List ℕ)) → List ℕ → (old new : Option (List ℕ)) → Type 0
+RefusesInput told left_old left_new order old new = (bytes : List ℕ) × IsInput left_old left_new bytes × IsTurnedDown bytes order old new × told []
 
 -- a run of a trace, of which this is listed, was cut short: a write failed, or memory ran out
 pub data IsBegun (x : Parties) (l : Listing) (trace : Trace) (status : ℕ) (order : List ℕ) (old new : Option (List ℕ)) : Type 0 where
@@ -200,15 +212,15 @@ pub data Sums (x : Parties) (seed calls : ℕ) (status : ℕ) (order : List ℕ)
   Sum_unwritten : status ≡ 4 → Rose before after → IsSumCutShort x status seed calls order old new → Sums x seed calls status order old new before after
   Sum_no_memory : status ≡ 5 → IsSumCutShort x status seed calls order old new → Sums x seed calls status order old new before after
 
--- what the source and the sink tell, before and after: the bytes left and written, and their counts of faults
-pub record Told : Type 0 where
+-- what is seen of the source and the sink: the bytes left and written, and their counts of faults
+pub record SourceAndSink : Type 0 where
   pub left : Option (List ℕ)
   pub reads : ℕ
   pub written : Option (List ℕ)
   pub writes : ℕ
 
 -- how a call ends, by its status
-pub data Ends (x : Parties) (words : List (List ℕ)) (status : ℕ) (order : List ℕ) (old new : Told) : Type 0 where
+pub data Ends (x : Parties) (words : List (List ℕ)) (status : ℕ) (order : List ℕ) (old new : SourceAndSink) : Type 0 where
   Wrong_words : IsNoCommand words → status ≡ 2 → order ≡ [] → Appends old.written new.written words_refusal → x.told [] → Ends x words status order old new
   Words_unwritten : IsNoCommand words → status ≡ 4 → order ≡ [] → Rose old.writes new.writes → AppendsFront old.written new.written words_refusal → x.told []
       → Ends x words status order old new
@@ -217,3 +229,16 @@ pub data Ends (x : Parties) (words : List (List ℕ)) (status : ℕ) (order : Li
   Answered : IsRun words → (bytes : List ℕ) → IsInput old.left new.left bytes → Answers x bytes status order old.written new.written old.writes new.writes
       → Ends x words status order old new
   Generated : (seed calls : ℕ) → IsGeneration words seed calls → Sums x seed calls status order old.written new.written old.writes new.writes → Ends x words status order old new
+
+-- so, by what the types of a source and a sink tell of each: the bytes left and the faults of the source, the bytes written and the faults of the sink
+abbrev pub CallEnds : {S K : Type 0} → Parties → List (List ℕ) → ℕ → List ℕ → (S → Option (List ℕ)) → (S → ℕ) → (K → Option (List ℕ)) → (K → ℕ)
+    → (source_old : S) → (sink_old : K) → (source_new : S) → (sink_new : K) → Type 0
+CallEnds x words status order left reads written writes source_old sink_old source_new sink_new = Ends x words status order
+    (record { left = left source_old; reads = reads source_old; written = written sink_old; writes = writes sink_old })
+    (record { left = left source_new; reads = reads source_new; written = written sink_new; writes = writes sink_new })
+
+-- so, of whatever words ask for a run of the input
+abbrev pub RunEnds : {S K : Type 0} → Parties → ℕ → List ℕ → (S → Option (List ℕ)) → (S → ℕ) → (K → Option (List ℕ)) → (K → ℕ)
+    → (source_old : S) → (sink_old : K) → (source_new : S) → (sink_new : K) → Type 0
+RunEnds x status order left reads written writes source_old sink_old source_new sink_new =
+    (words : List (List ℕ)) → IsRun words → CallEnds x words status order left reads written writes source_old sink_old source_new sink_new

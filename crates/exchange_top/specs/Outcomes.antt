@@ -15,7 +15,8 @@ use Rattle.line_list.specs.declared.listing.Listing.{Listing}
 use Rattle.line_list.specs.Lines.{listed}
 use Rattle.exchange_top.specs.Report.{report}
 use Rattle.exchange_top.specs.Streams.{AppendsFront}
-use Rattle.exchange_top.specs.Telling.{Telling, calls_told}
+use Rattle.exchange_top.specs.Telling.{Telling}
+use Rattle.call_profile.specs.CallsTold.{calls_told}
 
 -- the fabric that a trace is run on: how many internal slots it has, and how many live paths a new path moves at the most
 pub record Fabric : Type 0 where

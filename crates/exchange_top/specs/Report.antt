@@ -47,9 +47,9 @@ abbrev pub report : Plays → ℕ → Trace → List ℕ → List ℕ
 report plays slots trace order = report_with (plays (table_of trace.tones)) slots trace order
 
 -- the lines of answers, one after another
-abbrev pub lines_of : List Answer → List ℕ
-lines_of [] = []
-lines_of (a ∷ answers) = answer_line a ++ lines_of answers
+abbrev pub answer_lines : List Answer → List ℕ
+answer_lines [] = []
+answer_lines (a ∷ answers) = answer_line a ++ answer_lines answers
 
 -- the engine that a call hands out has these dimensions, and carries the frames of the world
 abbrev pub HandsOut : {E : Type 0} → (E → Dimensions) → Carrying E → Option E → Dimensions → World → Type 0

@@ -13,7 +13,8 @@ use Rattle.line_list.specs.Lines.{Line, line_of, listed, text_of}
 use Rattle.exchange_top.specs.Outcomes.{Fabric}
 use Rattle.exchange_events.specs.declared.record.CallRecord.{CallRecord}
 use Rattle.exchange_top.specs.Report.{event_lines}
-use Rattle.exchange_top.specs.Telling.{Telling, calls_ended}
+use Rattle.exchange_top.specs.Telling.{Telling}
+use Rattle.call_profile.specs.CallsTold.{calls_ended}
 
 -- a map of paths that an exchange with so many lines can begin with: it has as many, 1 to 59 internal slots, and no path yet
 pub record IsUnused (lines width depth : ℕ) (layout : Layout) : Type 0 where

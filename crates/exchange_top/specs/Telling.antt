@@ -3,27 +3,13 @@ use Rattle.std.specs.Prelude.{◌≡◌, ℕ, List, [], ◌∷◌, ◌++◌}
 use Rattle.std.specs.List.{AllZip}
 use Rattle.exchange_events.specs.declared.answer.Answer.{Answer}
 use Rattle.exchange_events.specs.declared.record.CallRecord.{CallRecord}
-use Rattle.exchange_events.specs.declared.reply.Reply.{Reply}
-use Rattle.exchange_events.specs.declared.trace.Trace.{Trace}
-use Rattle.exchange_events.specs.Kept.{kept_of}
-use Rattle.exchange_events.specs.Sound.{setting_of}
-use Rattle.call_profile.specs.Step.{run, events_of}
-use Rattle.call_profile.specs.World.{start}
-use Rattle.line_list.specs.Lines.{calls_kept}
+use Rattle.call_profile.specs.CallsTold.{calls_kept}
 use Rattle.meters.specs.Telling.{IsTold, IsToldFront}
 
--- the calls of these answers, and of these replies, in order
+-- the calls of these answers, in order
 abbrev pub calls_answered : List Answer → List CallRecord
 calls_answered [] = []
 calls_answered (a ∷ answers) = calls_kept a.reply ++ calls_answered answers
-
-abbrev pub calls_ended : List Reply → List CallRecord
-calls_ended [] = []
-calls_ended (r ∷ replies) = calls_kept (kept_of r) ++ calls_ended replies
-
--- the records of the calls that end in a run of a trace whose events happen in this order
-abbrev pub calls_told : ℕ → Trace → List ℕ → List CallRecord
-calls_told slots trace order = let s = setting_of slots trace in calls_ended (run s (start s.dimensions) (events_of trace.events order))
 
 -- what is said of the calls that meters were told of
 abbrev pub Telling : Type 1

@@ -1,4 +1,4 @@
-ghost use Rattle.std.specs.Prelude.{◌≡◌, ℕ, ◌≤◌, ◌⊎◌, ◌↔◌, ◌++◌, List, [], map, string_bytes, IsSome, IfOk, None, Some};
+ghost use Rattle.std.specs.Prelude.{◌≡◌, ℕ, ◌≤◌, ◌⊎◌, ◌↔◌, ◌++◌, List, [], map, IsSome, IfOk, None, Some};
 ghost use Rattle.std.specs.List.{concat};
 ghost use Rattle.std.specs.Io.KnownBytes.{Appends, Keeps};
 ghost use Rattle.ex_io.specs.Ends.{Rose};
@@ -6,8 +6,7 @@ ghost use Rattle.trace_text.specs.declared.fault.Reason.{Reason};
 ghost use Rattle.trace_text.specs.TraceGrammar.{IsTrace, IsRefused};
 ghost use Rattle.exchange_events.specs.declared.trace.Trace.{Trace};
 ghost use Rattle.exchange_events.specs.Sound.{IsSound};
-ghost use Rattle.call_processor.specs.Frames.{engine_dimensions};
-ghost use Rattle.exchange_top.specs.Commands.{IsRun, IsGeneration, IsNoCommand, IsInput, IsDone, IsSummed, IsTurnedDown, IsUndone, IsUnfinished, IsWholeInput, Refuses, Runs, Sums, Answers, Ends, most_read, parties, reason_name, refusal, words_refusal};
+ghost use Rattle.exchange_top.specs.Commands.{IsRun, IsGeneration, IsNoCommand, IsSummed, IsUndone, IsUnfinished, Refuses, Runs, Sums, Answers, CallEnds, RefusesInput, ReportsInput, RunEnds, most_read, parties, reason_name, refusal, texts, words_refusal};
 ghost use Rattle.exchange_top.specs.Streams.{AppendsFront, ConsumesAtMost};
 ghost use Rattle.exchange_top.specs.Summary.{summary_text};
 ghost use Rattle.exchange_top.specs.Telling.{AreTold};
@@ -44,7 +43,7 @@ pub struct Outcome<C: Carrier> {
 }
 
 // An outcome of a call that did no event.
-fn ended<C: Carrier>(alloc: Global, status: u8) -> Outcome<C>
+fn without_events<C: Carrier>(alloc: Global, status: u8) -> Outcome<C>
     ensures status { result.status ≡ status }
     ensures none { result.order.items ≡ [] }
     ensures engine { result.engine ≡ None }
@@ -93,8 +92,8 @@ fn refuse<K: Sink, C: Carrier>(alloc: Global, sink: &mut K, line: &[u8], status:
     ensures writes { (result.status ≡ 4) ⊎ (K.faults sink.new ≡ K.faults sink.old) }
 {
     match write_all(sink, line) {
-        Ok(()) => ended(alloc, status),
-        Err(_) => ended(alloc, 4),
+        Ok(()) => without_events(alloc, status),
+        Err(_) => without_events(alloc, 4),
     }
 }
 
@@ -111,17 +110,17 @@ fn run_trace<K: Sink, G: Gate, C: Carrier, L: ListingKind + Send + Drop, R: Thre
 ) -> Outcome<C>
     requires sound { IsSound trace.now }
     requires blank { lines.old ≡ [] }
-    ensures runs { Runs (parties C.plays (engine_dimensions C.external_lines C.bridge_lines C.depth) C.carries result.engine
+    ensures runs { Runs (parties C.plays C.sizes C.carries result.engine
         (λ m. stands m) (λ m. text m) meters.old.items meters.new.items)
         L.listing trace.now result.status result.order.items (K.written sink.old) (K.written sink.new) (K.faults sink.old) (K.faults sink.new) }
     ensures engine { IsSome result.engine ↔ (result.status ≡ 0) }
     ensures writes { (result.status ≡ 4) ⊎ (K.faults sink.new ≡ K.faults sink.old) }
 {
     let Ok(paths) = FabricMap::new(alloc, trace.external + trace.bridges) else {
-        return ended(alloc, 5);
+        return without_events(alloc, 5);
     };
     let Ok(mut order) = Vec::with_capacity(alloc, trace.events.as_slice().len()) else {
-        return ended(alloc, 5);
+        return without_events(alloc, 5);
     };
     match run(
         rt, alloc, trace, paths, &mut order, lines, sink, gate, meters,
@@ -153,7 +152,7 @@ fn answer<K: Sink, G: Gate, C: Carrier, R: Threads + Wait + Sync>(
     gate: &G,
     meters: &mut Vec<Box<dyn Meter>>,
 ) -> Outcome<C>
-    ensures answers { Answers (parties C.plays (engine_dimensions C.external_lines C.bridge_lines C.depth) C.carries result.engine
+    ensures answers { Answers (parties C.plays C.sizes C.carries result.engine
         (λ m. stands m) (λ m. text m) meters.old.items meters.new.items)
         bytes.items result.status result.order.items (K.written sink.old) (K.written sink.new) (K.faults sink.old) (K.faults sink.new) }
     ensures engine { IsSome result.engine ↔ (result.status ≡ 0) }
@@ -165,10 +164,10 @@ fn answer<K: Sink, G: Gate, C: Carrier, R: Threads + Wait + Sync>(
             let mut lines: LineList<ReportLines> = LineList::new(alloc, bytes);
             run_trace(rt, alloc, &trace, &mut lines, sink, gate, meters)
         }
-        Err(TraceFault::Memory) => ended(alloc, 5),
+        Err(TraceFault::Memory) => without_events(alloc, 5),
         Err(TraceFault::Line { number, reason }) => match refusal(alloc, number, reason) {
             Ok(line) => refuse(alloc, sink, line.as_slice(), 1),
-            Err(_) => ended(alloc, 5),
+            Err(_) => without_events(alloc, 5),
         },
     }
 }
@@ -227,14 +226,14 @@ fn run_generated<K: Sink, G: Gate, C: Carrier, R: Threads + Wait + Sync>(
 ) -> Outcome<C>
     requires some { 1 ≤ calls }
     requires most { calls ≤ 2000 }
-    ensures sums { Sums (parties C.plays (engine_dimensions C.external_lines C.bridge_lines C.depth) C.carries result.engine
+    ensures sums { Sums (parties C.plays C.sizes C.carries result.engine
         (λ m. stands m) (λ m. text m) meters.old.items meters.new.items)
         seed calls result.status result.order.items (K.written sink.old) (K.written sink.new) (K.faults sink.old) (K.faults sink.new) }
     ensures engine { IsSome result.engine ↔ (result.status ≡ 0) }
     ensures writes { (result.status ≡ 4) ⊎ (K.faults sink.new ≡ K.faults sink.old) }
 {
     let Ok(trace) = generated(alloc, u64::from(seed), calls) else {
-        return ended(alloc, 5);
+        return without_events(alloc, 5);
     };
     let mut lines: LineList<NoLines> = LineList::new(alloc, Vec::new(alloc));
     let outcome = run_trace(rt, alloc, &trace, &mut lines, sink, gate, meters);
@@ -253,11 +252,9 @@ fn run_input<S: Source, K: Sink, G: Gate, C: Carrier, R: Threads + Wait + Sync>(
     gate: &G,
     meters: &mut Vec<Box<dyn Meter>>,
 ) -> Outcome<C>
-    ensures ends { (words : List (List ℕ)) → IsRun words → Ends (parties C.plays (engine_dimensions C.external_lines C.bridge_lines C.depth) C.carries result.engine
-        (λ m. stands m) (λ m. text m) meters.old.items meters.new.items)
-        words result.status result.order.items
-        (record { left = S.left source.old; reads = S.faults source.old; written = K.written sink.old; writes = K.faults sink.old })
-        (record { left = S.left source.new; reads = S.faults source.new; written = K.written sink.new; writes = K.faults sink.new }) }
+    ensures ends { RunEnds (parties C.plays C.sizes C.carries result.engine (λ m. stands m) (λ m. text m) meters.old.items meters.new.items)
+        result.status result.order.items
+        S.left S.faults K.written K.faults source.old sink.old source.new sink.new }
     ensures stops { ConsumesAtMost most_read (S.left source.old) (S.left source.new) }
     ensures engine { IsSome result.engine ↔ (result.status ≡ 0) }
     ensures reads { (result.status ≡ 3) ⊎ (S.faults source.new ≡ S.faults source.old) }
@@ -265,8 +262,8 @@ fn run_input<S: Source, K: Sink, G: Gate, C: Carrier, R: Threads + Wait + Sync>(
 {
     match read_all(alloc, source, MOST_BYTES) {
         Ok(bytes) => answer(rt, alloc, bytes, sink, gate, meters),
-        Err(ReadFault::Read) => ended(alloc, 3),
-        Err(ReadFault::Memory) => ended(alloc, 5),
+        Err(ReadFault::Read) => without_events(alloc, 3),
+        Err(ReadFault::Memory) => without_events(alloc, 5),
     }
 }
 
@@ -280,12 +277,10 @@ fn answer_words<S: Source, K: Sink, G: Gate, C: Carrier, R: Threads + Wait + Syn
     gate: &G,
     meters: &mut Vec<Box<dyn Meter>>,
 ) -> Outcome<C>
-    ensures ends { Ends (parties C.plays (engine_dimensions C.external_lines C.bridge_lines C.depth) C.carries result.engine
-        (λ m. stands m) (λ m. text m) meters.old.items meters.new.items)
-        (map string_bytes words.now) result.status result.order.items
-        (record { left = S.left source.old; reads = S.faults source.old; written = K.written sink.old; writes = K.faults sink.old })
-        (record { left = S.left source.new; reads = S.faults source.new; written = K.written sink.new; writes = K.faults sink.new }) }
-    ensures unread { ¬ IsRun (map string_bytes words.now) → source.new ≡ source.old }
+    ensures ends { CallEnds (parties C.plays C.sizes C.carries result.engine (λ m. stands m) (λ m. text m) meters.old.items meters.new.items)
+        (texts words.now) result.status result.order.items
+        S.left S.faults K.written K.faults source.old sink.old source.new sink.new }
+    ensures unread { ¬ IsRun (texts words.now) → source.new ≡ source.old }
     ensures stops { ConsumesAtMost most_read (S.left source.old) (S.left source.new) }
     ensures engine { IsSome result.engine ↔ (result.status ≡ 0) }
     ensures reads { (result.status ≡ 3) ⊎ (S.faults source.new ≡ S.faults source.old) }
@@ -297,7 +292,7 @@ fn answer_words<S: Source, K: Sink, G: Gate, C: Carrier, R: Threads + Wait + Syn
             run_generated(rt, alloc, seed, calls, sink, gate, meters)
         }
         Err(WordsFault::NoCommand) => refuse(alloc, sink, b"refused words\n", 2),
-        Err(WordsFault::Memory) => ended(alloc, 5),
+        Err(WordsFault::Memory) => without_events(alloc, 5),
     }
 }
 
@@ -333,24 +328,21 @@ pub fn exchange<S: Source, K: Sink, G: Gate, C: Carrier, R: Threads + Wait + Syn
     // 0 for `run`: all of the input was read, it is a trace, its events were done in an order that is
     // lawful for it, their report was written, with what the engine plays in each frame, each meter was
     // told of the calls that ended, and the engine has the trace's sizes and carries their frames.
-    ensures done { result.status ≡ 0 → IsRun (map string_bytes words.now) → (bytes : List ℕ)
-        × IsWholeInput (S.left source.old) (S.left source.new) bytes
-        × IsDone (parties C.plays (engine_dimensions C.external_lines C.bridge_lines C.depth) C.carries result.engine
+    ensures done { result.status ≡ 0 → IsRun (texts words.now) → ReportsInput (parties C.plays C.sizes C.carries result.engine
         (λ m. stands m) (λ m. text m) meters.old.items meters.new.items)
-        bytes result.order.items (K.written sink.old) (K.written sink.new) }
+        (S.left source.old) (S.left source.new) result.order.items (K.written sink.old) (K.written sink.new) }
     // 0 for `gen`: the same of the generated trace, whose summary was written.
-    ensures summed { (seed calls : ℕ) → result.status ≡ 0 → IsGeneration (map string_bytes words.now) seed calls
-        → IsSummed (parties C.plays (engine_dimensions C.external_lines C.bridge_lines C.depth) C.carries result.engine
+    ensures summed { (seed calls : ℕ) → result.status ≡ 0 → IsGeneration (texts words.now) seed calls
+        → IsSummed (parties C.plays C.sizes C.carries result.engine
         (λ m. stands m) (λ m. text m) meters.old.items meters.new.items)
         seed calls result.order.items (K.written sink.old) (K.written sink.new) }
     ensures engine { IsSome result.engine ↔ (result.status ≡ 0) }
     // 1: what was read is no trace, and the line that says so was written.
-    ensures turned_down { result.status ≡ 1 → IsRun (map string_bytes words.now)
-        × ((bytes : List ℕ) × IsInput (S.left source.old) (S.left source.new) bytes
-        × IsTurnedDown bytes result.order.items (K.written sink.old) (K.written sink.new)
-        × AreTold (λ m. stands m) (λ m. text m) meters.old.items meters.new.items []) }
+    ensures turned_down { result.status ≡ 1 → IsRun (texts words.now)
+        × RefusesInput (AreTold (λ m. stands m) (λ m. text m) meters.old.items meters.new.items)
+        (S.left source.old) (S.left source.new) result.order.items (K.written sink.old) (K.written sink.new) }
     // 2: the words are no command, and the line that says so was written.
-    ensures wrong_words { result.status ≡ 2 → IsNoCommand (map string_bytes words.now)
+    ensures wrong_words { result.status ≡ 2 → IsNoCommand (texts words.now)
         × (result.order.items ≡ [])
         × Appends (K.written sink.old) (K.written sink.new) words_refusal
         × AreTold (λ m. stands m) (λ m. text m) meters.old.items meters.new.items [] }
@@ -363,9 +355,9 @@ pub fn exchange<S: Source, K: Sink, G: Gate, C: Carrier, R: Threads + Wait + Syn
     // ends with a segment.
     ensures write_failed { result.status ≡ 4 → Rose (K.faults sink.old) (K.faults sink.new) }
     ensures cut_short { 4 ≤ result.status
-        → IsUndone (parties C.plays (engine_dimensions C.external_lines C.bridge_lines C.depth) C.carries result.engine
+        → IsUndone (parties C.plays C.sizes C.carries result.engine
         (λ m. stands m) (λ m. text m) meters.old.items meters.new.items)
-        result.status (map string_bytes words.now) (S.left source.old) (S.left source.new)
+        result.status (texts words.now) (S.left source.old) (S.left source.new)
         result.order.items (K.written sink.old) (K.written sink.new) }
     // There is no other status, and a fault is answered by its own alone.
     ensures statuses { result.status ≤ 5 }
@@ -373,16 +365,16 @@ pub fn exchange<S: Source, K: Sink, G: Gate, C: Carrier, R: Threads + Wait + Syn
     ensures writes { (result.status ≡ 4) ⊎ (K.faults sink.new ≡ K.faults sink.old) }
     // Of the input no more is read than the longest trace and one piece; but for `run`, nothing.
     ensures stops { ConsumesAtMost most_read (S.left source.old) (S.left source.new) }
-    ensures unread { ¬ IsRun (map string_bytes words.now) → source.new ≡ source.old }
+    ensures unread { ¬ IsRun (texts words.now) → source.new ≡ source.old }
     // The words and the input decide, but for a fault and for want of memory.
-    ensures other_words { IsNoCommand (map string_bytes words.now) → (result.status ≡ 2) ⊎ (result.status ≡ 4) ⊎ (result.status ≡ 5) }
-    ensures command { IsRun (map string_bytes words.now) → (result.status ≡ 0) ⊎ (result.status ≡ 1) ⊎ IsUnfinished result.status }
-    ensures generation { (seed calls : ℕ) → IsGeneration (map string_bytes words.now) seed calls
+    ensures other_words { IsNoCommand (texts words.now) → (result.status ≡ 2) ⊎ (result.status ≡ 4) ⊎ (result.status ≡ 5) }
+    ensures command { IsRun (texts words.now) → (result.status ≡ 0) ⊎ (result.status ≡ 1) ⊎ IsUnfinished result.status }
+    ensures generation { (seed calls : ℕ) → IsGeneration (texts words.now) seed calls
         → (result.status ≡ 0) ⊎ (result.status ≡ 4) ⊎ (result.status ≡ 5) }
     ensures trace { (bytes : List ℕ) (t : Trace) → S.left source.old ≡ Some bytes → IsTrace bytes t
-        → IsRun (map string_bytes words.now) → (result.status ≡ 0) ⊎ IsUnfinished result.status }
+        → IsRun (texts words.now) → (result.status ≡ 0) ⊎ IsUnfinished result.status }
     ensures no_trace { (bytes : List ℕ) (number : ℕ) (why : Reason) → S.left source.old ≡ Some bytes → IsRefused bytes number why
-        → IsRun (map string_bytes words.now) → (result.status ≡ 1) ⊎ IsUnfinished result.status }
+        → IsRun (texts words.now) → (result.status ≡ 1) ⊎ IsUnfinished result.status }
 {
     answer_words(rt, alloc, words, source, sink, gate, meters)
 }

@@ -6,7 +6,7 @@ ghost use Rattle.exchange_events.specs.Sound.{IsSound, setting_of};
 ghost use Rattle.exchange_core.specs.Working.{order_of, world_after};
 ghost use Rattle.seat_history.specs.Seats.{first_seat};
 ghost use Rattle.shared_exchange.specs.Sharing.{IsSeated};
-ghost use Rattle.call_processor.specs.Frames.{CarriesFrames, IsReady, engine_dimensions};
+ghost use Rattle.call_processor.specs.Frames.{CarriesFrames, IsReady};
 ghost use Rattle.line_list.specs.Lines.{listed};
 ghost use Rattle.exchange_top.specs.Outcomes.{IsInterrupted, IsRunWhole, IsUnwritten};
 ghost use Rattle.exchange_top.specs.Report.{report};
@@ -91,7 +91,7 @@ pub fn run<
     ensures text { OnOk result (Appends (K.written sink.old) (K.written sink.new)
         (listed L.listing (report C.plays (P.depth paths) trace.now order.new.items))) }
     ensures carried { IfOk result (λ e. CarriesFrames C.carries e (world_after (P.depth paths) trace.now order.new.items)) }
-    ensures sized { IfOk result (λ e. engine_dimensions C.external_lines C.bridge_lines C.depth e ≡ (setting_of (P.depth paths) trace.now).dimensions) }
+    ensures sized { IfOk result (λ e. C.sizes e ≡ (setting_of (P.depth paths) trace.now).dimensions) }
     ensures steady { OnOk result (K.faults sink.new ≡ K.faults sink.old) }
 
     ensures unwritten { IsErrOf result RunFault.Write → IsUnwritten C.plays L.listing (P.depth paths)
@@ -129,7 +129,7 @@ fn equipped<'t, P: PathMap + Drop, C: Carrier, L: ListingKind + Send + Drop>(
     requires paths { IsUnused (trace.now.external + trace.now.bridges) (P.width paths) (P.depth paths) (P.layout paths) }
     ensures board { IfOk result (λ r. r.0.setting ≡ record { trace = trace.now; slots = P.depth paths; bound = P.bound paths }) }
     ensures seat { IfOk result (λ r. IsSeated r.0 r.1 × (r.1.known ≡ first_seat (length trace.now.events))) }
-    ensures ready { IfOk result (λ r. IsReady C.carries C.next (engine_dimensions C.external_lines C.bridge_lines C.depth) r.0.setting [] r.2.engine r.2.tool) }
+    ensures ready { IfOk result (λ r. IsReady C.carries C.next C.sizes r.0.setting [] r.2.engine r.2.tool) }
 {
     let slots = paths.slots();
     let (external, bridges) = (trace.external, trace.bridges);

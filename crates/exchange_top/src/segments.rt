@@ -7,7 +7,7 @@ ghost use Rattle.seat_history.specs.Seats.{first_seat};
 ghost use Rattle.exchange_core.specs.Boards.{turns_of, setting_at, world_at};
 ghost use Rattle.exchange_events.specs.Sound.{IsSound};
 ghost use Rattle.exchange_core.specs.Working.{order_of};
-ghost use Rattle.call_processor.specs.Frames.{CarriesFrames, IsReady, IsReadyFor, engine_dimensions};
+ghost use Rattle.call_processor.specs.Frames.{CarriesFrames, IsReady, IsReadyFor};
 ghost use Rattle.segment_run.specs.Segment.{IsChief, Ran, RanWhole};
 ghost use Rattle.segment_run.specs.Segments.{IsDoneBelow};
 ghost use Rattle.exchange_top.specs.declared.run.RunFault.TheVariants.{Memory, Write};
@@ -76,7 +76,7 @@ pub fn report_segments<
     requires trace { trace.now ≡ (B.board board.now).trace }
     requires sound { IsSound trace.now }
     requires fresh { B.known seat.old ≡ first_seat (turns_of (B.board board.now)) }
-    requires ready { IsReady C.carries C.next (engine_dimensions C.external_lines C.bridge_lines C.depth) (B.board board.now) [] carried.engine carried.tool }
+    requires ready { IsReady C.carries C.next C.sizes (B.board board.now) [] carried.engine carried.tool }
     ensures seated { B.seated board.now seat.new }
     ensures chief { IsChief (turns_of (B.board board.now)) (B.known seat.new) }
     ensures whole { OnOk result (IsRunWhole (fabric_at (B.board board.now)) (AreTold (λ m. stands m) (λ m. text m) meters.old.items meters.new.items)
@@ -84,13 +84,15 @@ pub fn report_segments<
     ensures text { OnOk result (Appends (K.written sink.old) (K.written sink.new)
         (listed L.listing (report C.plays (B.board board.now).slots trace.now (order_of (B.known seat.new).seen)))) }
     ensures carried { IfOk result (λ e. CarriesFrames C.carries e (world_at (B.board board.now) (B.known seat.new).seen)) }
-    ensures sized { IfOk result (λ e. engine_dimensions C.external_lines C.bridge_lines C.depth e ≡ (setting_at (B.board board.now)).dimensions) }
+    ensures sized { IfOk result (λ e. C.sizes e ≡ (setting_at (B.board board.now)).dimensions) }
     ensures steady { OnOk result (K.faults sink.new ≡ K.faults sink.old) }
 
     ensures unwritten { IsErrOf result RunFault.Write → IsUnwritten C.plays L.listing (B.board board.now).slots
-        (AreTold (λ m. stands m) (λ m. text m) meters.old.items meters.new.items) trace.now (order_of (B.known seat.new).seen) (K.written sink.old) (K.written sink.new) }
+        (AreTold (λ m. stands m) (λ m. text m) meters.old.items meters.new.items)
+        trace.now (order_of (B.known seat.new).seen) (K.written sink.old) (K.written sink.new) }
     ensures interrupted { IsErrOf result RunFault.Memory → IsInterrupted C.plays L.listing (B.board board.now).slots
-        (AreToldBeyond (λ m. stands m) (λ m. text m) meters.old.items meters.new.items) trace.now (order_of (B.known seat.new).seen) (K.written sink.old) (K.written sink.new) }
+        (AreToldBeyond (λ m. stands m) (λ m. text m) meters.old.items meters.new.items)
+        trace.now (order_of (B.known seat.new).seen) (K.written sink.old) (K.written sink.new) }
     ensures cause { IsErrOf result RunFault.Write → Rose (K.faults sink.old) (K.faults sink.new) }
     ensures no_fault { IsErrOf result RunFault.Memory → K.faults sink.new ≡ K.faults sink.old }
 {
@@ -132,7 +134,7 @@ fn report_segment<
     requires numbers { (B.known seat.old).made ≤ 9 * segment }
     requires kept { AreOfAnswers L.listing lines.old }
     requires done { IsDoneBelow trace.now segment (order_of (B.known seat.old).seen) }
-    requires ready { IsReadyFor C.carries C.next C.external_lines C.bridge_lines C.depth (B.board board.now) (B.known seat.old) carried.engine carried.tool }
+    requires ready { IsReadyFor C.carries C.next C.sizes (B.board board.now) (B.known seat.old) carried.engine carried.tool }
     ensures seated { B.seated board.now seat.new }
     ensures chief { IsChief (turns_of (B.board board.now)) (B.known seat.new) }
     ensures ran { Ran trace.now segment (B.known seat.old) (B.known seat.new) }
@@ -144,7 +146,7 @@ fn report_segment<
         (B.board board.now) (B.known seat.old) (B.known seat.new)) }
     ensures told_front { OnErr result (GrowthIsTold (AreToldFront (λ m. stands m) (λ m. text m) meters.old.items meters.new.items)
         (B.board board.now) (B.known seat.old) (B.known seat.new)) }
-    ensures ready { IfOk result (λ c. IsReadyFor C.carries C.next C.external_lines C.bridge_lines C.depth (B.board board.now) (B.known seat.new) c.engine c.tool) }
+    ensures ready { IfOk result (λ c. IsReadyFor C.carries C.next C.sizes (B.board board.now) (B.known seat.new) c.engine c.tool) }
 {
     let Carried {
         engine,

@@ -1,12 +1,11 @@
 -- Lines of events, as they are kept until they are written. Source: this exchange's own.
 use Rattle.std.specs.Prelude.{◌≡◌, ℕ, ◌<◌, List, [], ◌∷◌, ◌++◌, length, drop, All, Option, Some, None}
-use Rattle.exchange_events.specs.declared.answer.Kept.{Kept}
-use Rattle.exchange_events.specs.declared.answer.Kept.TheVariants as k
 use Rattle.exchange_events.specs.declared.record.CallRecord.{CallRecord}
 use Rattle.report_text.specs.Report.{answer_line}
 use Rattle.call_processor.specs.declared.worked.Placed.{Placed}
 use Rattle.line_list.specs.declared.listing.Listing.{Listing}
 use Rattle.line_list.specs.declared.listing.Listing.TheVariants as listing
+use Rattle.call_profile.specs.CallsTold.{calls_kept}
 
 -- what is kept of an event: its place in the history, its line, and the records of the calls that ended with it
 pub record Line : Type 0 where
@@ -18,17 +17,6 @@ pub record Line : Type 0 where
 abbrev pub listed : Listing → List ℕ → List ℕ
 listed listing.Report text = text
 listed listing.Nothing text = []
-
--- the calls that ended with what is kept of a reply
-abbrev pub calls_kept : Kept → List CallRecord
-calls_kept (k.Granted a b) = []
-calls_kept k.Busy = []
-calls_kept (k.Seated a b) = []
-calls_kept k.NoPort = []
-calls_kept k.Freed = []
-calls_kept k.NotNailed = []
-calls_kept (k.Sent sends moved records) = records
-calls_kept (k.Frame number sends records) = records
 
 -- the line of an answer at its place; where nothing is listed, it is empty
 abbrev pub line_of : Listing → Placed → Line

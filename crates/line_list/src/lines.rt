@@ -4,7 +4,8 @@ ghost use Rattle.exchange_events.specs.Kept.{kept_of};
 ghost use Rattle.exchange_events.specs.Responses.{reply_of};
 ghost use Rattle.report_text.specs.Report.{response_line};
 ghost use Rattle.call_processor.specs.Keeping.{placed};
-ghost use Rattle.line_list.specs.Lines.{HandsLines, calls_kept, calls_of, first_line, line_of, listed, text_of};
+ghost use Rattle.line_list.specs.Lines.{HandsLines, calls_of, first_line, line_of, listed, text_of};
+ghost use Rattle.call_profile.specs.CallsTold.{calls_kept};
 ghost use Rattle.line_list.specs.Marks.{AreBefore, lines_in, mark_of, octets_in, records_in};
 
 use crate::listing::Listing;

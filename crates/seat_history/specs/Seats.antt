@@ -22,12 +22,12 @@ abbrev pub after_step : List Entry → ℕ → Known → Known
 after_step history event seat = record seat { left = seat.left - 1; seen = history ++ (seat.number, event) ∷ []; own = seat.own ++ (seat.number, event) ∷ [] }
 
 -- what is kept of a seat: its own entries, under its number
-abbrev pub kept_of : Known → JoinedSeat
-kept_of other = record { number = other.number; own = other.own }
+abbrev pub joined_seat : Known → JoinedSeat
+joined_seat other = record { number = other.number; own = other.own }
 
 -- seat 0 once it has joined another seat: the longer history, the turns of both, the baton of either, and the other's entries
 abbrev pub after_join : Known → Known → Known
-after_join seat other = record seat { left = seat.left + other.left; baton = seat.baton || other.baton; seen = longer seat.seen other.seen; kept = kept_of other ∷ seat.kept }
+after_join seat other = record seat { left = seat.left + other.left; baton = seat.baton || other.baton; seen = longer seat.seen other.seen; kept = joined_seat other ∷ seat.kept }
 
 -- every seat that seat 0 has made is joined
 abbrev pub HasJoinedAll : Known → Type 0

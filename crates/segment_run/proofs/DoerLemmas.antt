@@ -13,7 +13,7 @@ use Rattle.exchange_events.specs.Orders.{Worker, Processor, Frame_worker, IsEven
 use Rattle.seat_history.specs.declared.known.Known.{Known}
 use Rattle.seat_history.specs.declared.known.JoinedSeat.{JoinedSeat}
 use Rattle.seat_history.specs.Histories.{entries_of}
-use Rattle.seat_history.specs.Seats.{Settled, Accounts, kept_of}
+use Rattle.seat_history.specs.Seats.{Settled, Accounts, joined_seat}
 use Rattle.exchange_core.specs.Working.{Entry, order_of}
 use Rattle.call_processor.specs.Parts.{is_its, is_worker, does, part_of}
 use Rattle.call_processor.specs.Work.{entries_for}
@@ -156,7 +156,7 @@ pub record Joined (trace : Trace) (segment : ℕ) (v k : Known) (rest : List Ent
   pub grew : k.seen ≡ v.seen ++ rest
   pub own : k.own ≡ v.own
   pub number : k.number ≡ v.number
-  pub kept : k.kept ≡ map (λ (t : Doer). kept_of t.to) ts ++ v.kept
+  pub kept : k.kept ≡ map (λ (t : Doer). joined_seat t.to) ts ++ v.kept
   pub all : k.made ≡ length k.kept
   pub dealt : AreDealt trace segment v (v.made + 1) 0 (map seat_of ts)
   pub named : (t : Doer) → In t ts → t.to.number ≡ t.from.number
@@ -187,13 +187,13 @@ module _ (turns : ℕ) (trace : Trace) (segment : ℕ) (v k : Known) (rest : Lis
       behind [] = i
       behind (x ∷ xs) = inr (behind xs)
 
-      kept_one : (m : JoinedSeat) → m.number ≡ e.0 → In m (map (λ (t : Doer). kept_of t.to) ts) ⊎ In m v.kept → (t : Doer) × In t ts × (e.0 ≡ t.from.number)
+      kept_one : (m : JoinedSeat) → m.number ≡ e.0 → In m (map (λ (t : Doer). joined_seat t.to) ts) ⊎ In m v.kept → (t : Doer) × In t ts × (e.0 ≡ t.from.number)
       kept_one m same (inl one) =
-          let r = map_in (λ (t : Doer). kept_of t.to) ts m one in
+          let r = map_in (λ (t : Doer). joined_seat t.to) ts m one in
           (r.0, r.1, sym same ∙ (sym (ap (λ (x : JoinedSeat). x.number) r.2) ∙ j.named r.0 r.1))
       kept_one m same (inr old) =
           let was = all_in (λ (x : JoinedSeat). x.own ≡ entries_of x.number v.seen) v.kept before.kept m old in
-          let is = kept_in m (subst (λ (l : List JoinedSeat). In m l) (sym j.kept) (behind_kept (map (λ (t : Doer). kept_of t.to) ts) old)) in
+          let is = kept_in m (subst (λ (l : List JoinedSeat). In m l) (sym j.kept) (behind_kept (map (λ (t : Doer). joined_seat t.to) ts) old)) in
           absurd (not_of m.number e i (sym same) (none_of m.number m.own was is))
         where
           behind_kept : (xs : List JoinedSeat) → In m v.kept → In m (xs ++ v.kept)
@@ -207,15 +207,15 @@ module _ (turns : ℕ) (trace : Trace) (segment : ℕ) (v k : Known) (rest : Lis
           absurd (not_of v.number e i self (none_of v.number v.own before.own is))
       go false same yes_it =
           let r = map_in (λ (m : JoinedSeat). m.number) k.kept e.0 (any_in e.0 (map (λ (m : JoinedSeat). m.number) k.kept) yes_it) in
-          kept_one r.0 r.2 (in_either (map (λ (t : Doer). kept_of t.to) ts) v.kept r.0 (subst (λ (l : List JoinedSeat). In r.0 l) j.kept r.1))
+          kept_one r.0 r.2 (in_either (map (λ (t : Doer). joined_seat t.to) ts) v.kept r.0 (subst (λ (l : List JoinedSeat). In r.0 l) j.kept r.1))
 
   -- a doer's entries of the growth are those for what it did
   pub entries_are : (t : Doer) → In t ts → entries_of t.from.number rest ≡ entries_for t.from.number t.done
   entries_are t i =
       let d = dealt_in trace segment v (v.made + 1) 0 ts j.dealt t i in
       let n = t.from.number in
-      let kept_it : In (kept_of t.to) k.kept = subst (λ (l : List JoinedSeat). In (kept_of t.to) l) (sym j.kept) (in_left (map (λ (u : Doer). kept_of u.to) ts) v.kept (kept_of t.to) (in_map (λ (u : Doer). kept_of u.to) ts t i)) in
-      let own : t.to.own ≡ entries_of n k.seen = kept_in (kept_of t.to) kept_it ∙ ap (λ (m : ℕ). entries_of m k.seen) (j.named t i) in
+      let kept_it : In (joined_seat t.to) k.kept = subst (λ (l : List JoinedSeat). In (joined_seat t.to) l) (sym j.kept) (in_left (map (λ (u : Doer). joined_seat u.to) ts) v.kept (joined_seat t.to) (in_map (λ (u : Doer). joined_seat u.to) ts t i)) in
+      let own : t.to.own ≡ entries_of n k.seen = kept_in (joined_seat t.to) kept_it ∙ ap (λ (m : ℕ). entries_of m k.seen) (j.named t i) in
       let none : entries_of n v.seen ≡ [] =
       filter_none (λ (e : Entry). nat_eq e.0 n) v.seen (λ e h.
       let low = all_in (λ (x : Entry). x.0 ≤ v.made) v.seen before.entries_made e h in

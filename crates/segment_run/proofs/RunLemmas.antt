@@ -9,7 +9,7 @@ use Rattle.seat_history.proofs.HistoryLemmas.{unseen_front}
 use Rattle.seat_history.specs.declared.known.Known.{Known}
 use Rattle.seat_history.specs.declared.known.JoinedSeat.{JoinedSeat}
 use Rattle.seat_history.specs.Histories.{StartsWith, unseen}
-use Rattle.seat_history.specs.Seats.{Settled, kept_of}
+use Rattle.seat_history.specs.Seats.{Settled, joined_seat}
 use Rattle.exchange_core.specs.Boards.{Board}
 use Rattle.exchange_core.specs.Working.{Entry, order_of}
 use Rattle.call_processor.specs.declared.worked.Placed.{Placed}
@@ -56,9 +56,9 @@ module _ {A B : Type 0} (R : A → B → Type 0) where
 
 -- ---- seat 0 with seats joined
 
-pub joined_kept : (c : Known) (ws : List Known) → (after_joins c ws).kept ≡ map kept_of ws ++ c.kept
+pub joined_kept : (c : Known) (ws : List Known) → (after_joins c ws).kept ≡ map joined_seat ws ++ c.kept
 joined_kept c [] = refl
-joined_kept c (w ∷ ws) = ap (λ (l : List JoinedSeat). kept_of w ∷ l) (joined_kept c ws)
+joined_kept c (w ∷ ws) = ap (λ (l : List JoinedSeat). joined_seat w ∷ l) (joined_kept c ws)
 
 abbrev pub sum_left : List Known → ℕ
 sum_left [] = 0
@@ -118,11 +118,11 @@ module _ {J U : Type 0} (board : Board) (trace : Trace) (segment : ℕ) (wj : J 
   doers_seats (j ∷ js) [] z = absurd z
   doers_seats (j ∷ js) (u ∷ us) z = ap (λ (l : List (ℕ × Known)). (wj j, kj j) ∷ l) (doers_seats js us z.1)
 
-  doers_kept : (js : List J) (us : List U) (z : AllZip Each js us) → map (λ (t : Doer). kept_of t.to) (doers js us z) ≡ map kept_of (map ku us)
+  doers_kept : (js : List J) (us : List U) (z : AllZip Each js us) → map (λ (t : Doer). joined_seat t.to) (doers js us z) ≡ map joined_seat (map ku us)
   doers_kept [] [] z = refl
   doers_kept [] (u ∷ us) z = absurd z
   doers_kept (j ∷ js) [] z = absurd z
-  doers_kept (j ∷ js) (u ∷ us) z = ap (λ (l : List JoinedSeat). kept_of (ku u) ∷ l) (doers_kept js us z.1)
+  doers_kept (j ∷ js) (u ∷ us) z = ap (λ (l : List JoinedSeat). joined_seat (ku u) ∷ l) (doers_kept js us z.1)
 
   -- the pair that a doer comes from
   pub record Pair (js : List J) (us : List U) (t : Doer) : Type 0 where
@@ -186,14 +186,14 @@ module _ {J U : Type 0} (board : Board) (trace : Trace) (segment : ℕ) (wj : J 
     pub made_is : k.made ≡ v.made + length js
     made_is = ap (λ (x : Known). x.made) is ∙ ((joined_rest c (map ku us)).made ∙ dealt.made)
 
-    kept_are : k.kept ≡ map kept_of (map ku us) ++ v.kept
-    kept_are = ap (λ (x : Known). x.kept) is ∙ (joined_kept c (map ku us) ∙ ap (λ (l : List JoinedSeat). map kept_of (map ku us) ++ l) dealt.kept)
+    kept_are : k.kept ≡ map joined_seat (map ku us) ++ v.kept
+    kept_are = ap (λ (x : Known). x.kept) is ∙ (joined_kept c (map ku us) ∙ ap (λ (l : List JoinedSeat). map joined_seat (map ku us) ++ l) dealt.kept)
 
     all_joined : k.made ≡ length k.kept
     all_joined =
         let a = ap length kept_are in
-        let b = length-append (map kept_of (map ku us)) v.kept in
-        let d = length_of_map kept_of (map ku us) in
+        let b = length-append (map joined_seat (map ku us)) v.kept in
+        let d = length_of_map joined_seat (map ku us) in
         let e = length_of_map ku us in
         omega (arith, a, b, d, e, made_is, long, chief.joined)
 

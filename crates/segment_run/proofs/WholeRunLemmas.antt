@@ -12,7 +12,7 @@ use Rattle.seat_history.proofs.HistoryLemmas.{unseen_front}
 use Rattle.seat_history.specs.declared.known.Known.{Known}
 use Rattle.seat_history.specs.declared.known.JoinedSeat.{JoinedSeat}
 use Rattle.seat_history.specs.Histories.{StartsWith, entries_of, unseen}
-use Rattle.seat_history.specs.Seats.{Settled, kept_of}
+use Rattle.seat_history.specs.Seats.{Settled, joined_seat}
 use Rattle.exchange_core.specs.Boards.{Board, IsFrame, NoFrames, turns_of, world_at}
 use Rattle.exchange_events.specs.Sound.{IsSound}
 use Rattle.exchange_core.specs.Working.{Entry, order_of}
@@ -86,10 +86,10 @@ module _ (turns : ℕ) (trace : Trace) (segment : ℕ) (v k : Known) (rest : Lis
       grind (arith, nat_tests, low, a, b)) in
       let was : t.from.own ≡ entries_of n t.from.seen = d.is.own_none ∙ (sym none ∙ ap (entries_of n) (sym d.is.seen_is)) in
       let mine : t.to.own ≡ entries_of n t.to.seen = exact was ∙ ap (λ (m : ℕ). entries_of m t.to.seen) (j.named t i) in
-      let kept_it : In (kept_of t.to) k.kept = subst (λ (l : List JoinedSeat). In (kept_of t.to) l) (sym j.kept)
-      (in_left (map (λ (u : Doer). kept_of u.to) doers) v.kept (kept_of t.to) (in_map (λ (u : Doer). kept_of u.to) doers t i)) in
+      let kept_it : In (joined_seat t.to) k.kept = subst (λ (l : List JoinedSeat). In (joined_seat t.to) l) (sym j.kept)
+      (in_left (map (λ (u : Doer). joined_seat u.to) doers) v.kept (joined_seat t.to) (in_map (λ (u : Doer). joined_seat u.to) doers t i)) in
       let all_mine : t.to.own ≡ entries_of n k.seen =
-      all_in (λ (x : JoinedSeat). x.own ≡ entries_of x.number k.seen) k.kept after.kept (kept_of t.to) kept_it ∙ ap (λ (m : ℕ). entries_of m k.seen) (j.named t i) in
+      all_in (λ (x : JoinedSeat). x.own ≡ entries_of x.number k.seen) k.kept after.kept (joined_seat t.to) kept_it ∙ ap (λ (m : ℕ). entries_of m k.seen) (j.named t i) in
       let no_more : entries_of n s.0 ≡ [] = none_behind (entries_of n t.to.seen) (entries_of n k.seen) (entries_of n s.0) (sym mine ∙ all_mine) (ap (entries_of n) s.1 ∙ entries_split n t.to.seen s.0) in
       let from_v : t.to.seen ≡ v.seen ++ begins.0 = begins.1 ∙ ap (λ (l : List Entry). l ++ begins.0) d.is.seen_is in
       let longer : k.seen ≡ v.seen ++ (begins.0 ++ s.0) = s.1 ∙ (ap (λ (l : List Entry). l ++ s.0) from_v ∙ append_assoc v.seen begins.0 s.0) in

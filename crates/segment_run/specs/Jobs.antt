@@ -19,6 +19,7 @@ use Rattle.segment_run.specs.declared.crew.Crew.{Crew}
 use Rattle.segment_run.specs.declared.dealing.Job.{Job}
 use Rattle.segment_run.specs.declared.team.Team.{Team}
 use Rattle.segment_run.specs.Team.{part_numbered}
+use Rattle.tone_rules.specs.Tables.{table_of}
 
 -- the call processor with this job may do its part
 abbrev pub MayProcess : {T K : Type 0} → (T → Known) → Board → Trace → ℕ → Job T K → Type 0
@@ -28,6 +29,10 @@ MayProcess known board trace segment j = (j.worker < trace.processors) × MayWor
 abbrev pub HasProcessed : {T K : Type 0} → (K → List Placed → Type 0) → (T → Known) → Board → Trace → ℕ → Job T K → Finished T K → Type 0
 HasProcessed holds known board trace segment j f = HasWorked holds known board (λ w. has_no_octets) (part_of trace segment (Processor j.worker)) (known j.seat) f
 
+-- each of the call processors with these jobs did its part
+abbrev pub HaveProcessed : {T K : Type 0} → (K → List Placed → Type 0) → (T → Known) → Board → Trace → ℕ → List (Job T K) → List (Finished T K) → Type 0
+HaveProcessed holds known board trace segment jobs done = AllZip (HasProcessed holds known board trace segment) jobs done
+
 -- what is said of the octets of an answer of the worker with this number: those of a frame are what the engine plays, and no other answer has any
 abbrev pub HasItsOctets : Plays → (Kind → List ℕ) → Board → Trace → ℕ → Known → Placed → Type 0
 HasItsOctets plays tones board trace i w p = (i ≡ trace.processors → HasFrame plays tones board w p) × (i < trace.processors → has_no_octets p)
@@ -36,6 +41,10 @@ HasItsOctets plays tones board trace i w p = (i ≡ trace.processors → HasFram
 abbrev pub HasDone : {T K : Type 0} → (K → List Placed → Type 0) → Plays → (Kind → List ℕ) → (T → Known) → Board → Trace → ℕ → Job T K → Finished T K → Type 0
 HasDone holds plays tones known board trace segment j f =
     HasWorked holds known board (HasItsOctets plays tones board trace j.worker) (part_numbered trace segment j.worker) (known j.seat) f
+
+-- each of the workers with these jobs did its part
+abbrev pub HaveDone : {T K : Type 0} → (K → List Placed → Type 0) → Plays → (T → Known) → Board → Trace → ℕ → List (Job T K) → List (Finished T K) → Type 0
+HaveDone holds plays known board trace segment jobs done = AllZip (HasDone holds plays (table_of trace.tones) known board trace segment) jobs done
 
 -- no job is left, and the list has the room that it had
 abbrev pub IsThrough : {T K : Type 0} → Crew T K → Crew T K → Type 0

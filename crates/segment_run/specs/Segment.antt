@@ -69,6 +69,10 @@ pub record AreAnswered (plays : Plays) (tones : Kind → List ℕ) (board : Boar
   pub events : map (λ (a : Answer). a.event) answers ≡ new_events v w
   pub each : (i : ℕ) (a : Answer) → slice_get answers i ≡ Some a → IsAnswered plays tones board w.seen (length v.seen + i) a
 
+-- so an answer to a segment, with the tones of its trace
+abbrev pub HasAnswers : {E : Type 0} → Plays → Board → Trace → Known → Known → SegmentAnswer E → Type 0
+HasAnswers plays board trace v w a = AreAnswered plays (table_of trace.tones) board v w a.answers.items
+
 -- seat 0 has a turn for each event of the segment
 abbrev pub HasTurns : Trace → ℕ → Known → Type 0
 HasTurns trace segment v = length (events_of_segment trace segment) ≤ v.left

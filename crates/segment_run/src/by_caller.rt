@@ -3,7 +3,7 @@ ghost use Rattle.std.specs.Prelude.{List, IfOk, OnOk, OnErr};
 ghost use Rattle.exchange_core.specs.Boards.{turns_of};
 ghost use Rattle.tone_rules.specs.Tables.{table_of};
 ghost use Rattle.call_processor.specs.declared.worked.Placed.{Placed};
-ghost use Rattle.call_processor.specs.Frames.{IsReadyFor, engine_dimensions};
+ghost use Rattle.call_processor.specs.Frames.{IsReadyFor};
 ghost use Rattle.segment_run.specs.Segment.{AddsAnswers, IsChief, MayRun, Ran, RanTo};
 
 use crate::answers::SegmentDone;
@@ -37,11 +37,11 @@ pub fn run_by_caller<B: Switchboard, G: Gate, C: Carrier, K: Keeper, R: Wait>(
 ) -> Result<SegmentDone<B::Seat, C, K>, AllocError>
     requires seated { B.seated board.now seat.old }
     requires may { MayRun (B.board board.now) trace.now segment (B.known seat.old) }
-    requires ready { IsReadyFor C.carries C.next C.external_lines C.bridge_lines C.depth (B.board board.now) (B.known seat.old) engine tool }
+    requires ready { IsReadyFor C.carries C.next C.sizes (B.board board.now) (B.known seat.old) engine tool }
     ensures seated { B.seated board.now seat.new }
     ensures chief { IsChief (turns_of (B.board board.now)) (B.known seat.new) }
     ensures ran { Ran trace.now segment (B.known seat.old) (B.known seat.new) }
-    ensures whole { IfOk result (RanTo C.carries C.next (engine_dimensions C.external_lines C.bridge_lines C.depth) (B.board board.now)
+    ensures whole { IfOk result (RanTo C.carries C.next C.sizes (B.board board.now)
         trace.now segment (B.known seat.old) (B.known seat.new)) }
     ensures answered { OnOk result ((kept : List Placed) → K.holds keeper.old kept
         → AddsAnswers K.holds C.plays (table_of trace.now.tones) (B.board board.now) (B.known seat.old) (B.known seat.new) kept keeper.new) }

@@ -1,12 +1,9 @@
 ghost use Rattle.std.specs.Prelude.{◌≡◌, ◌≤◌, ◌<◌, ◌+◌, ◌++◌, ◌∷◌, [], length, All, vec_len, vec_capacity};
-ghost use Rattle.std.specs.List.{AllZip};
 ghost use Rattle.std.specs.Thread.{IsSync};
 ghost use Rattle.exchange_events.specs.Orders.{Processor};
-ghost use Rattle.call_processor.specs.Keeping.{has_no_octets};
-ghost use Rattle.call_processor.specs.Parts.{part_of};
 ghost use Rattle.call_processor.specs.Work.{MayWork};
-ghost use Rattle.call_processor.specs.Workplaces.{HasWorked};
-ghost use Rattle.segment_run.specs.Jobs.{HasProcessed, IsThrough, MayProcess};
+ghost use Rattle.call_processor.specs.Workplaces.{HasDoneEvents};
+ghost use Rattle.segment_run.specs.Jobs.{IsThrough, MayProcess, HaveProcessed};
 
 use crate::dealing::Job;
 use call_processor::{Finished, Keeper, Shortage, process_at};
@@ -48,7 +45,7 @@ pub fn call_processors<B: Switchboard, G: Gate, K: Keeper, R: Threads + Wait + S
     ensures room { vec_capacity crew.done ≤ vec_capacity result.done }
     ensures count { length result.done.items ≡ length crew.jobs.items + 1 }
     ensures seated { All (λ f. B.seated board.now f.seat) result.done.items }
-    ensures works { AllZip (HasProcessed K.holds B.known (B.board board.now) trace.now segment) (crew.jobs.items ++ job ∷ []) result.done.items }
+    ensures works { HaveProcessed K.holds B.known (B.board board.now) trace.now segment (crew.jobs.items ++ job ∷ []) result.done.items }
 {
     let mut crew = crew;
     let Job {
@@ -69,7 +66,7 @@ pub fn call_processors<B: Switchboard, G: Gate, K: Keeper, R: Threads + Wait + S
             requires number { worker < trace.now.processors }
             requires may { MayWork (B.board board.now) trace.now segment (Processor worker) (B.known seat) }
             ensures seated { B.seated board.entry.now result.seat }
-            ensures works { HasWorked K.holds B.known (B.board board.entry.now) (λ w. has_no_octets) (part_of trace.entry.now segment (Processor worker)) (B.known seat) result }
+            ensures works { HasDoneEvents K.holds B.known (B.board board.entry.now) trace.entry.now segment worker (B.known seat) result }
         {
             process_at(
                 rt, alloc, board, seat, trace, segment, worker, workplace, shortage, gate,
@@ -86,7 +83,7 @@ pub fn call_processors<B: Switchboard, G: Gate, K: Keeper, R: Threads + Wait + S
             ensures room { vec_capacity crew.done ≤ vec_capacity result.done }
             ensures count { length result.done.items ≡ length crew.jobs.items + 1 }
             ensures seated { All (λ f. B.seated board.entry.now f.seat) result.done.items }
-            ensures works { AllZip (HasProcessed K.holds B.known (B.board board.entry.now) trace.entry.now segment) (crew.jobs.items ++ next ∷ []) result.done.items }
+            ensures works { HaveProcessed K.holds B.known (B.board board.entry.now) trace.entry.now segment (crew.jobs.items ++ next ∷ []) result.done.items }
         { call_processors(rt, alloc, board, trace, segment, next, crew, shortage, gate) },
     );
     let mut rest = rest;

@@ -8,14 +8,14 @@ ghost use Rattle.exchange_events.specs.Sound.{IsSound};
 ghost use Rattle.exchange_core.specs.Boards.{Board, turns_of};
 ghost use Rattle.exchange_core.specs.Working.{order_of};
 ghost use Rattle.segment_run.specs.Segment.{HasTurns, IsChief, Ran, RanWhole};
-ghost use Rattle.segment_run.specs.Segments.{IsDoneBelow, events_before};
+ghost use Rattle.segment_run.specs.Segments.{IsDoneBelow, HasDoneBelow, events_before};
 
 /// Segments that are run one after another make a lawful order; where the last of them is cut short,
 /// a lawful beginning.
 pub fn segments_make_lawful_orders()
     ensures none { (t : Trace) → IsDoneBelow t 0 [] }
-    ensures more { (t : Trace) (k : ℕ) (v w : Known) → IsDoneBelow t k (order_of v.seen) → Ran t k v w → RanWhole t k v w → IsDoneBelow t (k + 1) (order_of w.seen) }
-    ensures begun { (t : Trace) (k : ℕ) (v w : Known) → IsDoneBelow t k (order_of v.seen) → Ran t k v w → IsLawfulPrefix t (order_of w.seen) }
+    ensures more { (t : Trace) (k : ℕ) (v w : Known) → HasDoneBelow t k v → Ran t k v w → RanWhole t k v w → HasDoneBelow t (k + 1) w }
+    ensures begun { (t : Trace) (k : ℕ) (v w : Known) → HasDoneBelow t k v → Ran t k v w → IsLawfulPrefix t (order_of w.seen) }
     ensures whole { (t : Trace) (order : List ℕ) → IsSound t → IsDoneBelow t (length t.segments) order → IsLawful t order }
 {}
 
@@ -27,7 +27,7 @@ pub fn first_seat_is_chief()
 /// When the segments before one are done, the history is as long as they have events, seat 0 has a turn
 /// for each event of the next, and there are numbers left for the seats of its workers.
 pub fn segments_leave_room()
-    ensures long { (t : Trace) (k : ℕ) (v : Known) → IsSound t → k ≤ length t.segments → IsDoneBelow t k (order_of v.seen) → length v.seen ≡ events_before t.segments k }
+    ensures long { (t : Trace) (k : ℕ) (v : Known) → IsSound t → k ≤ length t.segments → HasDoneBelow t k v → length v.seen ≡ events_before t.segments k }
     ensures turns { (b : Board) (k : ℕ) (v : Known) → IsSound b.trace → k < length b.trace.segments → IsChief (turns_of b) v
         → IsDoneBelow b.trace k (order_of v.seen) → HasTurns b.trace k v }
     ensures numbers { (t : Trace) (k made : ℕ) → IsSound t → k < length t.segments → made ≤ 9 * k → made + 10 < 2 ^ 32 }

@@ -12,7 +12,7 @@
 //! of what was done.
 //!
 //! It stands on `circuit_model`, `seat_history`, `tone_rules`, `frame_engine`, `exchange_core`,
-//! `gate` and `call_processor`.
+//! `gate`, `call_processor`, `exchange_events` and `call_profile`.
 #![tactic(auto)]
 
 mod answers;

@@ -2,8 +2,8 @@ ghost use Rattle.std.specs.Prelude.{◌≡◌, ◌+◌, ◌<◌, ◌≤◌, ◌^
 ghost use Rattle.exchange_core.specs.Boards.{turns_of};
 ghost use Rattle.tone_rules.specs.Tables.{table_of};
 ghost use Rattle.call_processor.specs.declared.worked.Placed.{Placed};
-ghost use Rattle.call_processor.specs.Frames.{IsReady, IsReadyFor, engine_dimensions};
-ghost use Rattle.segment_run.specs.Segment.{AddsAnswers, AreAnswered, HasGrown, HasTurns, IsAnswerOf, IsChief, MayRun, Ran, RanTo, RanWhole};
+ghost use Rattle.call_processor.specs.Frames.{IsReady, IsReadyFor};
+ghost use Rattle.segment_run.specs.Segment.{AddsAnswers, HasGrown, HasTurns, IsAnswerOf, IsChief, MayRun, Ran, RanTo, RanWhole, HasAnswers};
 
 use crate::answers::{SegmentAnswer, SegmentDone};
 use crate::apart::run_apart;
@@ -51,14 +51,14 @@ pub fn run_segment<B: Switchboard, G: Gate, C: Carrier, R: Threads + Wait + Sync
     requires chief { IsChief (turns_of (B.board board.now)) (B.known seat.old) }
     requires numbers { (B.known seat.old).made + 10 < 2 ^ 32 }
     requires turns { HasTurns trace.now segment (B.known seat.old) }
-    requires ready { IsReady C.carries C.next (engine_dimensions C.external_lines C.bridge_lines C.depth) (B.board board.now) (B.known seat.old).seen engine tool }
+    requires ready { IsReady C.carries C.next C.sizes (B.board board.now) (B.known seat.old).seen engine tool }
     ensures seated { B.seated board.now seat.new }
     ensures chief { IsChief (turns_of (B.board board.now)) (B.known seat.new) }
     ensures ran { Ran trace.now segment (B.known seat.old) (B.known seat.new) }
     ensures whole { IfOk result (λ a. RanWhole trace.now segment (B.known seat.old) (B.known seat.new)) }
     ensures turns { IfOk result (λ a. HasGrown trace.now segment (B.known seat.old) (B.known seat.new)) }
-    ensures answered { IfOk result (λ a. AreAnswered C.plays (table_of trace.now.tones) (B.board board.now) (B.known seat.old) (B.known seat.new) a.answers.items) }
-    ensures ready { IfOk result (λ a. IsReadyFor C.carries C.next C.external_lines C.bridge_lines C.depth (B.board board.now) (B.known seat.new) a.engine a.tool) }
+    ensures answered { IfOk result (HasAnswers C.plays (B.board board.now) trace.now (B.known seat.old) (B.known seat.new)) }
+    ensures ready { IfOk result (λ a. IsReadyFor C.carries C.next C.sizes (B.board board.now) (B.known seat.new) a.engine a.tool) }
 {
     let workroom = Workroom::new(alloc, &AnswerList::new(alloc))?;
     let (done, _) = run_segment_in(
@@ -87,11 +87,11 @@ pub fn run_segment_in<B: Switchboard, G: Gate, C: Carrier, R: Threads + Wait + S
 ) -> Result<(SegmentAnswer<C>, Workroom<B::Seat, AnswerList>), AllocError>
     requires seated { B.seated board.now seat.old }
     requires may { MayRun (B.board board.now) trace.now segment (B.known seat.old) }
-    requires ready { IsReadyFor C.carries C.next C.external_lines C.bridge_lines C.depth (B.board board.now) (B.known seat.old) engine tool }
+    requires ready { IsReadyFor C.carries C.next C.sizes (B.board board.now) (B.known seat.old) engine tool }
     ensures seated { B.seated board.now seat.new }
     ensures chief { IsChief (turns_of (B.board board.now)) (B.known seat.new) }
     ensures ran { Ran trace.now segment (B.known seat.old) (B.known seat.new) }
-    ensures answer { IfOk result (λ r. IsAnswerOf C.plays C.carries C.next (engine_dimensions C.external_lines C.bridge_lines C.depth) (B.board board.now)
+    ensures answer { IfOk result (λ r. IsAnswerOf C.plays C.carries C.next C.sizes (B.board board.now)
         trace.now segment (B.known seat.old) (B.known seat.new) r.0) }
 {
     let mut keeper = AnswerList::new(alloc);
@@ -149,11 +149,11 @@ pub fn run_segment_with<B: Switchboard, G: Gate, C: Carrier, K: Keeper, R: Threa
 ) -> Result<SegmentDone<B::Seat, C, K>, AllocError>
     requires seated { B.seated board.now seat.old }
     requires may { MayRun (B.board board.now) trace.now segment (B.known seat.old) }
-    requires ready { IsReadyFor C.carries C.next C.external_lines C.bridge_lines C.depth (B.board board.now) (B.known seat.old) engine tool }
+    requires ready { IsReadyFor C.carries C.next C.sizes (B.board board.now) (B.known seat.old) engine tool }
     ensures seated { B.seated board.now seat.new }
     ensures chief { IsChief (turns_of (B.board board.now)) (B.known seat.new) }
     ensures ran { Ran trace.now segment (B.known seat.old) (B.known seat.new) }
-    ensures whole { IfOk result (RanTo C.carries C.next (engine_dimensions C.external_lines C.bridge_lines C.depth) (B.board board.now)
+    ensures whole { IfOk result (RanTo C.carries C.next C.sizes (B.board board.now)
         trace.now segment (B.known seat.old) (B.known seat.new)) }
     ensures answered { OnOk result ((kept : List Placed) → K.holds keeper.old kept
         → AddsAnswers K.holds C.plays (table_of trace.now.tones) (B.board board.now) (B.known seat.old) (B.known seat.new) kept keeper.new) }

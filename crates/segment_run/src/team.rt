@@ -1,15 +1,12 @@
 ghost use Rattle.std.specs.Prelude.{◌≡◌, ℕ, ◌<◌, ◌≤◌, ◌+◌, ◌++◌, ◌∷◌, [], IsTrue, length, All, vec_len, vec_capacity};
-ghost use Rattle.std.specs.List.{AllZip};
 ghost use Rattle.std.specs.Thread.{IsSync};
 ghost use Rattle.exchange_events.specs.Orders.{Frame_worker};
 ghost use Rattle.seat_history.specs.declared.known.Known.{Known};
 ghost use Rattle.exchange_events.specs.Sound.{IsSound};
-ghost use Rattle.tone_rules.specs.Tables.{table_of};
-ghost use Rattle.call_processor.specs.Frames.{HasFrame, IsReadyFor, engine_dimensions};
-ghost use Rattle.call_processor.specs.Parts.{part_of};
+ghost use Rattle.call_processor.specs.Frames.{IsReadyFor};
 ghost use Rattle.call_processor.specs.Work.{MayWork};
-ghost use Rattle.call_processor.specs.Workplaces.{FinishesReady, HasWorked};
-ghost use Rattle.segment_run.specs.Jobs.{AreReady, HasDone, HasProcessed, IsThrough, MayProcess, StayReady, seats_of};
+ghost use Rattle.call_processor.specs.Workplaces.{FinishesReady, HasDoneFrames};
+ghost use Rattle.segment_run.specs.Jobs.{AreReady, IsThrough, MayProcess, StayReady, HaveDone, HaveProcessed, seats_of};
 ghost use Rattle.segment_run.specs.Team.{AreDealt};
 
 use crate::crew::{Crew, call_processors};
@@ -52,7 +49,7 @@ fn with_frames<B: Switchboard, G: Gate, C: Carrier, K: Keeper, R: Threads + Wait
     requires seated { B.seated board.now frames.seat × All (λ j. B.seated board.now j.seat) crew.jobs.items }
     requires frames { MayWork (B.board board.now) trace.now segment Frame_worker (B.known frames.seat) }
     requires baton { IsTrue (B.known frames.seat).baton }
-    requires ready { IsReadyFor C.carries C.next C.external_lines C.bridge_lines C.depth (B.board board.now) (B.known frames.seat) engine tool }
+    requires ready { IsReadyFor C.carries C.next C.sizes (B.board board.now) (B.known frames.seat) engine tool }
     requires all_may { All (MayProcess B.known (B.board board.now) trace.now segment) crew.jobs.items }
     requires room { vec_len crew.jobs ≤ vec_capacity crew.done }
     requires empty { crew.done.items ≡ [] }
@@ -60,9 +57,9 @@ fn with_frames<B: Switchboard, G: Gate, C: Carrier, K: Keeper, R: Threads + Wait
     ensures room { vec_capacity crew.done ≤ vec_capacity result.1.done }
     ensures count { length result.1.done.items ≡ length crew.jobs.items }
     ensures seated { B.seated board.now result.0.finished.seat × All (λ f. B.seated board.now f.seat) result.1.done.items }
-    ensures frames { HasWorked K.holds B.known (B.board board.now) (HasFrame C.plays (table_of trace.now.tones) (B.board board.now)) (part_of trace.now segment Frame_worker) (B.known frames.seat) result.0.finished }
-    ensures ready { FinishesReady C.carries C.next (engine_dimensions C.external_lines C.bridge_lines C.depth) B.known (B.board board.now) result.0 }
-    ensures works { AllZip (HasProcessed K.holds B.known (B.board board.now) trace.now segment) crew.jobs.items result.1.done.items }
+    ensures frames { HasDoneFrames K.holds C.plays B.known (B.board board.now) trace.now segment (B.known frames.seat) result.0.finished }
+    ensures ready { FinishesReady C.carries C.next C.sizes B.known (B.board board.now) result.0 }
+    ensures works { HaveProcessed K.holds B.known (B.board board.now) trace.now segment crew.jobs.items result.1.done.items }
 {
     let mut crew = crew;
     let Job {
@@ -82,10 +79,10 @@ fn with_frames<B: Switchboard, G: Gate, C: Carrier, K: Keeper, R: Threads + Wait
             requires seated { B.seated board.now seat }
             requires may { MayWork (B.board board.now) trace.now segment Frame_worker (B.known seat) }
             requires baton { IsTrue (B.known seat).baton }
-            requires ready { IsReadyFor C.carries C.next C.external_lines C.bridge_lines C.depth (B.board board.now) (B.known seat) engine tool }
+            requires ready { IsReadyFor C.carries C.next C.sizes (B.board board.now) (B.known seat) engine tool }
             ensures seated { B.seated board.entry.now result.finished.seat }
-            ensures works { HasWorked K.holds B.known (B.board board.entry.now) (HasFrame C.plays (table_of trace.entry.now.tones) (B.board board.entry.now)) (part_of trace.entry.now segment Frame_worker) (B.known seat) result.finished }
-            ensures ready { FinishesReady C.carries C.next (engine_dimensions C.external_lines C.bridge_lines C.depth) B.known (B.board board.entry.now) result }
+            ensures works { HasDoneFrames K.holds C.plays B.known (B.board board.entry.now) trace.entry.now segment (B.known seat) result.finished }
+            ensures ready { FinishesReady C.carries C.next C.sizes B.known (B.board board.entry.now) result }
         {
             run_frames_at(
                 rt, alloc, board, seat, trace, segment, engine, tool, workplace, shortage, gate,
@@ -102,7 +99,7 @@ fn with_frames<B: Switchboard, G: Gate, C: Carrier, K: Keeper, R: Threads + Wait
             ensures room { vec_capacity crew.done ≤ vec_capacity result.done }
             ensures count { length result.done.items ≡ length crew.jobs.items + 1 }
             ensures seated { All (λ f. B.seated board.entry.now f.seat) result.done.items }
-            ensures works { AllZip (HasProcessed K.holds B.known (B.board board.entry.now) trace.entry.now segment) (crew.jobs.items ++ next ∷ []) result.done.items }
+            ensures works { HaveProcessed K.holds B.known (B.board board.entry.now) trace.entry.now segment (crew.jobs.items ++ next ∷ []) result.done.items }
         { call_processors(rt, alloc, board, trace, segment, next, crew, shortage, gate) },
     )
 }
@@ -126,15 +123,15 @@ pub fn side_by_side<B: Switchboard, G: Gate, C: Carrier, K: Keeper, R: Threads +
     requires seated { All (λ j. B.seated board.now j.seat) crew.jobs.items }
     requires dealt { (v : Known) × (n : ℕ) × AreDealt trace.now segment v n 0 (seats_of B.known crew.jobs.items) }
     requires baton { All (λ j. j.worker ≡ trace.now.processors → IsTrue (B.known j.seat).baton) crew.jobs.items }
-    requires ready { AreReady C.carries C.next (engine_dimensions C.external_lines C.bridge_lines C.depth) B.known (B.board board.now) engine tool crew.jobs.items }
+    requires ready { AreReady C.carries C.next C.sizes B.known (B.board board.now) engine tool crew.jobs.items }
     requires room { vec_len crew.jobs ≤ vec_capacity crew.done }
     requires empty { crew.done.items ≡ [] }
     ensures jobs { IsThrough crew result.crew }
     ensures room { vec_capacity crew.done ≤ vec_capacity result.crew.done }
     ensures count { length result.crew.done.items ≡ length crew.jobs.items }
     ensures seated { All (λ f. B.seated board.now f.seat) result.crew.done.items }
-    ensures works { AllZip (HasDone K.holds C.plays (table_of trace.now.tones) B.known (B.board board.now) trace.now segment) crew.jobs.items result.crew.done.items }
-    ensures ready { StayReady C.carries C.next (engine_dimensions C.external_lines C.bridge_lines C.depth) B.known (B.board board.now) trace.now crew.jobs.items result }
+    ensures works { HaveDone K.holds C.plays B.known (B.board board.now) trace.now segment crew.jobs.items result.crew.done.items }
+    ensures ready { StayReady C.carries C.next C.sizes B.known (B.board board.now) trace.now crew.jobs.items result }
     ensures idle { All (λ j. j.worker < trace.now.processors) crew.jobs.items → (result.engine ≡ engine) × (result.tool ≡ tool) }
 {
     let mut crew = crew;

@@ -11,9 +11,8 @@
 //!   (`settled`, `alone`).
 //! - `close` gives the core back, with the whole history as its journal (`journal`).
 //!
-//! That a waiting caller is ever served is not promised.
-//!
-//! It stands on `seat_history`, `control_memory`, `exchange_core` and `turn_lock`.
+//! That a waiting caller is ever served is not promised. It stands on `seat_history`,
+//! `control_memory`, `exchange_core`, `turn_lock`, `exchange_events` and `call_profile`.
 #![tactic(auto)]
 
 mod shared;

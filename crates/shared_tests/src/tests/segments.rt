@@ -3,7 +3,7 @@ ghost use Rattle.std.specs.Prelude.{◌≡◌, ◌+◌, ◌*◌, ◌≤◌, None
 ghost use Rattle.seat_history.specs.Seats.{first_seat};
 ghost use Rattle.exchange_core.specs.Boards.{turns_of};
 ghost use Rattle.exchange_events.specs.Sound.{IsSound};
-ghost use Rattle.call_processor.specs.Frames.{IsReady, engine_dimensions};
+ghost use Rattle.call_processor.specs.Frames.{IsReady};
 ghost use Rattle.shared_exchange.specs.Sharing.{IsSeated};
 
 use call_processor::{Placed, process, run_frames};
@@ -32,7 +32,7 @@ fn equipped<'t, P: PathMap + Drop, C: Carrier>(
     requires bare { P.layout paths ≡ replicate (30 * (trace.now.external + trace.now.bridges)) None }
     ensures board { IfOk result (λ r. r.0.setting.trace ≡ trace.now) }
     ensures seat { IfOk result (λ r. IsSeated r.0 r.1 × (r.1.known ≡ first_seat (length trace.now.events))) }
-    ensures ready { IfOk result (λ r. IsReady C.carries C.next (engine_dimensions C.external_lines C.bridge_lines C.depth) r.0.setting [] r.2 r.3) }
+    ensures ready { IfOk result (λ r. IsReady C.carries C.next C.sizes r.0.setting [] r.2 r.3) }
 {
     let slots = paths.slots();
     let (external, bridges) = (trace.external, trace.bridges);
@@ -58,7 +58,7 @@ fn lines_of<B: Switchboard, C: Carrier, G: Gate, R: Threads + Wait + Sync>(
     requires trace { trace.now ≡ (B.board board.now).trace }
     requires sound { IsSound trace.now }
     requires fresh { B.known seat.old ≡ first_seat (turns_of (B.board board.now)) }
-    requires ready { IsReady C.carries C.next (engine_dimensions C.external_lines C.bridge_lines C.depth) (B.board board.now) [] engine tool }
+    requires ready { IsReady C.carries C.next C.sizes (B.board board.now) [] engine tool }
 {
     let mut text = Vec::new(alloc);
     let mut engine = engine;

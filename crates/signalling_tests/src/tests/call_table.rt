@@ -63,20 +63,26 @@ const TABLE: [Row; 23] = [
     },
     Row {
         octets: b"\x08\x02\x00\x01\x4D\x08\x01\x80",
-        acts: &[(UNRELEASED, Act::Released(16)), (&[19], Act::Gone(16))],
+        acts: &[
+            (UNRELEASED, Act::Release(16)),
+            (&[19], Act::ReleaseComplete(16)),
+        ],
     },
     Row {
         octets: b"\x08\x02\x00\x01\x4D\x08\x02\x80\xA9",
-        acts: &[(UNRELEASED, Act::Released(41)), (&[19], Act::Gone(41))],
+        acts: &[
+            (UNRELEASED, Act::Release(41)),
+            (&[19], Act::ReleaseComplete(41)),
+        ],
     },
     Row {
         octets: b"\x08\x02\x00\x01\x5A\x08\x02\x80\xAC",
-        acts: &[(EVERY, Act::Gone(44))],
+        acts: &[(EVERY, Act::ReleaseComplete(44))],
     },
     // STATUS that tells the null state, another state, and none.
     Row {
         octets: b"\x08\x02\x00\x01\x7D\x08\x02\x80\x9E\x14\x01\x00",
-        acts: &[(EVERY, Act::Gone(41))],
+        acts: &[(EVERY, Act::ReleaseComplete(41))],
     },
     Row {
         octets: b"\x08\x02\x00\x01\x7D\x08\x02\x80\x9E\x14\x01\x0A",

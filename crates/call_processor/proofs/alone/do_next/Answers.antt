@@ -4,7 +4,6 @@ use Rattle.exchange_events.specs.declared.trace.Trace.{Trace}
 use Rattle.exchange_events.specs.Orders.{Frame_worker}
 use Rattle.tone_rules.specs.Tables.{table_of}
 use Rattle.call_processor.specs.Alone.{HasOctets}
-use Rattle.call_processor.specs.Frames.{engine_dimensions}
 use Rattle.call_processor.specs.Keeping.{has_no_octets}
 use Rattle.call_processor.specs.Parts.{is_its}
 use Rattle.call_processor.proofs.AloneLemmas.{kept_said, not_frame, quiet_octets, ready_next}
@@ -18,7 +17,7 @@ returns-in_default-clause-ready g c =
     let event = c.args.event in
     let off : is_its c.args.trace.now Frame_worker event ≡ false = search rules in
     let none = not_frame board.trace event (subst (λ (t : Trace). is_its t Frame_worker event ≡ false) c.requires.trace off) in
-    ready_next g.C.Carrier.carries g.C.Carrier.next (engine_dimensions g.C.Carrier.external_lines g.C.Carrier.bridge_lines g.C.Carrier.depth) board (turns_of board) event (K c.args.seat.now) (K c.do_event.new.seat)
+    ready_next g.C.Carrier.carries g.C.Carrier.next g.C.Carrier.sizes board (turns_of board) event (K c.args.seat.now) (K c.do_event.new.seat)
     c.args.engine.now c.args.tool.now none (c.do_event.ensures.next c.requires.only) c.requires.ready
 
 pub returns-in_default-clause-kept : goal.returns-in_default-clause-kept

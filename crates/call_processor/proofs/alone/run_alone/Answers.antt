@@ -1,11 +1,11 @@
-use Rattle.std.proofs.Common.{rules, ◌≡◌, ◌+◌, ◌-◌, ◌≤◌, Bool, false, is_ok, List, ℕ, [], ◌∷◌, ◌++◌, ap, sym, subst, ◌∙◌}
+use Rattle.std.proofs.Common.{rules, ◌≡◌, ◌+◌, ◌-◌, Bool, false, is_ok, ℕ, [], ◌∷◌, ◌++◌, ap, sym, subst, ◌∙◌}
 use Rattle.std.specs.List.{range_with_len}
 use Rattle.exchange_core.specs.Boards.{turns_of}
 use Rattle.tone_rules.specs.Tables.{table_of}
 use Rattle.call_processor.specs.Alone.{DidInOrder, HasOctets, HoldsBehind}
 use Rattle.call_processor.specs.Keeping.{KeepsWork}
 use Rattle.call_processor.specs.Parts.{events_of_segment}
-use Rattle.call_processor.proofs.AloneLemmas.{goes_begin, goes_on, goes_same, in_order_lacking, in_order_whole, octets_stay, works_lacking, works_none, works_whole}
+use Rattle.call_processor.proofs.AloneLemmas.{goes_begin, goes_on, goes_same, in_order_lacking, octets_stay, works_lacking, works_none, works_whole}
 use Rattle.call_processor.proofs.PartLemmas.{range_after, range_next, turn_left}
 use Rattle.call_processor.proofs.alone.run_alone.Goals as goal
 

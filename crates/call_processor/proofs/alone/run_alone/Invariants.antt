@@ -4,7 +4,7 @@ use Rattle.exchange_core.specs.Boards.{turns_of}
 use Rattle.exchange_core.specs.declared.tool.Tool.TheVariants.{Nothing}
 use Rattle.tone_rules.specs.Tables.{table_of}
 use Rattle.call_processor.specs.Alone.{HasOctets}
-use Rattle.call_processor.specs.Frames.{IsReady, engine_dimensions}
+use Rattle.call_processor.specs.Frames.{IsReady}
 use Rattle.call_processor.proofs.AloneLemmas.{GoesOn}
 use Rattle.call_processor.proofs.alone.run_alone.Given as goal
 
@@ -14,6 +14,6 @@ invariant-loop-event g l = record {
   goes : GoesOn g.K.Keeper.holds (g.B.Switchboard.board l.board) (HasOctets g.C.Carrier.plays (table_of l.trace.tones) (g.B.Switchboard.board l.board)) (turns_of (g.B.Switchboard.board l.board)) (range_with_len l.first (l.event - l.first)) (g.B.Switchboard.known l.fn.seat) l.fn.keeper l.keeper (g.B.Switchboard.known l.seat);
   from : l.first ≤ l.event;
   desk : l.workplace.desk.value.tool ≡ Nothing;
-  ready : IsReady g.C.Carrier.carries g.C.Carrier.next (engine_dimensions g.C.Carrier.external_lines g.C.Carrier.bridge_lines g.C.Carrier.depth) (g.B.Switchboard.board l.board) (g.B.Switchboard.known l.seat).seen l.engine l.tool;
+  ready : IsReady g.C.Carrier.carries g.C.Carrier.next g.C.Carrier.sizes (g.B.Switchboard.board l.board) (g.B.Switchboard.known l.seat).seen l.engine l.tool;
   lines : length l.workplace.octets.items ≡ (g.B.Switchboard.board l.board).trace.external;
 }

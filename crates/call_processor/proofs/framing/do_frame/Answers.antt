@@ -2,6 +2,7 @@ use Rattle.std.proofs.Common.{rules, ◌≡◌, ◌+◌, ℕ, [], ◌∷◌, ◌
 use Rattle.circuit_model.specs.FrameInput.{Input}
 use Rattle.exchange_events.specs.Responses.{reply_of}
 use Rattle.seat_history.specs.Histories.{before}
+use Rattle.control_memory.specs.Image.{IsOfSize}
 use Rattle.exchange_core.specs.Boards.{world_at, setting_at, turns_of}
 use Rattle.exchange_events.specs.Sizes.{Dimensions}
 use Rattle.frame_engine.specs.Frames.{PlaysOut}
@@ -10,7 +11,6 @@ use Rattle.call_processor.proofs.AloneLemmas.{next_alone}
 use Rattle.call_processor.proofs.EventLemmas.{Next, answer_next}
 use Rattle.call_processor.proofs.FrameLemmas.{frame_asks, boundary, frames_few, input_whole, made_at, next_frame, one_input, played_here, ready_after, same_frames, still_carried, written_whole}
 use Rattle.call_profile.proofs.GivenToneLemmas.{sounds_given}
-use Rattle.call_processor.specs.Frames.{engine_dimensions}
 use Rattle.call_processor.specs.Keeping.{placed}
 use Rattle.call_processor.proofs.KeepingLemmas.{on_ok}
 use Rattle.call_processor.specs.declared.worked.Placed.{Placed}
@@ -38,6 +38,14 @@ frame-requires-clause-last g c =
     let few = frames_few board history c.work-place.ensures.sound (omega (arith, long, below)) in
     omega (arith, few, same.next, c.requires.ready.number)
 
+pub frame-requires-clause-sizes : goal.frame-requires-clause-sizes
+frame-requires-clause-sizes g c =
+    let K = g.B.Switchboard.known in
+    let board = g.B.Switchboard.board c.args.board.now in
+    let history = before c.work-place.result.0 (K c.work-place.new.seat).seen in
+    let a = frame_asks board history c.args.event c.args.input.now c.work-place.new.desk.tool c.in-Image.image c.work-place.ensures.sound c.requires.frame c.in-Image.is c.work-place.ensures.shows c.work-place.ensures.tool in
+    subst (λ (d : Dimensions). IsOfSize d c.in-Image.image) (sym c.requires.ready.sized) a.size
+
 pub frame-requires-clause-input : goal.frame-requires-clause-input
 frame-requires-clause-input g c =
     ap length c.as_slice.ensures ∙ (input_whole _ c.args.event c.args.input.now c.work-place.ensures.sound c.requires.frame ∙ sym (ap (λ (d : Dimensions). d.external) c.requires.ready.sized))
@@ -60,13 +68,13 @@ returns-clause-ready g c =
     let input = c.args.input.now in
     let same = same_frames board (K c.args.seat.now).seen history c.work-place.ensures.begins (c.work-place.ensures.frames c.requires.baton) in
     let a = frame_asks board history n input c.work-place.new.desk.tool c.in-Image.image c.work-place.ensures.sound c.requires.frame c.in-Image.is c.work-place.ensures.shows c.work-place.ensures.tool in
-    let carried = still_carried g.C.Carrier.carries g.C.Carrier.next (engine_dimensions g.C.Carrier.external_lines g.C.Carrier.bridge_lines g.C.Carrier.depth) board (world_at board (K c.args.seat.now).seen) w c.args.engine.now same c.requires.ready.carried in
+    let carried = still_carried g.C.Carrier.carries g.C.Carrier.next g.C.Carrier.sizes board (world_at board (K c.args.seat.now).seen) w c.args.engine.now same c.requires.ready.carried in
     let more = c.frame.ensures.carries (boundary w) (next_frame (g.C.Carrier.carries c.args.engine.now) c.in-Image.image (setting_at board).dimensions w a carried) in
-    ready_after g.C.Carrier.carries g.C.Carrier.next (engine_dimensions g.C.Carrier.external_lines g.C.Carrier.bridge_lines g.C.Carrier.depth) board history (K c.work-place.new.seat).seen (K c.args.seat.now).number n input c.frame.new.self c.in-Image.image c.frame.new.image
+    ready_after g.C.Carrier.carries g.C.Carrier.next g.C.Carrier.sizes board history (K c.work-place.new.seat).seen (K c.args.seat.now).number n input c.frame.new.self c.in-Image.image c.frame.new.image
     c.requires.frame (ap (λ k. k.seen) c.work-place.ensures.seat) a.size c.frame.ensures.image
     (subst (λ (l : Input). g.C.Carrier.carries c.frame.new.self (w.inputs ++ l ∷ []) (w.held ++ w.holding.circuits ∷ []) (w.seated ++ w.ports ∷ [])) c.as_slice.ensures more)
     (c.frame.ensures.next ∙ ap (λ (k : ℕ). k + 1) (c.requires.ready.number ∙ sym same.next))
-    ((λ i. record { external = c.frame.ensures.external i; bridges = c.frame.ensures.bridges i; slots = c.frame.ensures.slots i }) ∙ c.requires.ready.sized)
+    (c.frame.ensures.sizes ∙ c.requires.ready.sized)
 
 pub returns-clause-kept : goal.returns-clause-kept
 returns-clause-kept g c =
@@ -88,7 +96,7 @@ returns-clause-kept g c =
     let input = c.args.input.now in
     let same = same_frames board (K c.args.seat.now).seen history c.work-place.ensures.begins (c.work-place.ensures.frames c.requires.baton) in
     let a = frame_asks board history n input c.work-place.new.desk.tool c.in-Image.image c.work-place.ensures.sound c.requires.frame c.in-Image.is c.work-place.ensures.shows c.work-place.ensures.tool in
-    let carried = still_carried g.C.Carrier.carries g.C.Carrier.next (engine_dimensions g.C.Carrier.external_lines g.C.Carrier.bridge_lines g.C.Carrier.depth) board (world_at board (K c.args.seat.now).seen) w c.args.engine.now same c.requires.ready.carried in
+    let carried = still_carried g.C.Carrier.carries g.C.Carrier.next g.C.Carrier.sizes board (world_at board (K c.args.seat.now).seen) w c.args.engine.now same c.requires.ready.carried in
     let played = c.frame.ensures.plays (boundary w) (next_frame (g.C.Carrier.carries c.args.engine.now) c.in-Image.image (setting_at board).dimensions w a carried) in
     let size : length c.frame.new.out ≡ length c.args.octets.now.items = search rules in
     let room : c.args.octets.now.len ≡ length c.args.octets.now.items = search rules in

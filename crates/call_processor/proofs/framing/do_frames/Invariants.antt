@@ -1,7 +1,7 @@
 use Rattle.std.proofs.Common.{◌≡◌, ◌≤◌, length}
 use Rattle.tone_rules.specs.Tables.{table_of}
 use Rattle.exchange_events.specs.Orders.{Frame_worker}
-use Rattle.call_processor.specs.Frames.{IsReady, HasFrame, engine_dimensions}
+use Rattle.call_processor.specs.Frames.{IsReady, HasFrame}
 use Rattle.call_processor.proofs.KeepingLemmas.{Keeps}
 use Rattle.call_processor.proofs.PartLemmas.{up_to}
 use Rattle.call_processor.proofs.framing.do_frames.Given as goal
@@ -11,6 +11,6 @@ invariant-loop-event g l = record {
   seated : g.B.Switchboard.seated l.board l.seat;
   keeps : Keeps g.K.Keeper.holds (g.B.Switchboard.board l.board) (HasFrame g.C.Carrier.plays (table_of l.trace.tones) (g.B.Switchboard.board l.board)) (up_to l.trace Frame_worker l.first l.event) (g.B.Switchboard.known l.fn.seat) l.keeper (g.B.Switchboard.known l.seat);
   from : l.first ≤ l.event;
-  ready : IsReady g.C.Carrier.carries g.C.Carrier.next (engine_dimensions g.C.Carrier.external_lines g.C.Carrier.bridge_lines g.C.Carrier.depth) (g.B.Switchboard.board l.board) (g.B.Switchboard.known l.seat).seen l.engine l.desk.tool;
+  ready : IsReady g.C.Carrier.carries g.C.Carrier.next g.C.Carrier.sizes (g.B.Switchboard.board l.board) (g.B.Switchboard.known l.seat).seen l.engine l.desk.tool;
   lines : length l.octets.items ≡ (g.B.Switchboard.board l.board).trace.external;
 }

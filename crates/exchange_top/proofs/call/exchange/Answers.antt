@@ -1,4 +1,3 @@
-use Rattle.std.proofs.Common.{inl, inr, arith}
 use Rattle.exchange_top.proofs.Endings.{done_says, summed_says, turned_down_says, wrong_words_says, read_failed_says, write_failed_says, cut_short_says, statuses_say, other_words_say, command_says, generation_says, trace_says, no_trace_says}
 use Rattle.exchange_top.proofs.call.exchange.Goals as goal
 

@@ -1,10 +1,9 @@
-use Rattle.std.proofs.Common.{rules, ◌≡◌, ◌≢◌, [], map, refl, ap, sym, subst, ◌∙◌}
+use Rattle.std.proofs.Common.{rules, [], map, ap, sym, subst}
 use Rattle.std.specs.List.{concat}
 use Rattle.std.specs.Io.KnownBytes.{Appends}
 use Rattle.exchange_top.specs.Streams.{AppendsFront}
 use Rattle.exchange_top.specs.Summary.{summary_text}
 use Rattle.generated_trace.specs.Generated.{IsTrafficOf}
-use Rattle.call_processor.specs.Frames.{engine_dimensions}
 use Rattle.exchange_top.specs.Commands.{Sum_no_memory, Not_begun}
 use Rattle.exchange_top.specs.Report.{HandsOut}
 use Rattle.exchange_top.proofs.Sums.{keeps, sums_cut, sums_up}
@@ -30,10 +29,10 @@ returns-clause-sums g c =
     let mid = g.K.Sink.written c.run_trace-outcome.new.sink in
     let new = g.K.Sink.written c.sum_up.new.sink in
     let said = ap (λ ms. concat (map (λ m. (goal.Meter-dyn g (m.vtable, m.value)).text m.value []) ms)) c.as_slice.ensures.value in
-    sums_up _ c.args.seed c.args.calls c.in-Ok.trace is (HandsOut (engine_dimensions g.C.Carrier.external_lines g.C.Carrier.bridge_lines g.C.Carrier.depth) g.C.Carrier.carries c.sum_up.result.engine)
+    sums_up _ c.args.seed c.args.calls c.in-Ok.trace is (HandsOut g.C.Carrier.sizes g.C.Carrier.carries c.sum_up.result.engine)
     _ _ _ _ _ _ _ _ _ _ (search rules) c.run_trace-outcome.ensures.runs c.run_trace-outcome.ensures.writes (ap (λ o. o.items) s.order)
     (λ zero. (
-      (λ d w handed. subst (λ e. HandsOut (engine_dimensions g.C.Carrier.external_lines g.C.Carrier.bridge_lines g.C.Carrier.depth) g.C.Carrier.carries e d w) (sym (s.summed zero).0) handed),
+      (λ d w handed. subst (λ e. HandsOut g.C.Carrier.sizes g.C.Carrier.carries e d w) (sym (s.summed zero).0) handed),
       subst (λ said. Appends mid new (summary_text c.in-Ok.trace said)) said (s.summed zero).1,
     ))
     (λ four. ((s.unwritten four).0, subst (λ said. AppendsFront mid new (summary_text c.in-Ok.trace said)) said (s.unwritten four).1)) s.unsaid s.statuses

@@ -1,9 +1,9 @@
-use Rattle.std.proofs.Common.{◌≡◌, Err, Some, refl, ap, sym, subst, ◌∙◌}
+use Rattle.std.proofs.Common.{◌≡◌, Err, refl, ap, subst}
 use Rattle.fabric_map.specs.Map.{most_moves}
 use Rattle.exchange_events.specs.Sound.{setting_of}
 use Rattle.exchange_core.specs.Working.{world_after}
 use Rattle.std.specs.Io.KnownBytes.{Appends}
-use Rattle.call_processor.specs.Frames.{CarriesFrames, engine_dimensions}
+use Rattle.call_processor.specs.Frames.{CarriesFrames}
 use Rattle.exchange_top.specs.Commands.{Whole, Unwritten_from, No_memory_from, fabric_of}
 use Rattle.exchange_top.specs.Outcomes.{Fabric, IsInterrupted, IsRunWhole, IsUnwritten}
 use Rattle.line_list.specs.Lines.{listed}
@@ -15,12 +15,12 @@ use Rattle.exchange_top.proofs.call.run_trace.Goals as goal
 
 pub returns-in_default-clause-runs : goal.returns-in_default-clause-runs
 returns-in_default-clause-runs g c =
-    let e = c.ended.ensures in
+    let e = c.without_events.ensures in
     No_memory_from e.status (begun_none _ _ _ _ _ _ _ e.none (none_beyond _ _ _))
 
 pub returns-in_default-with_capacity-clause-runs : goal.returns-in_default-with_capacity-clause-runs
 returns-in_default-with_capacity-clause-runs g c =
-    let e = c.ended-in_default-with_capacity.ensures in
+    let e = c.without_events-in_default-with_capacity.ensures in
     No_memory_from e.status (begun_none _ _ _ _ _ _ _ e.none (none_beyond _ _ _))
 
 pub returns-in-Ok-run-clause-runs : goal.returns-in-Ok-run-clause-runs
@@ -31,7 +31,7 @@ returns-in-Ok-run-clause-runs g c =
     Whole refl
     (subst (λ (f : Fabric). IsRunWhole f (AreTold (λ m. (goal.Meter-dyn g (m.vtable, m.value)).stands m.value) (λ m. (goal.Meter-dyn g (m.vtable, m.value)).text m.value) c.args.meters.now.items c.run.new.meters.items) c.args.trace.now c.run.new.order.items) fabric r.whole)
     (subst (λ s. Appends (g.K.Sink.written c.args.sink.now) (g.K.Sink.written c.run.new.sink) (listed g.L.ListingKind.listing (report g.C.Carrier.plays s c.args.trace.now c.run.new.order.items))) e.slots r.text)
-    (subst (λ s. (engine_dimensions g.C.Carrier.external_lines g.C.Carrier.bridge_lines g.C.Carrier.depth c.in-Ok-run.engine ≡ (setting_of s c.args.trace.now).dimensions)
+    (subst (λ s. (g.C.Carrier.sizes c.in-Ok-run.engine ≡ (setting_of s c.args.trace.now).dimensions)
     × CarriesFrames g.C.Carrier.carries c.in-Ok-run.engine (world_after s c.args.trace.now c.run.new.order.items)) e.slots (r.sized, r.carried))
 
 pub returns-in-Err-Write-clause-runs : goal.returns-in-Err-Write-clause-runs

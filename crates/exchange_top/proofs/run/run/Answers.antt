@@ -1,4 +1,4 @@
-use Rattle.std.proofs.Common.{◌≡◌, List, ◌++◌, OnOk, IsErrOf, length, sym, ap, ◌∙◌}
+use Rattle.std.proofs.Common.{◌++◌, OnOk, IsErrOf, length, ap, ◌∙◌}
 use Rattle.std.specs.Io.KnownBytes.{Appends}
 use Rattle.exchange_core.specs.Boards.{Board}
 use Rattle.exchange_core.specs.Working.{order_of}

@@ -1,7 +1,6 @@
-use Rattle.std.proofs.Common.{◌≡◌, ◌≤◌, length, ap, sym, ◌∙◌, arith, subst}
+use Rattle.std.proofs.Common.{length, ap, ◌∙◌, arith, subst}
 use Rattle.segment_run.proofs.LoadLemmas.{turns_for}
 use Rattle.segment_run.proofs.OrderLemmas.{numbers_left, seen_done}
-use Rattle.line_list.specs.Lines.{calls_of}
 use Rattle.exchange_top.specs.Telling.{AreTold, AreToldFront}
 use Rattle.exchange_top.proofs.Kept.{added, told_behind, told_within}
 use Rattle.exchange_top.proofs.Pending.{on_err}

@@ -1,5 +1,4 @@
-use Rattle.std.proofs.Common.{◌≡◌, ◌+◌, Some, slice_get, drop, refl, arith, take_all, OnErr, Result, Ok, Err}
-use Rattle.std.proofs.lemmas.Option.{slice_get_read}
+use Rattle.std.proofs.Common.{◌+◌, drop, take_all, OnErr, Result, Ok, Err}
 use Rattle.meters.proofs.Zips.{zip-same, zip-then, zip-weaker}
 use Rattle.meters.proofs.Told.{told-same, told-then, told-then_front, told-equal, told_front-equal, told_front-append}
 use Rattle.exchange_top.proofs.Parts.{take_read, read_more}

@@ -3,7 +3,7 @@ use Rattle.std.specs.List.{All}
 use Rattle.std.proofs.lemmas.List.Elements.{All-push}
 use Rattle.call_processor.specs.declared.worked.Finished.{Finished}
 use Rattle.tone_rules.specs.Tables.{table_of}
-use Rattle.call_processor.specs.Frames.{IsReady, engine_dimensions}
+use Rattle.call_processor.specs.Frames.{IsReady}
 use Rattle.segment_run.specs.declared.dealing.Job.{Job}
 use Rattle.segment_run.proofs.TeamLemmas.{processors_may, frames_may, they_may, kept_frames, kept_numbered, no_frames, zip_last}
 use Rattle.segment_run.proofs.ListLemmas.{all_front, all_last}
@@ -44,7 +44,7 @@ with_frames-framed-requires-clause-baton g c lifetimes outlive =
 
 pub with_frames-framed-requires-clause-ready : goal.with_frames-framed-requires-clause-ready
 with_frames-framed-requires-clause-ready g c lifetimes outlive =
-    let sizes = engine_dimensions g.C.Carrier.external_lines g.C.Carrier.bridge_lines g.C.Carrier.depth in
+    let sizes = g.C.Carrier.sizes in
     let Y : Job _ _ → Type 0 = λ j. IsReady g.C.Carrier.carries g.C.Carrier.next sizes (g.B.Switchboard.board c.args.board.now) (g.B.Switchboard.known j.seat).seen c.args.engine c.args.tool in
     all_last Y c.pop.new.self.items c.in-Some.last (subst (All Y) c.in-Some.ensures.items c.requires.ready)
 

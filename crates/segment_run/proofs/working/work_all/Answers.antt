@@ -5,7 +5,7 @@ use Rattle.exchange_events.specs.Sound.{IsSound}
 use Rattle.exchange_core.specs.Working.{Entry}
 use Rattle.tone_rules.specs.Tables.{table_of}
 use Rattle.call_processor.specs.declared.worked.Finished.{Finished}
-use Rattle.call_processor.specs.Frames.{IsReady, engine_dimensions}
+use Rattle.call_processor.specs.Frames.{IsReady}
 use Rattle.segment_run.specs.declared.dealing.Job.{Job}
 use Rattle.segment_run.specs.Jobs.{HasItsOctets}
 use Rattle.segment_run.specs.Merging.{Keep}
@@ -26,7 +26,7 @@ pub side_by_side-crew-requires-clause-ready : goal.side_by_side-crew-requires-cl
 side_by_side-crew-requires-clause-ready g c lifetimes outlive =
     let K = g.B.Switchboard.known in
     let v = K c.args.seat.now in
-    let P : List Entry → Type 0 = λ seen. IsReady g.C.Carrier.carries g.C.Carrier.next (engine_dimensions g.C.Carrier.external_lines g.C.Carrier.bridge_lines g.C.Carrier.depth) (g.B.Switchboard.board c.args.board.now) seen c.args.engine c.args.tool in
+    let P : List Entry → Type 0 = λ seen. IsReady g.C.Carrier.carries g.C.Carrier.next g.C.Carrier.sizes (g.B.Switchboard.board c.args.board.now) seen c.args.engine c.args.tool in
     each_at c.args.trace.now c.args.segment (λ (j : Job _ _). j.worker) (λ (j : Job _ _). K j.seat) v P (v.made + 1) 0 c.deal-jobs.result.items c.deal-jobs.ensures.dealt c.requires.ready
 
 pub returns-clause-chief : goal.returns-clause-chief
@@ -46,7 +46,7 @@ returns-clause-chief g c =
     let joined : (Finished _ _) × List Placed → Known = λ u. K u.0.seat in
     let answers : (Finished _ _) × List Placed → List Placed = λ u. u.1 in
     let whole : (Finished _ _) × List Placed → Bool = λ u. u.0.whole in
-    let sizes = engine_dimensions g.C.Carrier.external_lines g.C.Carrier.bridge_lines g.C.Carrier.depth in
+    let sizes = g.C.Carrier.sizes in
     let v = K c.args.seat.now in
     let dealt = K c.deal-jobs.new.seat in
     let k = K c.gather.new.seat in
@@ -96,7 +96,7 @@ returns-clause-ran g c =
     let joined : (Finished _ _) × List Placed → Known = λ u. K u.0.seat in
     let answers : (Finished _ _) × List Placed → List Placed = λ u. u.1 in
     let whole : (Finished _ _) × List Placed → Bool = λ u. u.0.whole in
-    let sizes = engine_dimensions g.C.Carrier.external_lines g.C.Carrier.bridge_lines g.C.Carrier.depth in
+    let sizes = g.C.Carrier.sizes in
     let v = K c.args.seat.now in
     let dealt = K c.deal-jobs.new.seat in
     let k = K c.gather.new.seat in
@@ -147,7 +147,7 @@ returns-clause-done g c =
     let joined : (Finished _ _) × List Placed → Known = λ u. K u.0.seat in
     let answers : (Finished _ _) × List Placed → List Placed = λ u. u.1 in
     let whole : (Finished _ _) × List Placed → Bool = λ u. u.0.whole in
-    let sizes = engine_dimensions g.C.Carrier.external_lines g.C.Carrier.bridge_lines g.C.Carrier.depth in
+    let sizes = g.C.Carrier.sizes in
     let v = K c.args.seat.now in
     let dealt = K c.deal-jobs.new.seat in
     let k = K c.gather.new.seat in

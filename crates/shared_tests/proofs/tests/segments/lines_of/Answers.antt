@@ -2,7 +2,7 @@ use Rattle.std.proofs.Common.{◌≡◌, ◌+◌, ◌<◌, ◌≤◌, List, leng
 use Rattle.seat_history.specs.declared.known.Known.{Known}
 use Rattle.exchange_core.specs.Boards.{turns_of}
 use Rattle.exchange_core.specs.Working.{order_of}
-use Rattle.call_processor.specs.Frames.{IsReady, engine_dimensions}
+use Rattle.call_processor.specs.Frames.{IsReady}
 use Rattle.segment_run.specs.Segment.{IsChief}
 use Rattle.segment_run.specs.Segments.{IsDoneBelow}
 use Rattle.segment_run.proofs.LoadLemmas.{turns_for}
@@ -26,5 +26,5 @@ loop-segment-init g c =
       chief = subst (IsChief (turns_of board)) fresh (first_chief (turns_of board));
       numbers = omega (arith, made);
       below = subst (λ (v : Known). IsDoneBelow c.args.trace.now 0 (order_of v.seen)) fresh (none c.args.trace.now);
-      ready = subst (λ (v : Known). IsReady g.C.Carrier.carries g.C.Carrier.next (engine_dimensions g.C.Carrier.external_lines g.C.Carrier.bridge_lines g.C.Carrier.depth) board v.seen c.args.engine c.args.tool) fresh c.requires.ready;
+      ready = subst (λ (v : Known). IsReady g.C.Carrier.carries g.C.Carrier.next g.C.Carrier.sizes board v.seen c.args.engine c.args.tool) fresh c.requires.ready;
     }

@@ -1,7 +1,7 @@
 use Rattle.std.proofs.Common.{◌*◌, ◌≤◌}
 use Rattle.exchange_core.specs.Boards.{turns_of}
 use Rattle.exchange_core.specs.Working.{order_of}
-use Rattle.call_processor.specs.Frames.{IsReady, engine_dimensions}
+use Rattle.call_processor.specs.Frames.{IsReady}
 use Rattle.segment_run.specs.Segment.{IsChief}
 use Rattle.segment_run.specs.Segments.{IsDoneBelow}
 use Rattle.shared_tests.proofs.tests.segments.lines_of.Given as goal
@@ -12,5 +12,5 @@ invariant-loop-segment g l = record {
   chief : IsChief (turns_of (g.B.Switchboard.board l.board)) (g.B.Switchboard.known l.seat);
   numbers : (g.B.Switchboard.known l.seat).made ≤ 9 * l.segment;
   below : IsDoneBelow l.trace l.segment (order_of (g.B.Switchboard.known l.seat).seen);
-  ready : IsReady g.C.Carrier.carries g.C.Carrier.next (engine_dimensions g.C.Carrier.external_lines g.C.Carrier.bridge_lines g.C.Carrier.depth) (g.B.Switchboard.board l.board) (g.B.Switchboard.known l.seat).seen l.engine l.tool;
+  ready : IsReady g.C.Carrier.carries g.C.Carrier.next g.C.Carrier.sizes (g.B.Switchboard.board l.board) (g.B.Switchboard.known l.seat).seen l.engine l.tool;
 }
