@@ -4,10 +4,8 @@ ghost use Rattle.seat_history.specs.Seats.{Settled};
 ghost use Rattle.exchange_core.specs.Boards.{turns_of};
 ghost use Rattle.exchange_core.specs.declared.tool.Tool.TheVariants.{Nothing};
 ghost use Rattle.exchange_events.specs.Orders.{IsEvent};
-ghost use Rattle.tone_rules.specs.Tables.{table_of};
-ghost use Rattle.call_processor.specs.Alone.{DidInOrder, DidNext, HasOctets, HoldsBehind, IsOnly};
+ghost use Rattle.call_processor.specs.Alone.{DidInOrder, DidNext, HasKeptWhole, IsOnly, KeepsAlone};
 ghost use Rattle.call_processor.specs.Frames.{IsReadyFor};
-ghost use Rattle.call_processor.specs.Keeping.{HasKept, KeepsWork};
 ghost use Rattle.call_processor.specs.Parts.{events_of_segment};
 ghost use Rattle.call_processor.specs.Work.{DidEvent};
 ghost use Rattle.call_processor.specs.declared.worked.Placed.{Placed};
@@ -57,7 +55,7 @@ fn do_next<B: Switchboard, G: Gate, C: Carrier, K: Keeper, R: Wait>(
     ensures desk { desk.new.tool ≡ Nothing }
     ensures ready { IsReadyFor C.carries C.next C.external_lines C.bridge_lines C.depth (B.board board.now) (B.known seat.new) engine.new tool.new }
     ensures lines { length octets.new.items ≡ (B.board board.now).trace.external }
-    ensures kept { OnOk result (HasKept K.holds (B.board board.now) (B.known seat.new) event (HasOctets C.plays (table_of trace.now.tones) (B.board board.now) (B.known seat.new)) keeper.old keeper.new) }
+    ensures kept { OnOk result (HasKeptWhole K.holds C.plays trace.now (B.board board.now) (B.known seat.new) event keeper.old keeper.new) }
     ensures refused { OnErr result ((answers : List Placed) → K.holds keeper.old answers → K.holds keeper.new answers) }
 {
     let Some(input) = input_of(trace, event) else {
@@ -117,7 +115,8 @@ pub fn run_alone<B: Switchboard, G: Gate, C: Carrier, K: Keeper, R: Wait>(
     ensures seated { B.seated board.now seat.new }
     ensures in_order { DidInOrder (events_of_segment trace.now segment) (B.known seat.old) (is_ok result) (B.known seat.new) }
     ensures settled { Settled (turns_of (B.board board.now)) (B.known seat.old) → Settled (turns_of (B.board board.now)) (B.known seat.new) }
-    ensures works { KeepsWork (HoldsBehind K.holds keeper.old) (B.board board.now) (HasOctets C.plays (table_of trace.now.tones) (B.board board.now)) (events_of_segment trace.now segment) (B.known seat.old) keeper.new (is_ok result) (B.known seat.new) }
+    ensures works { KeepsAlone K.holds C.plays trace.now segment (B.board board.now)
+        (B.known seat.old) keeper.old keeper.new (is_ok result) (B.known seat.new) }
     ensures ready { IsReadyFor C.carries C.next C.external_lines C.bridge_lines C.depth (B.board board.now) (B.known seat.new) engine.new tool.new }
 {
     workplace.desk.tool = Tool::Nothing;
