@@ -29,7 +29,7 @@ records_behind-requires g c =
     let v = g.B.Switchboard.known c.args.seat.now in
     let w = g.B.Switchboard.known c.run_segment_with.new.seat in
     let a = added g.C.Carrier.plays g.L.ListingKind.listing board c.args.trace.now c.args.segment v w c.args.lines.now c.run_segment_with.new.keeper c.requires.trace c.run_segment_with.ensures.ran c.requires.kept c.in_ok-done.ensures.answered in
-    told_within _ _ _ _ _ _ _ a _ (ap length c.records.ensures)
+    told_within _ _ _ _ _ _ _ a _ (ap length c.records-told.ensures)
 
 pub returns-in_err-tell-clause-told_front : goal.returns-in_err-tell-clause-told_front
 returns-in_err-tell-clause-told_front g c =
@@ -38,7 +38,7 @@ returns-in_err-tell-clause-told_front g c =
     let w = g.B.Switchboard.known c.run_segment_with.new.seat in
     let a = added g.C.Carrier.plays g.L.ListingKind.listing board c.args.trace.now c.args.segment v w c.args.lines.now c.run_segment_with.new.keeper c.requires.trace c.run_segment_with.ensures.ran c.requires.kept c.in_ok-done.ensures.answered in
     on_err c.from_residual-in_err-tell.result
-    (subst (AreToldFront _ _ c.args.meters.now.items c.tell.new.meters.items) (c.records_behind.ensures ∙ told_behind _ _ _ _ _ _ _ a _ (ap length c.records.ensures)) c.in_err-tell.ensures.front)
+    (subst (AreToldFront _ _ c.args.meters.now.items c.tell.new.meters.items) (c.records_behind.ensures ∙ told_behind _ _ _ _ _ _ _ a _ (ap length c.records-told.ensures)) c.in_err-tell.ensures.front)
 
 pub returns-clause-kept : goal.returns-clause-kept
 returns-clause-kept g c =
@@ -70,4 +70,4 @@ returns-clause-told g c =
     let v = g.B.Switchboard.known c.args.seat.now in
     let w = g.B.Switchboard.known c.run_segment_with.new.seat in
     let a = added g.C.Carrier.plays g.L.ListingKind.listing board c.args.trace.now c.args.segment v w c.args.lines.now c.run_segment_with.new.keeper c.requires.trace c.run_segment_with.ensures.ran c.requires.kept c.in_ok-done.ensures.answered in
-    subst (AreTold _ _ c.args.meters.now.items c.tell.new.meters.items) (c.records_behind.ensures ∙ told_behind _ _ _ _ _ _ _ a _ (ap length c.records.ensures)) c.in_ok-tell.ensures.told
+    subst (AreTold _ _ c.args.meters.now.items c.tell.new.meters.items) (c.records_behind.ensures ∙ told_behind _ _ _ _ _ _ _ a _ (ap length c.records-told.ensures)) c.in_ok-tell.ensures.told
