@@ -61,19 +61,14 @@ pub fn run_segment<B: Switchboard, G: Gate, C: Carrier, R: Threads + Wait + Sync
     ensures ready { IfOk result (λ a. IsReadyFor C.carries C.next C.sizes (B.board board.now) (B.known seat.new) a.engine a.tool) }
 {
     let workroom = Workroom::new(alloc, &AnswerList::new(alloc))?;
-    let (done, _) = run_segment_in(
+    let answer = run_for_answers(
         rt, alloc, board, seat, trace, segment, engine, tool, workroom, gate,
     )?;
-    Ok(done)
+    Ok(answer)
 }
 
-/// Runs one segment of a board's trace as [`run_segment`] does, in a workroom that is handed back for the
-/// next segment.
-///
-/// # Errors
-///
-/// [`AllocError`] for want of memory. What was done by then is in the history, and the workroom is gone.
-pub fn run_segment_in<B: Switchboard, G: Gate, C: Carrier, R: Threads + Wait + Sync>(
+// Runs one segment of a board's trace in this workroom. What keeps its events is a list of answers.
+fn run_for_answers<B: Switchboard, G: Gate, C: Carrier, R: Threads + Wait + Sync>(
     rt: &R,
     alloc: Global,
     board: &B,
@@ -84,15 +79,15 @@ pub fn run_segment_in<B: Switchboard, G: Gate, C: Carrier, R: Threads + Wait + S
     tool: Tool,
     workroom: Workroom<B::Seat, AnswerList>,
     gate: &G,
-) -> Result<(SegmentAnswer<C>, Workroom<B::Seat, AnswerList>), AllocError>
+) -> Result<SegmentAnswer<C>, AllocError>
     requires seated { B.seated board.now seat.old }
     requires may { MayRun (B.board board.now) trace.now segment (B.known seat.old) }
     requires ready { IsReadyFor C.carries C.next C.sizes (B.board board.now) (B.known seat.old) engine tool }
     ensures seated { B.seated board.now seat.new }
     ensures chief { IsChief (turns_of (B.board board.now)) (B.known seat.new) }
     ensures ran { Ran trace.now segment (B.known seat.old) (B.known seat.new) }
-    ensures answer { IfOk result (λ r. IsAnswerOf C.plays C.carries C.next C.sizes (B.board board.now)
-        trace.now segment (B.known seat.old) (B.known seat.new) r.0) }
+    ensures answer { IfOk result (IsAnswerOf C.plays C.carries C.next C.sizes (B.board board.now)
+        trace.now segment (B.known seat.old) (B.known seat.new)) }
 {
     let mut keeper = AnswerList::new(alloc);
     let done = run_segment_with(
@@ -108,12 +103,11 @@ pub fn run_segment_in<B: Switchboard, G: Gate, C: Carrier, R: Threads + Wait + S
         &mut keeper,
         gate,
     )?;
-    let answer = SegmentAnswer {
+    Ok(SegmentAnswer {
         answers: answers_of(alloc, &mut keeper.items)?,
         engine: done.engine,
         tool: done.tool,
-    };
-    Ok((answer, done.workroom))
+    })
 }
 
 // The answers without their places.
@@ -128,7 +122,7 @@ fn answers_of(alloc: Global, placed: &mut VecDeque<Placed>) -> Result<Vec<Answer
 }
 
 /// Runs one segment of a board's trace as [`run_segment`] does, in a workroom that is handed back for the
-/// next segment. A keeper is told of the answers, in the order of the history.
+/// next segment. A keeper gets the answers, in the order of the history.
 ///
 /// # Errors
 ///

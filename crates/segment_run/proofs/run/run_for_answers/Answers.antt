@@ -2,7 +2,7 @@ use Rattle.std.proofs.Common.{◌≡◌, [], map, ap, sym, subst, ◌∙◌}
 use Rattle.tone_rules.specs.Tables.{table_of}
 use Rattle.call_processor.specs.declared.worked.Placed.{Placed}
 use Rattle.segment_run.specs.Segment.{AreAnswered}
-use Rattle.segment_run.proofs.run.run_segment_in.Goals as goal
+use Rattle.segment_run.proofs.run.run_for_answers.Goals as goal
 
 pub returns-clause-answer : goal.returns-clause-answer
 returns-clause-answer g c =
