@@ -20,7 +20,8 @@ use Rattle.call_profile.specs.World.{World}
 use Rattle.call_processor.specs.Frames.{Carrying, Plays}
 use Rattle.line_list.specs.declared.listing.Listing.{Listing}
 use Rattle.line_list.specs.declared.listing.Listing.TheVariants as listing
-use Rattle.exchange_top.specs.Outcomes.{Fabric, IsInterrupted, IsRunWhole, IsUnwritten, listed}
+use Rattle.line_list.specs.Lines.{listed}
+use Rattle.exchange_top.specs.Outcomes.{Fabric, IsInterrupted, IsRunWhole, IsUnwritten}
 use Rattle.exchange_top.specs.Report.{HandsOut, report}
 use Rattle.exchange_top.specs.Streams.{AppendsFront}
 use Rattle.exchange_top.specs.Summary.{summary_text}
@@ -41,7 +42,7 @@ abbrev pub IsNoCommand : List (List ℕ) → Type 0
 IsNoCommand words = command_of words ≡ None
 
 -- the words of a command as octets
-abbrev pub texts : List String → List (List ℕ)
+abbrev pub texts : {A : Type 0} → List (String A) → List (List ℕ)
 texts words = map string_bytes words
 
 -- ---- refusals
