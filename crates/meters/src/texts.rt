@@ -27,12 +27,7 @@ pub(crate) fn append_registers(
 }
 
 // A word and two numbers, each behind a blank but the first.
-fn put_registers(
-    out: &mut Vec<u8>,
-    word: &[u8],
-    a: u64,
-    b: u64,
-) -> Result<(), AllocError>
+fn put_registers(out: &mut Vec<u8>, word: &[u8], a: u64, b: u64) -> Result<(), AllocError>
     ensures line { OnOk result (out.new.items ≡ out.old.items ++ word.now ++ decimal a ++ codes " " ++ decimal b ++ codes "\n") }
     ensures front { take (length out.old.items) out.new.items ≡ out.old.items }
 {

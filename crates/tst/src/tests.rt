@@ -457,7 +457,9 @@ struct Watched {
 
 // How far a turn or a crossing is, before a worker's number; another call than the next one stays wrong.
 const UNDER_WAY: u64 = 100;
+
 const OVER: u64 = 200;
+
 const WRONG: u64 = 300;
 
 // Goes from one word to another, or is wrong.
@@ -469,7 +471,12 @@ fn go(word: Option<&AtomicU64>, from: u64, to: u64) {
 }
 
 impl Watched {
-    fn new(alloc: Global, apart: bool, events: usize, frames: &[u32]) -> Result<Watched, AllocError> {
+    fn new(
+        alloc: Global,
+        apart: bool,
+        events: usize,
+        frames: &[u32],
+    ) -> Result<Watched, AllocError> {
         let mut watched = Watched {
             apart,
             turns: Vec::new(alloc),
@@ -499,11 +506,9 @@ impl Watched {
     // Whether each event had its two calls by these workers, and each frame its two.
     fn saw(&self, workers: &[u32]) -> bool {
         self.turns.len() == workers.len()
-            && self
-                .turns
-                .iter()
-                .zip(workers.iter())
-                .all(|(word, worker)| word.load(Ordering::SeqCst) == OVER + u64::from(*worker))
+            && self.turns.iter().zip(workers.iter()).all(|(word, worker)| word.load(
+                Ordering::SeqCst,
+            ) == OVER + u64::from(*worker))
             && self
                 .frames
                 .iter()
@@ -523,7 +528,11 @@ impl Gate for Watched {
 
     fn before_crossing(&self, frame: u32) {
         if let Some((event, word)) = self.frames.get(frame as usize) {
-            let to = if self.is_over(*event) { UNDER_WAY } else { WRONG };
+            let to = if self.is_over(*event) {
+                UNDER_WAY
+            } else {
+                WRONG
+            };
             go(Some(word), 0, to);
         }
     }
@@ -544,7 +553,8 @@ impl Gate for Watched {
 #[test]
 fn each_event_is_called_at_the_gate_by_its_worker(rt: HostRuntime) -> Result<(), Fail> {
     let alloc = rt.alloc();
-    let trace = b"exchange 1 3 0 2\nnail 0/1 1/1\nF\nnail 1/2 2/2\nnail 2/3 0/3\nF\nsync\nF\nfree 1/1\n";
+    let trace =
+        b"exchange 1 3 0 2\nnail 0/1 1/1\nF\nnail 1/2 2/2\nnail 2/3 0/3\nF\nsync\nF\nfree 1/1\n";
     for apart in [true, false] {
         let gate = Watched::new(alloc, apart, 7, &[2, 5, 6])?;
         let ended = ran_at::<Engine, Watched>(&rt, alloc, trace.to_vec(alloc)?, &gate)?;

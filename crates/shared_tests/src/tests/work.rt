@@ -138,7 +138,14 @@ pub fn every_second<B: Switchboard, R: Wait>(
 {
     let mut granted = 0;
     for i in 0..count {
-        if let Some((_, Outcome::Granted(0, 0))) = nail(rt, board, trace, seat, first + 2 * i, false) {
+        if let Some((_, Outcome::Granted(0, 0))) = nail(
+            rt,
+            board,
+            trace,
+            seat,
+            first + 2 * i,
+            false,
+        ) {
             granted += 1;
         }
     }
