@@ -154,13 +154,24 @@ fn heard_of<G: Gate, R: Threads + Wait + Sync>(
         gate,
         &mut meters,
     );
+    heard(alloc, outcome.status == 0, sink.bytes(), meters.as_slice())
+}
+
+// What was heard of a run that came to its end, from its report and its meters; nothing of any other. It
+// has no value of the run to drop, so that little is to be proved where memory runs out.
+fn heard(
+    alloc: Global,
+    is_whole: bool,
+    report: &[u8],
+    meters: &[Box<dyn Meter>],
+) -> Result<Heard, AllocError> {
     let mut heard = Heard {
         report: Vec::new(alloc),
         calls: Vec::new(alloc),
     };
-    if outcome.status == 0 {
-        heard.report.extend_from_slice(sink.bytes())?;
-        append_summaries(meters.as_slice(), &mut heard.calls)?;
+    if is_whole {
+        heard.report.extend_from_slice(report)?;
+        append_summaries(meters, &mut heard.calls)?;
     }
     Ok(heard)
 }

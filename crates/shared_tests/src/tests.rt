@@ -1,5 +1,4 @@
 //! What no clause says: that the calls come to an end, in threads too. And a worked example, whose numbers were found by hand.
-mod segments;
 mod traces;
 mod work;
 
@@ -9,14 +8,12 @@ ghost use Rattle.exchange_events.specs.Sound.{IsSound};
 use exchange_core::{Core, Switchboard};
 use exchange_events::Trace;
 use fabric_map::FabricMap;
-use gate::{OpenGate, TestGate};
-use segments::{by_segments, by_workers};
 use shared_exchange::SharedExchange;
 use std::alloc::Global;
 use std::sync::Wait;
 use std::test::Fail;
 use std::thread::Threads;
-use traces::{nails_and_frames, spelled, with_idle_octets};
+use traces::nails_and_frames;
 use work::{Outcome, do_all, side_by_side};
 
 // What one thread does with two seats. The place and the answer of each event, and the journal.
@@ -94,37 +91,5 @@ fn two_threads_share_one_history(rt: HostRuntime) -> Result<(), Fail> {
     assert_eq!(rt; granted, (30, 30));
     assert_eq!(rt; journal.len(), 60);
     assert!(rt; has_every_second(&journal, 0, 1) && has_every_second(&journal, 1, 2));
-    Ok(())
-}
-
-// A connection carries each octet two frames later, both ways, by one caller and by threads.
-#[test]
-fn segments_are_answered(rt: HostRuntime) -> Result<(), Fail> {
-    let alloc = rt.alloc();
-    let trace = spelled(
-        alloc,
-        "exchange 1 2 0 1\nnail 0/1 1/1\nsync\n\
-        F 0:01+ 1:81+\nF 0:02+ 1:82+\nF 0:03+ 1:83+\nF 0:04+ 1:84+\nF 0:05+ 1:85+\n",
-    )
-    .ok_or("no trace")?;
-    let report = "1 granted 0 0\n2 frame 0\n3 frame 1\n4 frame 2 0:81+ 1:01+\n\
-        5 frame 3 0:82+ 1:02+\n6 frame 4 0:83+ 1:03+\n";
-    let wanted = with_idle_octets(alloc, report)?;
-    let alone = by_segments(&rt, alloc, &trace, &OpenGate)?;
-    assert_eq!(rt; alone.as_slice(), wanted.as_slice());
-    let apart = by_segments(&rt, alloc, &trace, &TestGate::new(0, u32::MAX))?;
-    assert_eq!(rt; apart.as_slice(), wanted.as_slice());
-    Ok(())
-}
-
-// A worker does its own part, and no other event.
-#[test]
-fn workers_do_their_parts(rt: HostRuntime) -> Result<(), Fail> {
-    let alloc = rt.alloc();
-    let text = "exchange 1 2 0 1\nnail 0/1 1/1\nF\nnail 0/1 1/2\nF\n";
-    let trace = spelled(alloc, text).ok_or("no trace")?;
-    let (commands, frames) = by_workers(&rt, alloc, &trace)?;
-    assert_eq!(rt; commands.as_slice(), b"1 granted 0 0\n3 busy\n".as_slice());
-    assert_eq!(rt; frames.as_slice(), b"2 frame 0\n4 frame 1\n".as_slice());
     Ok(())
 }

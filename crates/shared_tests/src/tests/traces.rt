@@ -1,5 +1,5 @@
-//! Traces: one of nails and frames, and any that is spelled.
-ghost use Rattle.std.specs.Prelude.{◌≡◌, length, IfOk, IfSome, All, ◌*◌, ◌+◌};
+//! A trace of nails and frames.
+ghost use Rattle.std.specs.Prelude.{◌≡◌, length, IfOk, All, ◌*◌, ◌+◌};
 ghost use Rattle.exchange_events.specs.Sound.{IsSound, Fits};
 
 use circuit_model::Slot;
@@ -7,7 +7,6 @@ use exchange_events::{Event, Events, Input, Segments, Trace};
 use number_plan::Plan;
 use std::alloc::{AllocError, Global};
 use tone_rules::Tones;
-use trace_text::read_trace;
 
 fn on(line: u8, place: u8) -> Slot
     ensures { result ≡ record { line = line; place = place } }
@@ -55,30 +54,4 @@ pub fn nails_and_frames(alloc: Global) -> Result<Trace, AllocError>
         events: Events::of(events),
         segments: Segments::of(ends),
     })
-}
-
-/// A text in which `+` stands for twenty-nine idle octets, with these.
-pub fn with_idle_octets(alloc: Global, text: &str) -> Result<Vec<u8>, AllocError> {
-    let mut bytes = Vec::new(alloc);
-    for byte in text.bytes() {
-        if byte == b'+' {
-            for _ in 0..29 {
-                bytes.extend_from_slice(b"D5")?;
-            }
-        } else {
-            bytes.push(byte)?;
-        }
-    }
-    Ok(bytes)
-}
-
-/// The trace that such a text says. `None` where it says none.
-pub fn spelled(alloc: Global, text: &str) -> Option<Trace>
-    ensures { IfSome result IsSound }
-{
-    let bytes = with_idle_octets(alloc, text).ok()?;
-    match read_trace(alloc, bytes.as_slice()) {
-        Ok(trace) => Some(trace),
-        Err(_) => None,
-    }
 }
