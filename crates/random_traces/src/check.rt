@@ -154,12 +154,12 @@ fn heard_of<G: Gate, R: Threads + Wait + Sync>(
         gate,
         &mut meters,
     );
-    heard(alloc, outcome.status == 0, sink.bytes(), meters.as_slice())
+    what_was_heard(alloc, outcome.status == 0, sink.bytes(), meters.as_slice())
 }
 
 // What was heard of a run that came to its end, from its report and its meters; nothing of any other. It
 // has no value of the run to drop, so that little is to be proved where memory runs out.
-fn heard(
+fn what_was_heard(
     alloc: Global,
     is_whole: bool,
     report: &[u8],

@@ -80,14 +80,9 @@ fn run<R: Print + Eprint + Threads + Wait + Sync>(
     for number in 1..=traces {
         let trial = drawn(alloc, &mut random, kind)?;
         counts.add(&trial);
-        let agree = run_both(
-            rt,
-            alloc,
-            &trial.script,
-            trial.fresh,
-            trial.again,
-            &mut orders,
-        )?;
+        let fresh = trial.fresh;
+        let again = trial.again;
+        let agree = run_both(rt, alloc, &trial.script, fresh, again, &mut orders)?;
         if !agree {
             println!(rt; "{name}: trace {number} differs")?;
         }
