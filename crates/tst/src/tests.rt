@@ -226,155 +226,37 @@ fn words_other_than_run_are_refused_unread(rt: HostRuntime) -> Result<(), Fail> 
     Ok(())
 }
 
-// How a call ends over ends of which one read or one write fails, where it is made; none of them has the
-// number 0. The pieces are those of reads and of writes.
-fn failing(
-    rt: &(impl Threads + Wait + Sync),
-    alloc: Global,
-    words: &[&str],
-    input: &[u8],
-    pieces: (usize, usize),
-    read: u32,
-    write: u32,
-    meters: &mut Vec<Box<dyn Meter>>,
-) -> Result<Ended, AllocError> {
-    let mut given = Vec::new(alloc);
-    for word in words {
-        given.push(String::from_str(alloc, word)?)?;
-    }
-    let source = MemSource::new(input.to_vec(alloc)?, pieces.0, [read].to_vec(alloc)?);
-    let sink = MemSink::new(alloc, 1_000_000, pieces.1, [write].to_vec(alloc)?)?;
-    Ok(called::<Engine, OpenGate>(rt, alloc, &given, source, sink, &OpenGate, meters))
-}
-
-// Each read fails in turn, and then nothing is written; then each write, before which all is written. The
-// lines that refuse words and an input may fail to be written as well, and so may a summary.
 #[test]
-fn each_end_fails_in_turn(rt: HostRuntime) -> Result<(), Fail> {
+fn a_failing_read_or_write_ends_the_call(rt: HostRuntime) -> Result<(), Fail> {
     let alloc = rt.alloc();
-    for (words, input, pieces, reads, events, status, report) in [
-        (["run"].as_slice(), DELAY, (16, 10), 44, 6, 0, DELAY_REPORT),
-        (&["run"], DELAY, (1, 1), 676, 6, 0, DELAY_REPORT),
-        (&["run"], "hold\n", (16, 10), 2, 0, 1, "refused 1 header\n"),
-        (&["gen"], DELAY, (16, 10), 0, 0, 2, "refused words\n"),
-        (
-            &["gen", "0", "1"],
-            DELAY,
-            (16, 10),
-            0,
-            87,
-            0,
-            "events 87 frames 2\n",
-        ),
+    // The word, the input, the pieces of reads and writes, the read and the write that fail, and what
+    // comes of it. The line that refuses the words, or the input, may fail to be written as well.
+    for (word, input, read_piece, read, write_piece, write, ends, written) in [
+        ("run", DELAY, 16, 3, 1000, 9, (3, 1, 0), b"".as_slice()),
+        ("run", DELAY, 1000, 9, 10, 2, (4, 0, 1), b"1 granted "),
+        ("gen", DELAY, 1000, 9, 1000, 1, (4, 0, 1), b""),
+        ("gen", DELAY, 1000, 9, 8, 2, (4, 0, 1), b"refused "),
+        ("run", "hold\n", 1000, 9, 1000, 1, (4, 0, 1), b""),
+        ("run", "hold\n", 1000, 9, 8, 2, (4, 0, 1), b"refused "),
     ] {
-        let input = spelled(alloc, input)?;
-        let report = spelled(alloc, report)?;
-        for read in 1..reads + 1 {
-            let ended = failing(
-                &rt,
-                alloc,
-                words,
-                &input,
-                pieces,
-                read,
-                0,
-                &mut Vec::new(alloc),
-            )?;
-            assert_eq!(rt;
-                (ended.status, ended.read_faults, ended.write_faults),
-                (3, 1, 0),
-                "{read}"
-            );
-            assert!(rt;
-                ended.order.is_empty() && ended.sink.bytes().is_empty(),
-                "{read}"
-            );
-        }
-        let mut done = 0;
-        while done < report.len() {
-            let write = (done / pieces.1) as u32 + 1;
-            let ended = failing(
-                &rt,
-                alloc,
-                words,
-                &input,
-                pieces,
-                0,
-                write,
-                &mut Vec::new(alloc),
-            )?;
-            assert_eq!(rt;
-                (ended.status, ended.read_faults, ended.write_faults),
-                (4, 0, 1),
-                "{write}"
-            );
-            assert_eq!(rt; ended.order.len(), events, "{write}");
-            assert_eq!(rt; ended.sink.bytes(), &report[..done], "{write}");
-            done += pieces.1;
-        }
-        let write = (done / pieces.1) as u32 + 1;
-        let ended = failing(
+        let words = vec![in alloc; String::from_str(alloc, word)?]?;
+        let source = MemSource::new(spelled(alloc, input)?, read_piece, [read].to_vec(alloc)?);
+        let sink = MemSink::new(alloc, 1000, write_piece, [write].to_vec(alloc)?)?;
+        let ended = called::<Engine, OpenGate>(
             &rt,
             alloc,
-            words,
-            &input,
-            pieces,
-            reads + 1,
-            write,
+            &words,
+            source,
+            sink,
+            &OpenGate,
             &mut Vec::new(alloc),
-        )?;
+        );
         assert_eq!(rt;
             (ended.status, ended.read_faults, ended.write_faults),
-            (status, 0, 0)
+            ends,
+            "{word}"
         );
-        assert_eq!(rt; ended.sink.bytes(), report.as_slice());
-    }
-    Ok(())
-}
-
-// The first write has the lines of two segments, the second that of a third one, in which a call ends: where
-// one of them fails, no segment behind it is run, and no meter is told of a call that ends in one.
-#[test]
-fn a_run_is_cut_between_segments(rt: HostRuntime) -> Result<(), Fail> {
-    let alloc = rt.alloc();
-    let mut input = b"exchange 1 1 1 1\nnumber 7 room 0\nnail 0/1 0/2\n\
-        M 0 080200010504038090A370028037\nsync\n"
-        .to_vec(alloc)?;
-    for _ in 0..1000 {
-        input.extend_from_slice(spelled(alloc, "F 0:11+\n")?.as_slice())?;
-    }
-    input.extend_from_slice(b"sync\nM 0 080200014508028090\n")?;
-    let mut first = Vec::new(alloc);
-    for (write, status, events, last, said) in [
-        (3, 0, 1003, "1003 message 0:080280014D\n", "peg 1 1\n"),
-        (2, 4, 1003, "", "peg 1 1\n"),
-        (1, 4, 1002, "", "peg 0 0\n"),
-    ] {
-        let mut meters: Vec<Box<dyn Meter>> = Vec::with_capacity(alloc, 1)?;
-        meters.push(Box::new(alloc, PegCount::new())?)?;
-        let ended = failing(
-            &rt,
-            alloc,
-            &["run"],
-            &input,
-            (4096, 1_000_000),
-            0,
-            write,
-            &mut meters,
-        )?;
-        let mut text = Vec::new(alloc);
-        append_summaries(meters.as_slice(), &mut text)?;
-        assert_eq!(rt; (ended.status, ended.order.len()), (status, events));
-        assert_eq!(rt; text.as_slice(), said.as_bytes());
-        let written = ended.sink.bytes();
-        assert!(rt; written.ends_with(last.as_bytes()));
-        let front = written.strip_suffix(last.as_bytes()).unwrap_or(written);
-        if status == 0 {
-            assert!(rt; front.len() > 65_536);
-            first = front.to_vec(alloc)?;
-        }
-        assert_eq!(rt; front.len(), if write == 1 { 0 } else { first.len() });
-        assert!(rt; first.starts_with(front));
+        assert_eq!(rt; ended.sink.bytes(), written, "{word}");
     }
     Ok(())
 }
