@@ -1,6 +1,6 @@
 use crate::orders::{is_lawful, numbered, of_event, order_of};
 use call_traffic::Script;
-use circuit_model::{Slot, channel_of};
+use circuit_model::{PLACES, Slot, channel_of};
 use ex_io::{MemSink, MemSource};
 use exchange_top::{Outcome, exchange};
 use frame_engine::Engine;
@@ -65,8 +65,15 @@ fn append_call(calls: &mut String, record: &CallRecord) -> Result<(), AllocError
     write!(calls, "{from} {to} {cause}\n")
 }
 
+// Appends a slot by its line and its channel; a place that no line has stays as it is.
 fn append_slot(calls: &mut String, slot: Slot) -> Result<(), AllocError> {
-    write!(calls, "{}/{} ", slot.line, channel_of(slot.place))
+    let Slot { line, place } = slot;
+    let channel = if place < PLACES {
+        channel_of(place)
+    } else {
+        place
+    };
+    write!(calls, "{line}/{channel} ")
 }
 
 /// What is said of a run: its report, and a line for each call that ended.
