@@ -1,10 +1,8 @@
 -- A frame at its place in the history, and what the engine makes of it.
-use Rattle.std.proofs.Common.{true, ◌≡◌, ℕ, ◌+◌, ◌-◌, ◌<◌, List, ◌++◌, Option, Some, None, [], ◌∷◌, length, take, drop, drop_of_length-le, append-nil, take_all, slice_get, refl, sym, subst, arith, ◌∙◌, ap}
-use Rattle.std.specs.Prelude.{All}
+use Rattle.std.proofs.Common.{true, ◌≡◌, ℕ, ◌+◌, ◌<◌, List, ◌++◌, Option, Some, None, [], ◌∷◌, length, take, drop, drop_of_length-le, append-nil, take_all, refl, sym, subst, arith, ◌∙◌, ap}
 use Rattle.std.specs.List.{cons_option}
 use Rattle.std.proofs.lemmas.List.{map-append, length-map}
-use Rattle.std.proofs.lemmas.List.Elements.{All-nil, All-cons, All-head, All-tail, filter_map-append}
-use Rattle.std.proofs.lemmas.Option.{slice_get_within, get_or_from_slice_get}
+use Rattle.std.proofs.lemmas.List.Elements.{All-head, All-tail, filter_map-append}
 use Rattle.circuit_model.specs.declared.circuit.Circuit.{Circuit}
 use Rattle.circuit_model.specs.FrameInput.{Input}
 use Rattle.circuit_model.specs.Ports.{Ports}
@@ -15,7 +13,7 @@ use Rattle.frame_engine.specs.Frames.{Boundary, Come, IsNext, PlaysOut}
 use Rattle.exchange_events.specs.declared.trace.Event.{Event}
 use Rattle.exchange_events.specs.declared.trace.Event.TheVariants.{Frame}
 use Rattle.exchange_events.specs.declared.trace.Trace.{Trace}
-use Rattle.exchange_events.specs.Orders.{Frame_worker}
+use Rattle.exchange_events.specs.Orders.{Frame_worker, event_at}
 use Rattle.exchange_core.specs.declared.tool.Tool.{Tool}
 use Rattle.exchange_core.specs.declared.tool.Tool.TheVariants.{Image}
 use Rattle.seat_history.proofs.HistoryLemmas.{unseen_front}
@@ -23,6 +21,7 @@ use Rattle.seat_history.specs.Histories.{StartsWith, unseen}
 use Rattle.exchange_core.specs.Boards.{Board, IsFrame, NoFrames, IsToolAt, ShowsAt, setting_at, world_at}
 use Rattle.exchange_events.specs.Sizes.{Setting, Dimensions}
 use Rattle.exchange_events.specs.Sound.{Fits, IsSound}
+use Rattle.exchange_events.proofs.EventNumbers.{of_event_at}
 use Rattle.call_profile.specs.IsMade.{IsMade}
 use Rattle.call_profile.specs.Step.{next, world_after_all, events_of}
 use Rattle.exchange_core.specs.Working.{Entry, IsNumbered, IsOfSize, IsToolFor, ShowsWorld, order_of}
@@ -30,24 +29,19 @@ use Rattle.call_profile.specs.World.{World, start, pass}
 use Rattle.call_profile.proofs.HistoryLemmas.{made, made_pass}
 use Rattle.call_profile.proofs.QuietEventLemmas.{SameFrames, same_self, then_same as same_then, quiet}
 use Rattle.call_profile.proofs.RunLemmas.{few_events, world_next}
-use Rattle.exchange_core.proofs.StepLemmas.{world_more}
+use Rattle.exchange_core.proofs.StepLemmas.{fits_all, world_more}
 use Rattle.call_processor.specs.Parts.{does, is_its}
 use Rattle.call_processor.specs.Frames.{Plays, Carrying, CarriesFrames, IsReady, IsPlayed}
 
 -- ---- the event with a number
 
-one_number : (events : List Event) (k : ℕ) (one other : Event) → slice_get events k ≡ Some one → slice_get events k ≡ Some other → one ≡ other
-one_number events k one other is is_too = let same : Some one ≡ Some other = sym is ∙ is_too in cc
-
 pub one_input : (trace : Trace) (n : ℕ) (one other : Input) → IsNumbered trace n (Frame one) → IsNumbered trace n (Frame other) → one ≡ other
-one_input trace n one other is is_too = let same = one_number trace.events (n - 1) (Frame one) (Frame other) is is_too in cc
+one_input trace n one other is is_too = let same : Some (Frame one) ≡ Some (Frame other) = sym is ∙ is_too in cc
 
 -- what arrives in a frame has a part for each line
 pub input_whole : (trace : Trace) (n : ℕ) (input : Input) → IsSound trace → IsNumbered trace n (Frame input) → length input ≡ trace.external
 input_whole trace n input sound number =
-    let fits : Fits trace.external (Frame input) =
-    subst (Fits trace.external) (get_or_from_slice_get trace.events (n - 1) (Frame input) (Frame input) number)
-    (sound.events (n - 1) (Frame input) (slice_get_within trace.events (n - 1) (Frame input) number)) in
+    let fits : Fits trace.external (Frame input) = of_event_at (Fits trace.external) trace.events n (Frame input) sound.events number in
     fits
 
 -- a frame is the frame worker's
@@ -56,7 +50,7 @@ frame_its trace n frame = ap (does trace.processors Frame_worker) frame.1
 
 -- ---- an event that is no frame leaves the frames as they are
 
-quiet_one : (s : Setting) (trace : Trace) (w : World) (n : ℕ) (o : Option Event) (es : List Event) → slice_get trace.events (n - 1) ≡ o → (IsFrame trace n → ⊥)
+quiet_one : (s : Setting) (trace : Trace) (w : World) (n : ℕ) (o : Option Event) (es : List Event) → event_at trace.events n ≡ o → (IsFrame trace n → ⊥)
     → ((v : World) → SameFrames v (world_after_all s v es)) → SameFrames w (world_after_all s w (cons_option o es))
 quiet_one s trace w n None es is none rest = rest w
 quiet_one s trace w n (Some e) es is none rest =
@@ -65,7 +59,7 @@ quiet_one s trace w n (Some e) es is none rest =
 quiet_all : (s : Setting) (trace : Trace) (history : List Entry) → NoFrames trace history → (w : World) → SameFrames w (world_after_all s w (events_of trace.events (order_of history)))
 quiet_all s trace [] none w = same_self w
 quiet_all s trace (e ∷ history) none w =
-    quiet_one s trace w e.1 (slice_get trace.events (e.1 - 1)) (events_of trace.events (order_of history)) refl (All-head (λ (x : Entry). IsFrame trace x.1 → ⊥) e history none)
+    quiet_one s trace w e.1 (event_at trace.events e.1) (events_of trace.events (order_of history)) refl (All-head (λ (x : Entry). IsFrame trace x.1 → ⊥) e history none)
     (quiet_all s trace history (All-tail (λ (x : Entry). IsFrame trace x.1 → ⊥) e history none))
 
 world_append : (s : Setting) (w : World) (es fs : List Event) → world_after_all s w (es ++ fs) ≡ world_after_all s (world_after_all s w es) fs
@@ -82,7 +76,7 @@ same_frames board seen history begins none =
     let longer : world_at board history ≡ world_after_all s (world_at board seen) (events_of events (order_of rest)) =
     ap (world_at board) begins.1
     ∙ (ap (λ (order : List ℕ). world_after_all s (start s.dimensions) (events_of events order)) (map-append (λ (e : Entry). e.1) seen rest)
-    ∙ (ap (world_after_all s (start s.dimensions)) (filter_map-append (λ (n : ℕ). slice_get events (n - 1)) (order_of seen) (order_of rest))
+    ∙ (ap (world_after_all s (start s.dimensions)) (filter_map-append (event_at events) (order_of seen) (order_of rest))
     ∙ world_append s (start s.dimensions) (events_of events (order_of seen)) (events_of events (order_of rest)))) in
     subst (SameFrames (world_at board seen)) (sym longer) (quiet_all s board.trace rest still (world_at board seen))
 
@@ -99,20 +93,9 @@ frames_few board history sound room =
 
 -- ---- a frame
 
-fits_one : (external : ℕ) (o : Option Event) (es : List Event) → ((e : Event) → o ≡ Some e → Fits external e) → All (Fits external) es → All (Fits external) (cons_option o es)
-fits_one external None es one rest = rest
-fits_one external (Some e) es one rest = All-cons (Fits external) e es (one e refl) rest
-
-fits_each : (trace : Trace) (order : List ℕ) → All (Fits trace.external) trace.events → All (Fits trace.external) (events_of trace.events order)
-fits_each trace [] all = All-nil (Fits trace.external)
-fits_each trace (n ∷ order) all =
-    fits_one trace.external (slice_get trace.events (n - 1)) (events_of trace.events order)
-    (λ e is. subst (Fits trace.external) (get_or_from_slice_get trace.events (n - 1) e e is) (all (n - 1) e (slice_get_within trace.events (n - 1) e is)))
-    (fits_each trace order all)
-
 pub made_at : (board : Board) (history : List Entry) → IsSound board.trace → IsMade (setting_at board).dimensions (setting_at board).tones (world_at board history)
 made_at board history sound =
-    made (setting_at board) (events_of board.trace.events (order_of history)) sound.planned (fits_each board.trace (order_of history) sound.events)
+    made (setting_at board) (events_of board.trace.events (order_of history)) sound.planned (fits_all board.trace (order_of history) sound.events)
 
 -- the circuits and ports of the frames so far, and of the one that begins, come of one list of commands
 come : (d : Dimensions) (tones : Tones) (w : World) → IsMade d tones w → Come d.external d.bridges (w.held ++ w.holding.circuits ∷ []) (w.seated ++ w.ports ∷ [])

@@ -1,11 +1,11 @@
 -- An event that is no frame is done without a tool.
-use Rattle.std.proofs.Common.{rules, ◌≡◌, ℕ, ◌-◌, true, Option, Some, None, slice_get, refl, sym, subst}
+use Rattle.std.proofs.Common.{rules, ◌≡◌, ℕ, true, Option, Some, None, refl, sym, subst}
 use Rattle.exchange_core.specs.declared.tool.Tool.{Tool}
 use Rattle.exchange_core.specs.declared.tool.Tool.TheVariants.{Nothing, Image}
 use Rattle.exchange_events.specs.declared.trace.Event.{Event}
 use Rattle.exchange_events.specs.declared.trace.Event.TheVariants.{Nail, Seat, Free, Message, Frame}
 use Rattle.exchange_events.specs.declared.trace.Trace.{Trace}
-use Rattle.exchange_events.specs.Orders.{Processor, worker_of}
+use Rattle.exchange_events.specs.Orders.{Processor, event_at, worker_of}
 use Rattle.exchange_core.specs.Boards.{Board, IsToolAt, setting_at}
 use Rattle.exchange_core.specs.Working.{IsToolFor}
 use Rattle.exchange_events.specs.Sizes.{Dimensions}
@@ -38,8 +38,8 @@ module _ (board : Board) (trace : Trace) (same : trace ≡ board.trace) (p n : �
       (none_asked (setting_at board).dimensions board.trace.processors p e (subst (λ (o : Option Event). does board.trace.processors (Processor p) o ≡ true) number its_there))
 
   pub no_tool_left : (t : Tool) → IsToolAt board n t → t ≡ Nothing
-  no_tool_left t serves = go (slice_get board.trace.events (n - 1)) refl its_there
+  no_tool_left t serves = go (event_at board.trace.events n) refl its_there
     where
-      go : (o : Option Event) → slice_get board.trace.events (n - 1) ≡ o → does board.trace.processors (Processor p) o ≡ true → t ≡ Nothing
+      go : (o : Option Event) → event_at board.trace.events n ≡ o → does board.trace.processors (Processor p) o ≡ true → t ≡ Nothing
       go None at done = absurd (cc)
       go (Some e) at done = none_other (setting_at board).dimensions board.trace.processors p e t done (serves e at)

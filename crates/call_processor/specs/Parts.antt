@@ -1,8 +1,8 @@
 -- Which events of a segment a worker does. Source: this exchange's own.
-use Rattle.std.specs.Prelude.{ℕ, ◌-◌, ◌&&◌, nat_eq, Bool, true, false, List, length, filter, slice_get, Option, Some, None}
+use Rattle.std.specs.Prelude.{ℕ, ◌&&◌, nat_eq, Bool, true, false, List, length, filter, Option, Some, None}
 use Rattle.exchange_events.specs.declared.trace.Event.{Event}
 use Rattle.exchange_events.specs.declared.trace.Trace.{Trace}
-use Rattle.exchange_events.specs.Orders.{Worker, Processor, Frame_worker, worker_of, segment_of, file_order}
+use Rattle.exchange_events.specs.Orders.{Worker, Processor, Frame_worker, event_at, worker_of, segment_of, file_order}
 
 -- the two are one worker
 abbrev pub is_worker : Worker → Worker → Bool
@@ -18,7 +18,7 @@ does processors worker (Some e) = is_worker (worker_of processors e) worker
 
 -- the trace has an event with this number, and the worker does it
 abbrev pub is_its : Trace → Worker → ℕ → Bool
-is_its trace worker n = does trace.processors worker (slice_get trace.events (n - 1))
+is_its trace worker n = does trace.processors worker (event_at trace.events n)
 
 -- a worker's part of a segment, segments being counted from 0: the numbers of its events, in the order of the file
 abbrev pub part_of : Trace → ℕ → Worker → List ℕ

@@ -1,6 +1,5 @@
 -- A run with one event more, and how many frames a run has at the most.
-use Rattle.std.proofs.Common.{◌≡◌, ℕ, ◌+◌, ◌-◌, ◌≤◌, Bool, true, false, List, [], ◌∷◌, ◌++◌, length, Option, Some, None, refl, ◌∙◌, ap, arith, if◌then◌else◌}
-use Rattle.std.specs.Prelude.{slice_get}
+use Rattle.std.proofs.Common.{◌≡◌, ℕ, ◌+◌, ◌≤◌, Bool, true, false, List, [], ◌∷◌, ◌++◌, length, Option, Some, None, refl, ◌∙◌, ap, arith, if◌then◌else◌}
 use Rattle.std.specs.List.{cons_option}
 use Rattle.std.proofs.lemmas.List.Elements.{filter_map-append}
 use Rattle.exchange_events.specs.declared.trace.Event.{Event}
@@ -13,6 +12,7 @@ use Rattle.call_profile.specs.IdleSlots.{is_nailed}
 use Rattle.call_profile.specs.Operations as op
 use Rattle.call_profile.specs.Operations.{Operation, Making, making_at, making_after, making_after_all}
 use Rattle.call_profile.specs.Restarts.{restart_slot}
+use Rattle.exchange_events.specs.Orders.{event_at}
 use Rattle.exchange_events.specs.Sizes.{Setting, Dimensions}
 use Rattle.call_profile.specs.Setup.{course_of_setup}
 use Rattle.call_profile.specs.Step.{next, world_after_all, events_of, may_nail, may_seat}
@@ -27,12 +27,12 @@ world-snoc s w [] e = refl
 world-snoc s w (x ∷ es) e = world-snoc s (next s w x) es e
 
 -- the event with a number, as a list
-one_event : (events : List Event) (n : ℕ) (e : Event) → slice_get events (n - 1) ≡ Some e → events_of events (n ∷ []) ≡ e ∷ []
+one_event : (events : List Event) (n : ℕ) (e : Event) → event_at events n ≡ Some e → events_of events (n ∷ []) ≡ e ∷ []
 one_event events n e is = ap (λ o. cons_option o []) is
 
-pub events_of-snoc : (events : List Event) (order : List ℕ) (n : ℕ) (e : Event) → slice_get events (n - 1) ≡ Some e → events_of events (order ++ n ∷ []) ≡ events_of events order ++ e ∷ []
+pub events_of-snoc : (events : List Event) (order : List ℕ) (n : ℕ) (e : Event) → event_at events n ≡ Some e → events_of events (order ++ n ∷ []) ≡ events_of events order ++ e ∷ []
 events_of-snoc events order n e is =
-    filter_map-append (λ n. slice_get events (n - 1)) order (n ∷ []) ∙ ap (λ es. events_of events order ++ es) (one_event events n e is)
+    filter_map-append (event_at events) order (n ∷ []) ∙ ap (λ es. events_of events order ++ es) (one_event events n e is)
 
 -- ---- the number of the next frame
 
@@ -79,4 +79,4 @@ few_more (Some e) es = omega arith
 
 pub few_events : (events : List Event) (order : List ℕ) → length (events_of events order) ≤ length order
 few_events events [] = omega arith
-few_events events (n ∷ order) = let rest = few_events events order in let one = few_more (slice_get events (n - 1)) (events_of events order) in omega (arith, rest, one)
+few_events events (n ∷ order) = let rest = few_events events order in let one = few_more (event_at events n) (events_of events order) in omega (arith, rest, one)

@@ -1,10 +1,13 @@
 -- The calls that a message ends, told by the legs before and after it. Source: this exchange's own.
-use Rattle.std.specs.Prelude.{◌≡◌, ℕ, true, false, List, Contains, Option, Some, None}
+use Rattle.std.specs.Prelude.{◌≡◌, ℕ, ◌<◌, nat_lt, true, false, List, AllPairs, Contains, Option, Some, None, if◌then◌else◌}
 use Rattle.circuit_model.specs.Extent.{IsExternal}
 use Rattle.q931_codec.specs.Causes.{temporary_failure}
 use Rattle.call_states.specs.Acts.{act_on, cause_of_act}
 use Rattle.call_states.specs.declared.leg.Held.{Held}
+use Rattle.clearing_rules.specs.declared.scope.Restart.{Restart}
 use Rattle.exchange_events.specs.declared.record.CallRecord.{CallRecord}
+use Rattle.exchange_events.specs.declared.record.Party.{Party}
+use Rattle.exchange_events.specs.declared.record.Party.TheVariants as party
 use Rattle.exchange_events.specs.declared.trace.Event.TheVariants as event
 use Rattle.exchange_events.specs.Sizes.{Setting}
 use Rattle.exchange_events.specs.Sound.{Fits, IsPlanned}
@@ -12,6 +15,7 @@ use Rattle.call_profile.specs.CallRecords.{is_calling, record_of}
 use Rattle.call_profile.specs.Calls.{Request, For_leg, New_call, On_no_call, Restarts, Unanswered, request_of, after_message, answer_to}
 use Rattle.call_profile.specs.LegStanding.{CallsStand}
 use Rattle.call_profile.specs.Legs.{leg_at}
+use Rattle.call_profile.specs.Restarts.{restarts_slot}
 use Rattle.call_profile.specs.World.{World}
 
 -- the octets come on a line of an exchange in which circuits and legs stand as they must
@@ -44,3 +48,25 @@ pub record IsRecordOf (s : Setting) (w : World) (line : ℕ) (octets : List ℕ)
 -- the record of a call is among those that are answered
 abbrev pub IsRecorded : Setting → World → ℕ → List ℕ → Held → Type 0
 IsRecorded s w line octets h = (told : CallRecord) × IsRecordOf s w line octets h told × Contains (answer_to s w line octets).records told
+
+-- ---- the order of records
+
+-- the message is no RESTART that is taken
+abbrev pub RestartsNothing : World → ℕ → List ℕ → Type 0
+RestartsNothing w line octets = (r : Restart) → ¬ (request_of w.legs line octets ≡ Restarts r)
+
+-- the place of a party's slot where a RESTART on a line restarts it; beyond all places where it does not
+abbrev pub restarted_place : Restart → ℕ → Party → ℕ
+restarted_place r line (party.Line x) = if restarts_slot r line x then x.place else 30
+restarted_place r line (party.Room room) = 30
+
+-- the place of the first restarted leg of a call
+abbrev pub first_restarted : Restart → ℕ → CallRecord → ℕ
+first_restarted r line told =
+    let caller = restarted_place r line (party.Line told.caller) in
+    let called = restarted_place r line told.called in
+    if nat_lt called caller then called else caller
+
+-- the records come by the place of the first restarted leg of their call, each once
+abbrev pub ComeByPlace : Restart → ℕ → List CallRecord → Type 0
+ComeByPlace r line told = AllPairs (λ one later. first_restarted r line one < first_restarted r line later) told

@@ -1,5 +1,5 @@
 -- The exchange as a machine: what each event makes of what stands, and what it is answered. Source: this exchange's own.
-use Rattle.std.specs.Prelude.{ℕ, ◌-◌, ◌≤◌, ◌&&◌, not, Bool, List, [], ◌∷◌, filter_map, slice_get, IfSome, if◌then◌else◌}
+use Rattle.std.specs.Prelude.{ℕ, ◌≤◌, ◌&&◌, not, Bool, List, [], ◌∷◌, filter_map, IfSome, if◌then◌else◌}
 use Rattle.circuit_model.specs.declared.channel.Slot.{Slot}
 use Rattle.circuit_model.specs.Holding.{Connect, Seat as Take_seat, Clear}
 use Rattle.circuit_model.specs.Ports.{port_of, ports_with}
@@ -7,6 +7,7 @@ use Rattle.exchange_events.specs.declared.trace.Event.{Event}
 use Rattle.exchange_events.specs.declared.trace.Event.TheVariants.{Nail, Seat, Free, Message, Frame}
 use Rattle.exchange_events.specs.declared.reply.Reply.{Reply}
 use Rattle.exchange_events.specs.declared.reply.Reply.TheVariants.{Granted, Busy, Seated, NoPort, Freed, NotNailed, Sent as Sent_reply, Frame as Frame_reply}
+use Rattle.exchange_events.specs.Orders.{event_at}
 use Rattle.call_profile.specs.Calls.{MessageAnswer, after_message, answer_to}
 use Rattle.call_profile.specs.IdleSlots.{idle, is_nailed}
 use Rattle.exchange_events.specs.Sizes.{Setting, Dimensions}
@@ -63,6 +64,6 @@ abbrev pub run : Setting → World → List Event → List Reply
 run s w [] = []
 run s w (e ∷ es) = reply s w e ∷ run s (next s w e) es
 
--- the events with these numbers, which count from 1
+-- the events with these numbers
 abbrev pub events_of : List Event → List ℕ → List Event
-events_of events order = filter_map (λ n. slice_get events (n - 1)) order
+events_of events order = filter_map (event_at events) order

@@ -1,5 +1,5 @@
 //! Laws of legs: their call references, what their users are told, and what becomes of them.
-ghost use Rattle.std.specs.Prelude.{◌<◌, ◌≤◌, ℕ, List, Contains};
+ghost use Rattle.std.specs.Prelude.{◌<◌, ◌≤◌, ℕ, List, length, Contains};
 ghost use Rattle.circuit_model.specs.declared.channel.Slot.{Slot};
 ghost use Rattle.q931_codec.specs.declared.kind.MessageKind.{MessageKind};
 ghost use Rattle.q931_codec.specs.declared.message.Message.{Message};
@@ -14,7 +14,7 @@ ghost use Rattle.call_profile.specs.Acts.{course_of};
 ghost use Rattle.call_profile.specs.Calls.{after_message, answer_back, answer_to};
 ghost use Rattle.call_profile.specs.Legs.{Legs, new_reference};
 ghost use Rattle.call_profile.specs.Progress.{TellsOfTones};
-ghost use Rattle.call_profile.specs.Recorded.{Arrive, HasEnded, IsRecordOf, IsRecorded};
+ghost use Rattle.call_profile.specs.Recorded.{Arrive, ComeByPlace, HasEnded, IsRecordOf, IsRecorded, RestartsNothing};
 ghost use Rattle.call_profile.specs.References.{HasReference, HasSlotLeft};
 ghost use Rattle.call_profile.specs.Restarts.{restart_slot};
 ghost use Rattle.call_profile.specs.Restarted.{IsRestart, RestartedAreEmpty, OthersAreLeft, UnheldStay};
@@ -52,10 +52,15 @@ pub fn law_of_restarts()
 
 /// An answer has the record of a call exactly where a caller's leg left states 3, 4 and 10 by the message,
 /// with the cause that the message gives. That is every such leg, so none of them stands without the other
-/// party of its call.
+/// party of its call. The records of a RESTART come by the place of the first restarted leg of their call,
+/// each once; any other message has one record at the most.
 pub fn law_of_records()
     ensures told { (s : Setting) (w : World) (line : ℕ) (octets : List ℕ) → Arrive s w line octets → (told : CallRecord)
         → Contains (answer_to s w line octets).records told → (h : Held) × IsRecordOf s w line octets h told }
     ensures ended { (s : Setting) (w : World) (line : ℕ) (octets : List ℕ) → Arrive s w line octets → (h : Held)
         → HasEnded s.dimensions.external w (after_message s w line octets) h → IsRecorded s w line octets h }
+    ensures order { (s : Setting) (w : World) (line : ℕ) (octets : List ℕ) (r : Restart) → IsRestart s w line octets r
+        → ComeByPlace r line (answer_to s w line octets).records }
+    ensures one { (s : Setting) (w : World) (line : ℕ) (octets : List ℕ) → Arrive s w line octets
+        → RestartsNothing w line octets → length (answer_to s w line octets).records ≤ 1 }
 {}

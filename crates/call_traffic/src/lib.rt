@@ -3,19 +3,21 @@
 //!
 //! [`draw_traffic`] looks at the legs of a plain exchange that takes the same events, so that most
 //! messages are expected ones, and calls come far. The rest are unexpected, damaged or no messages
-//! at all. [`Counts`] tells how often each course of a message came. It is proved safe; no clause
-//! says what is drawn.
+//! at all. [`Counts`] tells how often each course of a message came, and [`is_lawful`] which orders the
+//! events of a trace may take. It is proved safe; no clause says what is drawn.
 //!
 //! It stands on `circuit_model` and `plain_calls`.
 #![tactic(auto)]
 
 mod counts;
+mod orders;
 mod random;
 mod script;
 mod traffic;
 mod users;
 
 pub use counts::Counts;
+pub use orders::{MOST_WORKERS, is_lawful, of_event};
 pub use random::Random;
 pub use script::{Post, Script};
 pub use traffic::{Drawn, LONGEST_TONE, draw_pace, draw_traffic};

@@ -1,9 +1,9 @@
 -- A core's map and legs are those of the world of its journal, step by step.
 use Rattle.std.proofs.Common.{◌≡◌, ℕ, suc, ◌+◌, ◌-◌, ◌<◌, ◌≤◌, List, [], ◌∷◌, ◌++◌, get_or, length, Option, Some, None, refl, sym, ◌∙◌, ap, subst, arith}
-use Rattle.std.specs.Prelude.{All, map, slice_get}
+use Rattle.std.specs.Prelude.{All, map}
 use Rattle.std.specs.List.{cons_option}
 use Rattle.std.proofs.lemmas.List.{map-append}
-use Rattle.std.proofs.lemmas.Option.{slice_get_within, slice_get-get_or, get_or_from_slice_get}
+use Rattle.std.proofs.lemmas.Option.{slice_get-get_or}
 use Rattle.std.proofs.lemmas.List.Elements.{All-nil, All-cons, All-append}
 use Rattle.circuit_model.specs.Holding.{empty}
 use Rattle.circuit_model.specs.Ports.{free_ports}
@@ -14,8 +14,9 @@ use Rattle.exchange_events.specs.declared.trace.Event.{Event}
 use Rattle.exchange_events.specs.declared.trace.Trace.{Trace}
 use Rattle.call_control.specs.AtWork.{IsAtWork}
 use Rattle.call_profile.specs.Legs.{Legs, no_legs}
-use Rattle.exchange_events.specs.Orders.{IsEvent}
+use Rattle.exchange_events.specs.Orders.{IsEvent, event_at}
 use Rattle.exchange_events.specs.Sound.{Fits, IsSound, setting_of}
+use Rattle.exchange_events.proofs.EventNumbers.{event_at-is, of_event_at}
 use Rattle.call_control.specs.Standing.{Holds}
 use Rattle.call_profile.specs.Step.{next, world_after_all, events_of}
 use Rattle.exchange_core.specs.Working.{Entry, Working, IsWorking, IsNumbered, IsLaid, JoinsItsCircuits, order_of, setting, world_of}
@@ -65,13 +66,12 @@ fits_one external None es fits all = all
 fits_one external (Some e) es fits all = All-cons (Fits external) e es (fits e refl) all
 
 fits_at : (trace : Trace) (n : ℕ) (e : Event) → All (Fits trace.external) trace.events → IsNumbered trace n e → Fits trace.external e
-fits_at trace n e all is =
-    subst (Fits trace.external) (get_or_from_slice_get trace.events (n - 1) e e is) (all (n - 1) e (slice_get_within trace.events (n - 1) e is))
+fits_at trace n e all is = of_event_at (Fits trace.external) trace.events n e all is
 
 pub fits_all : (trace : Trace) (order : List ℕ) → All (Fits trace.external) trace.events → All (Fits trace.external) (events_of trace.events order)
 fits_all trace [] all = All-nil (Fits trace.external)
 fits_all trace (n ∷ order) all =
-    fits_one trace.external (slice_get trace.events (n - 1)) (events_of trace.events order) (λ e is. fits_at trace n e all is) (fits_all trace order all)
+    fits_one trace.external (event_at trace.events n) (events_of trace.events order) (λ e is. fits_at trace n e all is) (fits_all trace order all)
 
 pub at_work : (x : Working) (map : Connections) (legs : Legs) (room : ℕ) → IsWorking x map legs room → IsAtWork (setting x) map legs (world_of x)
 at_work x map legs room works = record {
@@ -133,11 +133,11 @@ stepped x map legs room by n e map_after legs_after journal works known is more 
 
 -- ---- the event with a number
 
-number_is : (events : List Event) (n : ℕ) (e : Event) → (1 ≤ n) × (n ≤ length events) → e ≡ get_or events (n - 1) e → slice_get events (n - 1) ≡ Some e
-number_is events n e known is = slice_get-get_or events (n - 1) e (omega (arith, known.0, known.1)) ∙ ap (λ (one : Event). Some one) (sym is)
+number_is : (events : List Event) (n : ℕ) (e : Event) → (1 ≤ n) × (n ≤ length events) → e ≡ get_or events (n - 1) e → event_at events n ≡ Some e
+number_is events n e known is = event_at-is events n known.0 ∙ slice_get-get_or events (n - 1) e (omega (arith, known.0, known.1)) ∙ ap (λ (one : Event). Some one) (sym is)
 
-one_number : (events : List Event) (n : ℕ) (one other : Event) → slice_get events n ≡ Some one → slice_get events n ≡ Some other → one ≡ other
-one_number events n one other is is_too = let same : Some one ≡ Some other = sym is ∙ is_too in cc
+one_number : (o : Option Event) (one other : Event) → o ≡ Some one → o ≡ Some other → one ≡ other
+one_number o one other is is_too = let same : Some one ≡ Some other = sym is ∙ is_too in cc
 
 -- what is known of a core that does an event, which was looked up by its number
 pub record Facts (x : Working) (map : Connections) (legs : Legs) (n : ℕ) (e : Event) : Type 0 where
@@ -157,4 +157,4 @@ facts x y map legs room n events e same works known all found =
 pub of_each : (x y : Working) (n : ℕ) (e : Event) (P : Working → Event → Type 0) → x ≡ y → IsNumbered x.trace n e → P x e → (f : Event) → IsNumbered y.trace n f → P y f
 of_each x y n e P same number holds =
     subst (λ (z : Working). (f : Event) → IsNumbered z.trace n f → P z f) same
-    (λ f named. subst (P x) (one_number x.trace.events (n - 1) e f number named) holds)
+    (λ f named. subst (P x) (one_number (event_at x.trace.events n) e f number named) holds)

@@ -1,5 +1,5 @@
 -- What contracts see of a core. Source: this exchange's own.
-use Rattle.std.specs.Prelude.{◌≡◌, ℕ, ◌-◌, ◌≤◌, List, length, map, slice_get, Some, All}
+use Rattle.std.specs.Prelude.{◌≡◌, ℕ, ◌≤◌, List, length, map, Some, All}
 pub use Rattle.seat_history.specs.Histories.{Entry}
 use Rattle.circuit_map.specs.Connections.{Connections}
 pub use Rattle.control_memory.specs.Image.{IsOfSize}
@@ -11,7 +11,7 @@ use Rattle.exchange_events.specs.declared.trace.Trace.{Trace}
 use Rattle.exchange_core.specs.declared.tool.Tool.{Tool}
 use Rattle.exchange_core.specs.declared.tool.Tool.TheVariants as tool
 use Rattle.call_profile.specs.Legs.{Legs}
-use Rattle.exchange_events.specs.Orders.{IsEvent}
+use Rattle.exchange_events.specs.Orders.{IsEvent, event_at}
 use Rattle.exchange_events.specs.Sizes.{Setting, Dimensions}
 use Rattle.exchange_events.specs.Sound.{IsSound, setting_of}
 use Rattle.call_control.specs.Standing.{Holds}
@@ -50,7 +50,7 @@ JoinsItsCircuits x = JoinsCircuits (exchange_lines (setting x).dimensions) x.tra
 
 -- the trace's event with this number
 abbrev pub IsNumbered : Trace → ℕ → Event → Type 0
-IsNumbered trace n e = slice_get trace.events (n - 1) ≡ Some e
+IsNumbered trace n e = event_at trace.events n ≡ Some e
 
 -- the core's map and legs are those of the world of its journal, whose entries are events of a sound trace; and the journal has room for all events
 pub record IsWorking (x : Working) (map : Connections) (legs : Legs) (room : ℕ) : Type 0 where

@@ -1,5 +1,5 @@
 -- The orders in which the events of a trace may happen. Source: this exchange's own.
-use Rattle.std.specs.Prelude.{◌≡◌, ◌≢◌, ℕ, ◌-◌, ◌%◌, ◌<◌, ◌≤◌, ◌⊎◌, List, length, take, nat_lt, count_by, slice_get, slice_index, All, AllPairs, Contains, EachIndex, Some}
+use Rattle.std.specs.Prelude.{◌≡◌, ◌≢◌, ℕ, zero, suc, ◌%◌, ◌<◌, ◌≤◌, ◌⊎◌, List, length, take, nat_lt, count_by, slice_get, slice_index, All, AllPairs, Contains, EachIndex, Option, Some, None}
 use Rattle.std.specs.List.{range_with_len}
 use Rattle.exchange_events.specs.declared.trace.Event.{Event}
 use Rattle.exchange_events.specs.declared.trace.Event.TheVariants.{Nail, Seat, Free, Message, Frame}
@@ -23,12 +23,17 @@ worker_of processors (Frame input) = Frame_worker
 abbrev pub segment_of : List ℕ → ℕ → ℕ
 segment_of ends n = count_by (λ last. nat_lt last n) ends
 
+-- the event with this number; numbers count from 1
+abbrev pub event_at : List Event → ℕ → Option Event
+event_at events zero = None
+event_at events (suc n) = slice_get events n
+
 -- m and n are numbers of events that one worker does
 pub record SameWorker (trace : Trace) (m n : ℕ) : Type 0 where
   pub first : Event
   pub second : Event
-  pub is_first : slice_get trace.events (m - 1) ≡ Some first
-  pub is_second : slice_get trace.events (n - 1) ≡ Some second
+  pub is_first : event_at trace.events m ≡ Some first
+  pub is_second : event_at trace.events n ≡ Some second
   pub same : worker_of trace.processors first ≡ worker_of trace.processors second
 
 -- event m has to happen before event n: it is of an earlier segment, or its worker comes to it first in the same segment

@@ -1,5 +1,5 @@
 -- The answers of a run and the lines of its report.
-use Rattle.std.proofs.Common.{◌≡◌, ℕ, suc, ◌+◌, ◌-◌, Bool, true, false, not, if◌then◌else◌, List, [], ◌∷◌, ◌++◌, length, map, take, drop, Option, Some, None, slice_get, slice_index, refl, sym, ap, subst, ◌∙◌, arith, add-one, append_assoc, append-nil, length-append}
+use Rattle.std.proofs.Common.{◌≡◌, ℕ, suc, ◌+◌, Bool, true, false, not, if◌then◌else◌, List, [], ◌∷◌, ◌++◌, length, map, take, drop, Option, Some, None, slice_get, slice_index, refl, sym, ap, subst, ◌∙◌, arith, add-one, append_assoc, append-nil, length-append}
 use Rattle.std.specs.Prelude.{All}
 use Rattle.std.specs.List.{cons_option}
 use Rattle.std.proofs.lemmas.List.{take-append-drop}
@@ -17,7 +17,8 @@ use Rattle.exchange_events.specs.declared.trace.Event.TheVariants.{Nail, Seat, F
 use Rattle.exchange_events.specs.declared.trace.Trace.{Trace}
 use Rattle.call_profile.specs.IdleSlots.{idle, is_nailed}
 use Rattle.exchange_events.specs.Kept.{kept_of}
-use Rattle.exchange_events.specs.Orders.{IsEvent}
+use Rattle.exchange_events.specs.Orders.{IsEvent, event_at}
+use Rattle.exchange_events.proofs.EventNumbers.{event_there}
 use Rattle.seat_history.specs.declared.known.Known.{Known}
 use Rattle.seat_history.specs.Histories.{StartsWith, before, unseen}
 use Rattle.exchange_core.specs.Boards.{Board, AnswersAt, setting_at, world_at}
@@ -37,7 +38,7 @@ use Rattle.exchange_top.specs.Report.{Played, report, event_line, event_lines, a
 use Rattle.exchange_top.specs.Running.{GrewFew, fabric_at, grown_calls, grown_lines}
 use Rattle.exchange_top.specs.Telling.{calls_answered}
 use Rattle.call_profile.specs.CallsTold.{calls_ended, calls_told, calls_kept}
-use Rattle.exchange_top.proofs.Reports.{sent_played, take_snoc, within_get}
+use Rattle.exchange_top.proofs.Reports.{sent_played, take_snoc}
 
 -- ---- the lines of answers
 
@@ -58,13 +59,10 @@ lines_split answers i = ap answer_lines (sym (take-append-drop i answers)) ∙ l
 
 -- ---- an order that goes on
 
-numbered : (trace : Trace) (n : ℕ) → IsEvent trace n → (e : Event) × IsNumbered trace n e
-numbered trace n is = within_get trace.events (n - 1) (let low = is.0 in let high = is.1 in omega (arith, low, high))
-
 events_long : (trace : Trace) (order : List ℕ) → All (IsEvent trace) order → length order ≡ length (events_of trace.events order)
 events_long trace [] known = refl
 events_long trace (n ∷ order) known =
-    let e = numbered trace n (All-head (IsEvent trace) n order known) in
+    let e = event_there trace n (All-head (IsEvent trace) n order known) in
     ap suc (events_long trace order (All-tail (IsEvent trace) n order known)) ∙ sym (ap (λ (o : Option Event). length (cons_option o (events_of trace.events order))) e.1)
 
 event_lines-append : (played : Played) (s : Setting) (w : World) (order more : List ℕ) (es fs : List Event) → length order ≡ length es
@@ -81,7 +79,7 @@ run-append s w [] fs = refl
 run-append s w (e ∷ es) fs = ap (λ (l : List Reply). reply s w e ∷ l) (run-append s (next s w e) es fs)
 
 events_append : (trace : Trace) (order more : List ℕ) → events_of trace.events (order ++ more) ≡ events_of trace.events order ++ events_of trace.events more
-events_append trace order more = filter_map-append (λ (n : ℕ). slice_get trace.events (n - 1)) order more
+events_append trace order more = filter_map-append (event_at trace.events) order more
 
 -- the report of a longer order begins with that of its front
 pub report_append : (played : Played) (slots : ℕ) (trace : Trace) (order more : List ℕ) → All (IsEvent trace) order → report_with played slots trace (order ++ more)
@@ -160,7 +158,7 @@ module _ (plays : Plays) (tones : Kind → List ℕ) (board : Board) (history : 
       let w = world_at board front in
       let trace = board.trace in
       let more = events_of trace.events order in
-      let e = numbered trace n is in
+      let e = event_there trace n is in
       let split : events_of trace.events (n ∷ order) ≡ e.0 ∷ more = ap (λ (o : Option Event). cons_option o more) e.1 in
       let after : world_at board (front ++ entry ∷ []) ≡ next s w e.0 =
       world_more (record { trace = trace; slots = board.slots; bound = board.bound; journal = front }) entry.0 n e.0 e.1 in

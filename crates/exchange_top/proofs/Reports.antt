@@ -1,5 +1,5 @@
 -- Parts of a list, and the octets of a frame.
-use Rattle.std.proofs.Common.{◌≡◌, ℕ, zero, suc, ◌+◌, ◌<◌, List, [], ◌∷◌, ◌++◌, length, take, Some, slice_get, refl, arith, ap}
+use Rattle.std.proofs.Common.{◌≡◌, ℕ, zero, suc, List, [], ◌∷◌, ◌++◌, take, Some, slice_get, arith, ap}
 use Rattle.std.proofs.lemmas.Grind.{common_steps}
 use Rattle.circuit_model.specs.declared.channel.Slot.{Slot}
 use Rattle.report_text.specs.Report.{lines_sent, octet_of}
@@ -7,11 +7,6 @@ use Rattle.report_text.proofs.Rows.{sent_same}
 use Rattle.frame_engine.specs.Frames.{PlaysOut}
 
 -- ---- lists of numbers, and the events that have them
-
-pub within_get : {X : Type 0} (xs : List X) (i : ℕ) → i < length xs → (x : X) × (slice_get xs i ≡ Some x)
-within_get [] i within = absurd (omega arith)
-within_get (x ∷ xs) zero within = (x, refl)
-within_get (x ∷ xs) (suc i) within = within_get xs i (omega arith)
 
 pub take_snoc : {X : Type 0} (xs : List X) (i : ℕ) (x : X) → slice_get xs i ≡ Some x → take (suc i) xs ≡ take i xs ++ x ∷ []
 take_snoc [] i x found = absurd (grind (arith, found))

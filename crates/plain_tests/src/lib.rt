@@ -1,5 +1,5 @@
 //! The tests of the plain programs: worked exchanges and calls, whose octets were found by hand, and
-//! that each course of a call is drawn.
+//! that each course of a call is drawn, and which orders of events are lawful.
 //!
 //! They stand here and not beside what they test, so that each of those crates is proved once. The
 //! crate promises nothing.

@@ -1,4 +1,5 @@
 //! What no clause says: reports that were found by hand.
 mod calls;
 mod circuits;
+mod orders;
 mod traffic;

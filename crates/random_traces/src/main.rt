@@ -23,8 +23,6 @@ mod check;
 mod counts;
 mod draw;
 mod orders;
-#[cfg(test)]
-mod tests;
 mod yardstick;
 
 use call_traffic::{Counts as Courses, LONGEST_TONE, Random, Script, draw_traffic};

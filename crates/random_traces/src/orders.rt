@@ -1,10 +1,7 @@
-use call_traffic::Post;
+use call_traffic::{MOST_WORKERS, Post, of_event};
 use segment_run::FEWEST_BESIDE;
 use std::alloc::{AllocError, Global};
 use std::cmp::{max, min};
-
-// A segment has eight call processors and the frame worker at the most.
-const WORKERS: usize = 9;
 
 /// The numbers of the events whose lines a report has, in its order. None where a line begins with no
 /// number.
@@ -25,42 +22,15 @@ pub fn numbered(line: &str) -> Option<(u32, &str)> {
     Some((number.parse::<u32>().ok()?, words))
 }
 
-/// The thing of an event, by the event's number, which counts from 1.
-pub fn of_event<T>(things: &[T], number: u32) -> Option<&T> {
-    things.get(number.checked_sub(1)? as usize)
-}
-
-/// Whether an order holds every event once, none before one of an earlier segment, and none before an
-/// earlier one of its own worker in its segment.
-pub fn is_lawful(posts: &[Post], order: &[u32]) -> bool {
-    let mut segment = 0;
-    // The last event of each worker in the segment so far.
-    let mut latest = [0; WORKERS];
-    for number in order {
-        let Some(post) = of_event(posts, *number) else {
-            return false;
-        };
-        if post.segment > segment {
-            segment = post.segment;
-            latest = [0; WORKERS];
-        }
-        match latest.get_mut(usize::from(post.worker)) {
-            Some(before) if post.segment == segment && *before < *number => *before = *number,
-            _ => return false,
-        }
-    }
-    order.len() == posts.len()
-}
-
 /// Of each segment, whether all workers but the busiest have too few events for threads.
 pub fn few_beside(alloc: Global, posts: &[Post]) -> Result<Vec<bool>, AllocError> {
     let mut few = Vec::new(alloc);
-    let mut loads = [0u32; WORKERS];
+    let mut loads = [0u32; MOST_WORKERS];
     let mut segment = 0;
     for post in posts {
         if post.segment != segment {
             few.push(beside(&loads) < FEWEST_BESIDE)?;
-            loads = [0; WORKERS];
+            loads = [0; MOST_WORKERS];
             segment = post.segment;
         }
         if let Some(load) = loads.get_mut(usize::from(post.worker)) {

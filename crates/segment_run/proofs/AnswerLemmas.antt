@@ -1,5 +1,5 @@
 -- The answers of all workers, each at its place in the history.
-use Rattle.std.proofs.Common.{◌≡◌, ◌≢◌, ℕ, zero, suc, ◌+◌, ◌-◌, ◌<◌, ◌≤◌, ◌⊎◌, inl, inr, Bool, true, false, ◌&&◌, IsTrue, List, [], ◌∷◌, ◌++◌, map, length, reverse, take, slice_get, Option, Some, None, refl, sym, ap, ◌∙◌, subst, arith, length-append}
+use Rattle.std.proofs.Common.{◌≡◌, ◌≢◌, ℕ, zero, suc, ◌+◌, ◌<◌, ◌≤◌, ◌⊎◌, inl, inr, Bool, true, false, ◌&&◌, IsTrue, List, [], ◌∷◌, ◌++◌, map, length, reverse, take, slice_get, Option, Some, None, refl, sym, ap, ◌∙◌, subst, arith, length-append}
 use Rattle.std.specs.Prelude.{nat_eq}
 use Rattle.std.specs.List.{All, AllZip}
 use Rattle.std.proofs.lemmas.Bool.{cases_lt}
@@ -11,7 +11,7 @@ use Rattle.exchange_events.specs.declared.answer.Answer.{Answer}
 use Rattle.exchange_events.specs.declared.trace.Event.{Event}
 use Rattle.exchange_events.specs.declared.trace.Event.TheVariants.{Nail, Seat, Free, Message, Frame}
 use Rattle.exchange_events.specs.declared.trace.Trace.{Trace}
-use Rattle.exchange_events.specs.Orders.{Worker, Processor, Frame_worker, segment_of}
+use Rattle.exchange_events.specs.Orders.{Worker, Processor, Frame_worker, event_at, segment_of}
 use Rattle.seat_history.specs.declared.known.Known.{Known}
 use Rattle.seat_history.specs.Histories.{StartsWith, before}
 use Rattle.exchange_core.specs.Boards.{Board, AnswersAt, world_at, IsFrame}
@@ -41,7 +41,7 @@ number_of (Some e) = e.0
 
 -- what the frame worker does is a frame
 its_frame : (trace : Trace) (n : ℕ) → is_its trace Frame_worker n ≡ true → IsFrame trace n
-its_frame trace n its = go (slice_get trace.events (n - 1)) its
+its_frame trace n its = go (event_at trace.events n) its
   where
     go : (o : Option Event) → does trace.processors Frame_worker o ≡ true → (input : Input) × (o ≡ Some (Frame input))
     go None off = absurd (cc off)

@@ -1,12 +1,12 @@
 -- Counting a segment's events by worker.
-use Rattle.std.proofs.Common.{◌≡◌, ◌≢◌, ℕ, zero, suc, ◌+◌, ◌-◌, ◌<◌, ◌≤◌, inl, inr, Bool, true, false, cond, List, [], ◌∷◌, filter, length, slice_get, slice_index, Option, Some, None, refl, sym, ap, ◌∙◌, arith, length-append}
+use Rattle.std.proofs.Common.{◌≡◌, ◌≢◌, ℕ, zero, suc, ◌+◌, ◌-◌, ◌<◌, ◌≤◌, inl, inr, Bool, true, false, cond, List, [], ◌∷◌, filter, length, slice_index, Option, Some, None, refl, sym, ap, ◌∙◌, arith, length-append}
 use Rattle.std.specs.Prelude.{slice_set}
 use Rattle.std.specs.List.{range_with_len}
 use Rattle.std.proofs.lemmas.Bool.{cases_lt}
 use Rattle.std.proofs.lemmas.List.{get_or-set_other, get_or-set_same}
 use Rattle.exchange_events.specs.declared.trace.Event.{Event}
 use Rattle.exchange_events.specs.declared.trace.Trace.{Trace}
-use Rattle.exchange_events.specs.Orders.{Worker, Processor, Frame_worker, worker_of}
+use Rattle.exchange_events.specs.Orders.{Worker, Processor, Frame_worker, event_at, worker_of}
 use Rattle.call_processor.specs.Parts.{does, is_its, is_worker, worker_at}
 use Rattle.call_processor.proofs.PartLemmas.{up_to, next_its, next_not}
 use Rattle.segment_run.specs.Team.{worker_numbered}
@@ -52,7 +52,7 @@ number_is trace some_one event (Some m) n is one none =
 
 -- one more event counted
 pub counted_more : (trace : Trace) (first event n : ℕ) (ev : Event) (loads : List ℕ) → first ≤ event → n ≤ trace.processors → trace.processors < length loads
-    → slice_get trace.events (event - 1) ≡ Some ev → worker_numbered trace.processors n ≡ worker_of trace.processors ev
+    → event_at trace.events event ≡ Some ev → worker_numbered trace.processors n ≡ worker_of trace.processors ev
     → ((i : ℕ) → i ≤ trace.processors → slice_index loads i ≡ length (up_to trace (worker_numbered trace.processors i) first event))
     → (i : ℕ) → i ≤ trace.processors → slice_index (slice_set loads n (slice_index loads n + 1)) i ≡ length (up_to trace (worker_numbered trace.processors i) first (event + 1))
 counted_more trace first event n ev loads from few long at is each i le =

@@ -1,5 +1,5 @@
 -- Who did which event of the growth.
-use Rattle.std.proofs.Common.{◌≡◌, ℕ, ◌+◌, ◌-◌, ◌%◌, ◌<◌, ◌≤◌, ◌⊎◌, inl, inr, Bool, true, false, cond, ◌&&◌, List, [], ◌∷◌, ◌++◌, map, filter, length, slice_get, Option, Some, None, refl, sym, ap, ◌∙◌, subst, arith}
+use Rattle.std.proofs.Common.{◌≡◌, ℕ, ◌+◌, ◌%◌, ◌<◌, ◌≤◌, ◌⊎◌, inl, inr, Bool, true, false, cond, ◌&&◌, List, [], ◌∷◌, ◌++◌, map, filter, length, Option, Some, None, refl, sym, ap, ◌∙◌, subst, arith}
 use Rattle.std.specs.Prelude.{◌||◌, nat_eq, nat_lt}
 use Rattle.std.specs.List.{list_any}
 use Rattle.std.proofs.lemmas.Bool.{cases_lt}
@@ -9,7 +9,7 @@ use Rattle.std.proofs.lemmas.List.Elements.{filter-append}
 use Rattle.exchange_events.specs.declared.trace.Event.{Event}
 use Rattle.exchange_events.specs.declared.trace.Event.TheVariants.{Nail, Seat, Free, Message, Frame}
 use Rattle.exchange_events.specs.declared.trace.Trace.{Trace}
-use Rattle.exchange_events.specs.Orders.{Worker, Processor, Frame_worker, IsEvent, segment_of, worker_of}
+use Rattle.exchange_events.specs.Orders.{Worker, Processor, Frame_worker, IsEvent, event_at, segment_of, worker_of}
 use Rattle.seat_history.specs.declared.known.Known.{Known}
 use Rattle.seat_history.specs.declared.known.JoinedSeat.{JoinedSeat}
 use Rattle.seat_history.specs.Histories.{entries_of}
@@ -34,7 +34,7 @@ is_itself Frame_worker = refl
 
 -- an event of one worker is another's exactly where the two are one
 pub one_worker : (trace : Trace) (a b : Worker) (n : ℕ) → is_its trace a n ≡ true → is_its trace b n ≡ is_worker a b
-one_worker trace a b n = go (slice_get trace.events (n - 1))
+one_worker trace a b n = go (event_at trace.events n)
   where
     go : (o : Option Event) → does trace.processors a o ≡ true → does trace.processors b o ≡ is_worker a b
     go None e = absurd (cc e)
@@ -61,7 +61,7 @@ other_worker processors i j lt le =
 
 -- no event is of a call processor that there isn't
 pub no_part : (trace : Trace) (segment p : ℕ) → 0 < trace.processors → trace.processors ≤ p → part_of trace segment (Processor p) ≡ []
-no_part trace segment p some_one past = filter_none (λ n. nat_eq (segment_of trace.segments n) segment && is_its trace (Processor p) n) _ (λ n i. none (nat_eq (segment_of trace.segments n) segment) (slice_get trace.events (n - 1)))
+no_part trace segment p some_one past = filter_none (λ n. nat_eq (segment_of trace.segments n) segment && is_its trace (Processor p) n) _ (λ n i. none (nat_eq (segment_of trace.segments n) segment) (event_at trace.events n))
   where
     of_line : (line : ℕ) → nat_eq (line % trace.processors) p ≡ false
     of_line line = let h = mod_below line trace.processors some_one in grind (arith, nat_tests, h, past)

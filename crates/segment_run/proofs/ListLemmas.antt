@@ -127,11 +127,6 @@ module _ {X : Type 0} where
   got_within (y ∷ ys) zero x e = omega arith
   got_within (y ∷ ys) (suc i) x e = let h = got_within ys i x e in omega (arith, h)
 
-  pub got_there : (xs : List X) (i : ℕ) → i < length xs → (x : X) × (slice_get xs i ≡ Some x)
-  got_there [] i h = absurd (omega (arith, h))
-  got_there (y ∷ ys) zero h = (y, refl)
-  got_there (y ∷ ys) (suc i) h = got_there ys i (omega (arith, h))
-
   pub got_read : (xs : List X) (i : ℕ) (x : X) → i < length xs → x ≡ slice_index_or xs i x → slice_get xs i ≡ Some x
   got_read [] i x h e = absurd (omega (arith, h))
   got_read (y ∷ ys) zero x h e = ap Some (sym e)

@@ -8,6 +8,7 @@ use Rattle.exchange_events.specs.declared.trace.Event.TheVariants.{Nail, Seat, F
 use Rattle.exchange_events.specs.declared.trace.Trace.{Trace}
 use Rattle.exchange_events.specs.Orders.{Worker, IsEvent, worker_of}
 use Rattle.exchange_events.specs.Sound.{AreSegments, IsSound}
+use Rattle.exchange_events.proofs.EventNumbers.{event_there}
 use Rattle.exchange_core.specs.Boards.{Board, turns_of}
 use Rattle.seat_history.specs.declared.known.Known.{Known}
 use Rattle.call_processor.specs.Parts.{does, events_of_segment, is_its, is_worker}
@@ -15,7 +16,7 @@ use Rattle.call_processor.proofs.PartLemmas.{part_is, segment_is, order_of_ends}
 use Rattle.segment_run.specs.Team.{load, loads_below, worker_numbered}
 use Rattle.segment_run.specs.Segment.{IsChief}
 use Rattle.segment_run.specs.Segments.{events_before}
-use Rattle.segment_run.proofs.ListLemmas.{In, got_there, range_in}
+use Rattle.segment_run.proofs.ListLemmas.{In, range_in}
 use Rattle.segment_run.proofs.DoerLemmas.{is_itself, numbered_frames, numbered_processor, other_worker}
 
 -- ---- one event has one worker
@@ -61,9 +62,7 @@ module _ (trace : Trace) (x i : ℕ) (le : i ≤ trace.processors) (its : (w : W
 
 doing_one : (trace : Trace) → 0 < trace.processors → (x : ℕ) → IsEvent trace x → count_doers trace x (trace.processors + 1) ≡ 1
 doing_one trace some_one x event =
-    let low = event.0 in
-    let high = event.1 in
-    let e = got_there trace.events (x - 1) (omega (arith, low, high)) in
+    let e = event_there trace x event in
     let w = worker_is trace some_one e.0 in
     doing_after trace x w.0 w.1 (λ worker. ap (does trace.processors worker) e.1 ∙ ap (λ (u : Worker). is_worker u worker) (sym w.2)) (trace.processors + 1) (let h = w.1 in omega (arith, h)) (omega arith)
 

@@ -1,5 +1,5 @@
 -- Segments that are done one after another make a lawful order.
-use Rattle.std.proofs.Common.{◌≡◌, ◌≢◌, ℕ, zero, suc, ◌+◌, ◌-◌, ◌*◌, ◌^◌, ◌<◌, ◌≤◌, ◌&&◌, Bool, true, false, cond, nat_lt, nat_eq, List, [], ◌∷◌, ◌++◌, length, take, drop, get_or, slice_index, slice_get, Some, Contains, filter, refl, sym, ap, subst, ◌∙◌, arith, inl, inr, length-append, length-take-le, append_assoc}
+use Rattle.std.proofs.Common.{◌≡◌, ◌≢◌, ℕ, zero, suc, ◌+◌, ◌-◌, ◌*◌, ◌^◌, ◌<◌, ◌≤◌, ◌&&◌, Bool, true, false, cond, nat_lt, nat_eq, List, [], ◌∷◌, ◌++◌, length, take, drop, get_or, slice_index, Some, Contains, filter, refl, sym, ap, subst, ◌∙◌, arith, inl, inr, length-append, length-take-le, append_assoc}
 use Rattle.std.specs.Prelude.{All, AllPairs}
 use Rattle.std.specs.List.{range_with_len}
 use Rattle.std.proofs.lemmas.Bool.{cases_lt}
@@ -12,12 +12,13 @@ use Rattle.std.proofs.lemmas.List.Sums.{sum_by-cons}
 use Rattle.std.proofs.Math.Seq.{drop-cons, drop-append_seam, take-append-add}
 use Rattle.exchange_events.specs.declared.trace.Event.{Event}
 use Rattle.exchange_events.specs.declared.trace.Trace.{Trace}
-use Rattle.exchange_events.specs.Orders.{Worker, Processor, Frame_worker, worker_of, segment_of, Precedes, IsEvent, IsLawful, IsLawfulPrefix, file_order}
+use Rattle.exchange_events.specs.Orders.{Worker, Processor, Frame_worker, event_at, worker_of, segment_of, Precedes, IsEvent, IsLawful, IsLawfulPrefix, file_order}
 use Rattle.seat_history.specs.declared.known.JoinedSeat.{JoinedSeat}
 use Rattle.seat_history.specs.declared.known.Known.{Known}
 use Rattle.seat_history.specs.Histories.{StartsWith, entries_of, unseen}
 use Rattle.seat_history.specs.Seats.{Accounts, first_seat}
 use Rattle.exchange_events.specs.Sound.{IsSound, last_of}
+use Rattle.exchange_events.proofs.EventNumbers.{event_there}
 use Rattle.exchange_core.specs.Working.{Entry, order_of}
 use Rattle.call_processor.specs.Parts.{is_worker, does, is_its, part_of}
 use Rattle.call_processor.proofs.PartLemmas.{at_least, at_most, rises, below_last}
@@ -101,18 +102,13 @@ is_itself : (w : Worker) → is_worker w w ≡ true
 is_itself (Processor n) = grind (arith, nat_tests)
 is_itself Frame_worker = refl
 
-within_get : (xs : List Event) (i : ℕ) → i < length xs → (x : Event) × (slice_get xs i ≡ Some x)
-within_get [] i within = absurd (omega arith)
-within_get (x ∷ xs) zero within = (x, refl)
-within_get (x ∷ xs) (suc i) within = within_get xs i (omega arith)
-
-its : (trace : Trace) (n : ℕ) (e : Event) → slice_get trace.events (n - 1) ≡ Some e → is_its trace (worker_of trace.processors e) n ≡ true
+its : (trace : Trace) (n : ℕ) (e : Event) → event_at trace.events n ≡ Some e → is_its trace (worker_of trace.processors e) n ≡ true
 its trace n e is = ap (does trace.processors (worker_of trace.processors e)) is ∙ is_itself (worker_of trace.processors e)
 
 -- every event has a worker that does it
 worker_for : (trace : Trace) (n : ℕ) → IsEvent trace n → (worker : Worker) × (is_its trace worker n ≡ true)
 worker_for trace n is =
-    let e = within_get trace.events (n - 1) (let low = is.0 in let high = is.1 in omega (arith, low, high)) in
+    let e = event_there trace n is in
     (worker_of trace.processors e.0, its trace n e.0 e.1)
 
 rises_part : (trace : Trace) (k : ℕ) (worker : Worker) → Rises (part_of trace k worker)

@@ -1,3 +1,4 @@
+use Rattle.call_profile.proofs.RecordOrderLemmas.{restart_comes_by_place, others_record_one}
 use Rattle.call_profile.proofs.RecordedMessageLemmas.{record_is, ended_is_recorded}
 use Rattle.call_profile.proofs.leg_laws.law_of_records.Goals as goal
 
@@ -6,3 +7,9 @@ returns-clause-told c = record_is
 
 pub returns-clause-ended : goal.returns-clause-ended
 returns-clause-ended c = ended_is_recorded
+
+pub returns-clause-order : goal.returns-clause-order
+returns-clause-order c = restart_comes_by_place
+
+pub returns-clause-one : goal.returns-clause-one
+returns-clause-one c = others_record_one

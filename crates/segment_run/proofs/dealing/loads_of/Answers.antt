@@ -1,6 +1,7 @@
 use Rattle.std.proofs.Common.{rules, ◌≡◌, ◌<◌, ◌+◌, ◌-◌, length, List, slice_index_or, subst, ◌∙◌, arith}
 use Rattle.std.proofs.lemmas.List.{length-set}
 use Rattle.exchange_events.specs.declared.trace.Event.{Event}
+use Rattle.exchange_events.proofs.EventNumbers.{event_at-is}
 use Rattle.segment_run.specs.Team.{worker_numbered}
 use Rattle.segment_run.proofs.ListLemmas.{got_read}
 use Rattle.segment_run.proofs.CountLemmas.{up_to_few, number_is, counted_more}
@@ -29,7 +30,7 @@ loop-event-preserved c =
     let high = known.1 in
     let same = c.as_slice-events.ensures in
     let read = subst (λ (l : List Event). c.index-events-event.result ≡ slice_index_or l (event - 1) c.index-events-event.result) same c.index-events-event.is in
-    let at = got_read trace.events (event - 1) c.index-events-event.result (omega (arith, low, high)) read in
+    let at = event_at-is trace.events event low ∙ got_read trace.events (event - 1) c.index-events-event.result (omega (arith, low, high)) read in
     let size = c.loop-event.invariant.size in
     let most = c.requires.sound.processors.1 in
     let long : trace.processors < length c.loop-event.loads = omega (arith, size, most) in

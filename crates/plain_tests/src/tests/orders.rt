@@ -1,6 +1,5 @@
 // Which orders are lawful.
-use crate::orders::is_lawful;
-use call_traffic::Post;
+use call_traffic::{Post, is_lawful};
 use std::test::Fail;
 
 fn post(worker: u8, segment: u32) -> Post {
