@@ -24,6 +24,7 @@ pub mod AcceptedSetupLemmas
 pub mod StandingLegLemmas
 pub mod EndedCallLemmas
 pub mod RecordOfActLemmas
+pub mod RecordOrderLemmas
 pub mod PermittedActLemmas
 pub mod PermittedSetupLemmas
 pub mod RestartLemmas

@@ -1,5 +1,5 @@
 -- In which order the records of a RESTART come, and that any other message has one at the most.
-use Rattle.std.proofs.Common.{◌≡◌, ℕ, zero, suc, ◌<◌, ◌≤◌, ◌⊎◌, inl, inr, true, false, nat_lt, List, [], ◌∷◌, ◌++◌, length, Option, Some, None, refl, sym, ◌∙◌, ap, subst, absurd, arith, append-nil, if◌then◌else◌}
+use Rattle.std.proofs.Common.{◌≡◌, ℕ, zero, suc, ◌<◌, ◌≤◌, ◌⊎◌, inl, inr, Bool, true, false, nat_lt, List, [], ◌∷◌, ◌++◌, length, Option, Some, None, refl, sym, ◌∙◌, ap, subst, arith, append-nil, if◌then◌else◌}
 use Rattle.std.specs.Prelude.{All, AllPairs, option_map, option_and_then}
 use Rattle.std.specs.List.{cons_option}
 use Rattle.std.proofs.lemmas.Bool.{cases_lt, eq-eqb}
@@ -161,23 +161,30 @@ none_below r line = record {
   below = All-nil (λ c. first_restarted r line c < 0);
 }
 
-pub below_then : (r : Restart) (line n : ℕ) (told : List CallRecord) (one : Option CallRecord) → ComeBelow r line n told → ((c : CallRecord) → one ≡ Some c → first_restarted r line c ≡ n)
-    → ComeBelow r line (suc n) (told ++ cons_option one [])
-below_then r line n told one so_far place = record { rising = rising one place; below = All-append Below told (cons_option one []) (All-weaker (λ c. first_restarted r line c < n) Below (λ c lt. omega (arith, lt)) told so_far.below) (new one place) }
-  where
-    abbrev Below : CallRecord → Type 0
-    Below c = first_restarted r line c < suc n
+abbrev IsBelow : Restart → ℕ → ℕ → CallRecord → Type 0
+IsBelow r line n c = first_restarted r line c < n
 
-    new : (o : Option CallRecord) → ((c : CallRecord) → o ≡ Some c → first_restarted r line c ≡ n) → All Below (cons_option o [])
-    new None is = All-nil Below
-    new (Some c) is = let at = is c refl in All-cons Below c [] (omega (arith, at)) (All-nil Below)
+module _ (r : Restart) (line n : ℕ) (told : List CallRecord) (so_far : ComeBelow r line n told) where
+  new_below : (o : Option CallRecord) → ((c : CallRecord) → o ≡ Some c → first_restarted r line c ≡ n) → All (IsBelow r line (suc n)) (cons_option o [])
+  new_below None is = All-nil (IsBelow r line (suc n))
+  new_below (Some c) is = let at = is c refl in All-cons (IsBelow r line (suc n)) c [] (omega (arith, at)) (All-nil (IsBelow r line (suc n)))
 
-    rising : (o : Option CallRecord) → ((c : CallRecord) → o ≡ Some c → first_restarted r line c ≡ n) → ComeByPlace r line (told ++ cons_option o [])
-    rising None is = subst (ComeByPlace r line) (sym (append-nil told)) so_far.rising
-    rising (Some c) is =
-        let at = is c refl in
-        pairs_snoc (λ one later. first_restarted r line one < first_restarted r line later) told c so_far.rising
-        (All-weaker (λ d. first_restarted r line d < n) (λ d. first_restarted r line d < first_restarted r line c) (λ d lt. omega (arith, lt, at)) told so_far.below)
+  still_rising : (o : Option CallRecord) → ((c : CallRecord) → o ≡ Some c → first_restarted r line c ≡ n) → ComeByPlace r line (told ++ cons_option o [])
+  still_rising None is = subst (ComeByPlace r line) (sym (append-nil told)) so_far.rising
+  still_rising (Some c) is =
+      let at = is c refl in
+      pairs_snoc (λ one later. first_restarted r line one < first_restarted r line later) told c so_far.rising
+      (All-weaker (IsBelow r line n) (λ d. first_restarted r line d < first_restarted r line c) (λ d lt. omega (arith, lt, at)) told so_far.below)
+
+  pub below_then : (one : Option CallRecord) → ((c : CallRecord) → one ≡ Some c → first_restarted r line c ≡ n) → ComeBelow r line (suc n) (told ++ cons_option one [])
+  below_then one place = record {
+    rising = still_rising one place;
+    below = All-append (IsBelow r line (suc n)) told (cons_option one []) (All-weaker (IsBelow r line n) (IsBelow r line (suc n)) (λ c lt. omega (arith, lt)) told so_far.below) (new_below one place);
+  }
+
+as_list : (b : Bool) (one : Option CallRecord) → (if b then cons_option one [] else []) ≡ cons_option (if b then one else None) []
+as_list true one = refl
+as_list false one = refl
 
 module _ (s : Setting) (r : Restart) (line : ℕ) (w : World) (below : line < s.dimensions.external) (kept : Kept s.dimensions s.tones w) where
   module _ (n : ℕ) (small : n < 30) where
@@ -195,10 +202,7 @@ module _ (s : Setting) (r : Restart) (line : ℕ) (w : World) (below : line < s.
     one_at = if is_restarted r n then option_and_then (λ h. record_ended u h temporary_failure) (held_at u.legs x) else None
 
     one_recorded : slot_records r u x ≡ cons_option one_at []
-    one_recorded = elim (true_or_false (is_restarted r n)) [
-      | inl restarted ↦ rw (restarted, restarted) refl
-      | inr not_so ↦ rw (not_so, not_so) refl
-    ]
+    one_recorded = as_list (is_restarted r n) (option_and_then (λ h. record_ended u h temporary_failure) (held_at u.legs x))
 
     done : AreRestartedBelow s r line w n u
     done = restarted_below s r line w below kept n (omega (arith, small))
@@ -218,7 +222,7 @@ module _ (s : Setting) (r : Restart) (line : ℕ) (w : World) (below : line < s.
     one_further come =
         subst (λ (told : List CallRecord). ComeBelow r line (suc n) (so_far.recorded ++ told))
         (sym (slot_told s.dimensions s.tones r so_far.making x done.kept (below, small) ∙ one_recorded))
-        (below_then r line n so_far.recorded one_at come place_of)
+        (below_then r line n so_far.recorded come one_at place_of)
 
   come_below : (n : ℕ) → n ≤ 30 → ComeBelow r line n (outcome_below s.dimensions s.tones r line w n).recorded
   come_below zero small = subst (λ (a : MessageOutcome). ComeBelow r line 0 a.recorded) (sym (below_none s.dimensions s.tones r line w)) (none_below r line)

@@ -1,1 +1,2 @@
+pub mod EventNumbers
 pub mod FileOrder
