@@ -1,3 +1,4 @@
+//! What a step writes beside its answer.
 use control_memory::Image;
 
 /// What a step writes beside its answer: the control memory of the next frame where the event is a

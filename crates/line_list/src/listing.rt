@@ -1,3 +1,4 @@
+//! What a keeper of lines lists: the report, or nothing.
 ghost use Rattle.std.specs.Prelude.{◌≡◌};
 ghost use Rattle.line_list.specs.declared.listing.Listing.{Listing};
 ghost use Rattle.line_list.specs.declared.listing.Listing.TheVariants as listed;

@@ -1,3 +1,4 @@
+// Laws about the definitions alone: these functions do nothing, and their contracts are the laws.
 ghost use Rattle.std.specs.Prelude.{◌≡◌, ◌+◌, ◌^◌, ◌++◌, [], List, codes};
 ghost use Rattle.exchange_events.specs.declared.record.CallRecord.{CallRecord};
 ghost use Rattle.meters.specs.Details.{Ring, IsRingOf, detail_text, detail_text_with};

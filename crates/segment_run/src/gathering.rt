@@ -1,3 +1,4 @@
+//! What the workers kept, put together by place.
 ghost use Rattle.std.specs.Prelude.{◌≡◌, ◌<◌, ◌≤◌, ◌+◌, ◌↔◌, [], IsTrue, length, map, reverse, All, vec_len, vec_capacity};
 ghost use Rattle.seat_history.specs.Histories.{StartsWith};
 ghost use Rattle.seat_history.specs.Seats.{Settled};

@@ -1,3 +1,4 @@
+//! All workers of a segment at work, and what they did.
 ghost use Rattle.std.specs.Prelude.{◌≡◌, ◌≤◌, ℕ, IsTrue, slice_index};
 ghost use Rattle.exchange_core.specs.Boards.{turns_of};
 ghost use Rattle.call_processor.specs.Frames.{IsReadyFor};

@@ -1,3 +1,4 @@
+//! Where the workplaces of the workers are kept from one segment to the next.
 ghost use Rattle.std.specs.Prelude.{◌≡◌, ◌≤◌, [], IfOk, length, vec_capacity};
 
 use crate::crew::Crew;

@@ -1,3 +1,4 @@
+//! The lines of a generated trace, and their words.
 ghost use Rattle.std.specs.Prelude.{◌≡◌, ◌<◌, ℕ, List, [], ◌∷◌, ◌++◌, decimal, slice_index, OnOk};
 ghost use Rattle.hex.specs.Hex.{encode_upper, upper_digits};
 ghost use Rattle.traffic_gen.specs.Calls.{message_of};

@@ -1,3 +1,4 @@
+//! A generated trace: its header, its numbers, its nails and its calls.
 ghost use Rattle.std.specs.Prelude.{◌≡◌, ◌<◌, ◌≤◌, [], ◌∷◌, ◌++◌, OnOk, IfOk};
 ghost use Rattle.traffic_gen.specs.Calls.{calls_drawn, number_of, segment};
 ghost use Rattle.traffic_gen.specs.Lines.{Header, text};
