@@ -5,7 +5,7 @@ use control_memory::Image;
 /// frame, else nothing.
 #[derive(Drop)]
 pub enum Tool {
-    /// Nothing.
+    /// The event is no frame.
     Nothing,
     /// The control memory of a frame.
     Image(Image),

@@ -18,7 +18,7 @@ use std::marker::Model;
 /// how many records are its own.
 #[derive(Clone, Copy, Debug, PartialEq, Eq)]
 pub struct Mark {
-    /// The place.
+    /// The place of its event in the history.
     pub place: u32,
     /// The octets of the line.
     pub octets: usize,

@@ -8,7 +8,7 @@ ghost use Rattle.line_list.specs.declared.listing.Listing.TheVariants as listed;
 pub enum Listing {
     /// The lines of their report.
     Report,
-    /// Nothing.
+    /// No line: a summary has none.
     Nothing,
 }
 

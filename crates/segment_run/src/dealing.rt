@@ -13,7 +13,7 @@ use exchange_events::Trace;
 /// behind them.
 #[derive(Drop)]
 pub struct Job<T, K> {
-    /// The worker.
+    /// Who does it, by number.
     pub worker: u32,
     /// Its seat.
     pub seat: T,

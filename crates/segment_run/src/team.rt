@@ -26,7 +26,7 @@ use std::thread::{Threads, join};
 pub struct Team<T, C, K> {
     /// What came of each, in the order of the jobs. No job is left.
     pub crew: Crew<T, K>,
-    /// The engine.
+    /// The engine, which has carried the frames of the segment.
     pub engine: C,
     /// The control memory for the next frame.
     pub tool: Tool,

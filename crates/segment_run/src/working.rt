@@ -29,7 +29,7 @@ pub struct Gathered<T, C, K> {
     pub used: Vec<Workplace<K>>,
     /// No job and no worker any more.
     pub crew: Crew<T, K>,
-    /// The engine.
+    /// The engine, which has carried the frames of the segment.
     pub engine: C,
     /// The control memory for the next frame.
     pub tool: Tool,
