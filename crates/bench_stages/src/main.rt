@@ -4,8 +4,8 @@
 //! `bench_stages PAIRS` carries that many pairs of frames, and prints a sum over the last one. It
 //! is proved safe; no clause says what it prints.
 //!
-//! It stands on `circuit_model`, `frame_buffer`, `control_memory`, `space_stage` and `time_stage`,
-//! and on the kit's `anyhow`.
+//! It stands on `circuit_model`, `frame_buffer`, `control_memory` and `time_stage`, and on the kit's
+//! `anyhow`.
 #![tactic(auto)]
 
 mod fabric;

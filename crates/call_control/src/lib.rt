@@ -5,9 +5,9 @@
 //! - Its `message` is answered as the profile says (`reply`), and makes the profile's next world
 //!   (`world`), whatever the octets are. It moves few paths (`few`), and takes no memory.
 //!
-//! It stands on `circuit_model`, `control_memory`, `circuit_map`, `q931_elements`, `q931_codec`,
-//! `call_states`, `clearing_rules`, `tone_rules`, `number_plan`, `exchange_events` and `call_profile`, and on
-//! the kit's `arrayvec`.
+//! It stands on `circuit_model`, `control_memory`, `circuit_map`, `q931_codec`, `call_states`,
+//! `clearing_rules`, `tone_rules`, `number_plan`, `exchange_events` and `call_profile`, and on the kit's
+//! `arrayvec`.
 #![tactic(auto)]
 
 mod acts;

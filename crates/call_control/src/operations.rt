@@ -25,7 +25,7 @@ use control_memory::PathMap;
 pub struct CallControl<P: PathMap> {
     /// The circuits, with their paths and conference ports.
     pub map: CircuitMap<P>,
-    /// The legs.
+    /// The legs of the calls, by their slots.
     pub legs: LegTable,
 }
 

@@ -9,8 +9,7 @@
 //! - [`process_at`] and [`run_frames_at`] do the same at a workplace that they are lent, over any
 //!   [`Keeper`], which is told of each event that was done (`works`). [`AnswerList`] keeps whole answers.
 //! - [`run_alone`] does all events of a segment by one caller, in the order of the file (`in_order`).
-//! - A worker that ran out of memory says so to the others ([`Shortage`]).
-//! - [`numbers_of`] returns the numbers of a segment's events, and [`processor_of`] who does one.
+//! - [`Shortage`] tells the others of want of memory; [`processor_of`] and [`numbers_of`] part the events.
 //!
 //! It stands on `circuit_model`, `seat_history`, `control_memory`, `tone_rules`, `frame_engine`,
 //! `exchange_core`, `gate`, `exchange_events` and `call_profile`.

@@ -6,7 +6,7 @@ use std::alloc::{AllocError, Global};
 /// An answer, and the place of its entry in the history, counted from 0.
 #[derive(Drop)]
 pub struct Placed {
-    /// The place.
+    /// The place of its entry in the history.
     pub place: u32,
     /// What the event was answered.
     pub answer: Answer,
@@ -38,7 +38,7 @@ pub struct Framed<T, C> {
 /// worker left there is of no matter. `K` is the type of its keeper.
 #[derive(Drop)]
 pub struct Workplace<K> {
-    /// The desk.
+    /// Where an event is done: it has room for what is sent and recorded.
     pub desk: Box<Desk>,
     /// What the external lines send in a frame. The frame worker makes the room for it, once.
     pub octets: Vec<[u8; 30]>,

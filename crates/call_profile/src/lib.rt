@@ -1,19 +1,15 @@
-//! The rules of calls: what this exchange does for a command or a message, as definitions that are read
-//! from top to bottom. `Step` says what each event is answered and makes of the world; `Calls` what a
-//! message asks for; `Acts`, `Setup` and `Restarts` what is then done, one operation after another
-//! (`Operations`).
-//!
-//! There is hardly any code here; its functions are laws of these definitions:
+//! The rules of calls, as definitions that are read from top to bottom: `Step` says what each event is
+//! answered and makes of the world, `Calls` what a message asks for, `Acts`, `Setup` and `Restarts` what is
+//! then done, one operation after another (`Operations`). But for [`is_for`], its functions are laws of these:
 //!
 //! - Every event keeps the legs standing ([`law_of_legs`]). A refused command changes nothing
 //!   ([`law_of_refusals`]), nor does a refused SETUP ([`law_of_refused_calls`]).
 //! - What is sent does not depend on the layout ([`law_of_paths`]); an answered call and a granted nail get
 //!   both paths ([`law_of_answered_calls`], [`law_of_granted_nails`]).
-//! - Which calls are recorded, which reference a new leg gets, what a RESTART leaves, and when a user is
-//!   told of a tone ([`law_of_records`], [`law_of_references`], [`law_of_restarts`], [`law_of_progress`]).
-//! - Whatever happens, allowed commands made the circuits and the ports of each frame
-//!   ([`worlds_are_made`]); later events change nothing of a frame ([`later_frames_change_nothing`]).
-//! - [`is_for`] returns whether a message is for a leg.
+//! - Which calls are recorded, which reference a new leg gets, what a RESTART leaves, when a user is told of
+//!   a tone ([`law_of_records`], [`law_of_references`], [`law_of_restarts`], [`law_of_progress`]).
+//! - Allowed commands made the circuits of each frame ([`worlds_are_made`]), and later events change nothing
+//!   of it ([`later_frames_change_nothing`]).
 //!
 //! It stands on `circuit_model`, `control_memory`, `circuit_map`, `q931_elements`, `q931_codec`,
 //! `call_states`, `clearing_rules`, `tone_rules`, `number_plan` and `exchange_events`.

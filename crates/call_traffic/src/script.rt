@@ -8,18 +8,18 @@ use std::alloc::{AllocError, Global};
 /// the call processors.
 #[derive(Clone, Copy, Debug)]
 pub struct Post {
-    /// The worker.
+    /// The number of the worker who does it.
     pub worker: u8,
-    /// The segment.
+    /// The number of the segment that it is in.
     pub segment: u32,
 }
 
 /// A trace that is being written.
 #[derive(Drop)]
 pub struct Script {
-    /// The text.
+    /// The lines so far.
     pub text: String,
-    /// The events.
+    /// The events of these lines, as the plain program takes them.
     pub events: Vec<PlainEvent>,
     /// Who does each event.
     pub posts: Vec<Post>,

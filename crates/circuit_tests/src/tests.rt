@@ -1,3 +1,4 @@
+//! Steps of the map of circuits over both fabrics, and what each is answered.
 ghost use Rattle.std.specs.Prelude.{◌≡◌, ◌≤◌};
 ghost use Rattle.control_memory.specs.Layout.{IsBare};
 ghost use Rattle.control_memory.specs.Image.{SameSizes as SameImageSizes};

@@ -1,3 +1,4 @@
+//! A control table: a number, or none, for each place of each row.
 ghost use Rattle.std.specs.Prelude.{◌≡◌, ℕ, ◌<◌, true, Some, None, IfOk, IfSome};
 ghost use Rattle.control_memory.specs.Tables.{entry, HasSize, SameSize, Agree, IsRow, written, nothing};
 

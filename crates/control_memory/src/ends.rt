@@ -1,3 +1,4 @@
+//! The two ends of a path.
 use circuit_model::Slot;
 
 /// The two ends of a path: its inlet and its outlet.

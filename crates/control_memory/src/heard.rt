@@ -1,3 +1,4 @@
+//! What a slot hears.
 use circuit_model::Kind;
 
 /// What a slot hears in a frame.

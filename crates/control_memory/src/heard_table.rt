@@ -1,3 +1,4 @@
+//! What each slot hears, line by line.
 ghost use Rattle.std.specs.Prelude.{◌≡◌, ℕ, true, ◌+◌, ◌*◌, ◌%◌, ◌<◌, ◌≤◌, IfOk, length, replicate, slice_index_or, slice_set};
 ghost use Rattle.std.specs.Int.{bit_at};
 ghost use Rattle.control_memory.specs.Layout.{number_of};

@@ -1,3 +1,4 @@
+//! What a slot hears, in one word.
 ghost use Rattle.std.specs.Prelude.{◌≡◌, ⊤};
 ghost use Rattle.control_memory.specs.HeardWords.{is_path_before};
 

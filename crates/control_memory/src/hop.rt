@@ -1,3 +1,4 @@
+//! Where a path goes.
 use circuit_model::Slot;
 
 /// Where a path goes, and the internal slot in which it crosses.

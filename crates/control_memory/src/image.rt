@@ -1,3 +1,4 @@
+//! The control memory of one frame.
 ghost use Rattle.std.specs.Prelude.{◌≡◌, ℕ, true, ◌+◌, ◌<◌, ◌≤◌, ◌*◌, All, Some, None, IfOk, IfSome, length, slice_index_or, if◌then◌else◌};
 ghost use Rattle.circuit_model.specs.Circuits.{same_slot};
 ghost use Rattle.control_memory.specs.Tables.{HasSize, entry, Agree, IsRow, written};

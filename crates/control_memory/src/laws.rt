@@ -1,3 +1,4 @@
+// Laws about the definitions alone: these functions do nothing, and their contracts are the laws.
 ghost use Rattle.std.specs.Prelude.{◌≡◌};
 ghost use Rattle.control_memory.specs.Connecting.{connect, moved};
 ghost use Rattle.control_memory.specs.Examples.{

@@ -1,3 +1,4 @@
+//! What a live map of paths has to keep, whatever its fabric.
 ghost use Rattle.std.specs.Prelude.{◌≡◌, ◌↔◌, ◌⊎◌, ◌<◌, ◌≤◌, ℕ, None, is_none};
 ghost use Rattle.std.specs.Option.{option_map};
 ghost use Rattle.circuit_model.specs.declared.channel.Slot.{Slot};

@@ -1,3 +1,4 @@
+//! The paths of a live layout in control tables.
 ghost use Rattle.std.specs.Prelude.{◌≡◌, ℕ, ◌+◌, ◌*◌, ◌<◌, ◌≤◌, None, Some, IfOk, replicate};
 ghost use Rattle.control_memory.specs.Layout.{Layout, Legal, IsSlot, HasPath, hop_of, slot_read, path_in, Path};
 ghost use Rattle.control_memory.specs.Image.{lines_of, HasLayout, SameSizes};

@@ -1,3 +1,4 @@
+//! What is sent and told in a step, and the small answer beside it.
 ghost use Rattle.std.specs.Prelude.{◌≡◌, [], None};
 ghost use Rattle.exchange_events.specs.Responses.{reply_of};
 

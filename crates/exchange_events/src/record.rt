@@ -1,3 +1,4 @@
+//! The records of calls that ended.
 ghost use Rattle.std.specs.Prelude.{◌≡◌, ◌<◌, [], ◌∷◌, ◌++◌, length};
 ghost use Rattle.exchange_events.specs.Limits.{most_records};
 

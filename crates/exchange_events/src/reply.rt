@@ -1,3 +1,4 @@
+//! What an event is answered, by value.
 use crate::record::Records;
 use crate::signal::Signals;
 

@@ -1,3 +1,4 @@
+//! Messages that are sent, as octets to a line.
 ghost use Rattle.std.specs.Prelude.{◌≡◌, ◌<◌, ◌+◌, [], ◌∷◌, ◌++◌, length};
 ghost use Rattle.exchange_events.specs.Limits.{most_sends};
 

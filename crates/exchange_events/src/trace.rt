@@ -1,3 +1,4 @@
+//! A trace and its events.
 use crate::list::ListOf;
 use circuit_model::Slot;
 use number_plan::Plan;

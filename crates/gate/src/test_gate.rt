@@ -1,3 +1,4 @@
+//! A gate that holds two threads against each other.
 use crate::Gate;
 use std::hint;
 use std::sync::atomic::{AtomicU64, Ordering};

@@ -1,3 +1,4 @@
+//! The keeper of lines, by what it lists.
 ghost use Rattle.std.specs.Prelude.{◌≡◌, [], map};
 ghost use Rattle.line_list.specs.Lines.{calls_of, line_of, text_of};
 

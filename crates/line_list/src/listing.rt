@@ -1,3 +1,4 @@
+//! What a keeper of lines lists: the report, or nothing.
 ghost use Rattle.std.specs.Prelude.{◌≡◌};
 ghost use Rattle.line_list.specs.declared.listing.Listing.{Listing};
 ghost use Rattle.line_list.specs.declared.listing.Listing.TheVariants as listed;
@@ -7,7 +8,7 @@ ghost use Rattle.line_list.specs.declared.listing.Listing.TheVariants as listed;
 pub enum Listing {
     /// The lines of their report.
     Report,
-    /// Nothing.
+    /// No line: a summary has none.
     Nothing,
 }
 

@@ -1,3 +1,4 @@
+//! The details of the last calls.
 ghost use Rattle.std.specs.Prelude.{◌≡◌, ◌-◌, ◌++◌, ◌<◌, ◌≤◌, [], ◌∷◌, List, length, take, OnOk, OnErr, IfOk, IsOk};
 ghost use Rattle.std.specs.VecDeque.{deque_len, deque_capacity};
 ghost use Rattle.exchange_events.specs.declared.record.CallRecord.{CallRecord};

@@ -1,3 +1,4 @@
+//! How many frames calls took, all together and the longest.
 ghost use Rattle.std.specs.Prelude.{◌≡◌, ◌++◌, [], ◌∷◌, List, OnOk, OnErr, IsOk};
 ghost use Rattle.exchange_events.specs.declared.record.CallRecord.{CallRecord};
 ghost use Rattle.meters.specs.Registers.{IsHeldBy, holding_text, holding_text_with};

@@ -1,5 +1,5 @@
-ghost use Rattle.std.specs.Prelude.{◌≡◌, ◌+◌, ◌^◌, ◌++◌, [], List, codes};
-ghost use Rattle.exchange_events.specs.declared.record.CallRecord.{CallRecord};
+// Laws about the definitions alone: these functions do nothing, and their contracts are the laws.
+ghost use Rattle.std.specs.Prelude.{◌≡◌, ◌+◌, ◌^◌, ◌++◌, [], codes};
 ghost use Rattle.meters.specs.Details.{Ring, IsRingOf, detail_text, detail_text_with};
 ghost use Rattle.meters.specs.Examples.{three_calls};
 ghost use Rattle.meters.specs.Registers.{Pegs, Held, register_value, ArePegsOf, IsHeldBy, peg_text, peg_text_with, holding_text, holding_text_with};

@@ -1,3 +1,4 @@
+//! What a meter is.
 ghost use Rattle.std.specs.Prelude.{◌≡◌, ◌++◌, [], ◌∷◌, List, ℕ, OnOk, OnErr};
 ghost use Rattle.exchange_events.specs.declared.record.CallRecord.{CallRecord};
 

@@ -1,3 +1,4 @@
+//! How many calls there were, and how many of them were answered.
 ghost use Rattle.std.specs.Prelude.{◌≡◌, ◌++◌, [], ◌∷◌, List, OnOk, OnErr, IsOk};
 ghost use Rattle.exchange_events.specs.declared.record.CallRecord.{CallRecord};
 ghost use Rattle.meters.specs.Registers.{ArePegsOf, peg_text, peg_text_with};

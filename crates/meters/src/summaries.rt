@@ -1,3 +1,4 @@
+//! The texts of several meters, in order.
 ghost use Rattle.std.specs.Prelude.{◌≡◌, ◌++◌, [], length, map, take, OnOk, OnErr};
 ghost use Rattle.std.specs.List.{concat};
 

@@ -1,3 +1,4 @@
+//! The live layout with its control tables and its matrix, which always agree.
 ghost use Rattle.std.specs.Prelude.{◌≡◌, ℕ, ◌*◌, ◌<◌, ◌≤◌, None, IfOk, IfSome, replicate, is_none};
 ghost use Rattle.std.specs.Option.{option_map};
 ghost use Rattle.circuit_model.specs.declared.channel.Slot.{Slot};

@@ -1,3 +1,4 @@
+//! Looks at the matrix, and the lowest free slots.
 ghost use Rattle.std.specs.Prelude.{◌≡◌, ◌<◌};
 ghost use Rattle.paull_matrix.specs.Matrix.{SameSizes};
 

@@ -9,7 +9,7 @@
 //!
 //! It is proved safe, and each call returns. No clause says what it returns: that is compared.
 //!
-//! It stands on `circuit_model` and `plain_model`, and on the kit's `hex`.
+//! It stands on `circuit_model` and `plain_model`.
 #![tactic(auto)]
 
 mod acts;

@@ -43,7 +43,7 @@ impl PlainRun {
         }
     }
 
-    /// The exchange.
+    /// The exchange as the events so far have left it.
     pub fn exchange(&self) -> &PlainExchange {
         &self.exchange
     }

@@ -34,7 +34,7 @@ pub enum Course {
 /// A message to the user of a line.
 #[derive(Debug, Drop)]
 pub struct Signal {
-    /// The line.
+    /// The line that it goes to.
     pub line: u8,
     /// The octets of the message.
     pub octets: Vec<u8>,

@@ -11,7 +11,7 @@ use crate::types::{
 /// What the exchange does for a message to a leg.
 #[derive(Clone, Copy, Debug, PartialEq, Eq)]
 pub enum Act {
-    /// Nothing.
+    /// The message is passed over.
     Nothing,
     /// A STATUS says that the message isn't expected.
     Unexpected,

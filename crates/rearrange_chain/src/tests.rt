@@ -1,3 +1,4 @@
+//! Chains of moves on small matrices, worked by hand.
 ghost use Rattle.std.specs.Prelude.{◌≡◌, ◌<◌, ◌≤◌, ◌+◌, [], Some};
 ghost use Rattle.paull_matrix.specs.Matrix.{SameSizes, paths_of_row, paths_of_column};
 

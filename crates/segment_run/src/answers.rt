@@ -1,3 +1,4 @@
+//! What comes of a run of a segment.
 use crate::workroom::Workroom;
 use exchange_core::Tool;
 use exchange_events::Answer;

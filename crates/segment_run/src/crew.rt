@@ -1,3 +1,4 @@
+//! The call processors of a segment, each in a thread of its own.
 ghost use Rattle.std.specs.Prelude.{◌≡◌, ◌≤◌, ◌<◌, ◌+◌, ◌++◌, ◌∷◌, [], length, All, vec_len, vec_capacity};
 ghost use Rattle.std.specs.Thread.{IsSync};
 ghost use Rattle.exchange_events.specs.Orders.{Processor};

@@ -1,4 +1,5 @@
-ghost use Rattle.std.specs.Prelude.{◌≡◌, ◌≢◌, ℕ, ◌+◌, ◌<◌, ◌≤◌, ◌||◌, ◌^◌, [], IsTrue, length, map, slice_index, All, vec_capacity};
+//! Who has how many events of a segment, and a seat and a workplace for each who has some.
+ghost use Rattle.std.specs.Prelude.{◌≡◌, ◌≢◌, ℕ, ◌+◌, ◌<◌, ◌≤◌, ◌||◌, ◌^◌, IsTrue, length, slice_index, All, vec_capacity};
 ghost use Rattle.exchange_events.specs.Sound.{IsSound};
 ghost use Rattle.segment_run.specs.Jobs.{seats_of};
 ghost use Rattle.segment_run.specs.Rooms.{HasRoom};
@@ -12,7 +13,7 @@ use exchange_events::Trace;
 /// behind them.
 #[derive(Drop)]
 pub struct Job<T, K> {
-    /// The worker.
+    /// Who does it, by number.
     pub worker: u32,
     /// Its seat.
     pub seat: T,

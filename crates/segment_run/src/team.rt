@@ -1,8 +1,8 @@
+//! The frame worker and the call processors side by side, in threads.
 ghost use Rattle.std.specs.Prelude.{◌≡◌, ℕ, ◌<◌, ◌≤◌, ◌+◌, ◌++◌, ◌∷◌, [], IsTrue, length, All, vec_len, vec_capacity};
 ghost use Rattle.std.specs.Thread.{IsSync};
 ghost use Rattle.exchange_events.specs.Orders.{Frame_worker};
 ghost use Rattle.seat_history.specs.declared.known.Known.{Known};
-ghost use Rattle.exchange_events.specs.Sound.{IsSound};
 ghost use Rattle.call_processor.specs.Frames.{IsReadyFor};
 ghost use Rattle.call_processor.specs.Work.{MayWork};
 ghost use Rattle.call_processor.specs.Workplaces.{FinishesReady, HasDoneFrames};
@@ -25,7 +25,7 @@ use std::thread::{Threads, join};
 pub struct Team<T, C, K> {
     /// What came of each, in the order of the jobs. No job is left.
     pub crew: Crew<T, K>,
-    /// The engine.
+    /// The engine, which has carried the frames of the segment.
     pub engine: C,
     /// The control memory for the next frame.
     pub tool: Tool,

@@ -1,3 +1,4 @@
+//! All workers of a segment at work, and what they did.
 ghost use Rattle.std.specs.Prelude.{◌≡◌, ◌≤◌, ℕ, IsTrue, slice_index};
 ghost use Rattle.exchange_core.specs.Boards.{turns_of};
 ghost use Rattle.call_processor.specs.Frames.{IsReadyFor};
@@ -28,7 +29,7 @@ pub struct Gathered<T, C, K> {
     pub used: Vec<Workplace<K>>,
     /// No job and no worker any more.
     pub crew: Crew<T, K>,
-    /// The engine.
+    /// The engine, which has carried the frames of the segment.
     pub engine: C,
     /// The control memory for the next frame.
     pub tool: Tool,

@@ -1,4 +1,5 @@
-ghost use Rattle.std.specs.Prelude.{◌≡◌, ◌≤◌, [], IfOk, length, vec_capacity};
+//! Where the workplaces of the workers are kept from one segment to the next.
+ghost use Rattle.std.specs.Prelude.{◌≡◌, IfOk, length};
 
 use crate::crew::Crew;
 use call_processor::{Keeper, Workplace};

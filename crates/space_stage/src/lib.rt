@@ -3,11 +3,10 @@
 //!
 //! [`cross`] gives each outgoing line, in each internal slot, the octet of the incoming line that
 //! the control memory names there, and the idle octet where it names none (`octets`).
-//! [`cross_part`] does so for a part of the lines.
 //!
 //! It stands on `circuit_model`, `frame_buffer` and `control_memory`.
 #![tactic(auto)]
 
 mod crossbar;
 
-pub use crossbar::{cross, cross_part};
+pub use crossbar::cross;

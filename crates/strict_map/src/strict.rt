@@ -1,3 +1,4 @@
+//! The live map of paths on fifty-nine internal slots.
 ghost use Rattle.std.specs.Prelude.{◌≡◌, ◌*◌, ◌<◌, ◌≤◌, None, IfOk, replicate};
 
 use circuit_model::Slot;

@@ -1,3 +1,4 @@
+//! Full lines, on which a path takes the last internal slot.
 ghost use Rattle.std.specs.Prelude.{◌≡◌, ◌<◌};
 ghost use Rattle.control_memory.specs.Layout.{IsSlot};
 

@@ -1,5 +1,6 @@
-//! Tests of the texts: what traces say, generated traces, lines of answers, what meters say, and the
-//! ends in memory that texts pass through. Two meters of a program's own stand with them.
+//! Tests of the texts: what traces say, generated traces, lines of answers, what meters say, the ends in
+//! memory that texts pass through, and what a refusal of memory leaves. Two meters of a program's own stand
+//! with them.
 //!
 //! They stand here and not beside what they test, so that none of it is proved a second time with its
 //! tests. What is refused of traces and of words stands in the tables of `examples/`. The crate promises
@@ -19,6 +20,8 @@ mod ends;
 mod generated;
 #[cfg(test)]
 mod keeper;
+#[cfg(test)]
+mod refusals;
 #[cfg(test)]
 mod summaries;
 #[cfg(test)]

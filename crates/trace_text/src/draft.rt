@@ -45,7 +45,7 @@ fn give(tones: &mut Tones, given: GivenTone)
 }
 
 impl Draft {
-    ghost use Rattle.std.specs.Prelude.{◌≡◌, ◌<◌, ◌++◌, ◌∷◌, [], List, length, Ok, OnOk, IfOk, IfErr, IfSome, vec_len};
+    ghost use Rattle.std.specs.Prelude.{◌≡◌, ◌<◌, ◌++◌, ◌∷◌, [], List, Ok, OnOk, IfOk, IfErr, IfSome, vec_len};
     ghost use Rattle.trace_text.specs.TraceWords.{words};
     ghost use Rattle.trace_text.specs.TraceLines.{number, numbered, tone, toned, before_events, by_kind, reads, joins, says, Fails, Gives};
     ghost use Rattle.trace_text.specs.TraceGrammar.{open_segment_end, IsWhatLinesSay};

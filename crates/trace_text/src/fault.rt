@@ -1,3 +1,4 @@
+//! Why octets are no trace.
 ghost use Rattle.std.specs.Prelude.{◌≡◌};
 ghost use Rattle.trace_text.specs.declared.fault.LineFault.TheVariants.{Memory, Refused};
 

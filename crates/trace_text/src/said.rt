@@ -1,3 +1,4 @@
+//! What a line of a trace says.
 use circuit_model::Kind as Tone;
 use exchange_events::Event;
 use number_plan::Number;

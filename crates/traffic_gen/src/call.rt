@@ -1,3 +1,4 @@
+//! One generated call, from its draws to its lines.
 ghost use Rattle.std.specs.Prelude.{◌≡◌, [], ◌∷◌, ◌++◌, OnOk};
 ghost use Rattle.traffic_gen.specs.Calls.{IsCallee, call_drawn, call_lines, clearing_of, far_line, frame_drawn, frames_of, segment, state_after_call, state_after_frame};
 ghost use Rattle.traffic_gen.specs.Draws.{state_after};

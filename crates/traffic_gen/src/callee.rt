@@ -1,3 +1,4 @@
+//! Whom a generated call is to.
 ghost use Rattle.std.specs.Prelude.{◌≡◌, ◌<◌, ◌++◌, OnOk};
 ghost use Rattle.hex.specs.Hex.{encode_upper};
 ghost use Rattle.traffic_gen.specs.Calls.{IsCallee, callee_drawn, message_from, number_of};

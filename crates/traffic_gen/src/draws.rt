@@ -1,3 +1,4 @@
+//! Pseudo-random draws.
 ghost use Rattle.std.specs.Prelude.{◌≡◌, ◌<◌};
 ghost use Rattle.traffic_gen.specs.Draws.{drawn, next_state, octets_drawn, state_after};
 

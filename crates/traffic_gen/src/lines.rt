@@ -1,8 +1,9 @@
+//! The lines of a generated trace, and their words.
 ghost use Rattle.std.specs.Prelude.{◌≡◌, ◌<◌, ℕ, List, [], ◌∷◌, ◌++◌, decimal, slice_index, OnOk};
 ghost use Rattle.hex.specs.Hex.{encode_upper, upper_digits};
 ghost use Rattle.traffic_gen.specs.Calls.{message_of};
-ghost use Rattle.traffic_gen.specs.Lines.{Part, part_text, channel_at, slot_text, text};
-ghost use Rattle.traffic_gen.specs.Lines.{Message, Nail, Sync};
+ghost use Rattle.traffic_gen.specs.Lines.{part_text, channel_at, slot_text, text};
+ghost use Rattle.traffic_gen.specs.Lines.{Nail, Sync};
 
 use itoa::Buffer;
 use std::alloc::AllocError;

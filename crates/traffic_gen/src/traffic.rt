@@ -1,5 +1,6 @@
+//! A generated trace: its header, its numbers, its nails and its calls.
 ghost use Rattle.std.specs.Prelude.{◌≡◌, ◌<◌, ◌≤◌, [], ◌∷◌, ◌++◌, OnOk, IfOk};
-ghost use Rattle.traffic_gen.specs.Calls.{calls_drawn, number_of, segment};
+ghost use Rattle.traffic_gen.specs.Calls.{calls_drawn};
 ghost use Rattle.traffic_gen.specs.Lines.{Header, text};
 ghost use Rattle.traffic_gen.specs.Traffic.{header, nails, nails_at, number_line, room_line, traffic};
 

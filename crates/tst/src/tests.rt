@@ -226,18 +226,18 @@ fn words_other_than_run_are_refused_unread(rt: HostRuntime) -> Result<(), Fail> 
     Ok(())
 }
 
+// That each read and each write ends a call is shown of the program itself (`.ci/ends`); here, what it
+// did by then.
 #[test]
 fn a_failing_read_or_write_ends_the_call(rt: HostRuntime) -> Result<(), Fail> {
     let alloc = rt.alloc();
     // The word, the input, the pieces of reads and writes, the read and the write that fail, and what
-    // comes of it. The line that refuses the words, or the input, may fail to be written as well.
+    // comes of it: the status, the faults, and the events that were done.
     for (word, input, read_piece, read, write_piece, write, ends, written) in [
-        ("run", DELAY, 16, 3, 1000, 9, (3, 1, 0), b"".as_slice()),
-        ("run", DELAY, 1000, 9, 10, 2, (4, 0, 1), b"1 granted "),
-        ("gen", DELAY, 1000, 9, 1000, 1, (4, 0, 1), b""),
-        ("gen", DELAY, 1000, 9, 8, 2, (4, 0, 1), b"refused "),
-        ("run", "hold\n", 1000, 9, 1000, 1, (4, 0, 1), b""),
-        ("run", "hold\n", 1000, 9, 8, 2, (4, 0, 1), b"refused "),
+        ("run", DELAY, 16, 3, 1000, 9, (3, 1, 0, 0), b"".as_slice()),
+        ("run", DELAY, 1000, 9, 10, 2, (4, 0, 1, 6), b"1 granted "),
+        ("gen", DELAY, 1000, 9, 8, 2, (4, 0, 1, 0), b"refused "),
+        ("run", "hold\n", 1000, 9, 8, 2, (4, 0, 1, 0), b"refused "),
     ] {
         let words = vec![in alloc; String::from_str(alloc, word)?]?;
         let source = MemSource::new(spelled(alloc, input)?, read_piece, [read].to_vec(alloc)?);
@@ -252,11 +252,60 @@ fn a_failing_read_or_write_ends_the_call(rt: HostRuntime) -> Result<(), Fail> {
             &mut Vec::new(alloc),
         );
         assert_eq!(rt;
-            (ended.status, ended.read_faults, ended.write_faults),
+            (
+                ended.status,
+                ended.read_faults,
+                ended.write_faults,
+                ended.order.len()
+            ),
             ends,
             "{word}"
         );
         assert_eq!(rt; ended.sink.bytes(), written, "{word}");
+    }
+    Ok(())
+}
+
+// What comes of a run one write of which fails, and what a peg count says then.
+fn cut_at(
+    rt: &(impl Threads + Wait + Sync),
+    alloc: Global,
+    input: Vec<u8>,
+    write: u32,
+) -> Result<(Ended, Vec<u8>), AllocError> {
+    let words = vec![in alloc; String::from_str(alloc, "run")?]?;
+    let source = MemSource::new(input, 65_536, Vec::new(alloc));
+    let sink = MemSink::new(alloc, 100_000, 100_000, [write].to_vec(alloc)?)?;
+    let mut meters: Vec<Box<dyn Meter>> = Vec::with_capacity(alloc, 1)?;
+    meters.push(Box::new(alloc, PegCount::new())?)?;
+    let ended = called::<Engine, OpenGate>(rt, alloc, &words, source, sink, &OpenGate, &mut meters);
+    let mut said = Vec::new(alloc);
+    append_summaries(meters.as_slice(), &mut said)?;
+    Ok((ended, said))
+}
+
+// The report of the first segment is more than one piece, so it is written before the second begins,
+// which ends a call.
+#[test]
+fn a_run_is_cut_between_segments(rt: HostRuntime) -> Result<(), Fail> {
+    let alloc = rt.alloc();
+    let mut trace = b"exchange 1 2 0 1\nnumber 101 line 1\n\
+        M 0 080200010504038090A31803A98381700480313031\nM 1 0802800107\n"
+        .to_vec(alloc)?;
+    for _ in 0..5000 {
+        trace.extend_from_slice(b"F\n")?;
+    }
+    trace.extend_from_slice(b"sync\nM 0 080200014508028090\n")?;
+    // The write that fails, how the run ends, how many octets were written, and what the meter says.
+    for (write, ends, octets, told) in [
+        (1, (4, 1, 5002), 0, "peg 0 0\n"),
+        (2, (4, 1, 5003), 77_915, "peg 1 1\n"),
+        (3, (0, 0, 5003), 77_962, "peg 1 1\n"),
+    ] {
+        let (ended, said) = cut_at(&rt, alloc, trace.as_slice().to_vec(alloc)?, write)?;
+        assert_eq!(rt; (ended.status, ended.write_faults, ended.order.len()), ends);
+        assert_eq!(rt; ended.sink.bytes().len(), octets);
+        assert_eq!(rt; said.as_slice(), told.as_bytes());
     }
     Ok(())
 }

@@ -1,3 +1,4 @@
+//! What the state in a turn lock has to keep.
 ghost use Rattle.std.specs.Prelude.{◌≡◌, ℕ, ◌+◌, ◌<◌, ◌++◌, [], ◌∷◌, List};
 ghost use Rattle.seat_history.specs.Histories.{Entry};
 

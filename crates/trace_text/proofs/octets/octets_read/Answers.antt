@@ -1,4 +1,4 @@
-use Rattle.std.proofs.Common.{◌≡◌, ◌≢◌, ◌%◌, List, ℕ, length, take, drop, refl, rules, arith}
+use Rattle.std.proofs.Common.{◌≡◌, ◌%◌, List, ℕ, length, take, drop, refl, rules, arith}
 use Rattle.std.specs.Prelude.{ok_or}
 use Rattle.trace_text.specs.declared.fault.Reason.TheVariants.{Hex}
 use Rattle.trace_text.specs.TraceLines.{Fails}

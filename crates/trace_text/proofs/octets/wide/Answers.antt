@@ -1,4 +1,4 @@
-use Rattle.std.proofs.Common.{◌≡◌, ◌++◌, List, ℕ, length, ap}
+use Rattle.std.proofs.Common.{◌++◌, List, ℕ, length, ap}
 use Rattle.std.proofs.lemmas.List.{drop-replicate}
 use Rattle.trace_text.proofs.octets.wide.Goals as goal
 

@@ -1,9 +1,8 @@
-use Rattle.std.proofs.Common.{rules, ◌≡◌, ℕ, ◌≤◌, ◌<◌, IfSome, None, Some, length, get_or, set, nat_abs, List, Option, ℤ, pos, ◌+ℤ◌, to_z, of_z, ap, ◌∙◌, arith}
+use Rattle.std.proofs.Common.{rules, ◌≡◌, ◌≤◌, ◌<◌, IfSome, None, Some, get_or, set, nat_abs, List, Option, ℤ, pos, ◌+ℤ◌, to_z, of_z, ap, ◌∙◌, arith}
 use Rattle.std.specs.Int.{w32}
 use mir.Val.{SFits}
 use Rattle.std.proofs.lemmas.Int.{ints}
 use Rattle.conference_mix.specs.declared.mixer.Seated.{Seated}
-use Rattle.conference_mix.specs.Seats.{seats_kept}
 use Rattle.conference_mix.proofs.SeatFacts.{port_near, seats-taken, kept-taken, total-small}
 use Rattle.conference_mix.proofs.mixer.Mixer.seat.Goals as goal
 

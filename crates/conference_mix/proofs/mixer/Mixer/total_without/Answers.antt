@@ -1,13 +1,11 @@
-use Rattle.std.proofs.Common.{◌≡◌, ℕ, ◌≤◌, ◌<◌, length, get_or, nat_abs, List, Option, ℤ, pos, ◌-ℤ◌, to_z, of_z, ap, sym, ◌∙◌, arith}
+use Rattle.std.proofs.Common.{◌≡◌, ℕ, ◌≤◌, ◌<◌, length, get_or, nat_abs, List, ℤ, pos, ◌-ℤ◌, to_z, of_z, ap, sym, ◌∙◌, arith}
 use Rattle.std.specs.Int.{w32}
 use Rattle.std.proofs.lemmas.Int.{ints}
 use Rattle.std.proofs.lemmas.List.{get_or_read}
 use Rattle.std.proofs.lemmas.Grind.{get_or_default_zero}
 use mir.Val.{SFits}
 use Rattle.circuit_model.specs.ALaw.{compress}
-use Rattle.conference_mix.specs.declared.mixer.Seated.{Seated}
 use Rattle.conference_mix.specs.Rooms.{given_at}
-use Rattle.conference_mix.specs.Seats.{seats_kept}
 use Rattle.conference_mix.proofs.SeatFacts.{port_near, total-small, given-kept}
 use Rattle.conference_mix.proofs.mixer.Mixer.total_without.Goals as goal
 
