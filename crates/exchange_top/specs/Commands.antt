@@ -126,7 +126,7 @@ parties plays sizes carries engine stands text old new = record {
 
 -- the engine that was handed out has the size of the trace's exchange over this fabric, and carries the frames of the run
 abbrev pub IsHandedOut : Handing → Fabric → Trace → List ℕ → Type 0
-IsHandedOut handed fabric trace order = handed (setting_of fabric.slots trace).dimensions (world_after fabric.slots trace order)
+IsHandedOut handed f trace order = handed (setting_of f.slots trace).dimensions (world_after f.slots trace order)
 
 -- the bytes are a trace, which was run on a strict fabric or on the other, and its report was written, whole
 pub record IsDone (x : Parties) (strict : Bool) (bytes order : List ℕ) (old new : Option (List ℕ)) : Type 0 where
@@ -145,9 +145,13 @@ pub record IsSummed (x : Parties) (seed calls : ℕ) (order : List ℕ) (old new
   pub text : Appends old new (summary_text trace x.said)
   pub engine : IsHandedOut x.handed (fabric_of false trace) trace order
 
--- all of the input was read; it is a trace, which was run, and its report was written
+-- all of the input was read; it is a trace, which was run on a strict fabric or on the other, and its report was written
 abbrev pub ReportsInput : Parties → (strict : Bool) → (left_old left_new : Option (List ℕ)) → List ℕ → (old new : Option (List ℕ)) → Type 0
 ReportsInput x strict left_old left_new order old new = (bytes : List ℕ) × IsWholeInput left_old left_new bytes × IsDone x strict bytes order old new
+
+-- so it was, where the words ask for a run, on the fabric that they ask for
+abbrev pub ReportsRun : Parties → (words : List (List ℕ)) → (left_old left_new : Option (List ℕ)) → List ℕ → (old new : Option (List ℕ)) → Type 0
+ReportsRun x words left_old left_new order old new = (strict : Bool) → IsRunOn words strict → ReportsInput x strict left_old left_new order old new
 
 -- ---- other ends
 

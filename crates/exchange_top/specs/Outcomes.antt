@@ -25,6 +25,10 @@ pub record Fabric : Type 0 where
   pub slots : ℕ
   pub most_moves : ℕ
 
+-- that of a map of paths, whose type says both of it
+abbrev pub fabric : {M : Type 0} → (M → ℕ) → (M → ℕ) → M → Fabric
+fabric depth bound paths = record { slots = depth paths; most_moves = bound paths }
+
 -- no path that joined in a run of these events moved more than so many others
 abbrev pub MovesFew : Fabric → Trace → List ℕ → Type 0
 MovesFew fabric trace order = let s = setting_of fabric.slots trace in All (MovesAtMost fabric.most_moves) (run s (start s.dimensions) (events_of trace.events order))

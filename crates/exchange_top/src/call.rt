@@ -1,4 +1,4 @@
-ghost use Rattle.std.specs.Prelude.{◌≡◌, ◌+◌, ℕ, Bool, ◌≤◌, ◌⊎◌, ◌↔◌, ◌++◌, List, [], map, IsSome, IfOk, None, Some};
+ghost use Rattle.std.specs.Prelude.{◌≡◌, ◌+◌, ℕ, ◌≤◌, ◌⊎◌, ◌↔◌, ◌++◌, List, [], map, IsSome, IfOk, None, Some};
 ghost use Rattle.std.specs.List.{concat};
 ghost use Rattle.std.specs.Io.KnownBytes.{Appends, Keeps};
 ghost use Rattle.ex_io.specs.Ends.{Rose};
@@ -6,7 +6,8 @@ ghost use Rattle.trace_text.specs.declared.fault.Reason.{Reason};
 ghost use Rattle.trace_text.specs.TraceGrammar.{IsTrace, IsRefused};
 ghost use Rattle.exchange_events.specs.declared.trace.Trace.{Trace};
 ghost use Rattle.exchange_events.specs.Sound.{IsSound};
-ghost use Rattle.exchange_top.specs.Commands.{IsRun, IsRunOn, IsGeneration, IsNoCommand, IsSummed, IsUndone, IsUnfinished, Refuses, Runs, Sums, Answers, CallEnds, RefusesInput, ReportsInput, RunEnds, fabric_of, most_read, parties, reason_name, refusal, texts, words_refusal};
+ghost use Rattle.exchange_top.specs.Commands.{IsRun, IsGeneration, IsNoCommand, IsSummed, IsUndone, IsUnfinished, Refuses, Runs, Sums, Answers, CallEnds, RefusesInput, ReportsRun, RunEnds, fabric_of, most_read, parties, reason_name, refusal, texts, words_refusal};
+ghost use Rattle.exchange_top.specs.Outcomes.{fabric};
 ghost use Rattle.exchange_top.specs.Running.{IsUnused};
 ghost use Rattle.exchange_top.specs.Streams.{AppendsFront, ConsumesAtMost};
 ghost use Rattle.exchange_top.specs.Summary.{summary_text};
@@ -113,18 +114,18 @@ fn run_on<
     rt: &R,
     alloc: Global,
     trace: &Trace,
-    paths: P,
+    map: P,
     lines: &mut LineList<L>,
     sink: &mut K,
     gate: &G,
     meters: &mut Vec<Box<dyn Meter>>,
 ) -> Outcome<C>
     requires sound { IsSound trace.now }
-    requires paths { IsUnused (trace.now.external + trace.now.bridges) (P.width paths) (P.depth paths) (P.layout paths) }
+    requires paths { IsUnused (trace.now.external + trace.now.bridges) (P.width map) (P.depth map) (P.layout map) }
     requires blank { lines.old ≡ [] }
     ensures runs { Runs (parties C.plays C.sizes C.carries result.engine
         (λ m. stands m) (λ m. text m) meters.old.items meters.new.items)
-        (record { slots = P.depth paths; most_moves = P.bound paths })
+        (fabric P.depth P.bound map)
         L.listing trace.now result.status result.order.items (K.written sink.old) (K.written sink.new) (K.faults sink.old) (K.faults sink.new) }
     ensures engine { IsSome result.engine ↔ (result.status ≡ 0) }
     ensures writes { (result.status ≡ 4) ⊎ (K.faults sink.new ≡ K.faults sink.old) }
@@ -132,9 +133,7 @@ fn run_on<
     let Ok(mut order) = Vec::with_capacity(alloc, trace.events.as_slice().len()) else {
         return without_events(alloc, 5);
     };
-    match run(
-        rt, alloc, trace, paths, &mut order, lines, sink, gate, meters,
-    ) {
+    match run(rt, alloc, trace, map, &mut order, lines, sink, gate, meters) {
         Ok(engine) => Outcome {
             status: 0,
             order,
@@ -376,10 +375,9 @@ pub fn exchange<S: Source, K: Sink, G: Gate, C: Carrier, R: Threads + Wait + Syn
     // lawful for it, their report was written, with what the engine plays in each frame, each meter was
     // told of the calls that ended, and the engine has the trace's sizes and carries their frames. With
     // the flag the fabric is a strict one, and each number of moved paths in the report is 0.
-    ensures done { (strict : Bool) → result.status ≡ 0 → IsRunOn (texts words.now) strict
-        → ReportsInput (parties C.plays C.sizes C.carries result.engine
+    ensures done { result.status ≡ 0 → ReportsRun (parties C.plays C.sizes C.carries result.engine
         (λ m. stands m) (λ m. text m) meters.old.items meters.new.items)
-        strict (S.left source.old) (S.left source.new) result.order.items (K.written sink.old) (K.written sink.new) }
+        (texts words.now) (S.left source.old) (S.left source.new) result.order.items (K.written sink.old) (K.written sink.new) }
     // 0 for `gen`: the same of the generated trace, whose summary was written.
     ensures summed { (seed calls : ℕ) → result.status ≡ 0 → IsGeneration (texts words.now) seed calls
         → IsSummed (parties C.plays C.sizes C.carries result.engine
