@@ -65,10 +65,11 @@ module _ (x : Parties) where
   answers_run strict bytes t status order old new before after is (No_memory_from s b) = No_memory s (In_report t is (By_memory s b))
 
   -- a run on a fabric that is the one of a flag is a run on the one of an equal flag
-  pub runs_on : (strict flag : Bool) (f : Fabric) (l : Listing) (t : Trace) (status : ℕ) (order : List ℕ) (old new : Option (List ℕ)) (before after : ℕ) → strict ≡ flag → f ≡ fabric_of flag t
-      → Runs x f l t status order old new before after → Runs x (fabric_of strict t) l t status order old new before after
+  pub runs_on : (strict flag : Bool) (f : Fabric) (l : Listing) (t : Trace) (status : ℕ) (order : List ℕ) (old new : Option (List ℕ)) (before after : ℕ)
+      → strict ≡ flag → f ≡ fabric_of flag t → Runs x f l t status order old new before after → Runs x (fabric_of strict t) l t status order old new before after
   runs_on strict flag f l t status order old new before after same is run =
-      subst (λ (b : Bool). Runs x (fabric_of b t) l t status order old new before after) (sym same) (subst (λ (g : Fabric). Runs x g l t status order old new before after) is run)
+      subst (λ (b : Bool). Runs x (fabric_of b t) l t status order old new before after) (sym same)
+      (subst (λ (g : Fabric). Runs x g l t status order old new before after) is run)
 
   pub answers_refused : (strict : Bool) (bytes : List ℕ) (number : ℕ) (why : Reason) (status : ℕ) (order line : List ℕ) (old new : Option (List ℕ)) (before after : ℕ) → IsRefused bytes number why → order ≡ []
       → line ≡ refusal number why → x.told [] → Refuses 1 line status old new before after → Answers x strict bytes status order old new before after
@@ -89,7 +90,8 @@ module _ (x : Parties) where
   done_says words status order old new strict (Unread is s none rose kept told) h run = absurd (omega (arith, s, h))
   done_says words status order old new strict (No_room s none kept told) h run = absurd (omega (arith, s, h))
   done_says words status order old new strict (Answered flag is bytes input (Done s done)) h run =
-      (bytes, record { front = input.front; ended = input.whole done.is_trace.few }, subst (λ b. IsDone x b bytes order old.written new.written) (same_run words flag strict is run) done)
+      let done_so = subst (λ (b : Bool). IsDone x b bytes order old.written new.written) (same_run words flag strict is run) done in
+      (bytes, record { front = input.front; ended = input.whole done.is_trace.few }, done_so)
   done_says words status order old new strict (Answered flag is bytes input (Turned_down s down told)) h run = absurd (omega (arith, s, h))
   done_says words status order old new strict (Answered flag is bytes input (Unwritten s rose cut)) h run = absurd (omega (arith, s, h))
   done_says words status order old new strict (Answered flag is bytes input (No_memory s cut)) h run = absurd (omega (arith, s, h))

@@ -215,11 +215,11 @@ pub data Answers (x : Parties) (strict : Bool) (bytes : List ℕ) (status : ℕ)
   No_memory : status ≡ 5 → IsCutShort x strict status bytes order old new → Answers x strict bytes status order old new before after
 
 -- how a run of a trace on this fabric ends, of which this is listed
-pub data Runs (x : Parties) (f : Fabric) (l : Listing) (trace : Trace) (status : ℕ) (order : List ℕ) (old new : Option (List ℕ)) (before after : ℕ) : Type 0 where
-  Whole : status ≡ 0 → IsRunWhole f x.told trace order → Appends old new (listed l (report x.plays f.slots trace order)) → IsHandedOut x.handed f trace order
-      → Runs x f l trace status order old new before after
-  Unwritten_from : status ≡ 4 → Rose before after → IsUnwritten x.plays l f.slots x.told trace order old new → Runs x f l trace status order old new before after
-  No_memory_from : status ≡ 5 → IsInterrupted x.plays l f.slots x.told_beyond trace order old new → Runs x f l trace status order old new before after
+pub data Runs (x : Parties) (f : Fabric) (l : Listing) (t : Trace) (status : ℕ) (order : List ℕ) (old new : Option (List ℕ)) (before after : ℕ) : Type 0 where
+  Whole : status ≡ 0 → IsRunWhole f x.told t order → Appends old new (listed l (report x.plays f.slots t order)) → IsHandedOut x.handed f t order
+      → Runs x f l t status order old new before after
+  Unwritten_from : status ≡ 4 → Rose before after → IsUnwritten x.plays l f.slots x.told t order old new → Runs x f l t status order old new before after
+  No_memory_from : status ≡ 5 → IsInterrupted x.plays l f.slots x.told_beyond t order old new → Runs x f l t status order old new before after
 
 -- how a run of a generated trace ends
 pub data Sums (x : Parties) (seed calls : ℕ) (status : ℕ) (order : List ℕ) (old new : Option (List ℕ)) (before after : ℕ) : Type 0 where
