@@ -21,6 +21,8 @@ pub struct Drawn {
     pub fresh: PlainExchange,
     /// The same once more.
     pub again: PlainExchange,
+    /// The same on a strict fabric.
+    pub strict: PlainExchange,
     /// What became of its messages.
     pub counts: Counts,
     /// How many paths were moved.
@@ -32,6 +34,11 @@ pub struct Drawn {
     /// How often ringing tone and busy tone were put on a slot.
     pub sounded: (u32, u32),
 }
+
+// How many internal slots a fabric has: one where paths may have to move, and one where none ever does.
+const REARRANGED_SLOTS: u8 = 30;
+
+const STRICT_SLOTS: u8 = 59;
 
 // The numbers of a plan: one for each line, two rooms, and a longer one.
 fn draw_numbers(alloc: Global, external: u8) -> Result<Vec<Number>, AllocError> {
@@ -157,14 +164,14 @@ impl Setting {
         Ok(text)
     }
 
-    // A plain exchange of this setting, beside the setting.
-    fn exchange(&self, alloc: Global) -> Result<PlainExchange, AllocError> {
+    // A plain exchange of this setting with so many internal slots, beside the setting.
+    fn exchange(&self, alloc: Global, slots: u8) -> Result<PlainExchange, AllocError> {
         let numbers = draw_numbers(alloc, self.external)?;
         let tones = PlainTones {
             ringback: Vec::from_slice(alloc, self.tones.ringback.as_slice())?,
             busy: Vec::from_slice(alloc, self.tones.busy.as_slice())?,
         };
-        Ok(PlainExchange::new(alloc, self.external, self.bridges, numbers, tones))
+        Ok(PlainExchange::new(alloc, slots, self.external, self.bridges, numbers, tones))
     }
 }
 
@@ -176,7 +183,7 @@ pub fn draw_traffic(alloc: Global, random: &mut Random, events: u32) -> Result<D
     let processors = 1 + random.below(8);
     let pace = draw_pace(random);
     let mut script = Script::new(alloc, setting.header(alloc, processors)?, processors);
-    let mut run = PlainRun::new(alloc, setting.exchange(alloc)?);
+    let mut run = PlainRun::new(alloc, setting.exchange(alloc, REARRANGED_SLOTS)?);
     let mut counts = Counts::new();
     let crowd = Crowd::draw(random);
     for number in 0..events {
@@ -192,8 +199,9 @@ pub fn draw_traffic(alloc: Global, random: &mut Random, events: u32) -> Result<D
     }
     Ok(Drawn {
         script,
-        fresh: setting.exchange(alloc)?,
-        again: setting.exchange(alloc)?,
+        fresh: setting.exchange(alloc, REARRANGED_SLOTS)?,
+        again: setting.exchange(alloc, REARRANGED_SLOTS)?,
+        strict: setting.exchange(alloc, STRICT_SLOTS)?,
         counts,
         moved: run.paths_moved(),
         chains: run.exchange().chains(),

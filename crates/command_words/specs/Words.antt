@@ -3,7 +3,7 @@
 use Rattle.std.specs.Prelude.{◌≤◌, ⊤, true, false, Bool, List, [], ◌∷◌, codes, Option, Some, None, ◌==◌, if◌then◌else◌}
 use Rattle.std.specs.Str.{bytes_eq}
 use Rattle.clap.specs.Words.{App, Kinds, Rule, Text, fault_of, first_of, matches_of, new_app, new_rule, with_rule}
-use Rattle.clap.specs.declared.builder.ArgAction.TheVariants.{Set}
+use Rattle.clap.specs.declared.builder.ArgAction.TheVariants.{Set, SetTrue}
 use Rattle.command_words.specs.Numerals.{numeral_in, ◌>>=◌}
 use Rattle.command_words.specs.declared.command.Command.{Command}
 use Rattle.command_words.specs.declared.command.Command.TheVariants.{Run, Generate}
@@ -14,9 +14,13 @@ use Rattle.command_words.specs.declared.command.Name.TheVariants as name
 abbrev pub positional : Text → Rule
 positional name = record (new_rule name) { required = true; action = Some Set }
 
--- the simple command `run`
+-- a flag, which takes no value and is given once at the most
+abbrev pub flag : Text → Rule
+flag name = record (new_rule name) { long = Some name; action = Some SetTrue }
+
+-- the simple command `run`, with the flag `--strict`
 unfoldable pub run_app : App
-run_app = new_app (codes "run")
+run_app = with_rule (new_app (codes "run")) (flag (codes "strict"))
 
 -- the simple command `gen SEED CALLS`
 unfoldable pub gen_app : App
@@ -46,12 +50,17 @@ generation seed_text calls_text = do
 
 -- the number of calls of a command that asks for some: 1 to 2000
 abbrev pub IsInRange : Command → Type 0
-IsInRange Run = ⊤
+IsInRange (Run strict) = ⊤
 IsInRange (Generate seed calls) = (1 ≤ calls) × (calls ≤ 2000)
+
+-- the text that clap reads for a flag says that it was given
+abbrev pub is_true : Option Text → Bool
+is_true None = false
+is_true (Some text) = bytes_eq text (codes "true")
 
 -- what words ask for whose first is `run`
 abbrev pub run_of : List Text → Option Command
-run_of words = if takes_words run_app words then Some Run else None
+run_of words = if takes_words run_app words then Some (Run (is_true (text_for (codes "strict") run_app words))) else None
 
 -- what words ask for whose first is `gen`
 abbrev pub generation_of : List Text → Option Command

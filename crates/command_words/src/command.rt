@@ -1,5 +1,5 @@
 ghost use Rattle.std.specs.Prelude.{◌≡◌, ◌≢◌, codes, map, string_bytes, IfOk, IfSome, IsErrOf, Some, None};
-ghost use Rattle.command_words.specs.Words.{IsInRange, command_of, generation, generation_of, name_in, run_of};
+ghost use Rattle.command_words.specs.Words.{IsInRange, command_of, generation, generation_of, is_true, name_in, run_of};
 ghost use Rattle.clap.specs.Words.{first_value, found_of, kind_of};
 
 use crate::numerals::numeral_within;
@@ -14,8 +14,9 @@ const MOST_CALLS: u32 = 2000;
 /// What the words ask for.
 #[derive(Clone, Copy, Debug, PartialEq, Eq)]
 pub enum Command {
-    /// `run`: to run the trace of the input.
-    Run,
+    /// `run`, or `run --strict`: to run the trace of the input, with the flag on a fabric where no path
+    /// ever moves.
+    Run { strict: bool },
     /// `gen SEED CALLS`: to run the trace of that seed with so many calls, 1 to 2000.
     Generate { seed: u32, calls: u32 },
 }
@@ -33,9 +34,9 @@ pub enum WordsFault {
 
 /// Reads what the words ask for: the first names the command, and the others are its arguments.
 ///
-/// The commands are `run` and `gen SEED CALLS`. Each number is a decimal numeral of one to ten digits
-/// without a leading zero, except `0` itself. A word `--` ends the options, of which there are none; a
-/// request for help is no command.
+/// The commands are `run`, with the flag `--strict` at most once, and `gen SEED CALLS`. Each number is a
+/// decimal numeral of one to ten digits without a leading zero, except `0` itself. A word `--` ends the
+/// options, and a flag behind it is none; a request for help is no command.
 ///
 /// # Errors
 ///
@@ -78,8 +79,20 @@ fn read_run(alloc: Global, words: &[String]) -> Result<Command, WordsFault>
     ensures no_command { IsErrOf result WordsFault.NoCommand → run_of (map string_bytes words.now) ≡ None }
 {
     match run_matches(alloc, words) {
-        Ok(_) => Ok(Command::Run),
+        Ok(matches) => Ok(Command::Run {
+            strict: is_strict(&matches),
+        }),
         Err(error) => Err(fault_of(&error)),
+    }
+}
+
+// Whether the flag was given: its text is `true` then, and `false` where it was not.
+fn is_strict(matches: &ArgMatches) -> bool
+    ensures { result ≡ is_true (first_value (found_of matches.now) (codes "strict")) }
+{
+    match matches.get_str("strict") {
+        Some(text) => text == "true",
+        None => false,
     }
 }
 

@@ -1,5 +1,5 @@
 //! Laws of what words ask for.
-ghost use Rattle.std.specs.Prelude.{◌≡◌, ◌<◌, ◌≤◌, ◌^◌, ℕ, List, [], ◌∷◌, codes, decimal, Some, None, false};
+ghost use Rattle.std.specs.Prelude.{◌≡◌, ◌<◌, ◌≤◌, ◌^◌, ℕ, List, [], ◌∷◌, codes, decimal, Some, None, true, false};
 ghost use Rattle.command_words.specs.Numerals.{numeral};
 ghost use Rattle.command_words.specs.Words.{begins_with_hyphen, command_of, generation};
 ghost use Rattle.command_words.specs.declared.command.Command.TheVariants.{Generate, Run};
@@ -11,15 +11,27 @@ pub fn law_of_plain_texts()
         → command_of (codes "gen" ∷ seed ∷ calls ∷ []) ≡ generation (Some seed) (Some calls) }
 {}
 
-/// Worked examples: a word `--` ends the options, of which there are none.
-pub fn worked_words()
-    ensures run { command_of (codes "run" ∷ []) ≡ Some Run }
-    ensures run_ended { command_of (codes "run" ∷ codes "--" ∷ []) ≡ Some Run }
-    ensures run_and_more { command_of (codes "run" ∷ codes "x" ∷ []) ≡ None }
-    ensures gen_ended { command_of (codes "gen" ∷ codes "--" ∷ codes "0" ∷ codes "1" ∷ []) ≡ Some (Generate 0 1) }
-    ensures gen_last { command_of (codes "gen" ∷ codes "4294967295" ∷ codes "2000" ∷ []) ≡ Some (Generate 4294967295 2000) }
-    ensures gen_and_less { command_of (codes "gen" ∷ codes "0" ∷ []) ≡ None }
-    ensures gen_and_more { command_of (codes "gen" ∷ codes "0" ∷ codes "1" ∷ codes "2" ∷ []) ≡ None }
+/// Worked examples: `run` takes the flag once and without a value, and a word `--` ends the options.
+pub fn worked_runs()
+    ensures run { command_of (codes "run" ∷ []) ≡ Some (Run false) }
+    ensures strict { command_of (codes "run" ∷ codes "--strict" ∷ []) ≡ Some (Run true) }
+    ensures ended { command_of (codes "run" ∷ codes "--" ∷ []) ≡ Some (Run false) }
+    ensures strict_ended { command_of (codes "run" ∷ codes "--strict" ∷ codes "--" ∷ []) ≡ Some (Run true) }
+    ensures and_more { command_of (codes "run" ∷ codes "x" ∷ []) ≡ None }
+    ensures strict_and_more { command_of (codes "run" ∷ codes "--strict" ∷ codes "x" ∷ []) ≡ None }
+    ensures too_late { command_of (codes "run" ∷ codes "--" ∷ codes "--strict" ∷ []) ≡ None }
+    ensures twice { command_of (codes "run" ∷ codes "--strict" ∷ codes "--strict" ∷ []) ≡ None }
+    ensures with_a_value { command_of (codes "run" ∷ codes "--strict=x" ∷ []) ≡ None }
+    ensures too_early { command_of (codes "--strict" ∷ codes "run" ∷ []) ≡ None }
+{}
+
+/// Worked examples of the other command, which takes no flag.
+pub fn worked_generations()
+    ensures ended { command_of (codes "gen" ∷ codes "--" ∷ codes "0" ∷ codes "1" ∷ []) ≡ Some (Generate 0 1) }
+    ensures last { command_of (codes "gen" ∷ codes "4294967295" ∷ codes "2000" ∷ []) ≡ Some (Generate 4294967295 2000) }
+    ensures and_less { command_of (codes "gen" ∷ codes "0" ∷ []) ≡ None }
+    ensures and_one_more { command_of (codes "gen" ∷ codes "0" ∷ codes "1" ∷ codes "2" ∷ []) ≡ None }
+    ensures strict { command_of (codes "gen" ∷ codes "--strict" ∷ codes "0" ∷ codes "1" ∷ []) ≡ None }
     ensures help { command_of (codes "gen" ∷ codes "--help" ∷ []) ≡ None }
 {}
 

@@ -7,12 +7,17 @@ use clap::error::ErrorKind;
 use clap::{Arg, ArgAction, ArgMatches, Command, Error};
 use std::alloc::Global;
 
-/// What clap reads in the words of `run`, which has no arguments.
+/// What clap reads in the words of `run`, which has a flag.
 pub(crate) fn run_matches<'a>(alloc: Global, words: &'a [String]) -> Result<ArgMatches<'a>, Error>
     ensures taken { IfOk result (λ _. takes_words run_app (map string_bytes words.now) ≡ true) }
     ensures refused { IfErr result (λ e. kind_of e ≢ ErrorKind.OutOfMemory → takes_words run_app (map string_bytes words.now) ≡ false) }
+    ensures strict { IfOk result (λ m. first_value (found_of m) (codes "strict") ≡ text_for (codes "strict") run_app (map string_bytes words.now)) }
 {
-    Command::new(alloc, "run").try_get_matches_from(words)
+    let strict = Arg::new(alloc, "strict")
+        .long("strict")
+        .action(ArgAction::SetTrue);
+    let command = Command::new(alloc, "run").arg(strict)?;
+    command.try_get_matches_from(words)
 }
 
 /// What clap reads in the words of `gen`, which has two.

@@ -1,5 +1,5 @@
 -- How a call ends, and what each status says.
-use Rattle.std.proofs.Common.{◌≡◌, ◌⊎◌, ℕ, ◌+◌, ◌<◌, ◌≤◌, List, [], ◌++◌, length, Option, Some, None, arith, sym, ◌∙◌, ap, inl, inr, length-append}
+use Rattle.std.proofs.Common.{◌≡◌, ◌⊎◌, ℕ, Bool, ◌+◌, ◌<◌, ◌≤◌, List, [], ◌++◌, length, Option, Some, None, arith, sym, ◌∙◌, ap, subst, inl, inr, length-append}
 use Rattle.std.proofs.lemmas.Bool.{cases_lt}
 use Rattle.std.proofs.lemmas.List.{append-nil}
 use Rattle.std.specs.Io.KnownBytes.{Appends, Keeps}
@@ -8,20 +8,25 @@ use Rattle.trace_text.specs.declared.fault.Reason.{Reason}
 use Rattle.exchange_events.specs.declared.trace.Trace.{Trace}
 use Rattle.trace_text.specs.TraceGrammar.{IsTrace, IsRefused, most_bytes}
 use Rattle.command_words.specs.declared.command.Command.TheVariants.{Run, Generate}
+use Rattle.line_list.specs.declared.listing.Listing.{Listing}
 use Rattle.line_list.specs.declared.listing.Listing.TheVariants as listing
-use Rattle.exchange_top.specs.Commands.{Parties, Refuses, Told_so, Untold, IsUnfinished, IsRun, IsGeneration, IsNoCommand, IsInput, IsWholeInput, IsDone, IsSummed, IsTurnedDown, In_refusal, In_report, By_write, By_memory, IsUndone, In_words, Unheard, In_answer, In_generation, Runs, Whole, Unwritten_from, No_memory_from, Answers, Done, Turned_down, Unwritten, No_memory, Summed, Sum_unwritten, Sum_no_memory, SourceAndSink, Ends, Wrong_words, Words_unwritten, Unread, No_room, Answered, Generated, refusal, words_refusal}
+use Rattle.exchange_top.specs.Outcomes.{Fabric}
+use Rattle.exchange_top.specs.Commands.{Parties, Refuses, Told_so, Untold, IsUnfinished, IsRun, IsRunOn, IsGeneration, IsNoCommand, IsInput, IsWholeInput, IsDone, IsSummed, IsTurnedDown, In_refusal, In_report, By_write, By_memory, IsUndone, In_words, Unheard, In_answer, In_generation, Runs, Whole, Unwritten_from, No_memory_from, Answers, Done, Turned_down, Unwritten, No_memory, Summed, Sum_unwritten, Sum_no_memory, SourceAndSink, Ends, Wrong_words, Words_unwritten, Unread, No_room, Answered, Generated, fabric_of, refusal, words_refusal}
 use Rattle.trace_text.proofs.TraceReadings.{never_both}
 
 -- ---- words ask for one thing
 
 never_run : (words : List (List ℕ)) → IsNoCommand words → IsRun words → ⊥
-never_run words unasked run = let same : None ≡ Some Run = sym unasked ∙ run in cc
+never_run words unasked run = let same : None ≡ Some (Run run.0) = sym unasked ∙ run.1 in cc
 
 never_generation : (words : List (List ℕ)) (seed calls : ℕ) → IsNoCommand words → IsGeneration words seed calls → ⊥
 never_generation words seed calls unasked gen = let same : None ≡ Some (Generate seed calls) = sym unasked ∙ gen in cc
 
 never_one : (words : List (List ℕ)) (seed calls : ℕ) → IsRun words → IsGeneration words seed calls → ⊥
-never_one words seed calls run gen = let same : Some Run ≡ Some (Generate seed calls) = sym run ∙ gen in cc
+never_one words seed calls run gen = let same : Some (Run run.0) ≡ Some (Generate seed calls) = sym run.1 ∙ gen in cc
+
+same_run : (words : List (List ℕ)) (a b : Bool) → IsRunOn words a → IsRunOn words b → a ≡ b
+same_run words a b one other = let same : Some (Run a) ≡ Some (Run b) = sym one ∙ other in cc
 
 same_generation : (words : List (List ℕ)) (a n b m : ℕ) → IsGeneration words a n → IsGeneration words b m → (a ≡ b) × (n ≡ m)
 same_generation words a n b m one other = let same : Some (Generate a n) ≡ Some (Generate b m) = sym one ∙ other in (cc, cc)
@@ -53,17 +58,24 @@ not_done known bytes number why new t input is refused =
 
 module _ (x : Parties) where
   -- a run of the trace that the bytes are answers them
-  pub answers_run : (bytes : List ℕ) (t : Trace) (status : ℕ) (order : List ℕ) (old new : Option (List ℕ)) (before after : ℕ) → IsTrace bytes t
-      → Runs x listing.Report t status order old new before after → Answers x bytes status order old new before after
-  answers_run bytes t status order old new before after is (Whole s run text engine) = Done s (record { trace = t; is_trace = is; run = run; text = text; engine = engine })
-  answers_run bytes t status order old new before after is (Unwritten_from s rose b) = Unwritten s rose (In_report t is (By_write s b))
-  answers_run bytes t status order old new before after is (No_memory_from s b) = No_memory s (In_report t is (By_memory s b))
+  pub answers_run : (strict : Bool) (bytes : List ℕ) (t : Trace) (status : ℕ) (order : List ℕ) (old new : Option (List ℕ)) (before after : ℕ) → IsTrace bytes t
+      → Runs x (fabric_of strict t) listing.Report t status order old new before after → Answers x strict bytes status order old new before after
+  answers_run strict bytes t status order old new before after is (Whole s run text engine) = Done s (record { trace = t; is_trace = is; run = run; text = text; engine = engine })
+  answers_run strict bytes t status order old new before after is (Unwritten_from s rose b) = Unwritten s rose (In_report t is (By_write s b))
+  answers_run strict bytes t status order old new before after is (No_memory_from s b) = No_memory s (In_report t is (By_memory s b))
 
-  pub answers_refused : (bytes : List ℕ) (number : ℕ) (why : Reason) (status : ℕ) (order line : List ℕ) (old new : Option (List ℕ)) (before after : ℕ) → IsRefused bytes number why → order ≡ []
-      → line ≡ refusal number why → x.told [] → Refuses 1 line status old new before after → Answers x bytes status order old new before after
-  answers_refused bytes number why status order line old new before after refused none same told (Told_so s written) =
+  -- a run on a fabric that is the one of a flag is a run on the one of an equal flag
+  pub runs_on : (strict flag : Bool) (f : Fabric) (l : Listing) (t : Trace) (status : ℕ) (order : List ℕ) (old new : Option (List ℕ)) (before after : ℕ)
+      → strict ≡ flag → f ≡ fabric_of flag t → Runs x f l t status order old new before after → Runs x (fabric_of strict t) l t status order old new before after
+  runs_on strict flag f l t status order old new before after same is run =
+      subst (λ (b : Bool). Runs x (fabric_of b t) l t status order old new before after) (sym same)
+      (subst (λ (g : Fabric). Runs x g l t status order old new before after) is run)
+
+  pub answers_refused : (strict : Bool) (bytes : List ℕ) (number : ℕ) (why : Reason) (status : ℕ) (order line : List ℕ) (old new : Option (List ℕ)) (before after : ℕ) → IsRefused bytes number why → order ≡ []
+      → line ≡ refusal number why → x.told [] → Refuses 1 line status old new before after → Answers x strict bytes status order old new before after
+  answers_refused strict bytes number why status order line old new before after refused none same told (Told_so s written) =
       Turned_down s (record { number = number; why = why; refused = refused; none = none; text = rw same at written }) told
-  answers_refused bytes number why status order line old new before after refused none same told (Untold s rose cut) = Unwritten s rose (In_refusal s number why refused none (rw same at cut) told)
+  answers_refused strict bytes number why status order line old new before after refused none same told (Untold s rose cut) = Unwritten s rose (In_refusal s number why refused none (rw same at cut) told)
 
   pub ends_words : (words : List (List ℕ)) (status : ℕ) (order : List ℕ) (old new : SourceAndSink) → IsNoCommand words → order ≡ [] → x.told []
       → Refuses 2 words_refusal status old.written new.written old.writes new.writes → Ends x words status order old new
@@ -72,28 +84,30 @@ module _ (x : Parties) where
 
   -- ---- what each status says
 
-  pub done_says : (words : List (List ℕ)) (status : ℕ) (order : List ℕ) (old new : SourceAndSink) → Ends x words status order old new → status ≡ 0 → IsRun words → (bytes : List ℕ) × IsWholeInput old.left new.left bytes × IsDone x bytes order old.written new.written
-  done_says words status order old new (Wrong_words unasked s none text told) h run = absurd (omega (arith, s, h))
-  done_says words status order old new (Words_unwritten unasked s none rose text told) h run = absurd (omega (arith, s, h))
-  done_says words status order old new (Unread is s none rose kept told) h run = absurd (omega (arith, s, h))
-  done_says words status order old new (No_room s none kept told) h run = absurd (omega (arith, s, h))
-  done_says words status order old new (Answered is bytes input (Done s done)) h run = (bytes, record { front = input.front; ended = input.whole done.is_trace.few }, done)
-  done_says words status order old new (Answered is bytes input (Turned_down s down told)) h run = absurd (omega (arith, s, h))
-  done_says words status order old new (Answered is bytes input (Unwritten s rose cut)) h run = absurd (omega (arith, s, h))
-  done_says words status order old new (Answered is bytes input (No_memory s cut)) h run = absurd (omega (arith, s, h))
-  done_says words status order old new (Generated seed calls is (Summed s done)) h run = absurd (never_one words seed calls run is)
-  done_says words status order old new (Generated seed calls is (Sum_unwritten s rose cut)) h run = absurd (omega (arith, s, h))
-  done_says words status order old new (Generated seed calls is (Sum_no_memory s cut)) h run = absurd (omega (arith, s, h))
+  pub done_says : (words : List (List ℕ)) (status : ℕ) (order : List ℕ) (old new : SourceAndSink) (strict : Bool) → Ends x words status order old new → status ≡ 0 → IsRunOn words strict → (bytes : List ℕ) × IsWholeInput old.left new.left bytes × IsDone x strict bytes order old.written new.written
+  done_says words status order old new strict (Wrong_words unasked s none text told) h run = absurd (omega (arith, s, h))
+  done_says words status order old new strict (Words_unwritten unasked s none rose text told) h run = absurd (omega (arith, s, h))
+  done_says words status order old new strict (Unread is s none rose kept told) h run = absurd (omega (arith, s, h))
+  done_says words status order old new strict (No_room s none kept told) h run = absurd (omega (arith, s, h))
+  done_says words status order old new strict (Answered flag is bytes input (Done s done)) h run =
+      let done_so = subst (λ (b : Bool). IsDone x b bytes order old.written new.written) (same_run words flag strict is run) done in
+      (bytes, record { front = input.front; ended = input.whole done.is_trace.few }, done_so)
+  done_says words status order old new strict (Answered flag is bytes input (Turned_down s down told)) h run = absurd (omega (arith, s, h))
+  done_says words status order old new strict (Answered flag is bytes input (Unwritten s rose cut)) h run = absurd (omega (arith, s, h))
+  done_says words status order old new strict (Answered flag is bytes input (No_memory s cut)) h run = absurd (omega (arith, s, h))
+  done_says words status order old new strict (Generated seed calls is (Summed s done)) h run = absurd (never_one words seed calls (strict, run) is)
+  done_says words status order old new strict (Generated seed calls is (Sum_unwritten s rose cut)) h run = absurd (omega (arith, s, h))
+  done_says words status order old new strict (Generated seed calls is (Sum_no_memory s cut)) h run = absurd (omega (arith, s, h))
 
   pub summed_says : (words : List (List ℕ)) (status : ℕ) (order : List ℕ) (old new : SourceAndSink) (a n : ℕ) → Ends x words status order old new → status ≡ 0 → IsGeneration words a n → IsSummed x a n order old.written new.written
   summed_says words status order old new a n (Wrong_words unasked s none text told) h gen = absurd (omega (arith, s, h))
   summed_says words status order old new a n (Words_unwritten unasked s none rose text told) h gen = absurd (omega (arith, s, h))
   summed_says words status order old new a n (Unread is s none rose kept told) h gen = absurd (omega (arith, s, h))
   summed_says words status order old new a n (No_room s none kept told) h gen = absurd (omega (arith, s, h))
-  summed_says words status order old new a n (Answered is bytes input (Done s done)) h gen = absurd (never_one words a n is gen)
-  summed_says words status order old new a n (Answered is bytes input (Turned_down s down told)) h gen = absurd (omega (arith, s, h))
-  summed_says words status order old new a n (Answered is bytes input (Unwritten s rose cut)) h gen = absurd (omega (arith, s, h))
-  summed_says words status order old new a n (Answered is bytes input (No_memory s cut)) h gen = absurd (omega (arith, s, h))
+  summed_says words status order old new a n (Answered strict is bytes input (Done s done)) h gen = absurd (never_one words a n (strict, is) gen)
+  summed_says words status order old new a n (Answered strict is bytes input (Turned_down s down told)) h gen = absurd (omega (arith, s, h))
+  summed_says words status order old new a n (Answered strict is bytes input (Unwritten s rose cut)) h gen = absurd (omega (arith, s, h))
+  summed_says words status order old new a n (Answered strict is bytes input (No_memory s cut)) h gen = absurd (omega (arith, s, h))
   summed_says words status order old new a n (Generated seed calls is (Summed s done)) h gen = let same = same_generation words seed calls a n is gen in rw (sym same.0, sym same.1) done
   summed_says words status order old new a n (Generated seed calls is (Sum_unwritten s rose cut)) h gen = absurd (omega (arith, s, h))
   summed_says words status order old new a n (Generated seed calls is (Sum_no_memory s cut)) h gen = absurd (omega (arith, s, h))
@@ -103,10 +117,10 @@ module _ (x : Parties) where
   turned_down_says words status order old new (Words_unwritten unasked s none rose text told) h = absurd (omega (arith, s, h))
   turned_down_says words status order old new (Unread is s none rose kept told) h = absurd (omega (arith, s, h))
   turned_down_says words status order old new (No_room s none kept told) h = absurd (omega (arith, s, h))
-  turned_down_says words status order old new (Answered is bytes input (Done s done)) h = absurd (omega (arith, s, h))
-  turned_down_says words status order old new (Answered is bytes input (Turned_down s down told)) h = (is, (bytes, input, down, told))
-  turned_down_says words status order old new (Answered is bytes input (Unwritten s rose cut)) h = absurd (omega (arith, s, h))
-  turned_down_says words status order old new (Answered is bytes input (No_memory s cut)) h = absurd (omega (arith, s, h))
+  turned_down_says words status order old new (Answered strict is bytes input (Done s done)) h = absurd (omega (arith, s, h))
+  turned_down_says words status order old new (Answered strict is bytes input (Turned_down s down told)) h = ((strict, is), (bytes, input, down, told))
+  turned_down_says words status order old new (Answered strict is bytes input (Unwritten s rose cut)) h = absurd (omega (arith, s, h))
+  turned_down_says words status order old new (Answered strict is bytes input (No_memory s cut)) h = absurd (omega (arith, s, h))
   turned_down_says words status order old new (Generated seed calls is (Summed s done)) h = absurd (omega (arith, s, h))
   turned_down_says words status order old new (Generated seed calls is (Sum_unwritten s rose cut)) h = absurd (omega (arith, s, h))
   turned_down_says words status order old new (Generated seed calls is (Sum_no_memory s cut)) h = absurd (omega (arith, s, h))
@@ -116,10 +130,10 @@ module _ (x : Parties) where
   wrong_words_says words status order old new (Words_unwritten unasked s none rose text told) h = absurd (omega (arith, s, h))
   wrong_words_says words status order old new (Unread is s none rose kept told) h = absurd (omega (arith, s, h))
   wrong_words_says words status order old new (No_room s none kept told) h = absurd (omega (arith, s, h))
-  wrong_words_says words status order old new (Answered is bytes input (Done s done)) h = absurd (omega (arith, s, h))
-  wrong_words_says words status order old new (Answered is bytes input (Turned_down s down told)) h = absurd (omega (arith, s, h))
-  wrong_words_says words status order old new (Answered is bytes input (Unwritten s rose cut)) h = absurd (omega (arith, s, h))
-  wrong_words_says words status order old new (Answered is bytes input (No_memory s cut)) h = absurd (omega (arith, s, h))
+  wrong_words_says words status order old new (Answered strict is bytes input (Done s done)) h = absurd (omega (arith, s, h))
+  wrong_words_says words status order old new (Answered strict is bytes input (Turned_down s down told)) h = absurd (omega (arith, s, h))
+  wrong_words_says words status order old new (Answered strict is bytes input (Unwritten s rose cut)) h = absurd (omega (arith, s, h))
+  wrong_words_says words status order old new (Answered strict is bytes input (No_memory s cut)) h = absurd (omega (arith, s, h))
   wrong_words_says words status order old new (Generated seed calls is (Summed s done)) h = absurd (omega (arith, s, h))
   wrong_words_says words status order old new (Generated seed calls is (Sum_unwritten s rose cut)) h = absurd (omega (arith, s, h))
   wrong_words_says words status order old new (Generated seed calls is (Sum_no_memory s cut)) h = absurd (omega (arith, s, h))
@@ -129,10 +143,10 @@ module _ (x : Parties) where
   read_failed_says words status order old new (Words_unwritten unasked s none rose text told) h = absurd (omega (arith, s, h))
   read_failed_says words status order old new (Unread is s none rose kept told) h = (rose, none, kept, told)
   read_failed_says words status order old new (No_room s none kept told) h = absurd (omega (arith, s, h))
-  read_failed_says words status order old new (Answered is bytes input (Done s done)) h = absurd (omega (arith, s, h))
-  read_failed_says words status order old new (Answered is bytes input (Turned_down s down told)) h = absurd (omega (arith, s, h))
-  read_failed_says words status order old new (Answered is bytes input (Unwritten s rose cut)) h = absurd (omega (arith, s, h))
-  read_failed_says words status order old new (Answered is bytes input (No_memory s cut)) h = absurd (omega (arith, s, h))
+  read_failed_says words status order old new (Answered strict is bytes input (Done s done)) h = absurd (omega (arith, s, h))
+  read_failed_says words status order old new (Answered strict is bytes input (Turned_down s down told)) h = absurd (omega (arith, s, h))
+  read_failed_says words status order old new (Answered strict is bytes input (Unwritten s rose cut)) h = absurd (omega (arith, s, h))
+  read_failed_says words status order old new (Answered strict is bytes input (No_memory s cut)) h = absurd (omega (arith, s, h))
   read_failed_says words status order old new (Generated seed calls is (Summed s done)) h = absurd (omega (arith, s, h))
   read_failed_says words status order old new (Generated seed calls is (Sum_unwritten s rose cut)) h = absurd (omega (arith, s, h))
   read_failed_says words status order old new (Generated seed calls is (Sum_no_memory s cut)) h = absurd (omega (arith, s, h))
@@ -142,10 +156,10 @@ module _ (x : Parties) where
   write_failed_says words status order old new (Words_unwritten unasked s none rose text told) h = rose
   write_failed_says words status order old new (Unread is s none rose kept told) h = absurd (omega (arith, s, h))
   write_failed_says words status order old new (No_room s none kept told) h = absurd (omega (arith, s, h))
-  write_failed_says words status order old new (Answered is bytes input (Done s done)) h = absurd (omega (arith, s, h))
-  write_failed_says words status order old new (Answered is bytes input (Turned_down s down told)) h = absurd (omega (arith, s, h))
-  write_failed_says words status order old new (Answered is bytes input (Unwritten s rose cut)) h = rose
-  write_failed_says words status order old new (Answered is bytes input (No_memory s cut)) h = absurd (omega (arith, s, h))
+  write_failed_says words status order old new (Answered strict is bytes input (Done s done)) h = absurd (omega (arith, s, h))
+  write_failed_says words status order old new (Answered strict is bytes input (Turned_down s down told)) h = absurd (omega (arith, s, h))
+  write_failed_says words status order old new (Answered strict is bytes input (Unwritten s rose cut)) h = rose
+  write_failed_says words status order old new (Answered strict is bytes input (No_memory s cut)) h = absurd (omega (arith, s, h))
   write_failed_says words status order old new (Generated seed calls is (Summed s done)) h = absurd (omega (arith, s, h))
   write_failed_says words status order old new (Generated seed calls is (Sum_unwritten s rose cut)) h = rose
   write_failed_says words status order old new (Generated seed calls is (Sum_no_memory s cut)) h = absurd (omega (arith, s, h))
@@ -155,10 +169,10 @@ module _ (x : Parties) where
   cut_short_says words status order old new (Words_unwritten unasked s none rose text told) h = In_words s unasked none text told
   cut_short_says words status order old new (Unread is s none rose kept told) h = absurd (omega (arith, s, h))
   cut_short_says words status order old new (No_room s none kept told) h = Unheard s none kept told
-  cut_short_says words status order old new (Answered is bytes input (Done s done)) h = absurd (omega (arith, s, h))
-  cut_short_says words status order old new (Answered is bytes input (Turned_down s down told)) h = absurd (omega (arith, s, h))
-  cut_short_says words status order old new (Answered is bytes input (Unwritten s rose cut)) h = In_answer is bytes input cut
-  cut_short_says words status order old new (Answered is bytes input (No_memory s cut)) h = In_answer is bytes input cut
+  cut_short_says words status order old new (Answered strict is bytes input (Done s done)) h = absurd (omega (arith, s, h))
+  cut_short_says words status order old new (Answered strict is bytes input (Turned_down s down told)) h = absurd (omega (arith, s, h))
+  cut_short_says words status order old new (Answered strict is bytes input (Unwritten s rose cut)) h = In_answer strict is bytes input cut
+  cut_short_says words status order old new (Answered strict is bytes input (No_memory s cut)) h = In_answer strict is bytes input cut
   cut_short_says words status order old new (Generated seed calls is (Summed s done)) h = absurd (omega (arith, s, h))
   cut_short_says words status order old new (Generated seed calls is (Sum_unwritten s rose cut)) h = In_generation seed calls is cut
   cut_short_says words status order old new (Generated seed calls is (Sum_no_memory s cut)) h = In_generation seed calls is cut
@@ -168,10 +182,10 @@ module _ (x : Parties) where
   statuses_say words status order old new (Words_unwritten unasked s none rose text told) = omega (arith, s)
   statuses_say words status order old new (Unread is s none rose kept told) = omega (arith, s)
   statuses_say words status order old new (No_room s none kept told) = omega (arith, s)
-  statuses_say words status order old new (Answered is bytes input (Done s done)) = omega (arith, s)
-  statuses_say words status order old new (Answered is bytes input (Turned_down s down told)) = omega (arith, s)
-  statuses_say words status order old new (Answered is bytes input (Unwritten s rose cut)) = omega (arith, s)
-  statuses_say words status order old new (Answered is bytes input (No_memory s cut)) = omega (arith, s)
+  statuses_say words status order old new (Answered strict is bytes input (Done s done)) = omega (arith, s)
+  statuses_say words status order old new (Answered strict is bytes input (Turned_down s down told)) = omega (arith, s)
+  statuses_say words status order old new (Answered strict is bytes input (Unwritten s rose cut)) = omega (arith, s)
+  statuses_say words status order old new (Answered strict is bytes input (No_memory s cut)) = omega (arith, s)
   statuses_say words status order old new (Generated seed calls is (Summed s done)) = omega (arith, s)
   statuses_say words status order old new (Generated seed calls is (Sum_unwritten s rose cut)) = omega (arith, s)
   statuses_say words status order old new (Generated seed calls is (Sum_no_memory s cut)) = omega (arith, s)
@@ -181,10 +195,10 @@ module _ (x : Parties) where
   other_words_say words status order old new (Words_unwritten unasked s none rose text told) other = inr (inl s)
   other_words_say words status order old new (Unread is s none rose kept told) other = absurd (never_run words other is)
   other_words_say words status order old new (No_room s none kept told) other = inr (inr s)
-  other_words_say words status order old new (Answered is bytes input (Done s done)) other = absurd (never_run words other is)
-  other_words_say words status order old new (Answered is bytes input (Turned_down s down told)) other = absurd (never_run words other is)
-  other_words_say words status order old new (Answered is bytes input (Unwritten s rose cut)) other = absurd (never_run words other is)
-  other_words_say words status order old new (Answered is bytes input (No_memory s cut)) other = absurd (never_run words other is)
+  other_words_say words status order old new (Answered strict is bytes input (Done s done)) other = absurd (never_run words other (strict, is))
+  other_words_say words status order old new (Answered strict is bytes input (Turned_down s down told)) other = absurd (never_run words other (strict, is))
+  other_words_say words status order old new (Answered strict is bytes input (Unwritten s rose cut)) other = absurd (never_run words other (strict, is))
+  other_words_say words status order old new (Answered strict is bytes input (No_memory s cut)) other = absurd (never_run words other (strict, is))
   other_words_say words status order old new (Generated seed calls is (Summed s done)) other = absurd (never_generation words seed calls other is)
   other_words_say words status order old new (Generated seed calls is (Sum_unwritten s rose cut)) other = absurd (never_generation words seed calls other is)
   other_words_say words status order old new (Generated seed calls is (Sum_no_memory s cut)) other = absurd (never_generation words seed calls other is)
@@ -194,10 +208,10 @@ module _ (x : Parties) where
   command_says words status order old new (Words_unwritten unasked s none rose text told) run = absurd (never_run words unasked run)
   command_says words status order old new (Unread is s none rose kept told) run = inr (inr (inl s))
   command_says words status order old new (No_room s none kept told) run = inr (inr (inr (inr s)))
-  command_says words status order old new (Answered is bytes input (Done s done)) run = inl s
-  command_says words status order old new (Answered is bytes input (Turned_down s down told)) run = inr (inl s)
-  command_says words status order old new (Answered is bytes input (Unwritten s rose cut)) run = inr (inr (inr (inl s)))
-  command_says words status order old new (Answered is bytes input (No_memory s cut)) run = inr (inr (inr (inr s)))
+  command_says words status order old new (Answered strict is bytes input (Done s done)) run = inl s
+  command_says words status order old new (Answered strict is bytes input (Turned_down s down told)) run = inr (inl s)
+  command_says words status order old new (Answered strict is bytes input (Unwritten s rose cut)) run = inr (inr (inr (inl s)))
+  command_says words status order old new (Answered strict is bytes input (No_memory s cut)) run = inr (inr (inr (inr s)))
   command_says words status order old new (Generated seed calls is (Summed s done)) run = absurd (never_one words seed calls run is)
   command_says words status order old new (Generated seed calls is (Sum_unwritten s rose cut)) run = absurd (never_one words seed calls run is)
   command_says words status order old new (Generated seed calls is (Sum_no_memory s cut)) run = absurd (never_one words seed calls run is)
@@ -205,12 +219,12 @@ module _ (x : Parties) where
   pub generation_says : (words : List (List ℕ)) (status : ℕ) (order : List ℕ) (old new : SourceAndSink) (a n : ℕ) → Ends x words status order old new → IsGeneration words a n → (status ≡ 0) ⊎ (status ≡ 4) ⊎ (status ≡ 5)
   generation_says words status order old new a n (Wrong_words unasked s none text told) gen = absurd (never_generation words a n unasked gen)
   generation_says words status order old new a n (Words_unwritten unasked s none rose text told) gen = absurd (never_generation words a n unasked gen)
-  generation_says words status order old new a n (Unread is s none rose kept told) gen = absurd (never_one words a n is gen)
+  generation_says words status order old new a n (Unread is s none rose kept told) gen = absurd (never_one words a n (strict, is) gen)
   generation_says words status order old new a n (No_room s none kept told) gen = inr (inr s)
-  generation_says words status order old new a n (Answered is bytes input (Done s done)) gen = absurd (never_one words a n is gen)
-  generation_says words status order old new a n (Answered is bytes input (Turned_down s down told)) gen = absurd (never_one words a n is gen)
-  generation_says words status order old new a n (Answered is bytes input (Unwritten s rose cut)) gen = absurd (never_one words a n is gen)
-  generation_says words status order old new a n (Answered is bytes input (No_memory s cut)) gen = absurd (never_one words a n is gen)
+  generation_says words status order old new a n (Answered strict is bytes input (Done s done)) gen = absurd (never_one words a n (strict, is) gen)
+  generation_says words status order old new a n (Answered strict is bytes input (Turned_down s down told)) gen = absurd (never_one words a n (strict, is) gen)
+  generation_says words status order old new a n (Answered strict is bytes input (Unwritten s rose cut)) gen = absurd (never_one words a n (strict, is) gen)
+  generation_says words status order old new a n (Answered strict is bytes input (No_memory s cut)) gen = absurd (never_one words a n (strict, is) gen)
   generation_says words status order old new a n (Generated seed calls is (Summed s done)) gen = inl s
   generation_says words status order old new a n (Generated seed calls is (Sum_unwritten s rose cut)) gen = inr (inl s)
   generation_says words status order old new a n (Generated seed calls is (Sum_no_memory s cut)) gen = inr (inr s)
@@ -220,10 +234,10 @@ module _ (x : Parties) where
   trace_says words status order old new known t (Words_unwritten unasked s none rose text told) left is_trace run = absurd (never_run words unasked run)
   trace_says words status order old new known t (Unread is s none rose kept told) left is_trace run = inr (inl s)
   trace_says words status order old new known t (No_room s none kept told) left is_trace run = inr (inr (inr s))
-  trace_says words status order old new known t (Answered is bytes input (Done s done)) left is_trace run = inl s
-  trace_says words status order old new known t (Answered is bytes input (Turned_down s down told)) left is_trace run = absurd (not_down t known bytes new.left down.refused (rw left at input) is_trace)
-  trace_says words status order old new known t (Answered is bytes input (Unwritten s rose cut)) left is_trace run = inr (inr (inl s))
-  trace_says words status order old new known t (Answered is bytes input (No_memory s cut)) left is_trace run = inr (inr (inr s))
+  trace_says words status order old new known t (Answered strict is bytes input (Done s done)) left is_trace run = inl s
+  trace_says words status order old new known t (Answered strict is bytes input (Turned_down s down told)) left is_trace run = absurd (not_down t known bytes new.left down.refused (rw left at input) is_trace)
+  trace_says words status order old new known t (Answered strict is bytes input (Unwritten s rose cut)) left is_trace run = inr (inr (inl s))
+  trace_says words status order old new known t (Answered strict is bytes input (No_memory s cut)) left is_trace run = inr (inr (inr s))
   trace_says words status order old new known t (Generated seed calls is (Summed s done)) left is_trace run = absurd (never_one words seed calls run is)
   trace_says words status order old new known t (Generated seed calls is (Sum_unwritten s rose cut)) left is_trace run = absurd (never_one words seed calls run is)
   trace_says words status order old new known t (Generated seed calls is (Sum_no_memory s cut)) left is_trace run = absurd (never_one words seed calls run is)
@@ -233,10 +247,10 @@ module _ (x : Parties) where
   no_trace_says words status order old new known number why (Words_unwritten unasked s none rose text told) left refused run = absurd (never_run words unasked run)
   no_trace_says words status order old new known number why (Unread is s none rose kept told) left refused run = inr (inl s)
   no_trace_says words status order old new known number why (No_room s none kept told) left refused run = inr (inr (inr s))
-  no_trace_says words status order old new known number why (Answered is bytes input (Done s done)) left refused run = absurd (not_done known bytes number why new.left done.trace (rw left at input) done.is_trace refused)
-  no_trace_says words status order old new known number why (Answered is bytes input (Turned_down s down told)) left refused run = inl s
-  no_trace_says words status order old new known number why (Answered is bytes input (Unwritten s rose cut)) left refused run = inr (inr (inl s))
-  no_trace_says words status order old new known number why (Answered is bytes input (No_memory s cut)) left refused run = inr (inr (inr s))
+  no_trace_says words status order old new known number why (Answered strict is bytes input (Done s done)) left refused run = absurd (not_done known bytes number why new.left done.trace (rw left at input) done.is_trace refused)
+  no_trace_says words status order old new known number why (Answered strict is bytes input (Turned_down s down told)) left refused run = inl s
+  no_trace_says words status order old new known number why (Answered strict is bytes input (Unwritten s rose cut)) left refused run = inr (inr (inl s))
+  no_trace_says words status order old new known number why (Answered strict is bytes input (No_memory s cut)) left refused run = inr (inr (inr s))
   no_trace_says words status order old new known number why (Generated seed calls is (Summed s done)) left refused run = absurd (never_one words seed calls run is)
   no_trace_says words status order old new known number why (Generated seed calls is (Sum_unwritten s rose cut)) left refused run = absurd (never_one words seed calls run is)
   no_trace_says words status order old new known number why (Generated seed calls is (Sum_no_memory s cut)) left refused run = absurd (never_one words seed calls run is)

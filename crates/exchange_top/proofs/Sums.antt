@@ -1,5 +1,5 @@
 -- A generated trace that is run and summed up, and a run on another board.
-use Rattle.std.proofs.Common.{rules, ◌≡◌, ◌≢◌, ◌⊎◌, ℕ, ◌+◌, ◌≤◌, List, [], length, Option, Some, None, sym, ap, subst, inl, inr, arith}
+use Rattle.std.proofs.Common.{rules, Bool, false, ◌≡◌, ◌≢◌, ◌⊎◌, ℕ, ◌+◌, ◌≤◌, List, [], length, Option, Some, None, sym, ap, subst, inl, inr, arith}
 use Rattle.std.specs.Io.KnownBytes.{Appends, Keeps}
 use Rattle.std.proofs.KnownBytes.{Appends-trans}
 use Rattle.ex_io.specs.Ends.{Rose}
@@ -9,7 +9,7 @@ use Rattle.seat_history.specs.Histories.{Entry}
 use Rattle.exchange_core.specs.Boards.{Board}
 use Rattle.generated_trace.specs.Generated.{IsTrafficOf}
 use Rattle.line_list.specs.declared.listing.Listing.TheVariants as listing
-use Rattle.exchange_top.specs.Commands.{Handing, Parties, Runs, Whole, Unwritten_from, No_memory_from, Sums, Summed, Sum_unwritten, Sum_no_memory, In_run, In_summary, Before_summary, By_write, By_memory}
+use Rattle.exchange_top.specs.Commands.{Handing, Parties, Runs, Whole, Unwritten_from, No_memory_from, Sums, Summed, Sum_unwritten, Sum_no_memory, In_run, In_summary, Before_summary, By_write, By_memory, fabric_of}
 use Rattle.segment_run.specs.Segment.{IsChief}
 use Rattle.exchange_top.specs.Streams.{AppendsFront}
 use Rattle.exchange_top.specs.Summary.{summary_text}
@@ -31,7 +31,7 @@ kept_none old mid new none kept = search rules
 
 module _ (x : Parties) (seed calls : ℕ) (t : Trace) (is : IsTrafficOf seed calls t) where
   -- the run itself was cut short
-  pub sums_cut : (status : ℕ) (order : List ℕ) (old new : Option (List ℕ)) (before after : ℕ) → status ≢ 0 → Runs x listing.Nothing t status order old new before after
+  pub sums_cut : (status : ℕ) (order : List ℕ) (old new : Option (List ℕ)) (before after : ℕ) → status ≢ 0 → Runs x (fabric_of false t) listing.Nothing t status order old new before after
       → Sums x seed calls status order old new before after
   sums_cut status order old new before after not (Whole s run text engine) = absurd (not s)
   sums_cut status order old new before after not (Unwritten_from s rose b) = Sum_unwritten s rose (In_run t is (By_write s b))
@@ -39,7 +39,7 @@ module _ (x : Parties) (seed calls : ℕ) (t : Trace) (is : IsTrafficOf seed cal
 
   -- all was run, and the summary was written, or not
   pub sums_up : (h : Handing) (status status' : ℕ) (order order' : List ℕ) (old mid new : Option (List ℕ)) (faults middle then : ℕ) → status ≡ 0
-      → Runs x listing.Nothing t status order old mid faults middle → (status ≡ 4) ⊎ (middle ≡ faults) → order' ≡ order
+      → Runs x (fabric_of false t) listing.Nothing t status order old mid faults middle → (status ≡ 4) ⊎ (middle ≡ faults) → order' ≡ order
       → (status' ≡ 0 → ((d : _) (w : _) → x.handed d w → h d w) × Appends mid new (summary_text t x.said))
       → (status' ≡ 4 → Rose middle then × AppendsFront mid new (summary_text t x.said)) → (status' ≡ 5 → Keeps mid new)
       → (status' ≡ 0) ⊎ (status' ≡ 4) ⊎ (status' ≡ 5) → Sums (record x { handed = h }) seed calls status' order' old new faults then

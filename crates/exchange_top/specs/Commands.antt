@@ -1,5 +1,5 @@
 -- The commands, and what a call answers to them. Source: this exchange's own.
-use Rattle.std.specs.Prelude.{ℕ, List, Some, None, String, [], codes, decimal, length, map, string_bytes, ◌++◌, ◌+◌, ◌≡◌, ◌≤◌, ◌⊎◌}
+use Rattle.std.specs.Prelude.{ℕ, Bool, true, false, List, Some, None, String, [], codes, decimal, length, map, string_bytes, ◌++◌, ◌+◌, ◌≡◌, ◌≤◌, ◌⊎◌}
 use Rattle.std.specs.List.{concat}
 use Rattle.std.specs.Io.KnownBytes.{Appends, Consumes, IsAtEnd, Keeps}
 use Rattle.std.specs.declared.option.Option.{Option}
@@ -9,6 +9,7 @@ use Rattle.trace_text.specs.declared.fault.Reason.TheVariants as reason
 use Rattle.exchange_events.specs.declared.record.CallRecord.{CallRecord}
 use Rattle.exchange_events.specs.declared.trace.Trace.{Trace}
 use Rattle.fabric_map.specs.Map.{most_moves}
+use Rattle.strict_map.specs.Strict.{most_moves as most_strict_moves}
 use Rattle.trace_text.specs.TraceGrammar.{IsTrace, IsRefused, most_bytes}
 use Rattle.generated_trace.specs.Generated.{IsTrafficOf}
 use Rattle.command_words.specs.Words.{command_of}
@@ -29,9 +30,13 @@ use Rattle.exchange_top.specs.Telling.{AreTold, AreToldBeyond, Telling}
 
 -- ---- the commands
 
--- the words ask for a run of the trace that is read
+-- the words ask for a run of the trace that is read, on a strict fabric or on the other
+abbrev pub IsRunOn : List (List ℕ) → Bool → Type 0
+IsRunOn words strict = command_of words ≡ Some (Run strict)
+
+-- on either
 abbrev pub IsRun : List (List ℕ) → Type 0
-IsRun words = command_of words ≡ Some Run
+IsRun words = (strict : Bool) × IsRunOn words strict
 
 -- they ask for a run of the trace generated of this seed with so many calls
 abbrev pub IsGeneration : List (List ℕ) → ℕ → ℕ → Type 0
@@ -89,9 +94,11 @@ pub record IsInput (old new : Option (List ℕ)) (bytes : List ℕ) : Type 0 whe
 abbrev pub IsUnfinished : ℕ → Type 0
 IsUnfinished status = (status ≡ 3) ⊎ (status ≡ 4) ⊎ (status ≡ 5)
 
--- the fabric of every trace: thirty internal slots, where no path that joins moves more others than in any such fabric of so many lines
-abbrev pub fabric_of : Trace → Fabric
-fabric_of trace = record { slots = 30; most_moves = most_moves (trace.external + trace.bridges) }
+-- the fabric that a trace is run on, and how many others a path that joins moves at the most: a strict one of fifty-nine internal slots, where it is
+-- none, or one of thirty
+abbrev pub fabric_of : Bool → Trace → Fabric
+fabric_of true trace = record { slots = 59; most_moves = most_strict_moves (trace.external + trace.bridges) }
+fabric_of false trace = record { slots = 30; most_moves = most_moves (trace.external + trace.bridges) }
 
 -- what is said of the engine that is handed out: that it has these dimensions, and carries the frames of this world
 abbrev pub Handing : Type 1
@@ -117,29 +124,34 @@ parties plays sizes carries engine stands text old new = record {
   said = concat (map (λ m. text m []) new);
 }
 
--- the engine that was handed out has the size of the trace's exchange, and carries the frames of the run
-abbrev pub IsHandedOut : Handing → Trace → List ℕ → Type 0
-IsHandedOut handed trace order = let slots = (fabric_of trace).slots in handed (setting_of slots trace).dimensions (world_after slots trace order)
+-- the engine that was handed out has the size of the trace's exchange over this fabric, and carries the frames of the run
+abbrev pub IsHandedOut : Handing → Fabric → Trace → List ℕ → Type 0
+IsHandedOut handed f trace order = handed (setting_of f.slots trace).dimensions (world_after f.slots trace order)
 
--- the bytes are a trace, which was run, and its report was written, whole
-pub record IsDone (x : Parties) (bytes order : List ℕ) (old new : Option (List ℕ)) : Type 0 where
+-- the bytes are a trace, which was run on a strict fabric or on the other, and its report was written, whole
+pub record IsDone (x : Parties) (strict : Bool) (bytes order : List ℕ) (old new : Option (List ℕ)) : Type 0 where
   pub trace : Trace
   pub is_trace : IsTrace bytes trace
-  pub run : IsRunWhole (fabric_of trace) x.told trace order
-  pub text : Appends old new (report x.plays (fabric_of trace).slots trace order)
-  pub engine : IsHandedOut x.handed trace order
+  pub run : IsRunWhole (fabric_of strict trace) x.told trace order
+  pub text : Appends old new (report x.plays (fabric_of strict trace).slots trace order)
+  pub engine : IsHandedOut x.handed (fabric_of strict trace) trace order
 
--- the trace generated of this seed with so many calls was run, and its summary was written, whole: it ends with what the meters say
+-- the trace generated of this seed with so many calls was run, on thirty internal slots, and its summary was written, whole: it ends with what the
+-- meters say
 pub record IsSummed (x : Parties) (seed calls : ℕ) (order : List ℕ) (old new : Option (List ℕ)) : Type 0 where
   pub trace : Trace
   pub generated : IsTrafficOf seed calls trace
-  pub run : IsRunWhole (fabric_of trace) x.told trace order
+  pub run : IsRunWhole (fabric_of false trace) x.told trace order
   pub text : Appends old new (summary_text trace x.said)
-  pub engine : IsHandedOut x.handed trace order
+  pub engine : IsHandedOut x.handed (fabric_of false trace) trace order
 
--- all of the input was read; it is a trace, which was run, and its report was written
-abbrev pub ReportsInput : Parties → (left_old left_new : Option (List ℕ)) → List ℕ → (old new : Option (List ℕ)) → Type 0
-ReportsInput x left_old left_new order old new = (bytes : List ℕ) × IsWholeInput left_old left_new bytes × IsDone x bytes order old new
+-- all of the input was read; it is a trace, which was run on a strict fabric or on the other, and its report was written
+abbrev pub ReportsInput : Parties → (strict : Bool) → (left_old left_new : Option (List ℕ)) → List ℕ → (old new : Option (List ℕ)) → Type 0
+ReportsInput x strict left_old left_new order old new = (bytes : List ℕ) × IsWholeInput left_old left_new bytes × IsDone x strict bytes order old new
+
+-- so it was, where the words ask for a run, on the fabric that they ask for
+abbrev pub ReportsRun : Parties → (words : List (List ℕ)) → (left_old left_new : Option (List ℕ)) → List ℕ → (old new : Option (List ℕ)) → Type 0
+ReportsRun x words left_old left_new order old new = (strict : Bool) → IsRunOn words strict → ReportsInput x strict left_old left_new order old new
 
 -- ---- other ends
 
@@ -155,32 +167,34 @@ pub record IsTurnedDown (bytes order : List ℕ) (old new : Option (List ℕ)) :
 abbrev pub RefusesInput : Telling → (left_old left_new : Option (List ℕ)) → List ℕ → (old new : Option (List ℕ)) → Type 0
 RefusesInput told left_old left_new order old new = (bytes : List ℕ) × IsInput left_old left_new bytes × IsTurnedDown bytes order old new × told []
 
--- a run of a trace, of which this is listed, was cut short: a write failed, or memory ran out
-pub data IsBegun (x : Parties) (l : Listing) (trace : Trace) (status : ℕ) (order : List ℕ) (old new : Option (List ℕ)) : Type 0 where
-  By_write : status ≡ 4 → IsUnwritten x.plays l (fabric_of trace).slots x.told trace order old new → IsBegun x l trace status order old new
-  By_memory : status ≡ 5 → IsInterrupted x.plays l (fabric_of trace).slots x.told_beyond trace order old new → IsBegun x l trace status order old new
+-- a run of a trace on so many internal slots, of which this is listed, was cut short: a write failed, or memory ran out
+pub data IsBegun (x : Parties) (slots : ℕ) (l : Listing) (trace : Trace) (status : ℕ) (order : List ℕ) (old new : Option (List ℕ)) : Type 0 where
+  By_write : status ≡ 4 → IsUnwritten x.plays l slots x.told trace order old new → IsBegun x slots l trace status order old new
+  By_memory : status ≡ 5 → IsInterrupted x.plays l slots x.told_beyond trace order old new → IsBegun x slots l trace status order old new
 
 -- the answer to the bytes was cut short: before anything was done, in their refusal, or in the run of the trace that they are
-pub data IsCutShort (x : Parties) (status : ℕ) (bytes order : List ℕ) (old new : Option (List ℕ)) : Type 0 where
-  At_once : status ≡ 5 → order ≡ [] → Keeps old new → x.told [] → IsCutShort x status bytes order old new
+pub data IsCutShort (x : Parties) (strict : Bool) (status : ℕ) (bytes order : List ℕ) (old new : Option (List ℕ)) : Type 0 where
+  At_once : status ≡ 5 → order ≡ [] → Keeps old new → x.told [] → IsCutShort x strict status bytes order old new
   In_refusal : status ≡ 4 → (number : ℕ) (why : Reason) → IsRefused bytes number why → order ≡ [] → AppendsFront old new (refusal number why) → x.told []
-      → IsCutShort x status bytes order old new
-  In_report : (trace : Trace) → IsTrace bytes trace → IsBegun x listing.Report trace status order old new → IsCutShort x status bytes order old new
+      → IsCutShort x strict status bytes order old new
+  In_report : (trace : Trace) → IsTrace bytes trace → IsBegun x (fabric_of strict trace).slots listing.Report trace status order old new
+      → IsCutShort x strict status bytes order old new
 
 -- a run of a generated trace was cut short: before it began, in the run, or once all of it was run, with a front of its summary or none of it
 pub data IsSumCutShort (x : Parties) (status seed calls : ℕ) (order : List ℕ) (old new : Option (List ℕ)) : Type 0 where
   Not_begun : status ≡ 5 → order ≡ [] → Keeps old new → x.told [] → IsSumCutShort x status seed calls order old new
-  In_run : (trace : Trace) → IsTrafficOf seed calls trace → IsBegun x listing.Nothing trace status order old new → IsSumCutShort x status seed calls order old new
-  In_summary : status ≡ 4 → (trace : Trace) → IsTrafficOf seed calls trace → IsRunWhole (fabric_of trace) x.told trace order
+  In_run : (trace : Trace) → IsTrafficOf seed calls trace → IsBegun x (fabric_of false trace).slots listing.Nothing trace status order old new
+      → IsSumCutShort x status seed calls order old new
+  In_summary : status ≡ 4 → (trace : Trace) → IsTrafficOf seed calls trace → IsRunWhole (fabric_of false trace) x.told trace order
       → AppendsFront old new (summary_text trace x.said) → IsSumCutShort x status seed calls order old new
-  Before_summary : status ≡ 5 → (trace : Trace) → IsTrafficOf seed calls trace → IsRunWhole (fabric_of trace) x.told trace order → Appends old new []
+  Before_summary : status ≡ 5 → (trace : Trace) → IsTrafficOf seed calls trace → IsRunWhole (fabric_of false trace) x.told trace order → Appends old new []
       → IsSumCutShort x status seed calls order old new
 
 -- the whole call was cut short: it could write no refusal of the words, or it could not read them or its input, or the answer to them was cut short
 pub data IsUndone (x : Parties) (status : ℕ) (words : List (List ℕ)) (left_old left_new : Option (List ℕ)) (order : List ℕ) (old new : Option (List ℕ)) : Type 0 where
   In_words : status ≡ 4 → IsNoCommand words → order ≡ [] → AppendsFront old new words_refusal → x.told [] → IsUndone x status words left_old left_new order old new
   Unheard : status ≡ 5 → order ≡ [] → Keeps old new → x.told [] → IsUndone x status words left_old left_new order old new
-  In_answer : IsRun words → (bytes : List ℕ) → IsInput left_old left_new bytes → IsCutShort x status bytes order old new
+  In_answer : (strict : Bool) → IsRunOn words strict → (bytes : List ℕ) → IsInput left_old left_new bytes → IsCutShort x strict status bytes order old new
       → IsUndone x status words left_old left_new order old new
   In_generation : (seed calls : ℕ) → IsGeneration words seed calls → IsSumCutShort x status seed calls order old new
       → IsUndone x status words left_old left_new order old new
@@ -194,18 +208,18 @@ pub data Refuses (wanted : ℕ) (line : List ℕ) (status : ℕ) (old new : Opti
   Untold : status ≡ 4 → Rose before after → AppendsFront old new line → Refuses wanted line status old new before after
 
 -- how an answer to the bytes that were read ends, by its status; the counts are those of the sink's faults before and after
-pub data Answers (x : Parties) (bytes : List ℕ) (status : ℕ) (order : List ℕ) (old new : Option (List ℕ)) (before after : ℕ) : Type 0 where
-  Done : status ≡ 0 → IsDone x bytes order old new → Answers x bytes status order old new before after
-  Turned_down : status ≡ 1 → IsTurnedDown bytes order old new → x.told [] → Answers x bytes status order old new before after
-  Unwritten : status ≡ 4 → Rose before after → IsCutShort x status bytes order old new → Answers x bytes status order old new before after
-  No_memory : status ≡ 5 → IsCutShort x status bytes order old new → Answers x bytes status order old new before after
+pub data Answers (x : Parties) (strict : Bool) (bytes : List ℕ) (status : ℕ) (order : List ℕ) (old new : Option (List ℕ)) (before after : ℕ) : Type 0 where
+  Done : status ≡ 0 → IsDone x strict bytes order old new → Answers x strict bytes status order old new before after
+  Turned_down : status ≡ 1 → IsTurnedDown bytes order old new → x.told [] → Answers x strict bytes status order old new before after
+  Unwritten : status ≡ 4 → Rose before after → IsCutShort x strict status bytes order old new → Answers x strict bytes status order old new before after
+  No_memory : status ≡ 5 → IsCutShort x strict status bytes order old new → Answers x strict bytes status order old new before after
 
--- how a run of a trace ends, of which this is listed
-pub data Runs (x : Parties) (l : Listing) (trace : Trace) (status : ℕ) (order : List ℕ) (old new : Option (List ℕ)) (before after : ℕ) : Type 0 where
-  Whole : status ≡ 0 → IsRunWhole (fabric_of trace) x.told trace order → Appends old new (listed l (report x.plays (fabric_of trace).slots trace order))
-      → IsHandedOut x.handed trace order → Runs x l trace status order old new before after
-  Unwritten_from : status ≡ 4 → Rose before after → IsUnwritten x.plays l (fabric_of trace).slots x.told trace order old new → Runs x l trace status order old new before after
-  No_memory_from : status ≡ 5 → IsInterrupted x.plays l (fabric_of trace).slots x.told_beyond trace order old new → Runs x l trace status order old new before after
+-- how a run of a trace on this fabric ends, of which this is listed
+pub data Runs (x : Parties) (f : Fabric) (l : Listing) (t : Trace) (status : ℕ) (order : List ℕ) (old new : Option (List ℕ)) (before after : ℕ) : Type 0 where
+  Whole : status ≡ 0 → IsRunWhole f x.told t order → Appends old new (listed l (report x.plays f.slots t order)) → IsHandedOut x.handed f t order
+      → Runs x f l t status order old new before after
+  Unwritten_from : status ≡ 4 → Rose before after → IsUnwritten x.plays l f.slots x.told t order old new → Runs x f l t status order old new before after
+  No_memory_from : status ≡ 5 → IsInterrupted x.plays l f.slots x.told_beyond t order old new → Runs x f l t status order old new before after
 
 -- how a run of a generated trace ends
 pub data Sums (x : Parties) (seed calls : ℕ) (status : ℕ) (order : List ℕ) (old new : Option (List ℕ)) (before after : ℕ) : Type 0 where
@@ -227,8 +241,8 @@ pub data Ends (x : Parties) (words : List (List ℕ)) (status : ℕ) (order : Li
       → Ends x words status order old new
   Unread : IsRun words → status ≡ 3 → order ≡ [] → Rose old.reads new.reads → Keeps old.written new.written → x.told [] → Ends x words status order old new
   No_room : status ≡ 5 → order ≡ [] → Keeps old.written new.written → x.told [] → Ends x words status order old new
-  Answered : IsRun words → (bytes : List ℕ) → IsInput old.left new.left bytes → Answers x bytes status order old.written new.written old.writes new.writes
-      → Ends x words status order old new
+  Answered : (strict : Bool) → IsRunOn words strict → (bytes : List ℕ) → IsInput old.left new.left bytes
+      → Answers x strict bytes status order old.written new.written old.writes new.writes → Ends x words status order old new
   Generated : (seed calls : ℕ) → IsGeneration words seed calls → Sums x seed calls status order old.written new.written old.writes new.writes → Ends x words status order old new
 
 -- so, by what the types of a source and a sink tell of each: the bytes left and the faults of the source, the bytes written and the faults of the sink
@@ -238,8 +252,8 @@ CallEnds x words status order left reads written writes source_old sink_old sour
     (record { left = left source_old; reads = reads source_old; written = written sink_old; writes = writes sink_old })
     (record { left = left source_new; reads = reads source_new; written = written sink_new; writes = writes sink_new })
 
--- so, of whatever words ask for a run of the input
-abbrev pub RunEnds : {S K : Type 0} → Parties → ℕ → List ℕ → (S → Option (List ℕ)) → (S → ℕ) → (K → Option (List ℕ)) → (K → ℕ)
+-- so, of whatever words ask for a run of the input on a strict fabric or on the other
+abbrev pub RunEnds : {S K : Type 0} → Parties → (strict : Bool) → ℕ → List ℕ → (S → Option (List ℕ)) → (S → ℕ) → (K → Option (List ℕ)) → (K → ℕ)
     → (source_old : S) → (sink_old : K) → (source_new : S) → (sink_new : K) → Type 0
-RunEnds x status order left reads written writes source_old sink_old source_new sink_new =
-    (words : List (List ℕ)) → IsRun words → CallEnds x words status order left reads written writes source_old sink_old source_new sink_new
+RunEnds x strict status order left reads written writes source_old sink_old source_new sink_new =
+    (words : List (List ℕ)) → IsRunOn words strict → CallEnds x words status order left reads written writes source_old sink_old source_new sink_new

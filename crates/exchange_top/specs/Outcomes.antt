@@ -1,8 +1,10 @@
 -- How far a run came, what was written of it, and what its meters were told. Source: this exchange's own.
-use Rattle.std.specs.Prelude.{◌≡◌, ◌⊎◌, ℕ, List, [], ◌++◌, All}
+use Rattle.std.specs.Prelude.{◌≡◌, ◌⊎◌, ⊤, ℕ, List, [], ◌++◌, All, IfSome}
 use Rattle.std.specs.Io.KnownBytes.{Appends}
 use Rattle.std.specs.declared.option.Option.{Option}
 use Rattle.exchange_events.specs.declared.record.CallRecord.{CallRecord}
+use Rattle.exchange_events.specs.declared.reply.Reply.{Reply}
+use Rattle.exchange_events.specs.declared.reply.Reply.TheVariants.{Granted, Busy, Seated, NoPort, Freed, NotNailed, Sent as Sent_reply, Frame as Frame_reply}
 use Rattle.exchange_events.specs.declared.trace.Trace.{Trace}
 use Rattle.exchange_events.specs.Orders.{IsLawful, IsLawfulPrefix}
 use Rattle.exchange_events.specs.Sound.{setting_of}
@@ -23,9 +25,28 @@ pub record Fabric : Type 0 where
   pub slots : ℕ
   pub most_moves : ℕ
 
+-- that of a map of paths, whose type says both of it
+abbrev pub fabric : {M : Type 0} → (M → ℕ) → (M → ℕ) → M → Fabric
+fabric depth bound paths = record { slots = depth paths; most_moves = bound paths }
+
 -- no path that joined in a run of these events moved more than so many others
 abbrev pub MovesFew : Fabric → Trace → List ℕ → Type 0
 MovesFew fabric trace order = let s = setting_of fabric.slots trace in All (MovesAtMost fabric.most_moves) (run s (start s.dimensions) (events_of trace.events order))
+
+-- an answer tells of no moved path, each way
+abbrev pub TellsNoMoves : Reply → Type 0
+TellsNoMoves (Granted a b) = (a ≡ 0) × (b ≡ 0)
+TellsNoMoves Busy = ⊤
+TellsNoMoves (Seated a b) = (a ≡ 0) × (b ≡ 0)
+TellsNoMoves NoPort = ⊤
+TellsNoMoves Freed = ⊤
+TellsNoMoves NotNailed = ⊤
+TellsNoMoves (Sent_reply sends moved records) = IfSome moved (λ moves. (moves.0 ≡ 0) × (moves.1 ≡ 0))
+TellsNoMoves (Frame_reply k sends records) = ⊤
+
+-- none does in a run of these events
+abbrev pub MovesNone : Fabric → Trace → List ℕ → Type 0
+MovesNone fabric trace order = let s = setting_of fabric.slots trace in All TellsNoMoves (run s (start s.dimensions) (events_of trace.events order))
 
 -- every event of the trace was done, in a lawful order; no path that joined moved more others than the fabric allows; and the meters were told of
 -- the calls that ended

@@ -1,4 +1,4 @@
-ghost use Rattle.std.specs.Prelude.{◌≡◌, ℕ, ◌≤◌, ◌⊎◌, ◌↔◌, ◌++◌, List, [], map, IsSome, IfOk, None, Some};
+ghost use Rattle.std.specs.Prelude.{◌≡◌, ◌+◌, ℕ, ◌≤◌, ◌⊎◌, ◌↔◌, ◌++◌, List, [], map, IsSome, IfOk, None, Some};
 ghost use Rattle.std.specs.List.{concat};
 ghost use Rattle.std.specs.Io.KnownBytes.{Appends, Keeps};
 ghost use Rattle.ex_io.specs.Ends.{Rose};
@@ -6,7 +6,9 @@ ghost use Rattle.trace_text.specs.declared.fault.Reason.{Reason};
 ghost use Rattle.trace_text.specs.TraceGrammar.{IsTrace, IsRefused};
 ghost use Rattle.exchange_events.specs.declared.trace.Trace.{Trace};
 ghost use Rattle.exchange_events.specs.Sound.{IsSound};
-ghost use Rattle.exchange_top.specs.Commands.{IsRun, IsGeneration, IsNoCommand, IsSummed, IsUndone, IsUnfinished, Refuses, Runs, Sums, Answers, CallEnds, RefusesInput, ReportsInput, RunEnds, most_read, parties, reason_name, refusal, texts, words_refusal};
+ghost use Rattle.exchange_top.specs.Commands.{IsRun, IsGeneration, IsNoCommand, IsSummed, IsUndone, IsUnfinished, Refuses, Runs, Sums, Answers, CallEnds, RefusesInput, ReportsRun, RunEnds, fabric_of, most_read, parties, reason_name, refusal, texts, words_refusal};
+ghost use Rattle.exchange_top.specs.Outcomes.{fabric};
+ghost use Rattle.exchange_top.specs.Running.{IsUnused};
 ghost use Rattle.exchange_top.specs.Streams.{AppendsFront, ConsumesAtMost};
 ghost use Rattle.exchange_top.specs.Summary.{summary_text};
 ghost use Rattle.exchange_top.specs.Telling.{AreTold};
@@ -15,6 +17,7 @@ use crate::run::{RunFault, run};
 use crate::streams::{ReadFault, read_all, write_all};
 use crate::summary::summary;
 use command_words::{Command, WordsFault, read_command};
+use control_memory::PathMap;
 use ex_io::{Sink, Source};
 use exchange_events::Trace;
 use fabric_map::FabricMap;
@@ -27,6 +30,7 @@ use meters::Meter;
 use std::alloc::{AllocError, Global};
 use std::sync::Wait;
 use std::thread::Threads;
+use strict_map::StrictMap;
 use trace_text::{MOST_BYTES, Reason, TraceFault, read_trace};
 
 /// How a call of the exchange ended.
@@ -97,34 +101,39 @@ fn refuse<K: Sink, C: Carrier>(alloc: Global, sink: &mut K, line: &[u8], status:
     }
 }
 
-// Runs a trace, once there is room for the numbers of its events. Lines are kept in `lines` until they
-// are written.
-fn run_trace<K: Sink, G: Gate, C: Carrier, L: ListingKind + Send + Drop, R: Threads + Wait + Sync>(
+// Runs a trace on a map of paths, once there is room for the numbers of its events. Lines are kept in
+// `lines` until they are written.
+fn run_on<
+    P: PathMap + Drop + Send,
+    K: Sink,
+    G: Gate,
+    C: Carrier,
+    L: ListingKind + Send + Drop,
+    R: Threads + Wait + Sync,
+>(
     rt: &R,
     alloc: Global,
     trace: &Trace,
+    map: P,
     lines: &mut LineList<L>,
     sink: &mut K,
     gate: &G,
     meters: &mut Vec<Box<dyn Meter>>,
 ) -> Outcome<C>
     requires sound { IsSound trace.now }
+    requires paths { IsUnused (trace.now.external + trace.now.bridges) (P.width map) (P.depth map) (P.layout map) }
     requires blank { lines.old ≡ [] }
     ensures runs { Runs (parties C.plays C.sizes C.carries result.engine
         (λ m. stands m) (λ m. text m) meters.old.items meters.new.items)
+        (fabric P.depth P.bound map)
         L.listing trace.now result.status result.order.items (K.written sink.old) (K.written sink.new) (K.faults sink.old) (K.faults sink.new) }
     ensures engine { IsSome result.engine ↔ (result.status ≡ 0) }
     ensures writes { (result.status ≡ 4) ⊎ (K.faults sink.new ≡ K.faults sink.old) }
 {
-    let Ok(paths) = FabricMap::new(alloc, trace.external + trace.bridges) else {
-        return without_events(alloc, 5);
-    };
     let Ok(mut order) = Vec::with_capacity(alloc, trace.events.as_slice().len()) else {
         return without_events(alloc, 5);
     };
-    match run(
-        rt, alloc, trace, paths, &mut order, lines, sink, gate, meters,
-    ) {
+    match run(rt, alloc, trace, map, &mut order, lines, sink, gate, meters) {
         Ok(engine) => Outcome {
             status: 0,
             order,
@@ -143,18 +152,53 @@ fn run_trace<K: Sink, G: Gate, C: Carrier, L: ListingKind + Send + Drop, R: Thre
     }
 }
 
+// Runs a trace on the fabric that is asked for.
+fn run_trace<K: Sink, G: Gate, C: Carrier, L: ListingKind + Send + Drop, R: Threads + Wait + Sync>(
+    rt: &R,
+    alloc: Global,
+    trace: &Trace,
+    strict: bool,
+    lines: &mut LineList<L>,
+    sink: &mut K,
+    gate: &G,
+    meters: &mut Vec<Box<dyn Meter>>,
+) -> Outcome<C>
+    requires sound { IsSound trace.now }
+    requires blank { lines.old ≡ [] }
+    ensures runs { Runs (parties C.plays C.sizes C.carries result.engine
+        (λ m. stands m) (λ m. text m) meters.old.items meters.new.items)
+        (fabric_of strict trace.now)
+        L.listing trace.now result.status result.order.items (K.written sink.old) (K.written sink.new) (K.faults sink.old) (K.faults sink.new) }
+    ensures engine { IsSome result.engine ↔ (result.status ≡ 0) }
+    ensures writes { (result.status ≡ 4) ⊎ (K.faults sink.new ≡ K.faults sink.old) }
+{
+    let width = trace.external + trace.bridges;
+    if strict {
+        match StrictMap::new(alloc, width) {
+            Ok(paths) => run_on(rt, alloc, trace, paths, lines, sink, gate, meters),
+            Err(_) => without_events(alloc, 5),
+        }
+    } else {
+        match FabricMap::new(alloc, width) {
+            Ok(paths) => run_on(rt, alloc, trace, paths, lines, sink, gate, meters),
+            Err(_) => without_events(alloc, 5),
+        }
+    }
+}
+
 // Answers the bytes that were read.
 fn answer<K: Sink, G: Gate, C: Carrier, R: Threads + Wait + Sync>(
     rt: &R,
     alloc: Global,
     bytes: Vec<u8>,
+    strict: bool,
     sink: &mut K,
     gate: &G,
     meters: &mut Vec<Box<dyn Meter>>,
 ) -> Outcome<C>
     ensures answers { Answers (parties C.plays C.sizes C.carries result.engine
         (λ m. stands m) (λ m. text m) meters.old.items meters.new.items)
-        bytes.items result.status result.order.items (K.written sink.old) (K.written sink.new) (K.faults sink.old) (K.faults sink.new) }
+        strict bytes.items result.status result.order.items (K.written sink.old) (K.written sink.new) (K.faults sink.old) (K.faults sink.new) }
     ensures engine { IsSome result.engine ↔ (result.status ≡ 0) }
     ensures writes { (result.status ≡ 4) ⊎ (K.faults sink.new ≡ K.faults sink.old) }
 {
@@ -162,7 +206,7 @@ fn answer<K: Sink, G: Gate, C: Carrier, R: Threads + Wait + Sync>(
         Ok(trace) => {
             // The lines take the memory that the input had, so that its pages are not faulted in anew.
             let mut lines: LineList<ReportLines> = LineList::new(alloc, bytes);
-            run_trace(rt, alloc, &trace, &mut lines, sink, gate, meters)
+            run_trace(rt, alloc, &trace, strict, &mut lines, sink, gate, meters)
         }
         Err(TraceFault::Memory) => without_events(alloc, 5),
         Err(TraceFault::Line { number, reason }) => match refusal(alloc, number, reason) {
@@ -214,7 +258,8 @@ fn sum_up<K: Sink, C: Carrier>(
     }
 }
 
-// Runs the trace generated of a seed with so many calls, and writes its summary.
+// Runs the trace generated of a seed with so many calls, on thirty internal slots, and writes its
+// summary.
 fn run_generated<K: Sink, G: Gate, C: Carrier, R: Threads + Wait + Sync>(
     rt: &R,
     alloc: Global,
@@ -236,7 +281,7 @@ fn run_generated<K: Sink, G: Gate, C: Carrier, R: Threads + Wait + Sync>(
         return without_events(alloc, 5);
     };
     let mut lines: LineList<NoLines> = LineList::new(alloc, Vec::new(alloc));
-    let outcome = run_trace(rt, alloc, &trace, &mut lines, sink, gate, meters);
+    let outcome = run_trace(rt, alloc, &trace, false, &mut lines, sink, gate, meters);
     if outcome.status != 0 {
         return outcome;
     }
@@ -247,13 +292,14 @@ fn run_generated<K: Sink, G: Gate, C: Carrier, R: Threads + Wait + Sync>(
 fn run_input<S: Source, K: Sink, G: Gate, C: Carrier, R: Threads + Wait + Sync>(
     rt: &R,
     alloc: Global,
+    strict: bool,
     source: &mut S,
     sink: &mut K,
     gate: &G,
     meters: &mut Vec<Box<dyn Meter>>,
 ) -> Outcome<C>
     ensures ends { RunEnds (parties C.plays C.sizes C.carries result.engine (λ m. stands m) (λ m. text m) meters.old.items meters.new.items)
-        result.status result.order.items
+        strict result.status result.order.items
         S.left S.faults K.written K.faults source.old sink.old source.new sink.new }
     ensures stops { ConsumesAtMost most_read (S.left source.old) (S.left source.new) }
     ensures engine { IsSome result.engine ↔ (result.status ≡ 0) }
@@ -261,7 +307,7 @@ fn run_input<S: Source, K: Sink, G: Gate, C: Carrier, R: Threads + Wait + Sync>(
     ensures writes { (result.status ≡ 4) ⊎ (K.faults sink.new ≡ K.faults sink.old) }
 {
     match read_all(alloc, source, MOST_BYTES) {
-        Ok(bytes) => answer(rt, alloc, bytes, sink, gate, meters),
+        Ok(bytes) => answer(rt, alloc, bytes, strict, sink, gate, meters),
         Err(ReadFault::Read) => without_events(alloc, 3),
         Err(ReadFault::Memory) => without_events(alloc, 5),
     }
@@ -287,7 +333,7 @@ fn answer_words<S: Source, K: Sink, G: Gate, C: Carrier, R: Threads + Wait + Syn
     ensures writes { (result.status ≡ 4) ⊎ (K.faults sink.new ≡ K.faults sink.old) }
 {
     match read_command(alloc, words) {
-        Ok(Command::Run) => run_input(rt, alloc, source, sink, gate, meters),
+        Ok(Command::Run { strict }) => run_input(rt, alloc, strict, source, sink, gate, meters),
         Ok(Command::Generate { seed, calls }) => {
             run_generated(rt, alloc, seed, calls, sink, gate, meters)
         }
@@ -300,15 +346,15 @@ fn answer_words<S: Source, K: Sink, G: Gate, C: Carrier, R: Threads + Wait + Syn
 ///
 /// The command `run` reads a trace: its input to the end, or until more bytes are held than a trace may
 /// have. `gen SEED CALLS` reads nothing and takes the trace that is generated of the seed with so many
-/// calls. Then the trace is run, one segment after the other: the call processors and the frame worker
+/// calls. The fabric has thirty internal slots, and for `run --strict` fifty-nine, where no path ever
+/// moves. Then the trace is run, one segment after the other: the call processors and the frame worker
 /// of a segment take turns at one switching map, each in a thread of its own, and are held up at the
 /// gate, where a test may look on. Where all but the busiest of them have few events together, and the
 /// gate doesn't ask for threads, the segment is done by the caller, in the order of the trace. The order
-/// in which the events took their turns is `order`; the
-/// report has a line for each in that order, and a summary has a line that counts them and then what
-/// the meters say (`docs/FORMATS.md`). The meters are told of the calls that end, segment by segment,
-/// in that order. The causes of another end are met in this order: the words, reading, the trace, the
-/// run, writing.
+/// in which the events took their turns is `order`; the report has a line for each in that order, and a
+/// summary has a line that counts them and then what the meters say (`docs/FORMATS.md`). The meters are
+/// told of the calls that end, segment by segment, in that order. The causes of another end are met in
+/// this order: the words, reading, the trace, the run, writing.
 ///
 /// The octets of a frame are what the engine of type `C` plays. It is handed out where the status is
 /// 0, and then it has as many lines and internal slots as the exchange had, and carries the frames of
@@ -327,10 +373,11 @@ pub fn exchange<S: Source, K: Sink, G: Gate, C: Carrier, R: Threads + Wait + Syn
 ) -> Outcome<C>
     // 0 for `run`: all of the input was read, it is a trace, its events were done in an order that is
     // lawful for it, their report was written, with what the engine plays in each frame, each meter was
-    // told of the calls that ended, and the engine has the trace's sizes and carries their frames.
-    ensures done { result.status ≡ 0 → IsRun (texts words.now) → ReportsInput (parties C.plays C.sizes C.carries result.engine
+    // told of the calls that ended, and the engine has the trace's sizes and carries their frames. With
+    // the flag the fabric is a strict one, and each number of moved paths in the report is 0.
+    ensures done { result.status ≡ 0 → ReportsRun (parties C.plays C.sizes C.carries result.engine
         (λ m. stands m) (λ m. text m) meters.old.items meters.new.items)
-        (S.left source.old) (S.left source.new) result.order.items (K.written sink.old) (K.written sink.new) }
+        (texts words.now) (S.left source.old) (S.left source.new) result.order.items (K.written sink.old) (K.written sink.new) }
     // 0 for `gen`: the same of the generated trace, whose summary was written.
     ensures summed { (seed calls : ℕ) → result.status ≡ 0 → IsGeneration (texts words.now) seed calls
         → IsSummed (parties C.plays C.sizes C.carries result.engine

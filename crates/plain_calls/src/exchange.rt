@@ -52,10 +52,11 @@ impl PlainTones {
 }
 
 impl PlainExchange {
-    /// An exchange with so many external and bridge lines, this number plan and these tones, before its
-    /// first event.
+    /// An exchange with so many internal slots, external and bridge lines, this number plan and these
+    /// tones, before its first event.
     pub fn new(
         alloc: Global,
+        slots: u8,
         external: u8,
         bridges: u8,
         numbers: Vec<Number>,
@@ -66,7 +67,7 @@ impl PlainExchange {
             bridges,
             circuits: Exchange::new(alloc),
             ports: Ports::new(alloc, external, bridges),
-            paths: Paths::new(alloc),
+            paths: Paths::new(alloc, slots),
             legs: Vec::new(alloc),
             numbers,
             tones,

@@ -3,9 +3,6 @@
 use circuit_model::Slot;
 use std::alloc::{AllocError, Global};
 
-/// How many internal slots each line has.
-const INTERNAL_SLOTS: u8 = 30;
-
 // A path through the fabric, in one internal slot of its incoming line and of its outgoing line.
 #[derive(Clone, Copy)]
 struct Path {
@@ -22,9 +19,12 @@ struct Path {
 /// the path from the incoming line in `b`. Both go on from a path in `a` with the path from the same
 /// incoming line in `b`, and from a path in `b` with the path to the same outgoing line in `a`. The paths
 /// of one chain exchange `a` and `b`: of that from the incoming line where it has fewer paths, and then
-/// the new path gets `b`; else of that to the outgoing line, and it gets `a`.
+/// the new path gets `b`; else of that to the outgoing line, and it gets `a`. With 59 internal slots one
+/// is always free on both.
 #[derive(Drop)]
 pub(crate) struct Paths {
+    // How many internal slots each line has.
+    slots: u8,
     paths: Vec<Path>,
     pub(crate) chains: Chains,
 }
@@ -67,9 +67,10 @@ impl Chains {
 }
 
 impl Paths {
-    /// No path.
-    pub(crate) fn new(alloc: Global) -> Paths {
+    /// No path, on so many internal slots.
+    pub(crate) fn new(alloc: Global, slots: u8) -> Paths {
         Paths {
+            slots,
             paths: Vec::new(alloc),
             chains: Chains::default(),
         }
@@ -99,13 +100,13 @@ impl Paths {
     // The internal slot for a path from one line to another, free on both once the paths of the chain
     // have moved. None where a line has no free slot at all.
     fn make_room(&mut self, alloc: Global, from: u8, to: u8) -> Result<Option<u8>, AllocError> {
-        for internal in 0..INTERNAL_SLOTS {
+        for internal in 0..self.slots {
             if self.from_line(from, internal).is_none() && self.to_line(to, internal).is_none() {
                 return Ok(Some(internal));
             }
         }
-        let a = (0..INTERNAL_SLOTS).find(|internal| self.from_line(from, *internal).is_none());
-        let b = (0..INTERNAL_SLOTS).find(|internal| self.to_line(to, *internal).is_none());
+        let a = (0..self.slots).find(|internal| self.from_line(from, *internal).is_none());
+        let b = (0..self.slots).find(|internal| self.to_line(to, *internal).is_none());
         let (Some(a), Some(b)) = (a, b) else {
             return Ok(None);
         };

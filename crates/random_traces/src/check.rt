@@ -104,17 +104,19 @@ impl Gate for Apart {
     fn after_crossing(&self, _frame: u32) {}
 }
 
-/// Runs a trace through the exchange at a gate. The order of its report, where that has the events in a
-/// lawful order, and says of each what the plain program says that takes them in that order, from
-/// nothing, and where two meters kept just the calls that ended in that run.
+/// Runs a trace through the exchange at a gate, on a strict fabric or on the other. The order of its
+/// report, where that has the events in a lawful order, and says of each what the plain program says that
+/// takes them in that order, from nothing, where on a strict fabric each number of moved paths is 0, and
+/// where two meters kept just the calls that ended in that run.
 pub fn agreed<P: Plain + Drop, G: Gate, R: Threads + Wait + Sync>(
     rt: &R,
     alloc: Global,
     script: &Script,
     plain: P,
+    strict: bool,
     gate: &G,
 ) -> Result<Option<Vec<u32>>, AllocError> {
-    let heard = heard_of(rt, alloc, script.text.as_str(), gate)?;
+    let heard = heard_of(rt, alloc, script.text.as_str(), strict, gate)?;
     let Ok(report) = str::from_utf8(heard.report.as_slice()) else {
         return Ok(None);
     };
@@ -126,7 +128,8 @@ pub fn agreed<P: Plain + Drop, G: Gate, R: Threads + Wait + Sync>(
     }
     let wanted = wanted_of(alloc, plain, script.events.as_slice(), order.as_slice())?;
     let is_told = is_twice(heard.calls.as_slice(), wanted.calls.as_bytes());
-    Ok(if is_told && is_wanted(report, wanted.report.as_str()) {
+    let is_still = !strict || report.lines().all(tells_of_no_moves);
+    Ok(if is_told && is_still && is_wanted(report, wanted.report.as_str()) {
         Some(order)
     } else {
         None
@@ -163,14 +166,24 @@ fn called<G: Gate, R: Threads + Wait + Sync>(
     }
 }
 
+// The words that ask for a run.
+fn words_of(alloc: Global, strict: bool) -> Result<Vec<String>, AllocError> {
+    let mut words = vec![in alloc; String::from_str(alloc, "run")?]?;
+    if strict {
+        words.push(String::from_str(alloc, "--strict")?)?;
+    }
+    Ok(words)
+}
+
 // What the exchange says of a trace; nothing where it was not run.
 fn heard_of<G: Gate, R: Threads + Wait + Sync>(
     rt: &R,
     alloc: Global,
     trace: &str,
+    strict: bool,
     gate: &G,
 ) -> Result<Heard, AllocError> {
-    let words = vec![in alloc; String::from_str(alloc, "run")?]?;
+    let words = words_of(alloc, strict)?;
     let input = Vec::from_slice(alloc, trace.as_bytes())?;
     let source = MemSource::new(input, 4096, Vec::new(alloc));
     let sink = MemSink::new(alloc, ROOM, 4096, Vec::new(alloc))?;
@@ -224,6 +237,19 @@ fn wanted_of<P: Plain + Drop>(
         report: plain.into_text(),
         calls,
     })
+}
+
+// Whether the numbers of moved paths of a line are 0, if it tells some.
+fn tells_of_no_moves(line: &str) -> bool {
+    let Some((_, words)) = numbered(line) else {
+        return false;
+    };
+    for told in ["granted ", "seated ", "message moved "] {
+        if let Some(numbers) = words.strip_prefix(told) {
+            return numbers == "0 0" || numbers.starts_with("0 0 ");
+        }
+    }
+    true
 }
 
 // Whether the lines of a report say what is wanted, behind the numbers, by which the order was read.

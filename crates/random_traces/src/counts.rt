@@ -71,16 +71,22 @@ impl Counts {
     }
 }
 
-/// By which chains paths were moved in file order, and in how many traces more moved for one path than
-/// there are other lines.
+/// How many paths were moved in file order, in how many traces some were, by which chains, and in how many
+/// traces more moved for one path than there are other lines.
 #[derive(Clone, Copy, Default)]
 pub struct Moves {
+    pub paths: u32,
+    pub traces: u32,
     pub chains: Chains,
     pub beyond: u32,
 }
 
 impl Moves {
     pub fn add(&mut self, drawn: &Drawn) {
+        self.paths = self.paths.saturating_add(drawn.moved);
+        if drawn.moved > 0 {
+            self.traces = self.traces.saturating_add(1);
+        }
         self.chains.add(&drawn.chains);
         if drawn.chains.longest >= drawn.fresh.lines() {
             self.beyond = self.beyond.saturating_add(1);

@@ -13,6 +13,8 @@ pub struct Trial {
     pub fresh: Yardstick,
     /// The same once more.
     pub again: Yardstick,
+    /// And once more, for a run on a strict fabric.
+    pub strict: Yardstick,
     /// How many frames there are.
     pub frames: u32,
     /// How many events are refused.
@@ -40,6 +42,7 @@ pub fn drawn(alloc: Global, random: &mut Random, kind: Kind) -> Result<Trial, Al
         script,
         fresh: Yardstick::new(alloc, kind, external, bridges)?,
         again: Yardstick::new(alloc, kind, external, bridges)?,
+        strict: Yardstick::new(alloc, kind, external, bridges)?,
         frames: yardstick.frames(),
         refused: yardstick.refused(),
         octets: yardstick.octets(),

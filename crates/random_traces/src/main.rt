@@ -5,10 +5,11 @@
 //! a delay line; that many with seats too, compared with the definitions' own program; and that
 //! many of calls and tones, compared with a plain program of calls. They are for one to eight call
 //! processors, and their segments are of any length. Two meters that keep every call have to say the
-//! calls that the plain program saw end, in that order. Each trace is run twice: all segments in threads, and
-//! as the program decides, where small ones have to come in the order of the file. The order of each
-//! report has to hold every event once and be a lawful one, and the plain program takes the events in
-//! that order, from nothing.
+//! calls that the plain program saw end, in that order. Each trace is run three times: all segments in
+//! threads, as the program decides, where small ones have to come in the order of the file, and in threads
+//! on a strict fabric, where each number of moved paths has to be 0. The order of each report has to hold
+//! every event once and be a lawful one, and the plain program takes the events in that order, from
+//! nothing.
 //!
 //! It names a trace whose report differs, and then its status is 1. Which order threads take is
 //! chance, so all that it prints is of the traces, or of their events in file order; only the error
@@ -43,22 +44,26 @@ const SEED: u64 = 1976;
 /// How many events a trace of calls has.
 const EVENTS: u32 = 250;
 
-/// Runs a trace in threads in any case, and as the program decides, and counts it where both reports are
-/// those of the plain program. Whether they are.
-fn run_both<P: Plain + Drop, R: Threads + Wait + Sync>(
+/// Runs a trace in threads in any case, as the program decides, and in threads on a strict fabric, and
+/// counts it where each report is that of the plain program. Whether they are.
+fn run_each_way<P: Plain + Drop, R: Threads + Wait + Sync>(
     rt: &R,
     alloc: Global,
     script: &Script,
     fresh: P,
     again: P,
+    strict: P,
     orders: &mut Orders,
 ) -> io::Result<bool> {
-    let Some(in_threads) = agreed(rt, alloc, script, fresh, &Apart)? else {
+    let Some(in_threads) = agreed(rt, alloc, script, fresh, false, &Apart)? else {
         return Ok(false);
     };
-    let Some(decided) = agreed(rt, alloc, script, again, &OpenGate)? else {
+    let Some(decided) = agreed(rt, alloc, script, again, false, &OpenGate)? else {
         return Ok(false);
     };
+    if agreed(rt, alloc, script, strict, true, &Apart)?.is_none() {
+        return Ok(false);
+    }
     orders.add(alloc, script, in_threads.as_slice(), decided.as_slice())?;
     Ok(true)
 }
@@ -80,7 +85,8 @@ fn run<R: Print + Eprint + Threads + Wait + Sync>(
         counts.add(&trial);
         let fresh = trial.fresh;
         let again = trial.again;
-        let agree = run_both(rt, alloc, &trial.script, fresh, again, &mut orders)?;
+        let strict = trial.strict;
+        let agree = run_each_way(rt, alloc, &trial.script, fresh, again, strict, &mut orders)?;
         if !agree {
             println!(rt; "{name}: trace {number} differs")?;
         }
@@ -108,23 +114,22 @@ fn run_calls<R: Print + Eprint + Threads + Wait + Sync>(
     let mut orders = Orders::default();
     let mut courses = Courses::new();
     let mut tones = Tones::default();
-    let mut moved = 0u32;
     let mut moves = Moves::default();
     for number in 1..=traces {
         let drawn = draw_traffic(alloc, &mut random, EVENTS)?;
         tones.add(&drawn);
         courses.add(&drawn.counts);
-        moved = moved.saturating_add(drawn.moved);
         moves.add(&drawn);
         let fresh = PlainRun::new(alloc, drawn.fresh);
         let again = PlainRun::new(alloc, drawn.again);
-        let agree = run_both(rt, alloc, &drawn.script, fresh, again, &mut orders)?;
+        let strict = PlainRun::new(alloc, drawn.strict);
+        let agree = run_each_way(rt, alloc, &drawn.script, fresh, again, strict, &mut orders)?;
         if !agree {
             println!(rt; "calls: trace {number} differs")?;
         }
     }
     print_orders(rt, "calls", "plain program", orders)?;
-    println!(rt; "calls: in file order {moved} paths moved, {courses}")?;
+    println!(rt; "calls: in file order {courses}")?;
     print_moves(rt, moves)?;
     print_tones(rt, tones)?;
     let whole = courses.is_whole() && tones.is_whole() && moves.is_whole();
@@ -157,7 +162,12 @@ fn print_orders(
 }
 
 fn print_moves(rt: &impl Print, moves: Moves) -> io::Result<()> {
-    let Moves { chains, beyond } = moves;
+    let Moves {
+        paths,
+        traces,
+        chains,
+        beyond,
+    } = moves;
     let Chains {
         incoming,
         outgoing,
@@ -165,7 +175,7 @@ fn print_moves(rt: &impl Print, moves: Moves) -> io::Result<()> {
         longest,
     } = chains;
     println!(rt;
-        "calls: the incoming line's chain of paths was taken {incoming} times, the outgoing line's {outgoing} times as the shorter and {tied} times at a tie; at most {longest} paths moved, too many in {beyond} traces"
+        "calls: in file order {paths} paths moved, in {traces} of the traces, and none with --strict; the incoming line's chain of paths was taken {incoming} times, the outgoing line's {outgoing} times as the shorter and {tied} times at a tie; at most {longest} paths moved, too many in {beyond} traces"
     )
 }
 

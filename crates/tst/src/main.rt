@@ -1,5 +1,6 @@
 //! A digital telephone exchange as a filter: a trace of its events on standard input, the report of
-//! what it did on standard output.
+//! what it did on standard output, with `run`; with `run --strict` the same on a fabric where no path ever
+//! moves; with `gen SEED CALLS` the summary of a generated trace.
 //!
 //! It makes the two standard ends and three meters, calls `exchange_top::exchange` with the engine of
 //! three stages, and ends with its status. The promise is that call's; `main` has no contract of its own. Of

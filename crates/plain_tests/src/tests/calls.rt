@@ -108,7 +108,7 @@ fn check_with(
     steps: &[Step],
     wanted: &str,
 ) -> Result<PlainRun, Fail> {
-    let exchange = PlainExchange::new(alloc, 2, bridges, numbers(alloc)?, tones(alloc, given)?);
+    let exchange = PlainExchange::new(alloc, 30, 2, bridges, numbers(alloc)?, tones(alloc, given)?);
     let mut run = PlainRun::new(alloc, exchange);
     for step in steps {
         take(alloc, &mut run, *step)?;

@@ -12,13 +12,13 @@ run_trace-requires-clause-sound g c lifetimes outlive = sound_trace _ c.in-Ok.tr
 pub returns-in-Ok-clause-answers : goal.returns-in-Ok-clause-answers
 returns-in-Ok-clause-answers g c =
     let is = rw c.as_slice.ensures.value at c.in-Ok.ensures.read in
-    answers_run _ c.args.bytes.items c.in-Ok.trace c.run_trace.result.status c.run_trace.result.order.items _ _ _ _ is c.run_trace.ensures.runs
+    answers_run _ c.args.strict c.args.bytes.items c.in-Ok.trace c.run_trace.result.status c.run_trace.result.order.items _ _ _ _ is c.run_trace.ensures.runs
 
 pub returns-in-Ok-refusal-clause-answers : goal.returns-in-Ok-refusal-clause-answers
 returns-in-Ok-refusal-clause-answers g c =
     let told = c.in-Err-Line.ensures.refused c.in-Err-Line.number c.in-Err-Line.reason (ap Err c.in-Err-Line.field-0-is) in
     let refused = rw c.as_slice.ensures.value at told in
-    answers_refused _ c.args.bytes.items c.in-Err-Line.number c.in-Err-Line.reason c.refuse.result.status c.refuse.result.order.items c.as_slice-in-Ok-refusal.result.now _ _ _ _
+    answers_refused _ c.args.strict c.args.bytes.items c.in-Err-Line.number c.in-Err-Line.reason c.refuse.result.status c.refuse.result.order.items c.as_slice-in-Ok-refusal.result.now _ _ _ _
     refused c.refuse.ensures.none (c.as_slice-in-Ok-refusal.ensures.value ∙ c.in-Ok-refusal.ensures) (none_told _ _ _) c.refuse.ensures.answer
 
 pub returns-in-Err-Memory-clause-answers : goal.returns-in-Err-Memory-clause-answers

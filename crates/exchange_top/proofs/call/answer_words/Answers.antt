@@ -8,6 +8,9 @@ use Rattle.exchange_top.proofs.call.answer_words.Goals as goal
 pub returns-in-Ok-Run-clause-ends : goal.returns-in-Ok-Run-clause-ends
 returns-in-Ok-Run-clause-ends g c = c.run_input.ensures.ends _ (c.in-Ok-Run.ensures.command ∙ ap Some c.in-Ok-Run.field-0-is)
 
+pub returns-in-Ok-Run-clause-unread : goal.returns-in-Ok-Run-clause-unread
+returns-in-Ok-Run-clause-unread g c other = absurd (other (c.in-Ok-Run.strict, c.in-Ok-Run.ensures.command ∙ ap Some c.in-Ok-Run.field-0-is))
+
 pub returns-in-Ok-Generate-clause-ends : goal.returns-in-Ok-Generate-clause-ends
 returns-in-Ok-Generate-clause-ends g c = Generated c.in-Ok-Generate.seed c.in-Ok-Generate.calls (c.in-Ok-Generate.ensures.command ∙ ap Some c.in-Ok-Generate.field-0-is) c.run_generated.ensures.sums
 

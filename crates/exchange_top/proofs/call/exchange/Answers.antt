@@ -2,7 +2,7 @@ use Rattle.exchange_top.proofs.Endings.{done_says, summed_says, turned_down_says
 use Rattle.exchange_top.proofs.call.exchange.Goals as goal
 
 pub returns-clause-done : goal.returns-clause-done
-returns-clause-done g c h run = done_says _ _ _ _ _ _ c.answer_words.ensures.ends h run
+returns-clause-done g c h strict run = done_says _ _ _ _ _ _ strict c.answer_words.ensures.ends h run
 
 pub returns-clause-summed : goal.returns-clause-summed
 returns-clause-summed g c seed calls h gen = summed_says _ _ _ _ _ _ seed calls c.answer_words.ensures.ends h gen
