@@ -21,15 +21,16 @@ taken legs now line octets r P same read p =
 
 -- ---- a message that is read ahead
 
-pub read_before : (plan : List Number) (octets : List ℕ) (ahead : Option ReadAhead) (known : ReadAhead) → ahead ≡ Some known → IfSome ahead (IsReadAhead plan octets)
-    → IsReadAhead plan octets known
+pub read_before : (plan : List Number) (octets : List ℕ) (ahead : Option ReadAhead) (known : ReadAhead) → ahead ≡ Some known
+    → IfSome ahead (IsReadAhead plan octets) → IsReadAhead plan octets known
 read_before plan octets ahead known is reads = subst (λ (o : Option ReadAhead). IfSome o (IsReadAhead plan octets)) is reads
 
 -- its elements are those of the octets behind its header
 elements_behind : (octets : List ℕ) (m : Message) → IsMessage octets m → m.elements ≡ elements_of (drop 5 octets)
 elements_behind octets m is = reading_is is.rest m.elements is.elements_are ∙ sym (ap (λ (os : List ℕ). elements_of (drop 5 os)) is.octets_are)
 
-pub read_whole : (plan : List Number) (octets : List ℕ) (m : Message) (number : Option DialledNumber) → IsMessage octets m → reading octets ≡ Ok m → IfSome number (IsDialled plan m)
+pub read_whole : (plan : List Number) (octets : List ℕ) (m : Message) (number : Option DialledNumber)
+    → IsMessage octets m → reading octets ≡ Ok m → IfSome number (IsDialled plan m)
     → IsReadAhead plan octets (record { flag = m.flag; reference = m.reference; kind = m.kind; number = number })
 read_whole plan octets m number is reads dials =
     let known : ReadAhead = record { flag = m.flag; reference = m.reference; kind = m.kind; number = number } in
