@@ -1,4 +1,4 @@
-use Rattle.std.proofs.Common.{ap, sym, ◌∙◌}
+use Rattle.std.proofs.Common.{◌≡◌, ap, sym, ◌∙◌}
 use Rattle.std.specs.Prelude.{Result, Ok}
 use Rattle.q931_codec.specs.declared.message.Discard.{Discard}
 use Rattle.q931_codec.specs.declared.message.Message.{Message}
