@@ -1,13 +1,45 @@
 -- What the code reads of a message's octets is what the definitions read of them.
-use Rattle.std.proofs.Common.{◌≡◌, ℕ, List, subst}
-use Rattle.std.specs.Prelude.{Result}
+use Rattle.std.proofs.Common.{◌≡◌, ℕ, ◌+◌, ◌≤◌, List, length, Option, Some, sym, ◌∙◌, ap, subst, arith}
+use Rattle.std.specs.Prelude.{Result, Ok, IfSome, drop}
+use Rattle.number_plan.specs.declared.plan.Number.{Number}
+use Rattle.q931_elements.specs.Reading.{elements_of}
+use Rattle.q931_elements.proofs.Readings.{reading_is}
 use Rattle.q931_codec.specs.declared.message.Discard.{Discard}
 use Rattle.q931_codec.specs.declared.message.Message.{Message}
+use Rattle.q931_codec.specs.Grammar.{IsMessage}
 use Rattle.q931_codec.specs.Reading.{reading}
 use Rattle.call_profile.specs.Calls.{Request, request_of, request_read}
 use Rattle.call_profile.specs.Legs.{Legs}
+use Rattle.call_control.specs.declared.reading_ahead.DialledNumber.{DialledNumber}
+use Rattle.call_control.specs.declared.reading_ahead.ReadAhead.{ReadAhead}
+use Rattle.call_control.specs.Ahead.{IsDialled, IsReadAhead, message_ahead}
 
 pub taken : (legs now : Legs) (line : ℕ) (octets : List ℕ) (r : Result Message Discard) (P : Request → Type 0) → legs ≡ now → r ≡ reading octets
     → P (request_read legs line r) → P (request_of now line octets)
 taken legs now line octets r P same read p =
     subst (λ (ls : Legs). P (request_of ls line octets)) same (subst (λ (q : Result Message Discard). P (request_read legs line q)) read p)
+
+-- ---- a message that is read ahead
+
+pub read_before : (plan : List Number) (octets : List ℕ) (ahead : Option ReadAhead) (known : ReadAhead) → ahead ≡ Some known
+    → IfSome ahead (IsReadAhead plan octets) → IsReadAhead plan octets known
+read_before plan octets ahead known is reads = subst (λ (o : Option ReadAhead). IfSome o (IsReadAhead plan octets)) is reads
+
+-- its elements are those of the octets behind its header
+elements_behind : (octets : List ℕ) (m : Message) → IsMessage octets m → m.elements ≡ elements_of (drop 5 octets)
+elements_behind octets m is = reading_is is.rest m.elements is.elements_are ∙ sym (ap (λ (os : List ℕ). elements_of (drop 5 os)) is.octets_are)
+
+pub read_whole : (plan : List Number) (octets : List ℕ) (m : Message) (number : Option DialledNumber)
+    → IsMessage octets m → reading octets ≡ Ok m → IfSome number (IsDialled plan m)
+    → IsReadAhead plan octets (record { flag = m.flag; reference = m.reference; kind = m.kind; number = number })
+read_whole plan octets m number is reads dials =
+    let known : ReadAhead = record { flag = m.flag; reference = m.reference; kind = m.kind; number = number } in
+    let behind = elements_behind octets m is in
+    let same : m ≡ message_ahead known octets = λ i. record { flag = m.flag; reference = m.reference; kind = m.kind; elements = behind i } in
+    let size = ap length is.octets_are in
+    record {
+      long = omega (arith, size);
+      bounded = is.value;
+      read = reads ∙ ap (λ (x : Message). Ok x) same;
+      dials = subst (λ (x : Message). IfSome number (IsDialled plan x)) same dials;
+    }

@@ -2,3 +2,4 @@ pub mod Standing
 pub mod Choices
 pub mod AtWork
 pub mod LegKeys
+pub mod Ahead

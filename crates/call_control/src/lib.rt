@@ -4,6 +4,7 @@
 //!   two stand for is a world (`Holds`), and each operation makes of it what its definition says.
 //! - Its `message` is answered as the profile says (`reply`), and makes the profile's next world
 //!   (`world`), whatever the octets are. It moves few paths (`few`), and takes no memory.
+//! - [`read_ahead`] reads of a message, before its turn, what its octets and the plan of numbers decide.
 //!
 //! It stands on `circuit_model`, `control_memory`, `circuit_map`, `q931_codec`, `call_states`,
 //! `clearing_rules`, `tone_rules`, `number_plan`, `exchange_events` and `call_profile`, and on the kit's
@@ -16,6 +17,7 @@ mod leg_keys;
 mod leg_table;
 mod messages;
 mod operations;
+mod reading_ahead;
 mod restarting;
 mod sending;
 mod setup;
@@ -23,3 +25,4 @@ mod setup_checks;
 
 pub use leg_table::LegTable;
 pub use operations::CallControl;
+pub use reading_ahead::{DialledNumber, ReadAhead, read_ahead};

@@ -2,6 +2,7 @@
 ghost use Rattle.std.specs.Prelude.{◌≡◌, ◌<◌, ◌≤◌, ◌^◌, [], None, Ok, IfSome};
 ghost use Rattle.circuit_map.specs.Connections.{SameSizes};
 ghost use Rattle.clearing_rules.specs.Restarting.{restart_asked};
+ghost use Rattle.call_control.specs.Ahead.{IsDialled, IsReadAhead};
 ghost use Rattle.call_control.specs.AtWork.{IsAtWork, EachAtWork, EachWithTones};
 ghost use Rattle.call_profile.specs.Calls.{asks_for_call, with_leg_named, request_read, outcome_of_octets, outcome_for, on_global_reference};
 ghost use Rattle.call_profile.specs.Legs.{leg_named};
@@ -10,6 +11,7 @@ ghost use Rattle.call_profile.specs.World.{World};
 ghost use Rattle.call_control.specs.Standing.{HasMade};
 
 use crate::operations::CallControl;
+use crate::reading_ahead::{DialledNumber, ReadAhead, message_of};
 use crate::sending::answer_on_no_call;
 use clearing_rules::{GLOBAL_CALL_REFERENCE, restart};
 use control_memory::PathMap;
@@ -20,8 +22,44 @@ use tone_rules::Tones;
 
 impl<P: PathMap> CallControl<P> {
     /// Does what the octets that the user of a line has sent ask for, and records the calls that they begin
-    /// to clear. Octets that are no message have no effect.
-    pub fn message(&mut self, out: &mut Outbox, plan: &Plan, tones: &Tones, line: u8, octets: &[u8])
+    /// to clear. Octets that are no message have no effect. What was read of them ahead is not read again.
+    pub fn message(
+        &mut self,
+        out: &mut Outbox,
+        plan: &Plan,
+        tones: &Tones,
+        line: u8,
+        octets: &[u8],
+        ahead: Option<ReadAhead>,
+    )
+        requires work { (s : Setting) × (w : World) × (s.plan ≡ plan.now) × (s.tones ≡ tones.now) × IsAtWork s self.old.map self.old.legs w }
+        requires line { line < self.old.map.external }
+        requires ahead { IfSome ahead (IsReadAhead plan.now octets.now) }
+        requires fresh { (out.old.sends ≡ []) × (out.old.moved ≡ None) }
+        ensures makes { EachAtWork plan.now tones.now self.old.map self.old.legs (λ s w.
+            HasMade s self.new.map self.new.legs out.new (outcome_of_octets s w line octets.now).making) }
+        ensures records { EachAtWork plan.now tones.now self.old.map self.old.legs (λ s w. out.new.records ≡ (outcome_of_octets s w line octets.now).recorded) }
+        ensures few { IfSome out.new.moved (λ moves. (moves.0 ≤ self.old.map.bound) × (moves.1 ≤ self.old.map.bound)) }
+        ensures sizes { SameSizes self.old.map self.new.map }
+    {
+        match ahead {
+            Some(known) => {
+                let message = message_of(known, octets);
+                self.receive(out, plan, tones, line, &message, known.number)
+            }
+            None => self.read_and_receive(out, plan, tones, line, octets),
+        }
+    }
+
+    // The same for octets of which nothing was read ahead.
+    fn read_and_receive(
+        &mut self,
+        out: &mut Outbox,
+        plan: &Plan,
+        tones: &Tones,
+        line: u8,
+        octets: &[u8],
+    )
         requires work { (s : Setting) × (w : World) × (s.plan ≡ plan.now) × (s.tones ≡ tones.now) × IsAtWork s self.old.map self.old.legs w }
         requires line { line < self.old.map.external }
         requires fresh { (out.old.sends ≡ []) × (out.old.moved ≡ None) }
@@ -32,17 +70,26 @@ impl<P: PathMap> CallControl<P> {
         ensures sizes { SameSizes self.old.map self.new.map }
     {
         match read(octets) {
-            Ok(message) => self.receive(out, plan, tones, line, &message),
+            Ok(message) => self.receive(out, plan, tones, line, &message, None),
             Err(_) => out.records.clear(),
         }
     }
 
     // Does what a message asks for, and records the calls that it begins to clear: one to a
     // leg what the leg's state says, a SETUP from the side that chose the call reference a new call.
-    fn receive(&mut self, out: &mut Outbox, plan: &Plan, tones: &Tones, line: u8, message: &Message)
+    fn receive(
+        &mut self,
+        out: &mut Outbox,
+        plan: &Plan,
+        tones: &Tones,
+        line: u8,
+        message: &Message,
+        ahead: Option<DialledNumber>,
+    )
         requires work { (s : Setting) × (w : World) × (s.plan ≡ plan.now) × (s.tones ≡ tones.now) × IsAtWork s self.old.map self.old.legs w }
         requires line { line < self.old.map.external }
         requires reference { message.now.reference < 2 ^ 15 }
+        requires ahead { IfSome ahead (IsDialled plan.now message.now) }
         requires fresh { (out.old.sends ≡ []) × (out.old.moved ≡ None) }
         ensures makes { EachAtWork plan.now tones.now self.old.map self.old.legs (λ s w.
             HasMade s self.new.map self.new.legs out.new (outcome_for s w line (request_read self.old.legs line (Ok message.now))).making) }
@@ -53,7 +100,7 @@ impl<P: PathMap> CallControl<P> {
     {
         match self.legs.named(line, message.flag, message.reference) {
             Some(held) => self.act(out, tones, held, message),
-            None => self.answer_without_leg(out, plan, tones, line, message),
+            None => self.answer_without_leg(out, plan, tones, line, message, ahead),
         }
     }
 
@@ -67,10 +114,12 @@ impl<P: PathMap> CallControl<P> {
         tones: &Tones,
         line: u8,
         message: &Message,
+        ahead: Option<DialledNumber>,
     )
         requires work { (s : Setting) × (w : World) × (s.plan ≡ plan.now) × (s.tones ≡ tones.now) × IsAtWork s self.old.map self.old.legs w }
         requires line { line < self.old.map.external }
         requires reference { message.now.reference < 2 ^ 15 }
+        requires ahead { IfSome ahead (IsDialled plan.now message.now) }
         requires nameless { leg_named self.old.legs line message.now.flag message.now.reference ≡ None }
         requires fresh { (out.old.sends ≡ []) × (out.old.moved ≡ None) }
         ensures makes { EachAtWork plan.now tones.now self.old.map self.old.legs (λ s w.
@@ -84,7 +133,7 @@ impl<P: PathMap> CallControl<P> {
             return self.restart_if_asked(out, tones, line, message);
         }
         if asks_for_call(message) {
-            self.setup(out, plan, line, message);
+            self.setup(out, plan, line, message, ahead);
             out.records.clear();
             return;
         }
@@ -111,8 +160,8 @@ impl<P: PathMap> CallControl<P> {
     }
 }
 
-// Whether the message is a SETUP from the side that chose the call reference.
-fn asks_for_call(message: &Message) -> bool
+/// Whether the message is a SETUP from the side that chose the call reference.
+pub(crate) fn asks_for_call(message: &Message) -> bool
     ensures { result ≡ asks_for_call message.now }
 {
     message.kind == MessageKind::Setup && !message.flag

@@ -1,6 +1,7 @@
 //! SETUP: it is refused, or makes the legs of a new call, and their users are sent what comes of it.
 ghost use Rattle.std.specs.Prelude.{◌≡◌, ◌<◌, ◌≤◌, ◌^◌, [], None, IfSome, false, ◌*◌, length};
 ghost use Rattle.circuit_map.specs.Connections.{SameSizes};
+ghost use Rattle.call_control.specs.Ahead.{IsDialled};
 ghost use Rattle.call_control.specs.AtWork.{IsAtWork, EachWithPlan};
 ghost use Rattle.call_profile.specs.Calls.{making_by};
 ghost use Rattle.call_control.specs.Choices.{IsReached, MayAccept, accept_setup};
@@ -16,8 +17,8 @@ ghost use Rattle.q931_codec.specs.Contents.{bearer_in};
 ghost use Rattle.q931_codec.specs.Outgoing.{outgoing_of};
 
 use crate::operations::CallControl;
+use crate::reading_ahead::{DialledNumber, dialled};
 use crate::sending::{message_to, refuse, send};
-use crate::setup_checks::dialled;
 use call_states::{Leg, Peer, Side};
 use circuit_model::{Slot, channel_of};
 use control_memory::PathMap;
@@ -28,19 +29,27 @@ use q931_codec::{Message, MessageKind, Outgoing};
 
 impl<P: PathMap> CallControl<P> {
     /// Does what a SETUP asks for: refuses it with the cause of its first check that fails, or makes the
-    /// legs of its call.
-    pub(crate) fn setup(&mut self, out: &mut Outbox, plan: &Plan, line: u8, message: &Message)
+    /// legs of its call. What it dials may have been looked up ahead.
+    pub(crate) fn setup(
+        &mut self,
+        out: &mut Outbox,
+        plan: &Plan,
+        line: u8,
+        message: &Message,
+        ahead: Option<DialledNumber>,
+    )
         requires work { (s : Setting) × (w : World) × (s.plan ≡ plan.now) × IsAtWork s self.old.map self.old.legs w }
         requires line { line < self.old.map.external }
         requires reference { (1 ≤ message.now.reference) × (message.now.reference < 2 ^ 15) }
         requires unused { leg_named self.old.legs line false message.now.reference ≡ None }
+        requires ahead { IfSome ahead (IsDialled plan.now message.now) }
         requires fresh { (out.old.sends ≡ []) × (out.old.moved ≡ None) }
         ensures makes { EachWithPlan plan.now self.old.map self.old.legs (λ s w.
             HasMade s self.new.map self.new.legs out.new (making_by s w (course_of_setup s w line message.now))) }
         ensures few { IfSome out.new.moved (λ moves. (moves.0 ≤ self.old.map.bound) × (moves.1 ≤ self.old.map.bound)) }
         ensures sizes { SameSizes self.old.map self.new.map }
     {
-        let number = dialled(plan, message);
+        let number = dialled(plan, message, ahead);
         match self.refusal(line, message, number) {
             Some(cause) => refuse(out, line, message.reference, cause),
             None => self.accept(out, line, message, number.target),

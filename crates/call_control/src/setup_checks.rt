@@ -1,6 +1,5 @@
 //! The checks of a SETUP: what it asks for, which slots its call gets, and the cause with which it is refused.
-ghost use Rattle.std.specs.Prelude.{◌≡◌, ◌<◌, [], unwrap_or, option_map, is_some, IfSome};
-ghost use Rattle.number_plan.specs.Plan.{found_for};
+ghost use Rattle.std.specs.Prelude.{◌≡◌, ◌<◌, is_some, IfSome};
 ghost use Rattle.call_profile.specs.Setup.{digits_in, slot_of, slot_asked, element_checks, number_checks, first_cause, caller_slot, is_taken, slot_checks, refusal, target_of};
 ghost use Rattle.circuit_model.specs.Extent.{IsExternal};
 ghost use Rattle.call_control.specs.Choices.{IsReached, idle_beside, called_checks};
@@ -10,16 +9,16 @@ ghost use Rattle.call_control.specs.Standing.{Holds};
 ghost use Rattle.call_profile.specs.World.{World};
 
 use crate::operations::CallControl;
-use arrayvec::ArrayVec;
+use crate::reading_ahead::DialledNumber;
 use circuit_model::{PLACES, Slot, slot_of_channel};
 use control_memory::PathMap;
-use number_plan::{Found, Plan};
+use number_plan::Found;
 use q931_codec::causes::{
     BEARER_CAPABILITY_NOT_IMPLEMENTED, INVALID_ELEMENT_CONTENTS, INVALID_NUMBER_FORMAT,
     MANDATORY_ELEMENT_MISSING, NO_CHANNEL_AVAILABLE, REQUESTED_CHANNEL_NOT_AVAILABLE,
     SWITCHING_EQUIPMENT_CONGESTION, UNALLOCATED_NUMBER,
 };
-use q931_codec::{BearerCapability, ChannelIdentification, MOST_DIGITS, Message, dialled_digits};
+use q931_codec::{BearerCapability, ChannelIdentification, Message};
 
 impl<P: PathMap> CallControl<P> {
     /// The lowest idle slot of a line.
@@ -142,39 +141,6 @@ impl<P: PathMap> CallControl<P> {
             Some(cause) => Some(cause),
             None => self.slot_cause(line, message.channel(), number.target),
         }
-    }
-}
-
-// The digits that a SETUP dials, `None` where it has no called party number that can be read.
-fn digits_in(message: &Message) -> Option<ArrayVec<u8, MOST_DIGITS>>
-    ensures { option_map (λ digits. digits.items) result ≡ digits_in message.now }
-{
-    dialled_digits(message.called_number()?)
-}
-
-/// The number that a SETUP dials. It is read once, however many checks ask for it.
-#[derive(Clone, Copy)]
-pub(crate) struct DialledNumber {
-    /// Whether the SETUP has a called party number that can be read.
-    pub(crate) is_readable: bool,
-    /// What the plan knows of its digits.
-    pub(crate) target: Found,
-}
-
-/// What a SETUP dials, by the plan.
-pub(crate) fn dialled(plan: &Plan, message: &Message) -> DialledNumber
-    ensures readable { result.is_readable ≡ is_some (digits_in message.now) }
-    ensures target { result.target ≡ found_for plan.now (unwrap_or (digits_in message.now) []) }
-{
-    match digits_in(message) {
-        Some(digits) => DialledNumber {
-            is_readable: true,
-            target: plan.look(&digits),
-        },
-        None => DialledNumber {
-            is_readable: false,
-            target: plan.look(&[]),
-        },
     }
 }
 

@@ -61,7 +61,9 @@ fn do_next<B: Switchboard, G: Gate, C: Carrier, K: Keeper, R: Wait>(
 {
     let Some(input) = input_of(trace, event) else {
         let processor = processor_at(trace, event);
-        return do_event(rt, alloc, board, seat, processor, event, desk, keeper, gate);
+        return do_event(
+            rt, alloc, board, seat, trace, processor, event, desk, keeper, gate,
+        );
     };
     desk.tool = replace(tool, Tool::Nothing);
     let worker = u32::from(trace.processors);

@@ -20,12 +20,13 @@ use gate::Gate;
 use std::alloc::{AllocError, Global};
 use std::sync::Wait;
 
-// Does one event of a call processor in the seat's turn.
+// Does one event of a call processor in the seat's turn, and reads ahead before that what it asks for.
 pub(crate) fn do_event<B: Switchboard, G: Gate, K: Keeper, R: Wait>(
     rt: &R,
     alloc: Global,
     board: &B,
     seat: &mut B::Seat,
+    trace: &Trace,
     processor: u32,
     event: u32,
     desk: &mut Desk,
@@ -33,6 +34,7 @@ pub(crate) fn do_event<B: Switchboard, G: Gate, K: Keeper, R: Wait>(
     gate: &G,
 ) -> Result<(), AllocError>
     requires seated { B.seated board.now seat.old }
+    requires trace { trace.now ≡ (B.board board.now).trace }
     requires known { IsEvent (B.board board.now).trace event }
     requires its { is_its (B.board board.now).trace (Processor processor) event ≡ true }
     requires turn { 0 < (B.known seat.old).left }
@@ -44,6 +46,7 @@ pub(crate) fn do_event<B: Switchboard, G: Gate, K: Keeper, R: Wait>(
     ensures kept { OnOk result (HasKept K.holds (B.board board.now) (B.known seat.new) event has_no_octets keeper.old keeper.new) }
     ensures refused { OnErr result ((answers : List Placed) → K.holds keeper.old answers → K.holds keeper.new answers) }
 {
+    desk.look_ahead(trace, event);
     gate.before_turn(processor, event);
     let (place, response) = board.work(rt, seat, event, desk);
     gate.after_turn(processor, event);
@@ -80,7 +83,9 @@ fn do_events<B: Switchboard, G: Gate, K: Keeper, R: Wait>(
         if shortage.is_told() {
             return Err(AllocError);
         }
-        do_event(rt, alloc, board, seat, processor, event, desk, keeper, gate)?;
+        do_event(
+            rt, alloc, board, seat, trace, processor, event, desk, keeper, gate,
+        )?;
     }
     Ok(())
 }

@@ -1,17 +1,20 @@
 -- A core's map and legs are those of the world of its journal, step by step.
 use Rattle.std.proofs.Common.{◌≡◌, ℕ, suc, ◌+◌, ◌-◌, ◌<◌, ◌≤◌, List, [], ◌∷◌, ◌++◌, get_or, length, Option, Some, None, refl, sym, ◌∙◌, ap, subst, arith}
-use Rattle.std.specs.Prelude.{All, map}
+use Rattle.std.specs.Prelude.{All, map, IfSome}
 use Rattle.std.specs.List.{cons_option}
 use Rattle.std.proofs.lemmas.List.{map-append}
 use Rattle.std.proofs.lemmas.Option.{slice_get-get_or}
 use Rattle.std.proofs.lemmas.List.Elements.{All-nil, All-cons, All-append}
+use Rattle.circuit_model.specs.FrameInput.{Input}
 use Rattle.circuit_model.specs.Holding.{empty}
 use Rattle.circuit_model.specs.Ports.{free_ports}
 use Rattle.control_memory.specs.Layout.{Layout, Legal}
 use Rattle.control_memory.specs.Shown.{JoinsCircuits}
 use Rattle.circuit_map.specs.Connections.{Connections, Represents, IsLaid as Is_map_laid}
 use Rattle.exchange_events.specs.declared.trace.Event.{Event}
+use Rattle.exchange_events.specs.declared.trace.Event.TheVariants.{Frame}
 use Rattle.exchange_events.specs.declared.trace.Trace.{Trace}
+use Rattle.call_control.specs.declared.reading_ahead.ReadAhead.{ReadAhead}
 use Rattle.call_control.specs.AtWork.{IsAtWork}
 use Rattle.call_profile.specs.Legs.{Legs, no_legs}
 use Rattle.exchange_events.specs.Orders.{IsEvent, event_at}
@@ -19,6 +22,7 @@ use Rattle.exchange_events.specs.Sound.{Fits, IsSound, setting_of}
 use Rattle.exchange_events.proofs.EventNumbers.{event_at-is, of_event_at}
 use Rattle.call_control.specs.Standing.{Holds}
 use Rattle.call_profile.specs.Step.{next, world_after_all, events_of}
+use Rattle.exchange_core.specs.Ahead.{IsReadAt, IsReadOf}
 use Rattle.exchange_core.specs.Working.{Entry, Working, IsWorking, IsNumbered, IsLaid, JoinsItsCircuits, order_of, setting, world_of}
 use Rattle.exchange_events.specs.Sizes.{Dimensions}
 use Rattle.call_profile.specs.World.{World, exchange_lines, start}
@@ -133,7 +137,7 @@ stepped x map legs room by n e map_after legs_after journal works known is more 
 
 -- ---- the event with a number
 
-number_is : (events : List Event) (n : ℕ) (e : Event) → (1 ≤ n) × (n ≤ length events) → e ≡ get_or events (n - 1) e → event_at events n ≡ Some e
+pub number_is : (events : List Event) (n : ℕ) (e : Event) → (1 ≤ n) × (n ≤ length events) → e ≡ get_or events (n - 1) e → event_at events n ≡ Some e
 number_is events n e known is = event_at-is events n known.0 ∙ slice_get-get_or events (n - 1) e (omega (arith, known.0, known.1)) ∙ ap (λ (one : Event). Some one) (sym is)
 
 one_number : (o : Option Event) (one other : Event) → o ≡ Some one → o ≡ Some other → one ≡ other
@@ -158,3 +162,20 @@ pub of_each : (x y : Working) (n : ℕ) (e : Event) (P : Working → Event → T
 of_each x y n e P same number holds =
     subst (λ (z : Working). (f : Event) → IsNumbered z.trace n f → P z f) same
     (λ f named. subst (P x) (one_number (event_at x.trace.events n) e f number named) holds)
+
+-- ---- what was read of it ahead
+
+-- it is of the event that has the number
+pub read_of : (x y : Working) (n : ℕ) (e : Event) (ahead : Option ReadAhead) → x ≡ y → IsNumbered x.trace n e → IsReadAt y.trace n ahead → IfSome ahead (IsReadOf x.trace.plan e)
+read_of x y n e None same number reads = tt
+read_of x y n e (Some known) same number reads = subst (λ (z : Working). IsReadAt z.trace n (Some known)) (sym same) reads e number
+
+pub read_at : (trace : Trace) (n : ℕ) (e : Event) (ahead : Option ReadAhead) → IsNumbered trace n e → IfSome ahead (IsReadOf trace.plan e) → IsReadAt trace n ahead
+read_at trace n e None number reads = tt
+read_at trace n e (Some known) number reads = λ f named.
+    subst (λ (o : Option Event). IfSome o (λ g. IsReadOf trace.plan g known)) (sym number ∙ named) reads
+
+-- a frame asks for nothing
+pub nothing_read : (trace : Trace) (n : ℕ) (input : Input) (ahead : Option ReadAhead) → IsNumbered trace n (Frame input) → IsReadAt trace n ahead
+nothing_read trace n input None number = tt
+nothing_read trace n input (Some known) number = read_at trace n (Frame input) (Some known) number tt

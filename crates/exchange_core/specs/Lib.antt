@@ -1,3 +1,4 @@
 pub mod Working
 pub mod Boards
 pub mod Tools
+pub mod Ahead

@@ -5,7 +5,7 @@
 //!   memory shows the world before it (`shows`). No live path is moved but as few as the fabric promises
 //!   (`few`). After each step the paths join exactly the circuits that are there (`laid`, `joins`).
 //! - [`Switchboard`] is the interface of an exchange that many callers share, each of whom may lend a
-//!   [`Desk`]; `shared_exchange` implements it.
+//!   [`Desk`]; `shared_exchange` implements it. At a desk a message is read before its turn (`look_ahead`).
 //!
 //! What the events are is told by `exchange_events`, the rules of calls by `call_profile`; their code is in
 //! `call_control`.
@@ -20,6 +20,7 @@ mod step;
 mod switchboard;
 mod tool;
 
+pub use call_control::{DialledNumber, ReadAhead};
 pub use call_profile::{
     law_of_answered_calls, law_of_legs, law_of_paths, law_of_refusals, law_of_refused_calls,
 };

@@ -1,10 +1,11 @@
 //! The core, and one step of it.
-ghost use Rattle.std.specs.Prelude.{◌≡◌, ◌+◌, ◌<◌, ◌++◌, [], ◌∷◌, length, IfOk, None};
+ghost use Rattle.std.specs.Prelude.{◌≡◌, ◌+◌, ◌<◌, ◌++◌, [], ◌∷◌, length, IfOk, IfSome, None};
 ghost use Rattle.exchange_events.specs.declared.trace.Event.{Event as An_event};
 ghost use Rattle.exchange_events.specs.Orders.{IsEvent};
 ghost use Rattle.exchange_events.specs.Responses.{reply_of};
 ghost use Rattle.exchange_events.specs.Sound.{IsSound, setting_of, Fits};
 ghost use Rattle.call_profile.specs.Step.{reply, next, MovesAtMost};
+ghost use Rattle.exchange_core.specs.Ahead.{IsReadAt, IsReadOf};
 ghost use Rattle.exchange_core.specs.Working.{IsNumbered, IsLaid, JoinsItsCircuits, IsToolFor, ShowsWorld, setting, world_of};
 ghost use Rattle.call_profile.specs.World.{start, World, pass};
 ghost use Rattle.circuit_model.specs.FrameInput.{Input};
@@ -16,7 +17,7 @@ ghost use Rattle.exchange_events.specs.declared.trace.Event.TheVariants as event
 
 use crate::commands::{boundary, free, nail, seat};
 use crate::tool::Tool;
-use call_control::{CallControl, LegTable};
+use call_control::{CallControl, LegTable, ReadAhead};
 use circuit_map::CircuitMap;
 use control_memory::PathMap;
 use exchange_events::{Event, Outbox, Reply, Response, Trace};
@@ -104,16 +105,24 @@ impl<'t, P: PathMap> Core<'t, P> {
         ensures tool { (e : An_event) → IsNumbered self.old.trace event e → IsToolFor (setting self.old).dimensions e tool.new }
     {
         let mut out = Outbox::new();
-        let response = self.work(by, event, tool, &mut out);
+        let response = self.work(by, event, tool, &mut out, None);
         response.with(out)
     }
 
     /// The same as [`step`](Core::step), with what is sent and recorded put into an outbox that is lent, in
-    /// place of what it held.
-    pub fn work(&mut self, by: u32, event: u32, tool: &mut Tool, out: &mut Outbox) -> Response
+    /// place of what it held. What was read of the event ahead is not read again.
+    pub fn work(
+        &mut self,
+        by: u32,
+        event: u32,
+        tool: &mut Tool,
+        out: &mut Outbox,
+        ahead: Option<ReadAhead>,
+    ) -> Response
         requires known { IsEvent self.old.trace event }
         requires room { length self.old.journal < length self.old.trace.events }
         requires tool { (e : An_event) → IsNumbered self.old.trace event e → IsToolFor (setting self.old).dimensions e tool.old }
+        requires ahead { IsReadAt self.old.trace event ahead }
         ensures reply { (e : An_event) → IsNumbered self.old.trace event e → reply_of result out.new ≡ reply (setting self.old) (world_of self.old) e }
         ensures journal { self.new ≡ record self.old { journal = self.old.journal ++ (by, event) ∷ [] } }
         ensures world { (e : An_event) → IsNumbered self.old.trace event e → world_of self.new ≡ next (setting self.old) (world_of self.old) e }
@@ -133,6 +142,7 @@ impl<'t, P: PathMap> Core<'t, P> {
             event_done,
             tool,
             out,
+            ahead,
         );
         // Any look at the map tells that its paths are laid legally.
         let _next = self.control.map.next_frame();
@@ -164,9 +174,11 @@ fn happen<P: PathMap>(
     event: &Event,
     tool: &mut Tool,
     out: &mut Outbox,
+    ahead: Option<ReadAhead>,
 ) -> Response
     requires work { SomeAtWork plan.now tones.now control.old.map control.old.legs (λ s w. IsToolFor s.dimensions event.now tool.old) }
     requires fits { Fits control.old.map.external event.now }
+    requires ahead { IfSome ahead (IsReadOf plan.now event.now) }
     requires room { control.old.map.next < 65535 }
     requires fresh { (out.old.sends ≡ []) × (out.old.moved ≡ None) × (out.old.records ≡ []) }
     ensures reply { EachAtWork plan.now tones.now control.old.map control.old.legs (λ s w. reply_of result out.new ≡ reply s w event.now) }
@@ -182,7 +194,7 @@ fn happen<P: PathMap>(
         Event::Seat(x, room) => seat(control, *x, *room),
         Event::Free(x) => free(control, *x),
         Event::Message(line, octets) => {
-            control.message(out, plan, tones, *line, octets.as_slice());
+            control.message(out, plan, tones, *line, octets.as_slice(), ahead);
             Response::Sent
         }
         Event::Frame(_) => Response::Frame(frame(control, tool)),

@@ -1,9 +1,10 @@
-ghost use Rattle.std.specs.Prelude.{◌≡◌, ◌+◌, ◌<◌, ◌≤◌, ◌^◌, length, IsTrue};
+ghost use Rattle.std.specs.Prelude.{◌≡◌, ◌+◌, ◌<◌, ◌≤◌, ◌^◌, length, IsTrue, None};
 ghost use Rattle.seat_history.specs.declared.known.Known.{Known};
 ghost use Rattle.seat_history.specs.Histories.{StartsWith, before, entries_of, unseen};
 ghost use Rattle.seat_history.specs.Seats.{HasJoinedAll, Settled, after_join, after_split, after_step, new_seat};
 ghost use Rattle.exchange_events.specs.Orders.{IsEvent};
 ghost use Rattle.exchange_events.specs.Responses.{reply_of};
+ghost use Rattle.exchange_core.specs.Ahead.{IsReadAt};
 ghost use Rattle.exchange_core.specs.Boards.{Board, NoFrames, IsFrame, IsToolAt, AnswersAt, ShowsAt, turns_of};
 ghost use Rattle.exchange_events.specs.Sound.{IsSound};
 ghost use Rattle.call_profile.specs.Step.{MovesAtMost};
@@ -82,7 +83,8 @@ pub trait Switchboard: Sync {
         ensures tool { IsToolAt (board self.now) event tool.new };
 
     /// The same as [`handle`](Switchboard::handle), with a desk in place of the tool: what is sent and
-    /// told is put into its outbox, in place of what it held, so that no event pays for that room.
+    /// told is put into its outbox, in place of what it held, so that no event pays for that room. What
+    /// was read of the event ahead is taken from the desk, and is not read again in the turn.
     fn work<R: Wait>(
         &self,
         rt: &R,
@@ -95,6 +97,7 @@ pub trait Switchboard: Sync {
         requires turn { 0 < (known seat.old).left }
         requires baton { IsFrame (board self.now).trace event → IsTrue (known seat.old).baton }
         requires tool { IsToolAt (board self.now) event desk.old.tool }
+        requires ahead { IsReadAt (board self.now).trace event desk.old.ahead }
         ensures sound { IsSound (board self.now).trace }
         ensures seated { seated self.now seat.new }
         ensures seat { known seat.new ≡ after_step (before result.0 (known seat.new).seen) event (known seat.old) }
@@ -109,7 +112,9 @@ pub trait Switchboard: Sync {
         ensures reply { AnswersAt (board self.now) (before result.0 (known seat.new).seen) event (reply_of result.1 desk.new.out) }
         ensures few { MovesAtMost (board self.now).bound (reply_of result.1 desk.new.out) }
         ensures shows { ShowsAt (board self.now) (before result.0 (known seat.new).seen) event desk.new.tool }
-        ensures tool { IsToolAt (board self.now) event desk.new.tool };
+        ensures tool { IsToolAt (board self.now) event desk.new.tool }
+        // Nothing is left that was read of this event, so the desk serves for any other.
+        ensures ahead { desk.new.ahead ≡ None };
 
     /// Seat 0 takes another seat in, with its turns, its baton and its entries.
     fn join(&self, seat: &mut Self::Seat, other: Self::Seat)

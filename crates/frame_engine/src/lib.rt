@@ -5,7 +5,8 @@
 //!   (`plays`), and carries one frame more afterwards (`carries`).
 //! - [`Engine`] is the one of three stages and bridges. It plays what the definitions say each slot
 //!   hears, whatever the layouts of two frames in a row: octet invariance. Each internal slot of an
-//!   outgoing line has the octet of the layout's path there (`carries`).
+//!   outgoing line has the octet of the layout's path there (`carries`). In a box it is one too, and goes
+//!   from hand to hand as one word.
 //! - [`Marker`] plays the number of the frame on every slot, for tests.
 //!
 //! It stands on `circuit_model`, `frame_buffer`, `control_memory`, `time_stage`, `space_stage`,
@@ -15,6 +16,7 @@
 mod age;
 mod carrier;
 mod engine;
+mod in_a_box;
 mod intake;
 mod marker;
 mod play;

@@ -239,7 +239,7 @@ fn append_event(
         octets: text.len() - start,
         records: calls.len(),
     };
-    let done = append_marked(records, marks, calls, &[mark]);
+    let done = append_one(records, marks, calls, mark);
     if done.is_err() {
         text.truncate(start);
     }
@@ -296,6 +296,23 @@ fn records_told(response: Response, outbox: &Outbox) -> &[CallRecord]
         Response::Frame(_) => outbox.records.as_slice(),
         _ => &[],
     }
+}
+
+// Appends the records of a line, which most have none of, and its mark. A refusal leaves both as they were.
+fn append_one(
+    records: &mut Vec<CallRecord>,
+    marks: &mut Vec<Mark>,
+    calls: &[CallRecord],
+    mark: Mark,
+) -> Result<(), AllocError>
+    ensures records { OnOk result (records.new.items ≡ records.old.items ++ calls.now) }
+    ensures marks { OnOk result (marks.new.items ≡ marks.old.items ++ mark ∷ []) }
+    ensures kept { OnErr result ((records.new.items ≡ records.old.items) × (marks.new.items ≡ marks.old.items)) }
+{
+    if calls.is_empty() {
+        return marks.push(mark);
+    }
+    append_marked(records, marks, calls, &[mark])
 }
 
 // Appends records and marks. A refusal leaves both as they were.

@@ -112,7 +112,11 @@ impl<'t, P: PathMap + Send> Switchboard for SharedExchange<'t, P> {
     ) -> (u32, Reply) {
         let mut desk = Desk::new(mem::replace(tool, Tool::Nothing));
         let (place, response) = self.work(rt, seat, event, &mut desk);
-        let Desk { tool: lent, out } = desk;
+        let Desk {
+            tool: lent,
+            out,
+            ..
+        } = desk;
         *tool = lent;
         (place, response.with(out))
     }

@@ -1,7 +1,8 @@
 //! The core as the lock steps it.
-ghost use Rattle.std.specs.Prelude.{◌-◌, length};
+ghost use Rattle.std.specs.Prelude.{◌≡◌, ◌-◌, length, None};
 ghost use Rattle.exchange_events.specs.Orders.{IsEvent};
 ghost use Rattle.exchange_events.specs.Responses.{reply_of};
+ghost use Rattle.exchange_core.specs.Ahead.{IsReadAt};
 ghost use Rattle.exchange_core.specs.Boards.{IsFrame, IsToolAt};
 ghost use Rattle.shared_exchange.specs.Sharing.{Answers, board_of};
 
@@ -48,11 +49,14 @@ impl<'t, P: PathMap> Stepper for Exchange<'t, P> {
 
     ghost reserved = { λ board event. IsFrame board.trace event };
 
-    ghost ready = { λ board event desk. IsEvent board.trace event × IsToolAt board event desk.tool };
+    ghost ready = { λ board event desk. IsEvent board.trace event × IsToolAt board event desk.tool × IsReadAt board.trace event desk.ahead };
 
-    ghost answers = { λ board history by event response desk. Answers board history event (reply_of response desk.out) desk.tool };
+    ghost answers = { λ board history by event response desk. Answers board history event (reply_of response desk.out) desk.tool × (desk.ahead ≡ None) };
 
     fn step(&mut self, by: u32, event: u32, desk: &mut Desk) -> Response {
-        self.core.work(by, event, &mut desk.tool, &mut desk.out)
+        let ahead = desk.ahead;
+        desk.ahead = None;
+        self.core
+            .work(by, event, &mut desk.tool, &mut desk.out, ahead)
     }
 }

@@ -3,7 +3,7 @@
 //! moves; with `gen SEED CALLS` the summary of a generated trace.
 //!
 //! It makes the two standard ends and three meters, calls `exchange_top::exchange` with the engine of
-//! three stages, and ends with its status. The promise is that call's; `main` has no contract of its own. Of
+//! three stages in a box, and ends with its status. The promise is that call's; `main` has no contract of its own. Of
 //! standard input and output nothing can be proved, so the tests here run whole traces over ends in
 //! memory.
 //!
@@ -49,7 +49,16 @@ fn status_of<S: Source, K: Sink, R: Threads + Wait + Sync>(
     meters.push(Box::new(alloc, CallDetail::new(alloc, 10)?)?)?;
     meters.push(Box::new(alloc, PegCount::new())?)?;
     meters.push(Box::new(alloc, HoldingTime::new())?)?;
-    let outcome: Outcome<Engine> = exchange(rt, alloc, words, source, sink, &OpenGate, &mut meters);
+    // In its box the engine goes from segment to segment as one word.
+    let outcome: Outcome<Box<Engine>> = exchange(
+        rt,
+        alloc,
+        words,
+        source,
+        sink,
+        &OpenGate,
+        &mut meters,
+    );
     Ok(outcome.status)
 }
 

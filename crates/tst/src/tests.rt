@@ -140,7 +140,7 @@ fn traces_are_answered_by_their_reports(rt: HostRuntime) -> Result<(), Fail> {
             7 message 0:0802800145080282911E028288\n8 frame 4 0:44+\n9 message 0:080280004E790186\n10 frame 5\n",
         ),
     ] {
-        let ended = ran::<Engine>(&rt, alloc, spelled(alloc, trace)?)?;
+        let ended = ran::<Box<Engine>>(&rt, alloc, spelled(alloc, trace)?)?;
         assert_eq!(rt; (ended.status, ended.has_engine), (0, true), "{trace}");
         assert_eq!(rt; ended.order.as_slice().last(), Some(&count), "{trace}");
         assert_eq!(rt;

@@ -3,6 +3,7 @@ use Rattle.circuit_model.specs.FrameInput.{Input}
 use Rattle.exchange_events.specs.Responses.{reply_of}
 use Rattle.seat_history.specs.Histories.{before}
 use Rattle.control_memory.specs.Image.{IsOfSize}
+use Rattle.exchange_core.proofs.StepLemmas.{nothing_read}
 use Rattle.exchange_core.specs.Boards.{world_at, setting_at, turns_of}
 use Rattle.exchange_events.specs.Sizes.{Dimensions}
 use Rattle.frame_engine.specs.Frames.{PlaysOut}
@@ -15,6 +16,9 @@ use Rattle.call_processor.specs.Keeping.{placed}
 use Rattle.call_processor.proofs.KeepingLemmas.{on_ok}
 use Rattle.call_processor.specs.declared.worked.Placed.{Placed}
 use Rattle.call_processor.proofs.framing.do_frame.Goals as goal
+
+pub work-place-requires-clause-ahead : goal.work-place-requires-clause-ahead
+work-place-requires-clause-ahead g c = nothing_read (g.B.Switchboard.board c.args.board.now).trace c.args.event c.args.input.now c.args.desk.now.ahead c.requires.frame
 
 pub frame-requires-clause-frame : goal.frame-requires-clause-frame
 frame-requires-clause-frame g c =

@@ -1,9 +1,12 @@
-use Rattle.std.proofs.Common.{[], sym, subst}
+use Rattle.std.proofs.Common.{ℕ, List, [], sym, subst}
+use Rattle.std.specs.Prelude.{IfSome}
 use Rattle.circuit_model.specs.FrameInput.{Input}
 use Rattle.exchange_core.specs.declared.tool.Tool.{Tool}
 use Rattle.exchange_core.specs.declared.tool.Tool.TheVariants as tool
 use Rattle.exchange_events.specs.declared.trace.Event.{Event}
 use Rattle.exchange_events.specs.declared.trace.Event.TheVariants.{Frame}
+use Rattle.call_control.specs.Ahead.{IsReadAhead}
+use Rattle.exchange_core.specs.Ahead.{IsReadOf}
 use Rattle.exchange_core.specs.Working.{IsToolFor}
 use Rattle.exchange_events.specs.Sizes.{Dimensions}
 use Rattle.exchange_core.proofs.step.happen.Goals as goal
@@ -30,3 +33,8 @@ returns-in-Frame-clause-tool g c d fits =
     let old : IsToolFor d (Frame c.in-Frame.field-0) c.args.tool.now = subst (λ (e : Event). IsToolFor d e c.args.tool.now) c.in-Frame.is fits in
     let new = frame_tool d [] c.in-Frame.field-0 c.frame.new.tool (c.frame.ensures.tool d (frame_tool d c.in-Frame.field-0 [] c.args.tool.now old)) in
     subst (λ (e : Event). IsToolFor d e c.frame.new.tool) (sym c.in-Frame.is) new
+
+pub message-requires-clause-ahead : goal.message-requires-clause-ahead
+message-requires-clause-ahead g c =
+    subst (λ (octets : List ℕ). IfSome c.args.ahead (IsReadAhead c.args.plan.now octets)) (sym c.as_slice.ensures)
+    (subst (λ (e : Event). IfSome c.args.ahead (IsReadOf c.args.plan.now e)) c.in-Message.is c.requires.ahead)

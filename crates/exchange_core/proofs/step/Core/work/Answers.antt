@@ -4,7 +4,7 @@ use Rattle.exchange_events.specs.Responses.{reply_of}
 use Rattle.call_profile.specs.Step.{reply, next}
 use Rattle.exchange_core.specs.Working.{Entry, Working, IsWorking, IsNumbered, IsToolFor, ShowsWorld, order_of, setting, world_of, world_after}
 use Rattle.call_profile.specs.World.{World}
-use Rattle.exchange_core.proofs.StepLemmas.{next_few, stepped, facts, is_laid, joins_its, of_each, world_more}
+use Rattle.exchange_core.proofs.StepLemmas.{next_few, stepped, facts, is_laid, joins_its, of_each, read_of, world_more}
 use Rattle.exchange_core.proofs.step.Core.work.Goals as goal
 
 pub happen-response-requires-clause-work : goal.happen-response-requires-clause-work
@@ -13,6 +13,12 @@ happen-response-requires-clause-work g c =
     let f = facts _ c.args.self.now _ _ _ c.args.event _ e c.self.view_is c.self.invariant c.requires.known c.as_slice.ensures c.index-as_slice-event.is in
     let tools = subst (λ (x : Working). (e : Event) → IsNumbered x.trace c.args.event e → IsToolFor (setting x).dimensions e c.args.tool.now) (sym c.self.view_is) c.requires.tool in
     (_, _, refl, refl, f.at, tools e f.number)
+
+pub happen-response-requires-clause-ahead : goal.happen-response-requires-clause-ahead
+happen-response-requires-clause-ahead g c =
+    let e = c.index-as_slice-event.result in
+    let f = facts _ c.args.self.now _ _ _ c.args.event _ e c.self.view_is c.self.invariant c.requires.known c.as_slice.ensures c.index-as_slice-event.is in
+    read_of _ c.args.self.now c.args.event e c.args.ahead c.self.view_is f.number c.requires.ahead
 
 pub happen-response-requires-clause-room : goal.happen-response-requires-clause-room
 happen-response-requires-clause-room g c =

@@ -1,0 +1,26 @@
+-- What is read of a message before its turn. Source: ITU-T Q.931 (05/98), 4.2 to 4.5, for the header; the rest is this exchange's own.
+use Rattle.std.specs.Prelude.{◌≡◌, ℕ, ◌<◌, ◌≤◌, ◌^◌, List, [], length, drop, Ok, is_some, unwrap_or, IfSome}
+use Rattle.number_plan.specs.declared.plan.Number.{Number}
+use Rattle.number_plan.specs.Plan.{found_for}
+use Rattle.q931_elements.specs.Reading.{elements_of}
+use Rattle.q931_codec.specs.declared.message.Message.{Message}
+use Rattle.q931_codec.specs.Reading.{reading}
+use Rattle.call_profile.specs.Setup.{digits_in}
+use Rattle.call_control.specs.declared.reading_ahead.DialledNumber.{DialledNumber}
+use Rattle.call_control.specs.declared.reading_ahead.ReadAhead.{ReadAhead}
+
+-- what a message dials: whether it can be read, and what the plan knows of its digits
+pub record IsDialled (plan : List Number) (m : Message) (number : DialledNumber) : Type 0 where
+  pub readable : number.is_readable ≡ is_some (digits_in m)
+  pub leads : number.target ≡ found_for plan (unwrap_or (digits_in m) [])
+
+-- the message of which this was read: its elements are those behind a header of five octets
+abbrev pub message_ahead : ReadAhead → List ℕ → Message
+message_ahead known octets = record { flag = known.flag; reference = known.reference; kind = known.kind; elements = elements_of (drop 5 octets) }
+
+-- the octets are that message, and its number is the one that it dials
+pub record IsReadAhead (plan : List Number) (octets : List ℕ) (known : ReadAhead) : Type 0 where
+  pub long : 5 ≤ length octets
+  pub bounded : known.reference < 2 ^ 15
+  pub read : reading octets ≡ Ok (message_ahead known octets)
+  pub dials : IfSome known.number (IsDialled plan (message_ahead known octets))

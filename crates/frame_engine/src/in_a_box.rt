@@ -1,0 +1,36 @@
+//! The engine in a box: whoever has it hands on one word.
+
+ghost use Rattle.circuit_model.specs.Hears.{hears};
+ghost use Rattle.frame_engine.specs.Carries.{EngineCarries};
+
+use crate::carrier::Carrier;
+use crate::engine::Engine;
+use control_memory::Image;
+use std::alloc::{AllocError, Global};
+use tone_rules::Tones;
+
+impl Carrier for Box<Engine> {
+    ghost sizes = { λ b. record { external = b.value.external; bridges = b.value.bridges; slots = b.value.slots } };
+
+    ghost next = { λ b. b.value.next };
+
+    ghost carries = { λ b inputs held ports. EngineCarries b.value inputs held ports };
+
+    ghost plays = { hears };
+
+    ghost counted = { λ b inputs held ports carried. carried.counted };
+
+    fn new(alloc: Global, external: u8, bridges: u8, slots: u8) -> Result<Self, AllocError> {
+        Box::new(alloc, Engine::new(alloc, external, bridges, slots)?)
+    }
+
+    fn frame(
+        &mut self,
+        image: &mut Image,
+        tones: &Tones,
+        input: &[Option<[u8; 30]>],
+        out: &mut [[u8; 30]],
+    ) {
+        self.as_mut().frame(image, tones, input, out);
+    }
+}
