@@ -23,10 +23,11 @@ use gate::Gate;
 use std::alloc::{AllocError, Global};
 use std::mem::replace;
 use std::sync::Wait;
+use std::thread::Threads;
 
 // Does one event, whoever of the workers has it, at the gate in that worker's name. The control memory
 // is on the desk for a frame alone.
-fn do_next<B: Switchboard, G: Gate, C: Carrier, K: Keeper, R: Wait>(
+fn do_next<B: Switchboard, G: Gate, C: Carrier, K: Keeper, R: Threads + Wait + Sync>(
     rt: &R,
     alloc: Global,
     board: &B,
@@ -95,7 +96,7 @@ fn do_next<B: Switchboard, G: Gate, C: Carrier, K: Keeper, R: Wait>(
 ///
 /// [`AllocError`] for want of memory: the work ends there, and only the last event done may lack its
 /// answer.
-pub fn run_alone<B: Switchboard, G: Gate, C: Carrier, K: Keeper, R: Wait>(
+pub fn run_alone<B: Switchboard, G: Gate, C: Carrier, K: Keeper, R: Threads + Wait + Sync>(
     rt: &R,
     alloc: Global,
     board: &B,

@@ -25,11 +25,12 @@ use gate::Gate;
 use std::alloc::{AllocError, Global};
 use std::mem::replace;
 use std::sync::Wait;
+use std::thread::Threads;
 use tone_rules::Tones;
 
 // Does one frame: its boundary in the seat's turn, and its octets when the turn was given on, beside
 // the call processors. `octets` is room for what each external line sends.
-pub(crate) fn do_frame<B: Switchboard, G: Gate, C: Carrier, K: Keeper, R: Wait>(
+pub(crate) fn do_frame<B: Switchboard, G: Gate, C: Carrier, K: Keeper, R: Threads + Wait + Sync>(
     rt: &R,
     alloc: Global,
     board: &B,
@@ -68,7 +69,7 @@ pub(crate) fn do_frame<B: Switchboard, G: Gate, C: Carrier, K: Keeper, R: Wait>(
     };
     let frame = image.frame();
     gate.before_crossing(frame);
-    engine.frame(image, tones, input.as_slice(), octets.as_mut_slice());
+    engine.frame(rt, image, tones, input.as_slice(), octets.as_mut_slice());
     gate.after_crossing(frame);
     keeper.keep(alloc, place, event, response, &desk.out, octets.as_slice())
 }
@@ -88,7 +89,7 @@ pub(crate) fn grow(
 }
 
 // Does the frames of a segment in order, until memory runs out.
-fn do_frames<B: Switchboard, G: Gate, C: Carrier, K: Keeper, R: Wait>(
+fn do_frames<B: Switchboard, G: Gate, C: Carrier, K: Keeper, R: Threads + Wait + Sync>(
     rt: &R,
     alloc: Global,
     board: &B,
@@ -149,7 +150,7 @@ fn do_frames<B: Switchboard, G: Gate, C: Carrier, K: Keeper, R: Wait>(
 /// each external line.
 ///
 /// Where memory runs out, the work ends there, and only the last frame done may lack its answer.
-pub fn run_frames<B: Switchboard, G: Gate, C: Carrier, R: Wait>(
+pub fn run_frames<B: Switchboard, G: Gate, C: Carrier, R: Threads + Wait + Sync>(
     rt: &R,
     alloc: Global,
     board: &B,
@@ -205,7 +206,7 @@ pub fn run_frames<B: Switchboard, G: Gate, C: Carrier, R: Wait>(
 /// Does the frames of one segment as [`run_frames`] does, at a workplace that the frame worker is lent
 /// and hands back. It begins with an empty keeper. Where another worker ran out of memory, the work ends
 /// before the next frame.
-pub fn run_frames_at<B: Switchboard, G: Gate, C: Carrier, K: Keeper, R: Wait>(
+pub fn run_frames_at<B: Switchboard, G: Gate, C: Carrier, K: Keeper, R: Threads + Wait + Sync>(
     rt: &R,
     alloc: Global,
     board: &B,

@@ -1,6 +1,6 @@
 -- The octets on the highways of a time-space-time exchange: one for each line and internal time slot of a frame. Source: this
 -- exchange's own; the terms are those of C. Clos, "A study of non-blocking switching networks" (1953), carried over to time slots.
-use Rattle.std.specs.Prelude.{◌≡◌, ℕ, ◌+◌, ◌*◌, ◌<◌, ◌≤◌, List, ◌++◌, length, take, drop, slice_index}
+use Rattle.std.specs.Prelude.{◌≡◌, ℕ, ◌+◌, ◌-◌, ◌*◌, ◌<◌, ◌≤◌, List, ◌++◌, length, take, drop, slice_index}
 
 -- the octets, line after line, one for each internal slot
 pub record Highways : Type 0 where
@@ -30,3 +30,14 @@ pub record IsPart (lines width first octets : ℕ) : Type 0 where
 -- each row of such a part holds these octets of its line
 abbrev pub RowsHold : ℕ → (ℕ → ℕ → ℕ) → ℕ → List ℕ → Type 0
 RowsHold width octet first part = (row at : ℕ) → row * width < length part → at < width → slice_index part (row * width + at) ≡ octet (first + row) at
+
+-- so many octets are the whole rows of the lines from `first` up to `end`, out of so many lines with rows of so many octets
+pub record AreRows (lines width first end octets : ℕ) : Type 0 where
+  pub whole : octets ≡ (end - first) * width
+  pub order : first ≤ end
+  pub within : end ≤ lines
+
+-- so many octets, and each row of them holds these octets of its line
+pub record AreFilled (width : ℕ) (octet : ℕ → ℕ → ℕ) (first octets : ℕ) (part : List ℕ) : Type 0 where
+  pub size : length part ≡ octets
+  pub rows : RowsHold width octet first part

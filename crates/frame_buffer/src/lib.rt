@@ -4,6 +4,8 @@
 //!   `put_line` fills the other (`filled`) and leaves the first (`readable`).
 //! - [`Highway`] and [`Crossed`] hold an octet for each line and internal slot: a write changes
 //!   that one alone (`here`, `others`).
+//! - `parts` and `filled` lend the rows of all lines to be written, whole or in parts (`writes_back`).
+//!   [`LEAST_HALF`] tells where halves of them are worth threads.
 //! - [`DelayLine`]'s `back_two` returns the octet of two frames before, idle where there is none.
 //!
 //! It stands on `circuit_model`.
@@ -11,12 +13,14 @@
 
 mod crossed;
 mod delay_line;
+mod halves;
 mod highway;
 mod idle;
 mod memory;
 
 pub use crossed::Crossed;
 pub use delay_line::DelayLine;
+pub use halves::LEAST_HALF;
 pub use highway::Highway;
 pub use idle::make_idle;
 pub use memory::FrameBuffer;

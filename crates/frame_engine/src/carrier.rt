@@ -1,6 +1,7 @@
 //! The interface that every engine of frames implements.
 
 ghost use Rattle.std.specs.Prelude.{◌≡◌, ℕ, ◌+◌, ◌<◌, ◌≤◌, [], List, length, IfOk};
+ghost use Rattle.std.specs.Thread.{IsSync};
 ghost use Rattle.circuit_model.specs.declared.channel.Slot.{Slot};
 ghost use Rattle.circuit_model.specs.declared.circuit.Kind.{Kind};
 ghost use Rattle.circuit_model.specs.declared.circuit.Circuit.{Circuit};
@@ -13,6 +14,7 @@ ghost use Rattle.frame_engine.specs.Frames.{AreCounted, Boundary, IsNext, PlaysF
 
 use control_memory::Image;
 use std::alloc::{AllocError, Global};
+use std::thread::Threads;
 use tone_rules::Tones;
 
 /// An engine: it takes the octets of each frame in, and plays what each external slot hears.
@@ -42,14 +44,18 @@ pub trait Carrier: Sized + Send + Drop {
 
     /// Carries one frame: it takes `input` in, thirty octets for each external line or none for an
     /// idle one, and writes what each external slot sends into `out`. The control memory is that
-    /// of this frame; the engine keeps it, and hands another of the same sizes back.
-    fn frame(
+    /// of this frame; the engine keeps it, and hands another of the same sizes back. The work may be
+    /// shared among threads of this runtime, which are joined again.
+    fn frame<R: Threads + Sync>(
         &mut self,
+        rt: &R,
         image: &mut Image,
         tones: &Tones,
         input: &[Option<[u8; 30]>],
         out: &mut [[u8; 30]],
     )
+        // The bound says so too, but what is sent to a thread may not rest on a bound of a trait's method.
+        requires threads { IsSync R.row }
         requires sizes { IsOfSize (sizes self.old) image.old }
         requires frame { image.old.frame ≡ next self.old }
         requires last { next self.old < 4294967295 }

@@ -11,12 +11,16 @@ use crate::ports::mix_ports;
 use alaw_codec::CodeTable;
 use control_memory::Image;
 use frame_buffer::{Crossed, FrameBuffer, Highway};
-use space_stage::cross;
+use space_stage::cross_shared;
 use std::alloc::{AllocError, Global};
 use std::marker::Model;
 use std::mem;
-use time_stage::{incoming, outgoing};
+use std::thread::Threads;
+use time_stage::{incoming_shared, outgoing_shared};
 use tone_rules::Tones;
+
+// How often a stage halves its lines, where halves are worth threads.
+const LEVELS: u8 = 3;
 
 /// The engine of a time-space-time exchange: two speech memories, the highways between the stages,
 /// the control memory of the frame that crossed last, and the A-law codes for the bridges.
@@ -27,8 +31,8 @@ use tone_rules::Tones;
 /// after it came, whether or not its path moved in between, and one that is mixed passes the stages
 /// twice. The order is this exchange's own.
 ///
-/// Only `new` takes memory. A frame's work is the same whatever stands: it takes no lock and never
-/// waits.
+/// Only `new` takes memory. A frame's work is the same whatever stands: it takes no lock, and waits for
+/// nothing but the halves of its own stages, which return.
 #[derive(Drop)]
 pub struct Engine {
     external: u8,
@@ -89,18 +93,19 @@ impl Carrier for Engine {
         })
     }
 
-    fn frame(
+    fn frame<R: Threads + Sync>(
         &mut self,
+        rt: &R,
         image: &mut Image,
         tones: &Tones,
         input: &[Option<[u8; 30]>],
         out: &mut [[u8; 30]],
     ) {
-        outgoing(&self.crossed, &self.kept, &mut self.read);
+        outgoing_shared(rt, &self.crossed, &self.kept, &mut self.read, LEVELS);
         self.read.swap();
         mix_ports(&self.read, image, &self.codes, &mut self.speech);
-        incoming(&self.speech, image, &mut self.highway);
-        cross(&self.highway, image, &mut self.crossed);
+        incoming_shared(rt, &self.speech, image, &mut self.highway, LEVELS);
+        cross_shared(rt, &self.highway, image, &mut self.crossed, LEVELS);
         take_in(input, self.external, &mut self.speech);
         self.speech.swap();
         play(&self.read, image, tones, out);

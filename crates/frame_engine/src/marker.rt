@@ -6,6 +6,7 @@ ghost use Rattle.frame_engine.specs.Frames.{AreCounted};
 use crate::carrier::Carrier;
 use control_memory::Image;
 use std::alloc::{AllocError, Global};
+use std::thread::Threads;
 use tone_rules::Tones;
 
 /// An engine for tests: it plays the number of the frame, modulo 256, on every slot.
@@ -49,7 +50,14 @@ impl Carrier for Marker {
         })
     }
 
-    fn frame(&mut self, _: &mut Image, _: &Tones, _: &[Option<[u8; 30]>], out: &mut [[u8; 30]]) {
+    fn frame<R: Threads + Sync>(
+        &mut self,
+        _: &R,
+        _: &mut Image,
+        _: &Tones,
+        _: &[Option<[u8; 30]>],
+        out: &mut [[u8; 30]],
+    ) {
         fill(out, (self.next % 256) as u8);
         self.next += 1;
     }

@@ -1,7 +1,7 @@
 -- What the space stage of a time-space-time fabric does. Source: this exchange's own; in each internal time slot the stage is a crossbar
 -- whose crosspoints the control memory sets.
 use Rattle.std.specs.Prelude.{◌≡◌, ℕ, ◌+◌, ◌*◌, ◌<◌, List, slice_index}
-use Rattle.frame_buffer.specs.Highways.{Highways, octet_on, RowsHold}
+use Rattle.frame_buffer.specs.Highways.{Highways, octet_on, RowsHold, AreFilled}
 use Rattle.control_memory.specs.Image.{Control, received}
 use Rattle.control_memory.specs.Carrying.{fetched}
 
@@ -12,6 +12,10 @@ gets control from line slot = fetched (received control line slot) (λ l. octet_
 -- each outgoing line of a part that begins with line `first` has in its row what it gets
 abbrev pub IsCrossedPart : Control → Highways → ℕ → List ℕ → Type 0
 IsCrossedPart control from first part = RowsHold control.slots (gets control from) first part
+
+-- so has each of them that has its row in so many octets
+abbrev pub AreCrossed : Control → Highways → ℕ → ℕ → List ℕ → Type 0
+AreCrossed control from first octets part = AreFilled control.slots (gets control from) first octets part
 
 -- so has every outgoing line
 abbrev pub IsCrossed : Control → Highways → Highways → Type 0

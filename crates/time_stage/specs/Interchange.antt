@@ -1,9 +1,9 @@
 -- What the time stages of a time-space-time fabric do. Source: this exchange's own; each is a time slot interchanger, which reads its
 -- speech memory at random, in the order that its control memory gives.
-use Rattle.std.specs.Prelude.{◌≡◌, ℕ, ◌<◌}
+use Rattle.std.specs.Prelude.{◌≡◌, ℕ, ◌<◌, List}
 use Rattle.circuit_model.specs.declared.channel.Slot.{Slot}
 use Rattle.frame_buffer.specs.Speech.{Speech, octet_in_half}
-use Rattle.frame_buffer.specs.Highways.{Highways, octet_on}
+use Rattle.frame_buffer.specs.Highways.{Highways, octet_on, AreFilled}
 use Rattle.control_memory.specs.Layout.{Layout, Legal}
 use Rattle.control_memory.specs.Image.{Control, lines_of, sent, read, EachSlot, HasLayout}
 use Rattle.control_memory.specs.Carrying.{carried, fetched}
@@ -15,6 +15,14 @@ sends control speech line slot = fetched (sent control line slot) (λ place. oct
 -- a place of an outgoing line reads the octet of the internal slot that its table names, and the idle octet where it names none
 abbrev pub reads : Control → Highways → ℕ → ℕ → ℕ
 reads control crossed line place = fetched (read control line place) (octet_on crossed line)
+
+-- so many octets have in their rows, of so many each, what the lines from `first` on send
+abbrev pub AreSent : ℕ → Control → Speech → ℕ → ℕ → List ℕ → Type 0
+AreSent slots control speech first octets part = AreFilled slots (sends control speech) first octets part
+
+-- so many octets have in their rows of thirty what the lines from `first` on read
+abbrev pub AreRead : Control → Highways → ℕ → ℕ → List ℕ → Type 0
+AreRead control crossed first octets part = AreFilled 30 (reads control crossed) first octets part
 
 -- every incoming line sends by its table in every internal slot
 abbrev pub IsSent : Control → Speech → Highways → Type 0

@@ -25,7 +25,7 @@ pub fn incoming(buffer: &FrameBuffer, image: &Image, highway: &mut Highway)
 }
 
 // What some lines send, from line `first` on: `part` holds their rows, of `slots` octets each.
-fn send_part(buffer: &FrameBuffer, image: &Image, slots: u8, first: u8, part: &mut [u8])
+pub(crate) fn send_part(buffer: &FrameBuffer, image: &Image, slots: u8, first: u8, part: &mut [u8])
     requires buffer { buffer.now.lines ≡ lines_of image.now }
     requires slots { image.now.slots ≡ slots }
     requires part { IsPart (lines_of image.now) slots first (length part.old) }
@@ -81,7 +81,7 @@ pub fn outgoing(crossed: &Crossed, table: &Image, out: &mut FrameBuffer)
 }
 
 // What some lines read, from line `first` on: `part` holds their rows, of thirty octets each.
-fn read_part(crossed: &Crossed, table: &Image, first: u8, part: &mut [u8])
+pub(crate) fn read_part(crossed: &Crossed, table: &Image, first: u8, part: &mut [u8])
     requires crossed { crossed.now.lines ≡ lines_of table.now }
     requires slots { crossed.now.slots ≡ table.now.slots }
     requires part { IsPart (lines_of table.now) 30 first (length part.old) }

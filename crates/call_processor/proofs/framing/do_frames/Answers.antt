@@ -6,12 +6,23 @@ use Rattle.call_processor.specs.Frames.{HasFrame}
 use Rattle.call_processor.specs.Keeping.{KeepsWork}
 use Rattle.call_processor.specs.Parts.{is_its, part_of}
 use Rattle.call_processor.proofs.EventLemmas.{frames_stay}
-use Rattle.call_processor.proofs.KeepingLemmas.{keeps_done, keeps_front, keeps_lacking, keeps_more}
+use Rattle.call_processor.proofs.KeepingLemmas.{keeps_done, keeps_front, keeps_lacking, keeps_more, keeps_nothing}
 use Rattle.call_processor.proofs.PartLemmas.{up_to, rest_from, next_not, next_its, front_here, front_next, turn_left}
 use Rattle.call_processor.proofs.framing.do_frames.Goals as goal
 
 pub input_of-requires : goal.input_of-requires
 input_of-requires g c = record { event = c.numbers_of-first.ensures.events c.loop-event.event c.loop-event.invariant.from c.loop-event-test.true }
+
+pub returns-in_err-grow-clause-works : goal.returns-in_err-grow-clause-works
+returns-in_err-grow-clause-works g c =
+    let trace = c.args.trace.now in
+    let part = part_of trace c.args.segment Frame_worker in
+    let board = g.B.Switchboard.board c.args.board.now in
+    let octets = HasFrame g.C.Carrier.plays (table_of trace.tones) board in
+    let v = g.B.Switchboard.known c.args.seat.now in
+    let failed : is_ok c.from_residual.result ≡ false = search rules in
+    let empty : g.K.Keeper.holds c.clear.new.self [] = search rules in
+    subst (λ (b : Bool). KeepsWork g.K.Keeper.holds board octets part v c.clear.new.self b v) (sym failed) (keeps_nothing g.K.Keeper.holds board octets part v c.clear.new.self empty)
 
 pub loop-event-preserved-in_default : goal.loop-event-preserved-in_default
 loop-event-preserved-in_default g c =

@@ -1,0 +1,93 @@
+//! The crossing shared by halves of the lines.
+
+ghost use Rattle.std.specs.Prelude.{◌≡◌, ◌≤◌, length};
+ghost use Rattle.std.specs.Thread.{IsSync};
+ghost use Rattle.frame_buffer.specs.Highways.{SameHighwaySize, AreRows};
+ghost use Rattle.control_memory.specs.Image.{lines_of};
+ghost use Rattle.space_stage.specs.Crossing.{AreCrossed, IsCrossedPart, IsCrossed};
+
+use crate::crossbar::cross_part;
+use control_memory::Image;
+use frame_buffer::{Crossed, Highway, LEAST_HALF};
+use std::thread::{Threads, join_mut};
+
+/// Crosses one frame as `cross` does, by halves of the lines: they are halved `levels` times, and the
+/// halves joined. A half is worth a thread of its own from [`LEAST_HALF`] octets on; smaller ones are
+/// done by the caller in one go.
+pub fn cross_shared<R: Threads + Sync>(
+    rt: &R,
+    highway: &Highway,
+    image: &Image,
+    crossed: &mut Crossed,
+    levels: u8,
+)
+    requires lines { highway.now.lines ≡ lines_of image.now }
+    requires slots { highway.now.slots ≡ image.now.slots }
+    requires size { SameHighwaySize highway.now crossed.old }
+    requires levels { levels ≤ 3 }
+    ensures size { SameHighwaySize crossed.old crossed.new }
+    ensures octets { IsCrossed image.now highway.now crossed.new }
+{
+    let slots = crossed.slots();
+    let end = highway.lines();
+    cross_halves(
+        rt,
+        highway,
+        image,
+        slots,
+        0,
+        end,
+        crossed.parts(),
+        levels,
+        LEAST_HALF,
+    );
+}
+
+// Crosses to the lines from `first` up to `end`, by halves where they have at least so many octets.
+pub(crate) fn cross_halves<R: Threads + Sync>(
+    rt: &R,
+    highway: &Highway,
+    image: &Image,
+    slots: u8,
+    first: u8,
+    end: u8,
+    part: &mut [u8],
+    levels: u8,
+    least: usize,
+)
+    requires lines { highway.now.lines ≡ lines_of image.now }
+    requires highway { highway.now.slots ≡ slots }
+    requires image { image.now.slots ≡ slots }
+    requires part { AreRows (lines_of image.now) slots first end (length part.old) }
+    ensures size { length part.new ≡ length part.old }
+    ensures octets { IsCrossedPart image.now highway.now first part.new }
+{
+    let half = (end - first) / 2;
+    let cut = usize::from(half) * usize::from(slots);
+    if levels == 0 || cut < least {
+        cross_part(highway, image, slots, first, part);
+        return;
+    }
+    let next = levels - 1;
+    let middle = first + half;
+    let (front, back) = part.split_at_mut(cut);
+    join_mut(
+        rt,
+        &mut ||
+            requires threads { IsSync R.row }
+            requires lines { highway.now.lines ≡ lines_of image.now }
+            requires highway { highway.now.slots ≡ slots }
+            requires image { image.now.slots ≡ slots }
+            requires part { AreRows (lines_of image.now) slots first middle (length front.now) }
+            ensures { AreCrossed image.entry.now highway.entry.now first (length front.entry.now) front.exit.now }
+        { cross_halves(rt, highway, image, slots, first, middle, front, next, least) },
+        &mut ||
+            requires threads { IsSync R.row }
+            requires lines { highway.now.lines ≡ lines_of image.now }
+            requires highway { highway.now.slots ≡ slots }
+            requires image { image.now.slots ≡ slots }
+            requires part { AreRows (lines_of image.now) slots middle end (length back.now) }
+            ensures { AreCrossed image.entry.now highway.entry.now middle (length back.entry.now) back.exit.now }
+        { cross_halves(rt, highway, image, slots, middle, end, back, next, least) },
+    );
+}

@@ -1,0 +1,34 @@
+use Rattle.std.proofs.Common.{rules, ◌≡◌, ◌+◌, ◌-◌, ◌*◌, ◌/◌, length}
+use Rattle.std.proofs.iter.Serving.{serving}
+use Rattle.frame_buffer.proofs.HalfRows.{front_rows, back_rows, both_hold}
+use Rattle.control_memory.specs.Image.{lines_of}
+use Rattle.time_stage.specs.Interchange.{AreSent, sends}
+use Rattle.time_stage.proofs.shared.+fn-send_halves-join_mut+arg2+fn-send_halves-join_mut+arg3+send_halves.Goals as goal
+
+pub join_mut-requires-after_bounds : goal.join_mut-requires-after_bounds
+join_mut-requires-after_bounds g t c κs within =
+    let lines = lines_of c.args.image.now in
+    let slots = c.args.slots in
+    let first = c.args.first in
+    let end = c.args.end in
+    let whole = length c.args.part.now in
+    let size = length c.split_at_mut-front.result.0.now in
+    let rest = length c.split_at_mut-front.result.1.now in
+    let is : size ≡ ((end - first) / 2) * slots = search rules in
+    let all : size + rest ≡ whole = search rules in
+    let front = front_rows lines slots first end whole size rest c.requires.part is all in
+    let back = back_rows lines slots first end whole size rest c.requires.part is all in
+    grind (serving, front, back)
+
+pub returns-clause-octets : goal.returns-clause-octets
+returns-clause-octets g t c =
+    let image = c.args.image.now in
+    let buffer = c.args.buffer.now in
+    let slots = c.args.slots in
+    let first = c.args.first in
+    let half = (c.args.end - first) / 2 in
+    let size = length c.split_at_mut-front.result.0.now in
+    let rest = length c.split_at_mut-front.result.1.now in
+    let low : AreSent slots image buffer first size c.front-1.given.0 = search rules in
+    let high : AreSent slots image buffer (first + half) rest c.back-1.given.0 = search rules in
+    both_hold slots (sends image buffer) first half size rest c.front-1.given.0 c.back-1.given.0 (search rules) low high

@@ -1,0 +1,158 @@
+//! The two time stages shared by halves of the lines.
+
+ghost use Rattle.std.specs.Prelude.{◌≡◌, ◌≤◌, length};
+ghost use Rattle.std.specs.Thread.{IsSync};
+ghost use Rattle.frame_buffer.specs.Highways.{SameHighwaySize, AreRows, RowsHold};
+ghost use Rattle.control_memory.specs.Image.{lines_of};
+ghost use Rattle.time_stage.specs.Interchange.{AreRead, AreSent, IsRead, IsSent, reads, sends};
+
+use crate::interchange::{read_part, send_part};
+use circuit_model::PLACES;
+use control_memory::Image;
+use frame_buffer::{Crossed, FrameBuffer, Highway, LEAST_HALF};
+use std::thread::{Threads, join_mut};
+
+/// The incoming time stage of one frame as `incoming` does it, by halves of the lines: they are halved
+/// `levels` times, and the halves joined. A half is worth a thread of its own from [`LEAST_HALF`] octets
+/// on; smaller ones are done by the caller in one go.
+pub fn incoming_shared<R: Threads + Sync>(
+    rt: &R,
+    buffer: &FrameBuffer,
+    image: &Image,
+    highway: &mut Highway,
+    levels: u8,
+)
+    requires buffer { buffer.now.lines ≡ lines_of image.now }
+    requires lines { highway.old.lines ≡ lines_of image.now }
+    requires slots { highway.old.slots ≡ image.now.slots }
+    requires levels { levels ≤ 3 }
+    ensures size { SameHighwaySize highway.old highway.new }
+    ensures octets { IsSent image.now buffer.now highway.new }
+{
+    let slots = highway.slots();
+    let end = highway.lines();
+    send_halves(
+        rt,
+        buffer,
+        image,
+        slots,
+        0,
+        end,
+        highway.parts(),
+        levels,
+        LEAST_HALF,
+    );
+}
+
+// What the lines from `first` up to `end` send, by halves where they have at least so many octets.
+pub(crate) fn send_halves<R: Threads + Sync>(
+    rt: &R,
+    buffer: &FrameBuffer,
+    image: &Image,
+    slots: u8,
+    first: u8,
+    end: u8,
+    part: &mut [u8],
+    levels: u8,
+    least: usize,
+)
+    requires buffer { buffer.now.lines ≡ lines_of image.now }
+    requires slots { image.now.slots ≡ slots }
+    requires part { AreRows (lines_of image.now) slots first end (length part.old) }
+    ensures size { length part.new ≡ length part.old }
+    ensures octets { RowsHold slots (sends image.now buffer.now) first part.new }
+{
+    let half = (end - first) / 2;
+    let cut = usize::from(half) * usize::from(slots);
+    if levels == 0 || cut < least {
+        send_part(buffer, image, slots, first, part);
+        return;
+    }
+    let next = levels - 1;
+    let middle = first + half;
+    let (front, back) = part.split_at_mut(cut);
+    join_mut(
+        rt,
+        &mut ||
+            requires threads { IsSync R.row }
+            requires buffer { buffer.now.lines ≡ lines_of image.now }
+            requires slots { image.now.slots ≡ slots }
+            requires part { AreRows (lines_of image.now) slots first middle (length front.now) }
+            ensures { AreSent slots image.entry.now buffer.entry.now first (length front.entry.now) front.exit.now }
+        { send_halves(rt, buffer, image, slots, first, middle, front, next, least) },
+        &mut ||
+            requires threads { IsSync R.row }
+            requires buffer { buffer.now.lines ≡ lines_of image.now }
+            requires slots { image.now.slots ≡ slots }
+            requires part { AreRows (lines_of image.now) slots middle end (length back.now) }
+            ensures { AreSent slots image.entry.now buffer.entry.now middle (length back.entry.now) back.exit.now }
+        { send_halves(rt, buffer, image, slots, middle, end, back, next, least) },
+    );
+}
+
+/// The outgoing time stage of one frame as `outgoing` does it, by halves of the lines: they are halved
+/// `levels` times, and the halves joined. A half is worth a thread of its own from [`LEAST_HALF`] octets
+/// on; smaller ones are done by the caller in one go.
+pub fn outgoing_shared<R: Threads + Sync>(
+    rt: &R,
+    crossed: &Crossed,
+    table: &Image,
+    out: &mut FrameBuffer,
+    levels: u8,
+)
+    requires crossed { crossed.now.lines ≡ lines_of table.now }
+    requires slots { crossed.now.slots ≡ table.now.slots }
+    requires lines { out.old.lines ≡ lines_of table.now }
+    requires levels { levels ≤ 3 }
+    ensures lines { out.new.lines ≡ out.old.lines }
+    ensures octets { IsRead table.now crossed.now out.new }
+    ensures readable { out.new.readable ≡ out.old.readable }
+{
+    let end = out.lines();
+    read_halves(rt, crossed, table, 0, end, out.filled(), levels, LEAST_HALF);
+}
+
+// What the lines from `first` up to `end` read, by halves where they have at least so many octets.
+pub(crate) fn read_halves<R: Threads + Sync>(
+    rt: &R,
+    crossed: &Crossed,
+    table: &Image,
+    first: u8,
+    end: u8,
+    part: &mut [u8],
+    levels: u8,
+    least: usize,
+)
+    requires crossed { crossed.now.lines ≡ lines_of table.now }
+    requires slots { crossed.now.slots ≡ table.now.slots }
+    requires part { AreRows (lines_of table.now) 30 first end (length part.old) }
+    ensures size { length part.new ≡ length part.old }
+    ensures octets { RowsHold 30 (reads table.now crossed.now) first part.new }
+{
+    let half = (end - first) / 2;
+    let cut = usize::from(half) * usize::from(PLACES);
+    if levels == 0 || cut < least {
+        read_part(crossed, table, first, part);
+        return;
+    }
+    let next = levels - 1;
+    let middle = first + half;
+    let (front, back) = part.split_at_mut(cut);
+    join_mut(
+        rt,
+        &mut ||
+            requires threads { IsSync R.row }
+            requires crossed { crossed.now.lines ≡ lines_of table.now }
+            requires slots { crossed.now.slots ≡ table.now.slots }
+            requires part { AreRows (lines_of table.now) 30 first middle (length front.now) }
+            ensures { AreRead table.entry.now crossed.entry.now first (length front.entry.now) front.exit.now }
+        { read_halves(rt, crossed, table, first, middle, front, next, least) },
+        &mut ||
+            requires threads { IsSync R.row }
+            requires crossed { crossed.now.lines ≡ lines_of table.now }
+            requires slots { crossed.now.slots ≡ table.now.slots }
+            requires part { AreRows (lines_of table.now) 30 middle end (length back.now) }
+            ensures { AreRead table.entry.now crossed.entry.now middle (length back.entry.now) back.exit.now }
+        { read_halves(rt, crossed, table, middle, end, back, next, least) },
+    );
+}
