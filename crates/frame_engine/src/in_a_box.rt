@@ -21,7 +21,8 @@ impl Carrier for Box<Engine> {
     ghost counted = { λ b inputs held ports carried. carried.counted };
 
     fn new(alloc: Global, external: u8, bridges: u8, slots: u8) -> Result<Self, AllocError> {
-        Box::new(alloc, Engine::new(alloc, external, bridges, slots)?)
+        let engine = Engine::new(alloc, external, bridges, slots)?;
+        Ok(Box::new(alloc, engine)?)
     }
 
     fn frame(
