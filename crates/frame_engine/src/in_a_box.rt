@@ -7,6 +7,7 @@ use crate::carrier::Carrier;
 use crate::engine::Engine;
 use control_memory::Image;
 use std::alloc::{AllocError, Global};
+use std::thread::Threads;
 use tone_rules::Tones;
 
 impl Carrier for Box<Engine> {
@@ -21,19 +22,18 @@ impl Carrier for Box<Engine> {
     ghost counted = { λ b inputs held ports carried. carried.counted };
 
     fn new(alloc: Global, external: u8, bridges: u8, slots: u8) -> Result<Self, AllocError> {
-        Ok(Box::new(
-            alloc,
-            Engine::new(alloc, external, bridges, slots)?,
-        )?)
+        let engine = Engine::new(alloc, external, bridges, slots)?;
+        Ok(Box::new(alloc, engine)?)
     }
 
-    fn frame(
+    fn frame<R: Threads + Sync>(
         &mut self,
+        rt: &R,
         image: &mut Image,
         tones: &Tones,
         input: &[Option<[u8; 30]>],
         out: &mut [[u8; 30]],
     ) {
-        self.as_mut().frame(image, tones, input, out);
+        self.as_mut().frame(rt, image, tones, input, out);
     }
 }

@@ -23,7 +23,7 @@ pub fn cross(highway: &Highway, image: &Image, crossed: &mut Crossed)
 
 // Crosses to some outgoing lines, from line `first` on: `part` holds their rows, of `slots` octets
 // each, and gets what `cross` gives these lines.
-fn cross_part(highway: &Highway, image: &Image, slots: u8, first: u8, part: &mut [u8])
+pub(crate) fn cross_part(highway: &Highway, image: &Image, slots: u8, first: u8, part: &mut [u8])
     requires lines { highway.now.lines ≡ lines_of image.now }
     requires highway { highway.now.slots ≡ slots }
     requires image { image.now.slots ≡ slots }
