@@ -12,8 +12,8 @@ use Rattle.call_processor.proofs.EventLemmas.{Next, answer_next}
 use Rattle.call_processor.proofs.KeepingLemmas.{on_ok}
 use Rattle.call_processor.proofs.processing.do_event.Goals as goal
 
-pub look_ahead-requires-clause-known : goal.look_ahead-requires-clause-known
-look_ahead-requires-clause-known g c = subst (λ (t : Trace). IsEvent t c.args.event) (sym c.requires.trace) c.requires.known
+pub look_ahead-requires : goal.look_ahead-requires
+look_ahead-requires g c = record { known = subst (λ (t : Trace). IsEvent t c.args.event) (sym c.requires.trace) c.requires.known }
 
 pub work-place-requires-clause-ahead : goal.work-place-requires-clause-ahead
 work-place-requires-clause-ahead g c = subst (λ (t : Trace). IsReadAt t c.args.event c.look_ahead.new.self.ahead) c.requires.trace c.look_ahead.ensures.ahead
