@@ -15,6 +15,7 @@ use frame_engine::Carrier;
 use gate::Gate;
 use std::alloc::{AllocError, Global};
 use std::sync::Wait;
+use std::thread::Threads;
 
 /// Runs one segment by the caller alone, in the order of the file, at the first workplace of the room.
 ///
@@ -22,7 +23,7 @@ use std::sync::Wait;
 ///
 /// [`AllocError`] for want of memory. What was done by then is in the history, the workroom is gone, and
 /// the keeper keeps what it kept before.
-pub fn run_by_caller<B: Switchboard, G: Gate, C: Carrier, K: Keeper, R: Wait>(
+pub fn run_by_caller<B: Switchboard, G: Gate, C: Carrier, K: Keeper, R: Threads + Wait + Sync>(
     rt: &R,
     alloc: Global,
     board: &B,

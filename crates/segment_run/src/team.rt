@@ -76,6 +76,7 @@ fn with_frames<B: Switchboard, G: Gate, C: Carrier, K: Keeper, R: Threads + Wait
     join(
         rt,
         move || -> FinishedFrames<B::Seat, C, K>
+            requires threads { IsSync R.row }
             requires seated { B.seated board.now seat }
             requires may { MayWork (B.board board.now) trace.now segment Frame_worker (B.known seat) }
             requires baton { IsTrue (B.known seat).baton }

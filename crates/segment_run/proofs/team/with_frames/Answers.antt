@@ -20,20 +20,23 @@ join-requires-after_bounds g c lifetimes outlive =
     let may_all : All M ps = all_front M ps next (subst (All M) items c.requires.all_may) in
     let bounds = c.type_bounds in (
       (
-        c.requires.seated.0,
+        param_sync _ _ (arg_sync _ no _ bounds.sync-R),
         (
-          c.requires.frames,
+          c.requires.seated.0,
           (
-            c.requires.baton,
+            c.requires.frames,
             (
-              c.requires.ready,
+              c.requires.baton,
               (
-                param_send _ _ (arg_send _ no _ bounds.send-C),
-                param_send _ _ (arg_send _ no _ bounds.send-K),
-                param_send _ _ (arg_send _ no _ bounds.send-B-Seat),
-                param_sync _ _ (arg_sync _ no _ bounds.sync-B),
-                param_sync _ _ (arg_sync _ no _ bounds.sync-G),
-                param_sync _ _ (arg_sync _ no _ bounds.sync-R),
+                c.requires.ready,
+                (
+                  param_send _ _ (arg_send _ no _ bounds.send-C),
+                  param_send _ _ (arg_send _ no _ bounds.send-K),
+                  param_send _ _ (arg_send _ no _ bounds.send-B-Seat),
+                  param_sync _ _ (arg_sync _ no _ bounds.sync-B),
+                  param_sync _ _ (arg_sync _ no _ bounds.sync-G),
+                  param_sync _ _ (arg_sync _ no _ bounds.sync-R),
+                ),
               ),
             ),
           ),
