@@ -13,11 +13,10 @@
 //! status hides one (`reads`, `writes`). With 4 a front of the text was written, and with 5 a front
 //! that ends with a segment (`cut_short`).
 //!
-//! It stands on `ex_io`, `circuit_model`, `seat_history`, `control_memory`, `circuit_map`,
-//! `tone_rules`, `fabric_map`, `strict_map`, `frame_engine`, `exchange_core`, `shared_exchange`, `gate`,
-//! `call_processor`, `line_list`, `segment_run`, `trace_text`, `report_text`, `traffic_gen`,
-//! `generated_trace`, `command_words`, `meters`, `exchange_events` and `call_profile`, and on the
-//! kit's `itoa`.
+//! It stands on `ex_io`, `circuit_model`, `seat_history`, `control_memory`, `tone_rules`, `fabric_map`,
+//! `strict_map`, `frame_engine`, `exchange_core`, `shared_exchange`, `gate`, `call_processor`, `line_list`,
+//! `segment_run`, `trace_text`, `report_text`, `generated_trace`, `command_words`, `meters`,
+//! `exchange_events` and `call_profile`, and on the kit's `itoa`.
 #![tactic(auto)]
 
 mod call;
