@@ -23,7 +23,7 @@
 static void start(void) {
     memset(live.in, NO_CELL, sizeof live.in);
     memset(live.cross, NO_LINE, sizeof live.cross);
-    memset(live.out, slots, sizeof live.out);
+    memset(live.out, NO_SLOT, sizeof live.out);
     memset(live.room, NO_ROOM, sizeof live.room);
     memset(live.heard, 0xFF, sizeof live.heard);
     images[0] = images[1] = live;
@@ -36,7 +36,7 @@ static void start(void) {
 }
 
 int main(int count, char **words) {
-    if (count == 2 && !strcmp(words[1], "--strict")) slots = STRICT_SLOTS, width = STRICT_CELLS;
+    if (count == 2 && !strcmp(words[1], "--strict")) slots = STRICT_SLOTS;
     else if (count != 1) return 2;
     read_trace();
     start();

@@ -3,7 +3,7 @@ enum {
     PLACES = 30, // places of a line
     CELLS = 32, // of a row: a power of two that has room for thirty and the idle one
     STRICT_SLOTS = 59, // internal slots of a line on which no path ever moves
-    STRICT_CELLS = 64, // of a row of these
+    STRICT_CELLS = 64, // of a row of internal slots
     EXTERNAL = 32, // at most so many external lines, and bridge lines
     BRIDGES = 2,
     LINES = EXTERNAL + BRIDGES,
@@ -14,9 +14,10 @@ enum {
     MOST_EVENTS = 65535,
     MOST_BYTES = 1 << 26,
     PIECE = 1 << 16,
-    // Entries of tables that name nothing: a cell, a line and a room that are there, and count for nothing. In a row
-    // of internal slots that cell is `slots`.
+    // Entries of tables that name nothing: a cell, an internal slot, a line and a room that are there, and count for
+    // nothing.
     NO_CELL = PLACES,
+    NO_SLOT = STRICT_CELLS - 1,
     NO_LINE = LINES,
     NO_ROOM = ROOMS,
 };
@@ -27,10 +28,8 @@ typedef struct { uint8_t line, place; } Slot;
 typedef uint8_t Row[CELLS]; // thirty octets or entries, and two idle ones behind them
 typedef uint64_t Lines; // a bit for each of some lines
 
-// How many internal slots a line has, and how many entries a row of them has.
-static unsigned slots = PLACES, width = CELLS;
-typedef uint8_t Rows[(LINES + 1) * STRICT_CELLS]; // rows of that width, one behind the other
-static uint8_t *row_of(uint8_t *rows, unsigned line) { return rows + line * width; }
+static unsigned slots = PLACES; // internal slots of a line
+typedef uint8_t SlotRow[STRICT_CELLS]; // so many octets or entries, and idle ones behind them
 
 static const uint8_t idle_row[STRICT_CELLS] = {
     IDLE, IDLE, IDLE, IDLE, IDLE, IDLE, IDLE, IDLE, IDLE, IDLE, IDLE, IDLE, IDLE, IDLE, IDLE, IDLE,

@@ -5,7 +5,7 @@
 // slot that goes to a place. `from` and `to` are the lines that have a path. `heard` is the first frame
 // in which a slot's circuit is heard, and `room` a port's room. `changes` counts all changes so far.
 typedef struct {
-    Rows in, cross;
+    SlotRow in[LINES], cross[LINES];
     Row out[LINES], room[BRIDGES];
     uint32_t heard[LINES][CELLS];
     Lines from, to;
@@ -17,8 +17,8 @@ static Image live, images[2];
 // Writes what there is, where anything changed.
 static void write_image(Image *now) {
     if (now->changes == live.changes) return;
-    memcpy(now->in, live.in, lines * width);
-    memcpy(now->cross, live.cross, lines * width);
+    memcpy(now->in, live.in, lines * sizeof(SlotRow));
+    memcpy(now->cross, live.cross, lines * sizeof(SlotRow));
     memcpy(now->out, live.out, lines * sizeof(Row));
     memcpy(now->room, live.room, bridges * sizeof(Row));
     memcpy(now->heard, live.heard, lines * sizeof *live.heard);
@@ -31,7 +31,7 @@ static void write_image(Image *now) {
 // column); and what `live` doesn't tell of a path: by the incoming line its outgoing one, by the outgoing
 // line its place there, and by its first place its slot.
 static uint64_t row[LINES], column[LINES];
-static Rows to_line, to_place;
+static SlotRow to_line[LINES], to_place[LINES];
 static Row slot_of[LINES];
 
 typedef struct { Slot from, to; unsigned slot; } Path;
@@ -42,24 +42,24 @@ static void lay(Path p) {
     column[j] |= 1ull << s;
     live.from |= (Lines)1 << i;
     live.to |= (Lines)1 << j;
-    row_of(live.in, i)[s] = p.from.place;
-    row_of(live.cross, j)[s] = i;
+    live.in[i][s] = p.from.place;
+    live.cross[j][s] = i;
     live.out[j][p.to.place] = s;
-    row_of(to_line, i)[s] = j;
-    row_of(to_place, j)[s] = p.to.place;
+    to_line[i][s] = j;
+    to_place[j][s] = p.to.place;
     slot_of[i][p.from.place] = s;
 }
 
 static Path lift(unsigned i, unsigned s) {
-    unsigned j = row_of(to_line, i)[s];
-    Path p = { { i, row_of(live.in, i)[s] }, { j, row_of(to_place, j)[s] }, s };
+    unsigned j = to_line[i][s];
+    Path p = { { i, live.in[i][s] }, { j, to_place[j][s] }, s };
     row[i] &= ~(1ull << s);
     column[j] &= ~(1ull << s);
     if (!row[i]) live.from &= ~((Lines)1 << i);
     if (!column[j]) live.to &= ~((Lines)1 << j);
-    row_of(live.in, i)[s] = NO_CELL;
-    row_of(live.cross, j)[s] = NO_LINE;
-    live.out[j][p.to.place] = slots;
+    live.in[i][s] = NO_CELL;
+    live.cross[j][s] = NO_LINE;
+    live.out[j][p.to.place] = NO_SLOT;
     return p;
 }
 
@@ -70,10 +70,10 @@ typedef struct { unsigned char line, slot; } Place;
 // turns, over incoming and outgoing lines, behind the len paths that are listed. Answers how many then are.
 static unsigned list_chain(Place *chain, unsigned len, unsigned j, unsigned a, unsigned b) {
     while (column[j] >> a & 1) {
-        unsigned i = row_of(live.cross, j)[a];
+        unsigned i = live.cross[j][a];
         chain[len++] = (Place){ i, a };
         if (!(row[i] >> b & 1)) break;
-        j = row_of(to_line, i)[b];
+        j = to_line[i][b];
         chain[len++] = (Place){ i, b };
     }
     return len;
@@ -85,7 +85,7 @@ static unsigned list_chain(Place *chain, unsigned len, unsigned j, unsigned a, u
 // how many paths moved.
 static unsigned exchange(unsigned i, unsigned j, unsigned a, unsigned b, unsigned *moved) {
     Place to[2 * LINES], from[2 * LINES] = { { i, b } }, *chain = to;
-    unsigned len = list_chain(to, 0, j, a, b), other = list_chain(from, 1, row_of(to_line, i)[b], a, b), freed = a;
+    unsigned len = list_chain(to, 0, j, a, b), other = list_chain(from, 1, to_line[i][b], a, b), freed = a;
     if (other < len) chain = from, len = other, freed = b;
     Path lifted[2 * LINES];
     for (unsigned k = 0; k < len; k++) lifted[k] = lift(chain[k].line, chain[k].slot);

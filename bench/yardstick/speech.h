@@ -2,7 +2,7 @@
 
 // In a frame one half of the speech memory is crossed and the other is filled.
 static Row halves[2][LINES];
-static Rows highways, crossed;
+static SlotRow highways[LINES + 1], crossed[LINES];
 static Lines spoken_on, crossed_to; // the rows of these two that may not be idle
 
 // What is read out: for each place its internal slot, where its circuit is heard, and the lines that have
@@ -38,9 +38,9 @@ static void find_heard(const Image *now, const Image *before) {
     for (unsigned l = 0; l < lines; l++) {
         uint8_t some = 0;
         for (int k = 0; k < CELLS; k++) {
-            uint8_t slot = now->heard[l][k] <= frame_number ? before->out[l][k] : slots;
+            uint8_t slot = now->heard[l][k] <= frame_number ? before->out[l][k] : NO_SLOT;
             read_from[l][k] = slot;
-            some |= slot ^ slots;
+            some |= slot ^ NO_SLOT;
         }
         heard_on |= (Lines)(some != 0) << l;
     }
@@ -67,7 +67,7 @@ static void find_members(const Image *now, Row *filling) {
 static void mix(Row *filling) {
     int32_t totals[ROOMS] = { 0 }, own[BRIDGES * PLACES];
     for (unsigned m = 0; m < member_count; m++) {
-        own[m] = linear[row_of(crossed, members[m].line)[members[m].slot]] & members[m].heard;
+        own[m] = linear[crossed[members[m].line][members[m].slot]] & members[m].heard;
         totals[members[m].room] += own[m];
     }
     for (unsigned m = 0; m < member_count; m++) {
@@ -79,29 +79,29 @@ static void mix(Row *filling) {
 
 // The first two stages: into the internal slots of each incoming line, and across to the outgoing ones.
 // A line without a path is idle, and is written once.
-static inline void cross_slots(const Image *now, Row *filled, const unsigned slots, const unsigned width) {
-    for (Lines some = spoken_on & ~now->from; some;) memcpy(highways + next_line(&some) * width, idle_row, width);
+static inline void cross_slots(const Image *now, Row *filled, const unsigned slots) {
+    for (Lines some = spoken_on & ~now->from; some;) memcpy(highways[next_line(&some)], idle_row, sizeof(SlotRow));
     for (Lines some = now->from; some;) {
         unsigned i = next_line(&some);
-        const uint8_t *restrict from = filled[i], *restrict in = now->in + i * width;
-        uint8_t *restrict to = highways + i * width;
+        const uint8_t *restrict from = filled[i], *restrict in = now->in[i];
+        uint8_t *restrict to = highways[i];
         for (unsigned s = 0; s < slots; s++) to[s] = from[in[s]];
     }
     spoken_on = now->from;
-    for (Lines some = crossed_to & ~now->to; some;) memcpy(crossed + next_line(&some) * width, idle_row, width);
+    for (Lines some = crossed_to & ~now->to; some;) memcpy(crossed[next_line(&some)], idle_row, sizeof(SlotRow));
     for (Lines some = now->to; some;) {
         unsigned j = next_line(&some);
-        const uint8_t *restrict by = now->cross + j * width;
-        uint8_t *restrict to = crossed + j * width;
-        for (unsigned s = 0; s < slots; s++) to[s] = highways[by[s] * width + s];
+        const uint8_t *restrict by = now->cross[j];
+        uint8_t *restrict to = crossed[j];
+        for (unsigned s = 0; s < slots; s++) to[s] = highways[by[s]][s];
     }
     crossed_to = now->to;
 }
 
 // The same, by loops of a fixed length.
 static void cross(const Image *now, Row *filled) {
-    if (slots == PLACES) cross_slots(now, filled, PLACES, CELLS);
-    else cross_slots(now, filled, STRICT_SLOTS, STRICT_CELLS);
+    if (slots == PLACES) cross_slots(now, filled, PLACES);
+    else cross_slots(now, filled, STRICT_SLOTS);
 }
 
 // The octets of the tones that are heard on a line.
@@ -118,7 +118,7 @@ static void put_tones(unsigned line, uint8_t *heard) {
 static void send(void) {
     for (Lines some = (heard_on | toned_on) & below(external); some;) {
         unsigned l = next_line(&some);
-        const uint8_t *restrict from = row_of(crossed, l), *restrict by = read_from[l];
+        const uint8_t *restrict from = crossed[l], *restrict by = read_from[l];
         Row heard;
         for (int k = 0; k < CELLS; k++) heard[k] = from[by[k]];
         if (__builtin_expect(toned[l] != 0, 0)) put_tones(l, heard); // in most traces none rings

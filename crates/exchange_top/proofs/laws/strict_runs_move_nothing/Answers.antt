@@ -1,4 +1,4 @@
-use Rattle.std.proofs.Common.{◌≡◌, ◌≤◌, ℕ, Some, None, arith, tt}
+use Rattle.std.proofs.Common.{◌≡◌, ◌≤◌, ℕ, Some, None, arith}
 use Rattle.exchange_events.specs.declared.reply.Reply.{Reply}
 use Rattle.exchange_events.specs.declared.reply.Reply.TheVariants.{Granted, Busy, Seated, NoPort, Freed, NotNailed, Sent, Frame}
 use Rattle.call_profile.specs.Step.{MovesAtMost}
