@@ -8,20 +8,23 @@ use Rattle.exchange_events.specs.Orders.{IsEvent, event_at}
 
 -- an event is found one place before its number
 pub event_at-is : (events : List Event) (n : ℕ) → 1 ≤ n → event_at events n ≡ slice_get events (n - 1)
+unfolding event_at
 event_at-is events zero some = absurd (omega (arith, some))
 event_at-is events (suc n) some = ap (slice_get events) (omega arith)
 
+there : (events : List Event) (n : ℕ) → 1 ≤ n → n ≤ length events → (e : Event) × (event_at events n ≡ Some e)
+unfolding event_at
+there [] n low high = absurd (omega (arith, low, high))
+there (e ∷ events) zero low high = absurd (omega (arith, low))
+there (e ∷ events) (suc zero) low high = (e, refl)
+there (e ∷ events) (suc (suc n)) low high = there events (suc n) (omega arith) (omega (arith, high))
+
 -- each number of an event has one
 pub event_there : (trace : Trace) (n : ℕ) → IsEvent trace n → (e : Event) × (event_at trace.events n ≡ Some e)
-event_there trace n is = go trace.events n is.0 is.1
-  where
-    go : (events : List Event) (n : ℕ) → 1 ≤ n → n ≤ length events → (e : Event) × (event_at events n ≡ Some e)
-    go [] n low high = absurd (omega (arith, low, high))
-    go (e ∷ events) zero low high = absurd (omega (arith, low))
-    go (e ∷ events) (suc zero) low high = (e, refl)
-    go (e ∷ events) (suc (suc n)) low high = go events (suc n) (omega arith) (omega (arith, high))
+event_there trace n is = there trace.events n is.0 is.1
 
 -- what holds of all events holds of the one with a number
 pub of_event_at : (P : Event → Type 0) (events : List Event) (n : ℕ) (e : Event) → All P events → event_at events n ≡ Some e → P e
+unfolding event_at
 of_event_at P events zero e all is = absurd (cc is)
 of_event_at P events (suc n) e all is = subst P (get_or_from_slice_get events n e e is) (all n e (slice_get_within events n e is))

@@ -24,7 +24,7 @@ abbrev pub segment_of : List ℕ → ℕ → ℕ
 segment_of ends n = count_by (λ last. nat_lt last n) ends
 
 -- the event with this number; numbers count from 1
-abbrev pub event_at : List Event → ℕ → Option Event
+unfoldable pub event_at : List Event → ℕ → Option Event
 event_at events zero = None
 event_at events (suc n) = slice_get events n
 
