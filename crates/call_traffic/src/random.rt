@@ -1,6 +1,6 @@
 //! Pseudo-random numbers, and choices by them.
 
-ghost use Rattle.std.specs.Prelude.{◌<◌};
+ghost use Rattle.std.specs.Prelude.{◌<◌, length, IfSome};
 
 use circuit_model::{PLACES, Slot};
 

@@ -1,14 +1,14 @@
 -- Lines in one text, and the answers that they are of.
-use Rattle.std.proofs.Common.{◌≡◌, ℕ, zero, suc, ◌+◌, ◌-◌, ◌<◌, ◌≤◌, List, [], ◌∷◌, ◌++◌, length, map, take, drop, get_or, Some, Result, Ok, Err, OnOk, OnErr, refl, sym, ap, subst, ◌∙◌, arith, add-one, length-append, length-drop, take-append-drop}
+use Rattle.std.proofs.Common.{◌≡◌, ℕ, zero, suc, ◌+◌, ◌-◌, ◌<◌, ◌≤◌, List, [], ◌∷◌, ◌++◌, length, map, take, drop, get_or, Some, None, Result, Ok, Err, OnOk, OnErr, refl, sym, ap, subst, ◌∙◌, arith, add-one, append_assoc, length-append, length-drop, take-append-drop}
 use Rattle.std.specs.Prelude.{All}
-use Rattle.std.proofs.lemmas.List.{drop-append-le, drop-drop, drop-map, drop-take, length-map, length-take-le, map-append, drop_at, nil_from_length, take-append-le, take_all, take_at, take-map}
+use Rattle.std.proofs.lemmas.List.{append-nil, drop-append-le, drop-drop, drop-map, drop-take, length-map, length-take-le, map-append, drop_at, nil_from_length, take-append-le, take_all, take_at, take-map}
 use Rattle.std.proofs.lemmas.List.Elements.{All-nil, All-cons, All-head, All-more, All-tail}
 use Rattle.exchange_events.specs.declared.record.CallRecord.{CallRecord}
 use Rattle.call_processor.specs.declared.worked.Placed.{Placed}
-use Rattle.call_processor.specs.Keeping.{HandsOn, first_place}
+use Rattle.call_processor.specs.Keeping.{HandsOn, StillHolds, first_place}
 use Rattle.line_list.specs.declared.lines.Mark.{Mark}
 use Rattle.line_list.specs.declared.lines.Extent.{Extent}
-use Rattle.line_list.specs.Lines.{HandsLines, Line, calls_of, first_line, text_of}
+use Rattle.line_list.specs.Lines.{HandsLines, Line, calls_of, first_line, line_of, text_of}
 use Rattle.line_list.specs.Marks.{AreBefore, AreMarked, lines_in, lines_left, mark_of, octets_in, records_in}
 
 -- ---- sums over lines

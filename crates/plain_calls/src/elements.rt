@@ -1,6 +1,6 @@
 //! How messages are read.
 
-ghost use Rattle.std.specs.Prelude.{◌<◌, IfSome, length};
+ghost use Rattle.std.specs.Prelude.{◌<◌, ◌+◌, IfSome, length};
 
 use crate::types::{CALL_STATE, CAUSE, NORMAL_CLEARING};
 

@@ -1,6 +1,6 @@
 //! The plain exchange: its events, one by one.
 
-ghost use Rattle.std.specs.Prelude.{◌<◌, IfSome};
+ghost use Rattle.std.specs.Prelude.{◌<◌, IfSome, IfOk};
 
 use crate::elements::receive;
 use crate::legs::{Leg, Peer, State, leg_at, leg_named};

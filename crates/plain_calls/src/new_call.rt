@@ -1,6 +1,6 @@
 //! A call that is set up: its channels and its first messages.
 
-ghost use Rattle.std.specs.Prelude.{◌<◌, IfOk, IfSome};
+ghost use Rattle.std.specs.Prelude.{◌<◌, IfOk, IfSome, length};
 
 use crate::channels::place_of_channel;
 use crate::elements::Received;

@@ -1,5 +1,7 @@
 //! The conference ports, as a list.
 
+ghost use Rattle.std.specs.Prelude.{◌+◌, ◌≤◌};
+
 use circuit_model::{PLACES, Slot};
 use std::alloc::{AllocError, Global};
 

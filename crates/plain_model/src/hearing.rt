@@ -1,6 +1,6 @@
 //! What a slot hears, by walking over lists.
 
-ghost use Rattle.std.specs.Prelude.{◌≡◌, slice_get};
+ghost use Rattle.std.specs.Prelude.{◌≡◌, ◌≤◌, slice_get};
 ghost use Rattle.circuit_model.specs.Circuits.{listener, heard_by};
 ghost use Rattle.circuit_model.specs.FrameInput.{arrives, line_of, octet_at};
 ghost use Rattle.circuit_model.specs.Hears.{is_through, is_other, mix, tone_octet, hears};

@@ -1,5 +1,5 @@
 //! Who has how many events of a segment, and a seat and a workplace for each who has some.
-ghost use Rattle.std.specs.Prelude.{◌≡◌, ◌≢◌, ℕ, ◌+◌, ◌<◌, ◌≤◌, ◌||◌, ◌^◌, IsTrue, length, slice_index, All, vec_capacity};
+ghost use Rattle.std.specs.Prelude.{◌≡◌, ◌≢◌, ℕ, ◌+◌, ◌<◌, ◌≤◌, ◌||◌, ◌^◌, [], IsTrue, length, map, slice_index, All, vec_capacity};
 ghost use Rattle.exchange_events.specs.Sound.{IsSound};
 ghost use Rattle.segment_run.specs.Jobs.{seats_of};
 ghost use Rattle.segment_run.specs.Rooms.{HasRoom};

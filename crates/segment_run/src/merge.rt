@@ -1,5 +1,5 @@
 //! What several workers kept, put together by place.
-ghost use Rattle.std.specs.Prelude.{◌≡◌, ◌≤◌, List, length, OnOk, OnErr, vec_capacity};
+ghost use Rattle.std.specs.Prelude.{◌≡◌, ◌≤◌, ℕ, List, length, OnOk, OnErr, vec_capacity};
 ghost use Rattle.call_processor.specs.declared.worked.Placed.{Placed};
 ghost use Rattle.call_processor.specs.Keeping.{StillHolds};
 ghost use Rattle.segment_run.specs.Merging.{AddsMerged, IsNextRun, Keep, first_of_two};

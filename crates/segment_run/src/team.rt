@@ -3,6 +3,7 @@ ghost use Rattle.std.specs.Prelude.{◌≡◌, ℕ, ◌<◌, ◌≤◌, ◌+◌,
 ghost use Rattle.std.specs.Thread.{IsSync};
 ghost use Rattle.exchange_events.specs.Orders.{Frame_worker};
 ghost use Rattle.seat_history.specs.declared.known.Known.{Known};
+ghost use Rattle.exchange_events.specs.Sound.{IsSound};
 ghost use Rattle.call_processor.specs.Frames.{IsReadyFor};
 ghost use Rattle.call_processor.specs.Work.{MayWork};
 ghost use Rattle.call_processor.specs.Workplaces.{FinishesReady, HasDoneFrames};

@@ -1,5 +1,5 @@
 //! Where the workplaces of the workers are kept from one segment to the next.
-ghost use Rattle.std.specs.Prelude.{◌≡◌, IfOk, length};
+ghost use Rattle.std.specs.Prelude.{◌≡◌, ◌≤◌, [], IfOk, length, vec_capacity};
 
 use crate::crew::Crew;
 use call_processor::{Keeper, Workplace};

@@ -1,5 +1,5 @@
 //! A trace of nails and frames.
-ghost use Rattle.std.specs.Prelude.{◌≡◌, length, IfOk, All};
+ghost use Rattle.std.specs.Prelude.{◌≡◌, length, IfOk, All, ◌*◌, ◌+◌};
 ghost use Rattle.exchange_events.specs.Sound.{IsSound, Fits};
 
 use circuit_model::Slot;

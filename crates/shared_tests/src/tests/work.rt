@@ -1,5 +1,8 @@
 //! Seats at work at any switchboard, one after the other and in threads of their own.
-ghost use Rattle.std.specs.Prelude.{◌≡◌, ◌≤◌, ◌<◌, ◌+◌, length, IsTrue, true};
+ghost use Rattle.std.specs.Prelude.{◌≡◌, ◌≤◌, ◌<◌, ◌+◌, ◌^◌, length, IsTrue, true};
+ghost use Rattle.std.specs.Thread.{IsSync};
+ghost use Rattle.exchange_core.specs.Boards.{IsToolAt};
+ghost use Rattle.control_memory.specs.Image.{Control};
 ghost use Rattle.shared_tests.specs.Steps.{HasStepped};
 
 use control_memory::Image;

@@ -1,5 +1,5 @@
 //! An engine over two lines: a path that moves from frame to frame, and a tone.
-ghost use Rattle.std.specs.Prelude.{◌≡◌, ◌+◌, ◌<◌};
+ghost use Rattle.std.specs.Prelude.{◌≡◌, ℕ, ◌+◌, ◌<◌};
 ghost use Rattle.circuit_model.specs.declared.circuit.Kind.{Kind};
 ghost use Rattle.tone_rules.specs.Tables.{IsGiven};
 
