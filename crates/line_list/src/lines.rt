@@ -310,7 +310,7 @@ fn append_one(
     ensures kept { OnErr result ((records.new.items ≡ records.old.items) × (marks.new.items ≡ marks.old.items)) }
 {
     if calls.is_empty() {
-        return marks.push(mark);
+        return Ok(marks.push(mark)?);
     }
     append_marked(records, marks, calls, &[mark])
 }
