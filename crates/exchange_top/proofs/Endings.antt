@@ -219,7 +219,7 @@ module _ (x : Parties) where
   pub generation_says : (words : List (List ℕ)) (status : ℕ) (order : List ℕ) (old new : SourceAndSink) (a n : ℕ) → Ends x words status order old new → IsGeneration words a n → (status ≡ 0) ⊎ (status ≡ 4) ⊎ (status ≡ 5)
   generation_says words status order old new a n (Wrong_words unasked s none text told) gen = absurd (never_generation words a n unasked gen)
   generation_says words status order old new a n (Words_unwritten unasked s none rose text told) gen = absurd (never_generation words a n unasked gen)
-  generation_says words status order old new a n (Unread is s none rose kept told) gen = absurd (never_one words a n (strict, is) gen)
+  generation_says words status order old new a n (Unread is s none rose kept told) gen = absurd (never_one words a n is gen)
   generation_says words status order old new a n (No_room s none kept told) gen = inr (inr s)
   generation_says words status order old new a n (Answered strict is bytes input (Done s done)) gen = absurd (never_one words a n (strict, is) gen)
   generation_says words status order old new a n (Answered strict is bytes input (Turned_down s down told)) gen = absurd (never_one words a n (strict, is) gen)
