@@ -7,6 +7,7 @@ use circuit_model::{IDLE, Kind, Slot};
 use control_memory::{Heard, Image};
 use frame_engine::{Carrier, Engine};
 use std::test::Fail;
+use std::thread::Threads;
 use tone_rules::{ToneOctets, Tones};
 
 const NEAR: Slot = Slot { line: 0, place: 0 };
@@ -45,6 +46,7 @@ fn show(image: &mut Image, frame: u32, slot: u8)
 
 // Carries a frame, and tells what FAR and RINGING hear in it.
 fn carry(
+    rt: &(impl Threads + Sync),
     engine: &mut Engine,
     image: &mut Image,
     tones: &Tones,
@@ -65,7 +67,7 @@ fn carry(
 {
     show(image, frame, slot);
     let mut out = [[0; 30]; 2];
-    engine.frame(image, tones, &[Some([sent; 30]), None], &mut out);
+    engine.frame(rt, image, tones, &[Some([sent; 30]), None], &mut out);
     (out[1][29], out[1][1])
 }
 
@@ -125,7 +127,15 @@ fn a_path_that_moves_is_heard_two_frames_late_and_loses_no_octet(
     for frame in 0..6 {
         let turn = turns[frame as usize];
         assert!(rt; turn.slot < 2);
-        let heard = carry(&mut engine, &mut image, &tones, frame, turn.slot, turn.sent);
+        let heard = carry(
+            &rt,
+            &mut engine,
+            &mut image,
+            &tones,
+            frame,
+            turn.slot,
+            turn.sent,
+        );
         assert_eq!(rt; heard, turn.heard, "{turn:?}");
     }
     Ok(())
