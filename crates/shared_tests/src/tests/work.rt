@@ -1,7 +1,9 @@
 //! Seats at work at any switchboard, one after the other and in threads of their own.
-ghost use Rattle.std.specs.Prelude.{◌≡◌, ◌≤◌, ◌<◌, ◌+◌, ◌^◌, length, IsTrue, true};
+ghost use Rattle.std.specs.Prelude.{◌≡◌, ◌≤◌, ◌<◌, ◌+◌, ◌^◌, length, IfSome, IsTrue, true};
 ghost use Rattle.std.specs.Thread.{IsSync};
+ghost use Rattle.exchange_events.specs.Orders.{IsEvent};
 ghost use Rattle.exchange_core.specs.Boards.{IsToolAt};
+ghost use Rattle.exchange_core.specs.Working.{IsNumbered};
 ghost use Rattle.control_memory.specs.Image.{Control};
 ghost use Rattle.shared_tests.specs.Steps.{HasStepped};
 
@@ -30,6 +32,15 @@ fn answer_of(reply: &Reply) -> Outcome {
     }
 }
 
+// The event with this number, where there is one.
+fn event_numbered(trace: &Trace, event: u32) -> Option<&Event>
+    ensures known { IfSome result (λ e. IsEvent trace.now event) }
+    ensures number { IfSome result (λ e. IsNumbered trace.now event e.now) }
+{
+    let index = (event as usize).checked_sub(1)?;
+    trace.events.as_slice().get(index)
+}
+
 // Does a nail, at a desk or with a tool in hand. `None` where the event is none.
 fn nail<B: Switchboard, R: Wait>(
     rt: &R,
@@ -45,8 +56,7 @@ fn nail<B: Switchboard, R: Wait>(
     ensures seated { B.seated board.now seat.new }
     ensures stepped { HasStepped (B.known seat.old) (B.known seat.new) }
 {
-    let index = (event as usize).checked_sub(1)?;
-    match trace.events.as_slice().get(index)? {
+    match event_numbered(trace, event)? {
         Event::Nail(_, _) => {}
         _ => return None,
     }
@@ -80,8 +90,7 @@ fn nail_or_frame<B: Switchboard, R: Wait>(
     if event <= 60 {
         return nail(rt, board, trace, seat, event, false);
     }
-    let index = (event as usize).checked_sub(1)?;
-    match trace.events.as_slice().get(index)? {
+    match event_numbered(trace, event)? {
         Event::Frame(_) => {}
         _ => return None,
     }
