@@ -141,31 +141,6 @@ fn is_twice(text: &[u8], half: &[u8]) -> bool {
     text.strip_prefix(half) == Some(half)
 }
 
-/// How a call of the exchange ended, and what it wrote.
-#[derive(Drop)]
-struct Ended {
-    status: u8,
-    sink: MemSink,
-}
-
-// One call of the exchange. That it has no clause keeps what a call promises out of what only looks at
-// what came of it.
-fn called<G: Gate, R: Threads + Wait + Sync>(
-    rt: &R,
-    alloc: Global,
-    words: &[String],
-    mut source: MemSource,
-    mut sink: MemSink,
-    gate: &G,
-    meters: &mut Vec<Box<dyn Meter>>,
-) -> Ended {
-    let outcome: Outcome<Engine> = exchange(rt, alloc, words, &mut source, &mut sink, gate, meters);
-    Ended {
-        status: outcome.status,
-        sink,
-    }
-}
-
 // The words that ask for a run.
 fn words_of(alloc: Global, strict: bool) -> Result<Vec<String>, AllocError> {
     let mut words = vec![in alloc; String::from_str(alloc, "run")?]?;
@@ -185,18 +160,21 @@ fn heard_of<G: Gate, R: Threads + Wait + Sync>(
 ) -> Result<Heard, AllocError> {
     let words = words_of(alloc, strict)?;
     let input = Vec::from_slice(alloc, trace.as_bytes())?;
-    let source = MemSource::new(input, 4096, Vec::new(alloc));
-    let sink = MemSink::new(alloc, ROOM, 4096, Vec::new(alloc))?;
+    let mut source = MemSource::new(input, 4096, Vec::new(alloc));
+    let mut sink = MemSink::new(alloc, ROOM, 4096, Vec::new(alloc))?;
     let mut meters: Vec<Box<dyn Meter>> = Vec::with_capacity(alloc, 2)?;
     meters.push(Box::new(alloc, CallDetail::new(alloc, CALLS)?)?)?;
     meters.push(Box::new(alloc, CallDetail::new(alloc, CALLS)?)?)?;
-    let ended = called(rt, alloc, &words, source, sink, gate, &mut meters);
-    what_was_heard(
+    let outcome: Outcome<Engine> = exchange(
+        rt,
         alloc,
-        ended.status == 0,
-        ended.sink.bytes(),
-        meters.as_slice(),
-    )
+        &words,
+        &mut source,
+        &mut sink,
+        gate,
+        &mut meters,
+    );
+    what_was_heard(alloc, outcome.status == 0, sink.bytes(), meters.as_slice())
 }
 
 // What was heard of a run that came to its end, from its report and its meters; nothing of any other. It
