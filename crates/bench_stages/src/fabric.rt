@@ -1,11 +1,16 @@
 //! A full fabric, through which frames are carried to and fro.
 
 ghost use Rattle.std.specs.Prelude.{◌≡◌, ◌<◌};
+ghost use Rattle.frame_buffer.specs.Highways.{SameHighwaySize};
+ghost use Rattle.control_memory.specs.Image.{lines_of};
 
 use circuit_model::{IDLE, PLACES, Slot};
 use control_memory::Image;
 use frame_buffer::{Crossed, FrameBuffer, Highway};
+use space_stage::{cross_by_halves, cross_shared};
 use std::alloc::{AllocError, Global};
+use std::thread::Threads;
+use time_stage::{incoming_by_halves, incoming_shared, outgoing_by_halves, outgoing_shared};
 
 const EXTERNAL: u8 = 30;
 
@@ -15,9 +20,28 @@ const LINES: u8 = 34;
 
 const SLOTS: u8 = 59;
 
+/// How often a stage halves its lines, where it does.
+const LEVELS: u8 = 3;
+
+/// How the three stages are done.
+#[derive(Clone, Copy)]
+pub enum Way {
+    /// By one call each.
+    Plain,
+    /// By halves where they are worth threads, as an engine does them.
+    Shared,
+    /// By halves, each in a thread of its own.
+    Joins,
+}
+
 /// Carries so many pairs of frames to and fro between two buffers, over a fabric in which every
 /// slot has a path, and answers a sum over the octets of the last one.
-pub fn run(alloc: Global, pairs: u32) -> Result<u32, AllocError> {
+pub fn run(
+    rt: &(impl Threads + Sync),
+    alloc: Global,
+    pairs: u32,
+    way: Way,
+) -> Result<u32, AllocError> {
     let mut image = Image::new(alloc, EXTERNAL, BRIDGES, SLOTS)?;
     connect_all(&mut image);
     let mut near = FrameBuffer::new(alloc, LINES)?;
@@ -26,12 +50,45 @@ pub fn run(alloc: Global, pairs: u32) -> Result<u32, AllocError> {
     let mut crossed = Crossed::new(alloc, LINES, SLOTS)?;
     fill(&mut near);
     for _ in 0..pairs {
-        time_stage::carry(&near, &image, &mut highway, &mut crossed, &mut far);
-        far.swap();
-        time_stage::carry(&far, &image, &mut highway, &mut crossed, &mut near);
-        near.swap();
+        carry(rt, way, &near, &image, &mut highway, &mut crossed, &mut far);
+        carry(rt, way, &far, &image, &mut highway, &mut crossed, &mut near);
     }
     Ok(sum_of(&near))
+}
+
+// Carries one frame, and changes the halves of the buffer that it went to.
+fn carry(
+    rt: &(impl Threads + Sync),
+    way: Way,
+    from: &FrameBuffer,
+    image: &Image,
+    highway: &mut Highway,
+    crossed: &mut Crossed,
+    to: &mut FrameBuffer,
+)
+    requires from { from.now.lines ≡ lines_of image.now }
+    requires lines { highway.old.lines ≡ lines_of image.now }
+    requires slots { highway.old.slots ≡ image.now.slots }
+    requires size { SameHighwaySize highway.old crossed.old }
+    requires to { to.old.lines ≡ lines_of image.now }
+    ensures highway_size { SameHighwaySize highway.old highway.new }
+    ensures crossed_size { SameHighwaySize crossed.old crossed.new }
+    ensures lines { to.new.lines ≡ to.old.lines }
+{
+    match way {
+        Way::Plain => time_stage::carry(from, image, highway, crossed, to),
+        Way::Shared => {
+            incoming_shared(rt, from, image, highway, LEVELS);
+            cross_shared(rt, highway, image, crossed, LEVELS);
+            outgoing_shared(rt, crossed, image, to, LEVELS);
+        }
+        Way::Joins => {
+            incoming_by_halves(rt, from, image, highway, LEVELS, 0);
+            cross_by_halves(rt, highway, image, crossed, LEVELS, 0);
+            outgoing_by_halves(rt, crossed, image, to, LEVELS, 0);
+        }
+    }
+    to.swap();
 }
 
 // From place p of line i to line i + p, in a slot that p alone has on every line.

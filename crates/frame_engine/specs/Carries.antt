@@ -66,10 +66,11 @@ pub record EngineCarries (e : Stages) (inputs : List Input) (held : List (List C
   pub counted : AreCounted e.next inputs held ports
   pub last : CarriesAt e inputs held ports e.next
 
--- how large the parts of an engine are: one line of each for every external and bridge line
-pub record IsBuilt (external bridges slots : ℕ) (kept : Control) (speech : Speech) (highway crossed : Highways) (read : Speech) : Type 0 where
+-- how large the parts of an engine are: one line of each for every external and bridge line; and how often a stage halves its lines at most
+pub record IsBuilt (external bridges slots levels : ℕ) (kept : Control) (speech : Speech) (highway crossed : Highways) (read : Speech) : Type 0 where
   pub few : external ≤ 32
   pub few_bridges : bridges ≤ 2
+  pub few_levels : levels ≤ 3
   pub kept_external : kept.external ≡ external
   pub kept_bridges : kept.bridges ≡ bridges
   pub kept_slots : kept.slots ≡ slots

@@ -4,6 +4,9 @@ ghost use Rattle.std.specs.Prelude.{◌≡◌, ◌+◌, ◌<◌, length};
 ghost use Rattle.circuit_model.specs.Hears.{hears};
 ghost use Rattle.frame_engine.specs.Carries.{EngineCarries};
 
+#[cfg(test)]
+mod tests;
+
 use crate::carrier::Carrier;
 use crate::intake::take_in;
 use crate::play::play;
@@ -19,7 +22,7 @@ use std::thread::Threads;
 use time_stage::{incoming_shared, outgoing_shared};
 use tone_rules::Tones;
 
-// How often a stage halves its lines, where halves are worth threads.
+// How often a stage of a new engine halves its lines, where halves are worth threads.
 const LEVELS: u8 = 3;
 
 /// The engine of a time-space-time exchange: two speech memories, the highways between the stages,
@@ -38,6 +41,7 @@ pub struct Engine {
     external: u8,
     bridges: u8,
     slots: u8,
+    levels: u8,
     next: u32,
     kept: Image,
     speech: FrameBuffer,
@@ -63,7 +67,7 @@ impl Model for Engine {
       crossed = e.crossed;
     } };
 
-    ghost invariant = { λ e. IsBuilt e.external e.bridges e.slots e.kept e.speech e.highway e.crossed e.read };
+    ghost invariant = { λ e. IsBuilt e.external e.bridges e.slots e.levels e.kept e.speech e.highway e.crossed e.read };
 }
 
 impl Carrier for Engine {
@@ -83,6 +87,7 @@ impl Carrier for Engine {
             external,
             bridges,
             slots,
+            levels: LEVELS,
             next: 0,
             kept: Image::new(alloc, external, bridges, slots)?,
             speech: FrameBuffer::new(alloc, lines)?,
@@ -101,11 +106,12 @@ impl Carrier for Engine {
         input: &[Option<[u8; 30]>],
         out: &mut [[u8; 30]],
     ) {
-        outgoing_shared(rt, &self.crossed, &self.kept, &mut self.read, LEVELS);
+        let levels = self.levels;
+        outgoing_shared(rt, &self.crossed, &self.kept, &mut self.read, levels);
         self.read.swap();
         mix_ports(&self.read, image, &self.codes, &mut self.speech);
-        incoming_shared(rt, &self.speech, image, &mut self.highway, LEVELS);
-        cross_shared(rt, &self.highway, image, &mut self.crossed, LEVELS);
+        incoming_shared(rt, &self.speech, image, &mut self.highway, levels);
+        cross_shared(rt, &self.highway, image, &mut self.crossed, levels);
         take_in(input, self.external, &mut self.speech);
         self.speech.swap();
         play(&self.read, image, tones, out);

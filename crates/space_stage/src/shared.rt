@@ -6,14 +6,14 @@ ghost use Rattle.frame_buffer.specs.Highways.{SameHighwaySize, AreRows};
 ghost use Rattle.control_memory.specs.Image.{lines_of};
 ghost use Rattle.space_stage.specs.Crossing.{AreCrossed, IsCrossedPart, IsCrossed};
 
-use crate::crossbar::cross_part;
+use crate::crossbar::{cross, cross_part};
 use control_memory::Image;
 use frame_buffer::{Crossed, Highway, LEAST_HALF};
 use std::thread::{Threads, join_mut};
 
 /// Crosses one frame as `cross` does, by halves of the lines: they are halved `levels` times, and the
-/// halves joined. A half is worth a thread of its own from [`LEAST_HALF`] octets on; smaller ones are
-/// done by the caller in one go.
+/// halves joined. A half is worth a thread of its own from [`LEAST_HALF`] octets on; where the first
+/// half of all lines has fewer, this is `cross`.
 pub fn cross_shared<R: Threads + Sync>(
     rt: &R,
     highway: &Highway,
@@ -28,23 +28,39 @@ pub fn cross_shared<R: Threads + Sync>(
     ensures size { SameHighwaySize crossed.old crossed.new }
     ensures octets { IsCrossed image.now highway.now crossed.new }
 {
+    let half = usize::from(highway.lines() / 2) * usize::from(highway.slots());
+    if half < LEAST_HALF {
+        cross(highway, image, crossed);
+    } else {
+        cross_by_halves(rt, highway, image, crossed, levels, LEAST_HALF);
+    }
+}
+
+/// Crosses one frame as `cross_shared` does, where a half is worth a thread of its own from so many
+/// octets on: with none, each half has one. For tests and measures.
+pub fn cross_by_halves<R: Threads + Sync>(
+    rt: &R,
+    highway: &Highway,
+    image: &Image,
+    crossed: &mut Crossed,
+    levels: u8,
+    least: usize,
+)
+    requires lines { highway.now.lines ≡ lines_of image.now }
+    requires slots { highway.now.slots ≡ image.now.slots }
+    requires size { SameHighwaySize highway.now crossed.old }
+    requires levels { levels ≤ 3 }
+    ensures size { SameHighwaySize crossed.old crossed.new }
+    ensures octets { IsCrossed image.now highway.now crossed.new }
+{
     let slots = crossed.slots();
     let end = highway.lines();
-    cross_halves(
-        rt,
-        highway,
-        image,
-        slots,
-        0,
-        end,
-        crossed.parts(),
-        levels,
-        LEAST_HALF,
-    );
+    let part = crossed.parts();
+    cross_halves(rt, highway, image, slots, 0, end, part, levels, least);
 }
 
 // Crosses to the lines from `first` up to `end`, by halves where they have at least so many octets.
-pub(crate) fn cross_halves<R: Threads + Sync>(
+fn cross_halves<R: Threads + Sync>(
     rt: &R,
     highway: &Highway,
     image: &Image,

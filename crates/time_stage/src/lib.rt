@@ -4,8 +4,9 @@
 //! - [`incoming`] fills each internal slot with the octet of the place that its table names,
 //!   [`outgoing`] each place with that of its internal slot, and both with the idle octet where
 //!   none is named (`octets`). [`incoming_shared`] and [`outgoing_shared`] do so by halves of the lines,
-//!   in threads of their own where that pays, with the same clauses. None says that the halves ran at
-//!   once.
+//!   in threads of their own where that pays, [`incoming_by_halves`] and [`outgoing_by_halves`] where the
+//!   halves have so many octets as the caller says, all with the same clauses. None says that the halves
+//!   ran at once.
 //! - [`carry`] is all three stages in a row: under any legal layout each path's outlet gets the
 //!   octet of its inlet, and every other place the idle octet (`octets`).
 //!
@@ -16,9 +17,7 @@ mod fabric;
 mod interchange;
 mod shared;
 mod store;
-#[cfg(test)]
-mod tests;
 
 pub use fabric::carry;
 pub use interchange::{incoming, outgoing};
-pub use shared::{incoming_shared, outgoing_shared};
+pub use shared::{incoming_by_halves, incoming_shared, outgoing_by_halves, outgoing_shared};

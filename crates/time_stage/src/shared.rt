@@ -6,7 +6,7 @@ ghost use Rattle.frame_buffer.specs.Highways.{SameHighwaySize, AreRows, RowsHold
 ghost use Rattle.control_memory.specs.Image.{lines_of};
 ghost use Rattle.time_stage.specs.Interchange.{AreRead, AreSent, IsRead, IsSent, reads, sends};
 
-use crate::interchange::{read_part, send_part};
+use crate::interchange::{incoming, outgoing, read_part, send_part};
 use circuit_model::PLACES;
 use control_memory::Image;
 use frame_buffer::{Crossed, FrameBuffer, Highway, LEAST_HALF};
@@ -14,7 +14,7 @@ use std::thread::{Threads, join_mut};
 
 /// The incoming time stage of one frame as `incoming` does it, by halves of the lines: they are halved
 /// `levels` times, and the halves joined. A half is worth a thread of its own from [`LEAST_HALF`] octets
-/// on; smaller ones are done by the caller in one go.
+/// on; where the first half of all lines has fewer, this is `incoming`.
 pub fn incoming_shared<R: Threads + Sync>(
     rt: &R,
     buffer: &FrameBuffer,
@@ -29,23 +29,39 @@ pub fn incoming_shared<R: Threads + Sync>(
     ensures size { SameHighwaySize highway.old highway.new }
     ensures octets { IsSent image.now buffer.now highway.new }
 {
+    let half = usize::from(highway.lines() / 2) * usize::from(highway.slots());
+    if half < LEAST_HALF {
+        incoming(buffer, image, highway);
+    } else {
+        incoming_by_halves(rt, buffer, image, highway, levels, LEAST_HALF);
+    }
+}
+
+/// The incoming time stage of one frame as `incoming_shared` does it, where a half is worth a thread of
+/// its own from so many octets on: with none, each half has one. For tests and measures.
+pub fn incoming_by_halves<R: Threads + Sync>(
+    rt: &R,
+    buffer: &FrameBuffer,
+    image: &Image,
+    highway: &mut Highway,
+    levels: u8,
+    least: usize,
+)
+    requires buffer { buffer.now.lines ≡ lines_of image.now }
+    requires lines { highway.old.lines ≡ lines_of image.now }
+    requires slots { highway.old.slots ≡ image.now.slots }
+    requires levels { levels ≤ 3 }
+    ensures size { SameHighwaySize highway.old highway.new }
+    ensures octets { IsSent image.now buffer.now highway.new }
+{
     let slots = highway.slots();
     let end = highway.lines();
-    send_halves(
-        rt,
-        buffer,
-        image,
-        slots,
-        0,
-        end,
-        highway.parts(),
-        levels,
-        LEAST_HALF,
-    );
+    let part = highway.parts();
+    send_halves(rt, buffer, image, slots, 0, end, part, levels, least);
 }
 
 // What the lines from `first` up to `end` send, by halves where they have at least so many octets.
-pub(crate) fn send_halves<R: Threads + Sync>(
+fn send_halves<R: Threads + Sync>(
     rt: &R,
     buffer: &FrameBuffer,
     image: &Image,
@@ -92,7 +108,7 @@ pub(crate) fn send_halves<R: Threads + Sync>(
 
 /// The outgoing time stage of one frame as `outgoing` does it, by halves of the lines: they are halved
 /// `levels` times, and the halves joined. A half is worth a thread of its own from [`LEAST_HALF`] octets
-/// on; smaller ones are done by the caller in one go.
+/// on; where the first half of all lines has fewer, this is `outgoing`.
 pub fn outgoing_shared<R: Threads + Sync>(
     rt: &R,
     crossed: &Crossed,
@@ -108,12 +124,38 @@ pub fn outgoing_shared<R: Threads + Sync>(
     ensures octets { IsRead table.now crossed.now out.new }
     ensures readable { out.new.readable ≡ out.old.readable }
 {
+    let half = usize::from(out.lines() / 2) * usize::from(PLACES);
+    if half < LEAST_HALF {
+        outgoing(crossed, table, out);
+    } else {
+        outgoing_by_halves(rt, crossed, table, out, levels, LEAST_HALF);
+    }
+}
+
+/// The outgoing time stage of one frame as `outgoing_shared` does it, where a half is worth a thread of
+/// its own from so many octets on: with none, each half has one. For tests and measures.
+pub fn outgoing_by_halves<R: Threads + Sync>(
+    rt: &R,
+    crossed: &Crossed,
+    table: &Image,
+    out: &mut FrameBuffer,
+    levels: u8,
+    least: usize,
+)
+    requires crossed { crossed.now.lines ≡ lines_of table.now }
+    requires slots { crossed.now.slots ≡ table.now.slots }
+    requires lines { out.old.lines ≡ lines_of table.now }
+    requires levels { levels ≤ 3 }
+    ensures lines { out.new.lines ≡ out.old.lines }
+    ensures octets { IsRead table.now crossed.now out.new }
+    ensures readable { out.new.readable ≡ out.old.readable }
+{
     let end = out.lines();
-    read_halves(rt, crossed, table, 0, end, out.filled(), levels, LEAST_HALF);
+    read_halves(rt, crossed, table, 0, end, out.filled(), levels, least);
 }
 
 // What the lines from `first` up to `end` read, by halves where they have at least so many octets.
-pub(crate) fn read_halves<R: Threads + Sync>(
+fn read_halves<R: Threads + Sync>(
     rt: &R,
     crossed: &Crossed,
     table: &Image,

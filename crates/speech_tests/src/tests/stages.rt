@@ -1,11 +1,24 @@
-//! Octets that pass the three stages of a fabric of two lines.
+//! Octets that pass the three stages of a fabric of two lines, by one call each and by halves of them.
+mod halves;
+
 ghost use Rattle.std.specs.Prelude.{◌≡◌, ◌<◌, IfOk};
 
 use circuit_model::{IDLE, Slot};
 use control_memory::Image;
 use frame_buffer::{Crossed, FrameBuffer, Highway};
+use halves::{Way, carry_by};
 use std::alloc::{AllocError, Global};
-use time_stage::{carry, incoming};
+use std::test::Fail;
+use time_stage::carry;
+
+/// One call for each stage, and halves with and without levels, with threads and without.
+const WAYS: [(Way, u8); 5] = [
+    (Way::Plain, 0),
+    (Way::Shared, 0),
+    (Way::Shared, 3),
+    (Way::Halved, 0),
+    (Way::Halved, 3),
+];
 
 // Joins two slots by a path.
 fn join(image: &mut Image, from: Slot, to: Slot, slot: u8)
@@ -66,29 +79,42 @@ fn speaking(out: &FrameBuffer) -> usize {
 }
 
 #[test]
-fn octets_pass_stage_by_stage(rt: HostRuntime) -> Result<(), AllocError> {
+fn octets_pass_stage_by_stage(rt: HostRuntime) -> Result<(), Fail> {
     let image = three_paths(rt.alloc())?;
     let buffer = spoken(rt.alloc())?;
     let mut highway = Highway::new(rt.alloc(), 2, 2)?;
     let mut crossed = Crossed::new(rt.alloc(), 2, 2)?;
-    incoming(&buffer, &image, &mut highway);
-    space_stage::cross(&highway, &image, &mut crossed);
-    let sent = [
-        highway.get(0, 0),
-        highway.get(0, 1),
-        highway.get(1, 0),
-        highway.get(1, 1),
-    ];
-    let got = [
-        crossed.get(0, 0),
-        crossed.get(0, 1),
-        crossed.get(1, 0),
-        crossed.get(1, 1),
-    ];
-    assert_eq!(&rt;
-        [sent, got],
-        [[0x12, 0x11, IDLE, 0x21], [0x12, 0x21, IDLE, 0x11]]
-    );
+    let mut out = FrameBuffer::new(rt.alloc(), 2)?;
+    for (way, levels) in WAYS {
+        assert!(rt; levels <= 3);
+        carry_by(
+            &rt,
+            way,
+            levels,
+            &buffer,
+            &image,
+            &mut highway,
+            &mut crossed,
+            &mut out,
+        );
+        let sent = [
+            highway.get(0, 0),
+            highway.get(0, 1),
+            highway.get(1, 0),
+            highway.get(1, 1),
+        ];
+        let got = [
+            crossed.get(0, 0),
+            crossed.get(0, 1),
+            crossed.get(1, 0),
+            crossed.get(1, 1),
+        ];
+        assert_eq!(rt;
+            [sent, got],
+            [[0x12, 0x11, IDLE, 0x21], [0x12, 0x21, IDLE, 0x11]],
+            "{way:?} {levels}"
+        );
+    }
     Ok(())
 }
 

@@ -1,0 +1,247 @@
+//! Two traces of `examples/` by control memories that are written by hand: an engine that never halves a
+//! stage plays what one does that may.
+ghost use Rattle.std.specs.Prelude.{◌≡◌, ◌+◌, ◌≤◌, ◌<◌};
+ghost use Rattle.circuit_model.specs.declared.circuit.Kind.{Kind};
+ghost use Rattle.tone_rules.specs.Tables.{IsGiven};
+
+use super::Engine;
+use crate::carrier::Carrier;
+use circuit_model::{IDLE, Slot};
+use control_memory::{Heard, Image};
+use std::alloc::{AllocError, Global};
+use std::test::Fail;
+use std::thread::Threads;
+use tone_rules::{ToneOctets, Tones};
+
+/// A trace of six frames on three lines, each with thirty internal slots.
+#[derive(Clone, Copy, Debug)]
+enum Trace {
+    /// `examples/rearrangement`: two paths move before frame 3.
+    Rearrangement,
+    /// `examples/loud_room`: three members of one room.
+    LoudRoom,
+}
+
+/// What is heard of a frame with an even number in `examples/rearrangement`.
+const EVEN: [[u8; 30]; 3] = [
+    [
+        0x80, 0x82, 0x84, 0x86, 0x88, 0x8A, 0x8C, 0x8E, 0x90, 0x92, 0x94, 0x96, 0x98, 0x9A, 0x9C,
+        IDLE, IDLE, IDLE, IDLE, IDLE, IDLE, IDLE, IDLE, IDLE, IDLE, IDLE, IDLE, IDLE, IDLE, IDLE,
+    ],
+    [
+        0x9E, 0xA0, 0xA2, 0xA4, 0xA6, 0xA8, 0xAA, 0xAC, 0xAE, 0xB0, 0xB2, 0xB4, 0xB6, 0xB8, 0xBA,
+        IDLE, IDLE, IDLE, IDLE, IDLE, IDLE, IDLE, IDLE, IDLE, IDLE, IDLE, IDLE, IDLE, IDLE, IDLE,
+    ],
+    [
+        0x00, 0x02, 0x04, 0x06, 0x08, 0x0A, 0x0C, 0x0E, 0x10, 0x12, 0x14, 0x16, 0x18, 0x1A, 0x1C,
+        0x40, 0x42, 0x44, 0x46, 0x48, 0x4A, 0x4C, 0x4E, 0x50, 0x52, 0x54, 0x56, 0x58, 0x5A, 0x5C,
+    ],
+];
+
+/// What is heard of one with an odd number.
+const ODD: [[u8; 30]; 3] = [
+    [
+        0x81, 0x83, 0x85, 0x87, 0x89, 0x8B, 0x8D, 0x8F, 0x91, 0x93, 0x95, 0x97, 0x99, 0x9B, 0x9D,
+        IDLE, IDLE, IDLE, IDLE, IDLE, IDLE, IDLE, IDLE, IDLE, IDLE, IDLE, IDLE, IDLE, IDLE, IDLE,
+    ],
+    [
+        0x9F, 0xA1, 0xA3, 0xA5, 0xA7, 0xA9, 0xAB, 0xAD, 0xAF, 0xB1, 0xB3, 0xB5, 0xB7, 0xB9, 0xBB,
+        IDLE, IDLE, IDLE, IDLE, IDLE, IDLE, IDLE, IDLE, IDLE, IDLE, IDLE, IDLE, IDLE, IDLE, IDLE,
+    ],
+    [
+        0x01, 0x03, 0x05, 0x07, 0x09, 0x0B, 0x0D, 0x0F, 0x11, 0x13, 0x15, 0x17, 0x19, 0x1B, 0x1D,
+        0x41, 0x43, 0x45, 0x47, 0x49, 0x4B, 0x4D, 0x4F, 0x51, 0x53, 0x55, 0x57, 0x59, 0x5B, 0x5D,
+    ],
+];
+
+/// What is heard of the last but two, in which the newest path carries too.
+const LAST: [[u8; 30]; 3] = [
+    [
+        0x81, 0x83, 0x85, 0x87, 0x89, 0x8B, 0x8D, 0x8F, 0x91, 0x93, 0x95, 0x97, 0x99, 0x9B, 0x9D,
+        0x5F, IDLE, IDLE, IDLE, IDLE, IDLE, IDLE, IDLE, IDLE, IDLE, IDLE, IDLE, IDLE, IDLE, IDLE,
+    ],
+    [
+        0x9F, 0xA1, 0xA3, 0xA5, 0xA7, 0xA9, 0xAB, 0xAD, 0xAF, 0xB1, 0xB3, 0xB5, 0xB7, 0xB9, 0xBB,
+        0x1F, IDLE, IDLE, IDLE, IDLE, IDLE, IDLE, IDLE, IDLE, IDLE, IDLE, IDLE, IDLE, IDLE, IDLE,
+    ],
+    [
+        0x01, 0x03, 0x05, 0x07, 0x09, 0x0B, 0x0D, 0x0F, 0x11, 0x13, 0x15, 0x17, 0x19, 0x1B, 0x1D,
+        0x41, 0x43, 0x45, 0x47, 0x49, 0x4B, 0x4D, 0x4F, 0x51, 0x53, 0x55, 0x57, 0x59, 0x5B, 0x5D,
+    ],
+];
+
+/// A line on which nothing is heard.
+const SILENT: [u8; 30] = [IDLE; 30];
+
+/// A line on which the loudest positive octet is heard in the first place.
+const LOUD: [u8; 30] = [
+    0xAA, IDLE, IDLE, IDLE, IDLE, IDLE, IDLE, IDLE, IDLE, IDLE, IDLE, IDLE, IDLE, IDLE, IDLE, IDLE,
+    IDLE, IDLE, IDLE, IDLE, IDLE, IDLE, IDLE, IDLE, IDLE, IDLE, IDLE, IDLE, IDLE, IDLE,
+];
+
+// Joins two slots, there and back, by these internal slots.
+fn join(image: &mut Image, near: Slot, far: Slot, there: u8, back: u8, since: u32)
+    requires sizes { (image.old.external ≡ 3) × (image.old.bridges ≡ 1) × (image.old.slots ≡ 30) }
+    requires near { (near.line < 3) × (near.place < 30) }
+    requires far { (far.line < 3) × (far.place < 30) }
+    requires slots { (there < 30) × (back < 30) }
+    ensures sizes { (image.new.external ≡ 3) × (image.new.bridges ≡ 1) × (image.new.slots ≡ 30) }
+    ensures frame { image.new.frame ≡ image.old.frame }
+{
+    image.set_path(near, far, there);
+    image.set_path(far, near, back);
+    image.set_heard(near, Heard::Path { since });
+    image.set_heard(far, Heard::Path { since });
+}
+
+// Writes the paths of lines 0 and 1 to line 2 and back, thirty of each. From frame 3 on two of those back
+// are in other internal slots, and lines 0 and 1 are joined too.
+fn lay_pairs(image: &mut Image, moved: bool)
+    requires sizes { (image.old.external ≡ 3) × (image.old.bridges ≡ 1) × (image.old.slots ≡ 30) }
+    ensures sizes { (image.new.external ≡ 3) × (image.new.bridges ≡ 1) × (image.new.slots ≡ 30) }
+    ensures frame { image.new.frame ≡ image.old.frame }
+{
+    for place in 0..15u8 {
+        let far = Slot { line: 2, place };
+        let back = if moved && place == 0 { 15 } else { place };
+        join(image, Slot { line: 0, place }, far, place, back, 0);
+        let other = place + 15;
+        let far = Slot {
+            line: 2,
+            place: other,
+        };
+        let back = if moved && place == 0 { 0 } else { other };
+        join(image, Slot { line: 1, place }, far, other, back, 0);
+    }
+    if moved {
+        let near = Slot { line: 0, place: 15 };
+        let far = Slot { line: 1, place: 15 };
+        join(image, near, far, 15, 0, 3);
+    }
+}
+
+// Writes the paths of three members to the ports of a bridge line and back.
+fn seat_three(image: &mut Image)
+    requires sizes { (image.old.external ≡ 3) × (image.old.bridges ≡ 1) × (image.old.slots ≡ 30) }
+    ensures sizes { (image.new.external ≡ 3) × (image.new.bridges ≡ 1) × (image.new.slots ≡ 30) }
+    ensures frame { image.new.frame ≡ image.old.frame }
+{
+    for line in 0..3u8 {
+        let member = Slot { line, place: 0 };
+        let port = Slot {
+            line: 3,
+            place: line,
+        };
+        image.set_path(member, port, line);
+        image.set_path(port, member, line);
+        image.set_heard(member, Heard::Path { since: 0 });
+        image.set_room(port, 0, 0);
+    }
+}
+
+// Writes the control memory of a frame.
+fn show(trace: Trace, image: &mut Image, frame: u32)
+    requires sizes { (image.old.external ≡ 3) × (image.old.bridges ≡ 1) × (image.old.slots ≡ 30) }
+    ensures sizes { (image.new.external ≡ 3) × (image.new.bridges ≡ 1) × (image.new.slots ≡ 30) }
+    ensures frame { image.new.frame ≡ frame }
+{
+    image.clear_all(frame);
+    match trace {
+        Trace::Rearrangement => lay_pairs(image, frame >= 3),
+        Trace::LoudRoom => seat_three(image),
+    }
+}
+
+// What a line sends in a frame.
+fn sent(trace: Trace, frame: u32, line: u8) -> [u8; 30] {
+    let mut octets = SILENT;
+    match trace {
+        Trace::Rearrangement => {
+            let first = u32::from(line) * 64 + frame % 2;
+            for (place, octet) in octets.iter_mut().enumerate() {
+                *octet = ((first as usize + 2 * place) % 256) as u8;
+            }
+        }
+        Trace::LoudRoom => octets[0] = if line == 2 && frame > 0 { 0x2A } else { 0xAA },
+    }
+    octets
+}
+
+// What the lines hear in a frame, as the report of the trace has it.
+fn reported(trace: Trace, frame: u32) -> [[u8; 30]; 3] {
+    match (trace, frame) {
+        (Trace::Rearrangement, 2 | 4) => EVEN,
+        (Trace::Rearrangement, 3) => ODD,
+        (Trace::Rearrangement, 5) => LAST,
+        (Trace::LoudRoom, 4) => [LOUD, LOUD, LOUD],
+        (Trace::LoudRoom, 5) => [SILENT, SILENT, LOUD],
+        _ => [SILENT, SILENT, SILENT],
+    }
+}
+
+// Carries a frame, and tells whether the lines hear what the report has.
+fn hears_as_reported(
+    rt: &(impl Threads + Sync),
+    engine: &mut Engine,
+    image: &mut Image,
+    tones: &Tones,
+    trace: Trace,
+    frame: u32,
+) -> bool
+    requires external { (engine.old.external ≡ 3) × (image.old.external ≡ 3) }
+    requires bridges { (engine.old.bridges ≡ 1) × (image.old.bridges ≡ 1) }
+    requires slots { (engine.old.slots ≡ 30) × (image.old.slots ≡ 30) }
+    requires frame { (engine.old.next ≡ frame) × (frame < 100) }
+    requires tones { (kind : Kind) → IsGiven tones.now kind }
+    ensures external { (engine.new.external ≡ 3) × (image.new.external ≡ 3) }
+    ensures bridges { (engine.new.bridges ≡ 1) × (image.new.bridges ≡ 1) }
+    ensures slots { (engine.new.slots ≡ 30) × (image.new.slots ≡ 30) }
+    ensures next { engine.new.next ≡ frame + 1 }
+{
+    show(trace, image, frame);
+    let mut out = [SILENT, SILENT, SILENT];
+    let input = [
+        Some(sent(trace, frame, 0)),
+        Some(sent(trace, frame, 1)),
+        Some(sent(trace, frame, 2)),
+    ];
+    engine.frame(rt, image, tones, &input, &mut out);
+    out == reported(trace, frame)
+}
+
+// The first frame of a trace that an engine with so many levels does not play as the report has it. (A
+// bridge line in which nobody sits gives nothing.)
+fn first_wrong(
+    rt: &(impl Threads + Sync),
+    alloc: Global,
+    trace: Trace,
+    levels: u8,
+) -> Result<Option<u32>, AllocError>
+    requires levels { levels ≤ 3 }
+{
+    let tones = Tones {
+        ringback: ToneOctets::of(vec![in alloc; 20]?),
+        busy: ToneOctets::of(vec![in alloc; 30]?),
+    };
+    let mut engine = Engine::new(alloc, 3, 1, 30)?;
+    engine.levels = levels;
+    let mut image = Image::new(alloc, 3, 1, 30)?;
+    for frame in 0..6u32 {
+        if !hears_as_reported(rt, &mut engine, &mut image, &tones, trace, frame) {
+            return Ok(Some(frame));
+        }
+    }
+    Ok(None)
+}
+
+#[test]
+fn traces_sound_as_reported_with_and_without_halves(rt: HostRuntime) -> Result<(), Fail> {
+    for trace in [Trace::Rearrangement, Trace::LoudRoom] {
+        for levels in [0u8, 3] {
+            assert!(rt; levels <= 3);
+            let wrong = first_wrong(&rt, rt.alloc(), trace, levels)?;
+            assert!(rt; wrong.is_none(), "{trace:?} {levels} {wrong:?}");
+        }
+    }
+    Ok(())
+}

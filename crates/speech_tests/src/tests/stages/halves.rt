@@ -1,0 +1,146 @@
+//! Stages that are shared by halves of their lines, beside one call: that halves in threads of their own
+//! come to an end, with what one call gives.
+ghost use Rattle.std.specs.Prelude.{◌≡◌, ◌≤◌, ◌<◌};
+ghost use Rattle.frame_buffer.specs.Highways.{SameHighwaySize};
+ghost use Rattle.control_memory.specs.Image.{lines_of};
+
+use circuit_model::{PLACES, Slot};
+use control_memory::Image;
+use frame_buffer::{Crossed, FrameBuffer, Highway};
+use space_stage::{cross, cross_by_halves, cross_shared};
+use std::alloc::{AllocError, Global};
+use std::test::Fail;
+use std::thread::Threads;
+use time_stage::{
+    incoming, incoming_by_halves, incoming_shared, outgoing, outgoing_by_halves, outgoing_shared,
+};
+
+/// How a stage is done.
+#[derive(Clone, Copy, Debug)]
+pub(super) enum Way {
+    /// By one call.
+    Plain,
+    /// By halves, where they are worth threads.
+    Shared,
+    /// By halves, each in a thread of its own.
+    Halved,
+}
+
+// Sends a frame, crosses it, and reads it.
+pub(super) fn carry_by(
+    rt: &(impl Threads + Sync),
+    way: Way,
+    levels: u8,
+    buffer: &FrameBuffer,
+    image: &Image,
+    highway: &mut Highway,
+    crossed: &mut Crossed,
+    out: &mut FrameBuffer,
+)
+    requires levels { levels ≤ 3 }
+    requires buffer { buffer.now.lines ≡ lines_of image.now }
+    requires lines { highway.old.lines ≡ lines_of image.now }
+    requires slots { highway.old.slots ≡ image.now.slots }
+    requires size { SameHighwaySize highway.old crossed.old }
+    requires out { out.old.lines ≡ lines_of image.now }
+    ensures highway_size { SameHighwaySize highway.old highway.new }
+    ensures crossed_size { SameHighwaySize crossed.old crossed.new }
+    ensures lines { out.new.lines ≡ out.old.lines }
+{
+    match way {
+        Way::Plain => {
+            incoming(buffer, image, highway);
+            cross(highway, image, crossed);
+            outgoing(crossed, image, out);
+        }
+        Way::Shared => {
+            incoming_shared(rt, buffer, image, highway, levels);
+            cross_shared(rt, highway, image, crossed, levels);
+            outgoing_shared(rt, crossed, image, out, levels);
+        }
+        Way::Halved => {
+            incoming_by_halves(rt, buffer, image, highway, levels, 0);
+            cross_by_halves(rt, highway, image, crossed, levels, 0);
+            outgoing_by_halves(rt, crossed, image, out, levels, 0);
+        }
+    }
+}
+
+// A path from each place to the place after the next one of a line, some of which lose their internal
+// slot to others.
+fn connect_all(image: &mut Image, lines: u8)
+    requires few { lines ≤ 34 }
+    requires lines { (image.old.external ≡ lines) × (image.old.bridges ≡ 0) }
+    requires slots { image.old.slots ≡ 59 }
+    ensures lines { (image.new.external ≡ lines) × (image.new.bridges ≡ 0) }
+    ensures slots { image.new.slots ≡ 59 }
+{
+    for line in 0..lines {
+        for place in 0..PLACES {
+            let at = u32::from(line) * 30 + u32::from(place);
+            let from = Slot { line, place };
+            let to = Slot {
+                line: (at * 7 % u32::from(lines)) as u8,
+                place,
+            };
+            image.set_path(from, to, (at % 59) as u8);
+        }
+    }
+}
+
+fn fill(octets: &mut [u8]) {
+    for (at, octet) in octets.iter_mut().enumerate() {
+        *octet = (at % 251) as u8;
+    }
+}
+
+// What the lines send, what crosses to them, and what they read, one after the other.
+fn carried(
+    rt: &(impl Threads + Sync),
+    alloc: Global,
+    lines: u8,
+    way: Way,
+    levels: u8,
+) -> Result<Vec<u8>, AllocError>
+    requires lines { (1 ≤ lines) × (lines ≤ 34) }
+    requires levels { levels ≤ 3 }
+{
+    let mut image = Image::new(alloc, lines, 0, 59)?;
+    connect_all(&mut image, lines);
+    let mut buffer = FrameBuffer::new(alloc, lines)?;
+    fill(buffer.filled());
+    buffer.swap();
+    let mut highway = Highway::new(alloc, lines, 59)?;
+    let mut crossed = Crossed::new(alloc, lines, 59)?;
+    let mut out = FrameBuffer::new(alloc, lines)?;
+    carry_by(
+        rt,
+        way,
+        levels,
+        &buffer,
+        &image,
+        &mut highway,
+        &mut crossed,
+        &mut out,
+    );
+    let mut octets = Vec::new(alloc);
+    octets.extend_from_slice(highway.parts())?;
+    octets.extend_from_slice(crossed.parts())?;
+    octets.extend_from_slice(out.filled())?;
+    Ok(octets)
+}
+
+#[test]
+fn shared_stages_carry_what_plain_ones_do(rt: HostRuntime) -> Result<(), Fail> {
+    // Fewer lines than parts, an odd number, and all.
+    for lines in [1u8, 2, 5, 34] {
+        assert!(rt; 1 <= lines && lines <= 34);
+        let alone = carried(&rt, rt.alloc(), lines, Way::Plain, 0)?;
+        for (way, levels) in super::WAYS {
+            assert!(rt; levels <= 3);
+            let halved = carried(&rt, rt.alloc(), lines, way, levels)?;
+            assert!(rt; alone.as_slice() == halved.as_slice(), "{lines} {way:?} {levels}");
+        }
+    }
+    Ok(())
+}
