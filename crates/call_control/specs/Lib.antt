@@ -3,3 +3,4 @@ pub mod Choices
 pub mod AtWork
 pub mod LegKeys
 pub mod Ahead
+pub mod Asked

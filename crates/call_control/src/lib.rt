@@ -12,6 +12,7 @@
 #![tactic(auto)]
 
 mod acts;
+mod asked;
 mod ended_calls;
 mod leg_keys;
 mod leg_table;

@@ -13,7 +13,7 @@ use q931_elements::Elements;
 /// The number that a SETUP dials. It is read once, however many checks ask for it.
 #[derive(Clone, Copy)]
 pub struct DialledNumber {
-    /// Whether the SETUP has a called party number that can be read.
+    /// Whether all that it dials are digits.
     pub is_readable: bool,
     /// What the plan knows of its digits.
     pub target: Found,
@@ -101,9 +101,9 @@ fn look_up(plan: &Plan, message: &Message) -> DialledNumber
     }
 }
 
-// The digits that a SETUP dials, `None` where it has no called party number that can be read.
+// The digits that a SETUP dials, `None` where one of them isn't a digit.
 fn digits_in(message: &Message) -> Option<ArrayVec<u8, MOST_DIGITS>>
     ensures { option_map (λ digits. digits.items) result ≡ digits_in message.now }
 {
-    dialled_digits(message.called_number()?)
+    dialled_digits(message.called_number())
 }

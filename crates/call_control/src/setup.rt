@@ -13,9 +13,11 @@ ghost use Rattle.call_control.specs.Standing.{Holds, HasMade, Performs};
 ghost use Rattle.call_profile.specs.World.{World};
 ghost use Rattle.circuit_model.specs.Extent.{IsExternal};
 ghost use Rattle.call_profile.specs.Permitted.{CanSeat};
-ghost use Rattle.q931_codec.specs.Contents.{bearer_in};
+ghost use Rattle.call_control.specs.Asked.{asked_of};
+ghost use Rattle.call_states.specs.Pending.{FitsElements};
 ghost use Rattle.q931_codec.specs.Outgoing.{outgoing_of};
 
+use crate::asked::{Asked, asked_by};
 use crate::operations::CallControl;
 use crate::reading_ahead::{DialledNumber, dialled};
 use crate::sending::{message_to, refuse, send};
@@ -77,9 +79,10 @@ impl<P: PathMap> CallControl<P> {
                     return;
                 };
                 let reference = self.legs.new_reference(line);
-                self.call_line(out, message, caller, called, reference);
+                let asked = asked_by(message);
+                self.call_line(out, message.reference, &asked, caller, called, reference);
             }
-            Found::Room(room) => self.call_room(out, message, caller, room),
+            Found::Room(room) => self.call_room(out, message.reference, caller, room),
             Found::More => {}
             Found::Nothing => {}
         }
@@ -87,38 +90,46 @@ impl<P: PathMap> CallControl<P> {
 
     // Makes a call to a line: the caller waits, and the called user is offered the call with this
     // reference.
-    fn call_line(&mut self, out: &mut Outbox, message: &Message, x: Slot, y: Slot, reference: u16)
+    fn call_line(
+        &mut self,
+        out: &mut Outbox,
+        own: u16,
+        asked: &Asked,
+        x: Slot,
+        y: Slot,
+        reference: u16,
+    )
         requires external_x { IsExternal self.old.map.external x }
         requires external_y { IsExternal self.old.map.external y }
         requires count { length self.old.legs ≡ 30 * self.old.map.external }
         requires room { length out.old.sends ≤ 60 }
-        requires own { message.now.reference < 2 ^ 15 }
+        requires own { own < 2 ^ 15 }
         requires reference { reference < 2 ^ 15 }
-        requires bearer { IfSome (bearer_in message.now.elements) (λ contents. length contents ≤ 10) }
-        ensures makes { Performs (call_line message.now x y reference) self.old.map self.old.legs out.old self.new.map self.new.legs out.new }
+        requires fits { FitsElements (asked_of asked.now) }
+        ensures makes { Performs (call_line own (asked_of asked.now) x y reference) self.old.map self.old.legs out.old self.new.map self.new.legs out.new }
         ensures moved { out.new.moved ≡ out.old.moved }
         ensures map { self.new.map ≡ self.old.map }
     {
-        let caller = caller_leg(OUTGOING_CALL_PROCEEDING, message.reference, Peer::Leg(y));
+        let caller = caller_leg(OUTGOING_CALL_PROCEEDING, own, Peer::Leg(y));
         let called = called_leg(reference, x);
         self.put(x, caller);
         self.put(y, called);
         send(out, x.line, &call_proceeding(x, &caller));
-        send(out, y.line, &offer(message, y, &called));
+        send(out, y.line, &offer(asked, y, &called));
     }
 
     // Makes a call to a conference room, which is answered at once.
-    fn call_room(&mut self, out: &mut Outbox, message: &Message, x: Slot, room: u8)
+    fn call_room(&mut self, out: &mut Outbox, own: u16, x: Slot, room: u8)
         requires can { (d : Dimensions) × (w : World) × Holds d self.old.map self.old.legs w × CanSeat d w x }
         requires external { IsExternal self.old.map.external x }
         requires count { length self.old.legs ≡ 30 * self.old.map.external }
         requires room { length out.old.sends ≤ 60 }
-        requires own { message.now.reference < 2 ^ 15 }
-        ensures makes { Performs (call_room message.now x room) self.old.map self.old.legs out.old self.new.map self.new.legs out.new }
+        requires own { own < 2 ^ 15 }
+        ensures makes { Performs (call_room own x room) self.old.map self.old.legs out.old self.new.map self.new.legs out.new }
         ensures few { IfSome out.new.moved (λ moves. (moves.0 ≤ self.old.map.bound) × (moves.1 ≤ self.old.map.bound)) }
         ensures sizes { SameSizes self.old.map self.new.map }
     {
-        let caller = caller_leg(ACTIVE, message.reference, Peer::Room(room));
+        let caller = caller_leg(ACTIVE, own, Peer::Room(room));
         self.put(x, caller);
         out.moved = Some(self.seat(x, room));
         send(out, x.line, &call_proceeding(x, &caller));
@@ -164,18 +175,18 @@ fn call_proceeding(x: Slot, leg: &Leg) -> Outgoing<'static>
 }
 
 // The SETUP to the called user.
-fn offer<'a>(message: &Message<'a>, y: Slot, leg: &Leg) -> Outgoing<'a>
+fn offer<'a>(asked: &Asked<'a>, y: Slot, leg: &Leg) -> Outgoing<'a>
     requires place { y.place < 30 }
-    ensures { outgoing_of result ≡ offer message.now y leg.now }
+    ensures { outgoing_of result ≡ offer (asked_of asked.now) y leg.now }
 {
     Outgoing {
         complete: true,
-        bearer: message.bearer().unwrap_or(&[]),
+        bearer: asked.bearer,
         channel: Some(channel_of(y.place)),
-        calling: message.calling_number(),
-        called: message.called_number().unwrap_or(&[]),
-        low: message.low_layer(),
-        high: message.high_layer(),
+        calling: asked.calling,
+        called: asked.called,
+        low: asked.low,
+        high: asked.high,
         ..message_to(leg, MessageKind::Setup)
     }
 }

@@ -1,6 +1,7 @@
 //! The checks of a SETUP: what it asks for, which slots its call gets, and the cause with which it is refused.
 ghost use Rattle.std.specs.Prelude.{◌≡◌, ◌<◌, is_some, IfSome};
-ghost use Rattle.call_profile.specs.Setup.{digits_in, slot_of, slot_asked, element_checks, number_checks, first_cause, caller_slot, is_taken, slot_checks, refusal, target_of};
+ghost use Rattle.call_profile.specs.Setup.{digits_in, lacks_number, slot_of, slot_asked, element_checks, number_checks, first_cause, caller_slot, is_taken, slot_checks, refusal, target_of};
+ghost use Rattle.q931_codec.specs.Contents.{called_received};
 ghost use Rattle.circuit_model.specs.Extent.{IsExternal};
 ghost use Rattle.call_control.specs.Choices.{IsReached, idle_beside, called_checks};
 ghost use Rattle.call_profile.specs.IdleSlots.{lowest_idle, lowest_idle_beside};
@@ -18,7 +19,7 @@ use q931_codec::causes::{
     MANDATORY_ELEMENT_MISSING, NO_CHANNEL_AVAILABLE, REQUESTED_CHANNEL_NOT_AVAILABLE,
     SWITCHING_EQUIPMENT_CONGESTION, UNALLOCATED_NUMBER,
 };
-use q931_codec::{BearerCapability, ChannelIdentification, Message};
+use q931_codec::{BearerCapability, ChannelIdentification, Message, is_called_number};
 
 impl<P: PathMap> CallControl<P> {
     /// The lowest idle slot of a line.
@@ -167,7 +168,7 @@ fn slot_of(line: u8, channel: u8) -> Option<Slot>
     Some(Slot { line, place })
 }
 
-// The cause of the first check of its elements that a SETUP fails, given whether its number can be read.
+// The cause of the first check of its elements that a SETUP fails, given whether all that it dials are digits.
 fn element_cause(message: &Message, is_readable: bool) -> Option<u8>
     requires { is_readable ≡ is_some (digits_in message.now) }
     ensures { result ≡ first_cause (element_checks message.now) }
@@ -183,10 +184,20 @@ fn element_cause(message: &Message, is_readable: bool) -> Option<u8>
     if message.channel() == Some(ChannelIdentification::Invalid) {
         return Some(INVALID_ELEMENT_CONTENTS);
     }
-    if !is_readable {
+    if lacks_number(message) || !is_readable {
         return Some(INVALID_NUMBER_FORMAT);
     }
     None
+}
+
+// Whether a SETUP has no called party number that can be one.
+fn lacks_number(message: &Message) -> bool
+    ensures { result ≡ lacks_number (called_received message.now.elements) }
+{
+    match message.called_contents() {
+        Some(contents) => !is_called_number(contents),
+        None => true,
+    }
 }
 
 // The cause of the first check of its number that a SETUP fails.

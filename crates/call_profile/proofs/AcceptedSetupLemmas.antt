@@ -13,7 +13,7 @@ use Rattle.call_profile.specs.LegStanding.{CallsStand}
 use Rattle.call_profile.specs.Legs.{Legs, leg_at, new_reference}
 use Rattle.call_profile.specs.Permitted.{CanSeat}
 use Rattle.exchange_events.specs.Sizes.{Setting, Dimensions}
-use Rattle.call_profile.specs.Setup.{Check, checks, first_cause, refusal, caller_slot, called_slot, target_of, call, call_line, call_room, accept, is_room_full}
+use Rattle.call_profile.specs.Setup.{Check, checks, first_cause, refusal, caller_slot, called_slot, target_of, call, call_asked, call_line, call_room, accept, is_room_full}
 use Rattle.call_profile.specs.World.{World, is_full}
 use Rattle.call_profile.proofs.CommandLemmas.{both_true, not_full}
 use Rattle.call_profile.proofs.SetupLemmas.{all_pass, all_from, caller_is}
@@ -21,13 +21,13 @@ use Rattle.call_profile.proofs.SetupLemmas.{all_pass, all_from, caller_is}
 -- ---- the operations
 
 module _ (s : Setting) (w : World) (m : Message) (x : Slot) where
-  pub accepts_line : (line : ℕ) (y : Slot) → target_of s m ≡ Line line → lowest_idle_beside w x line ≡ Some y → accept s w m (Some x) ≡ call_line m x y (new_reference w.legs line)
+  pub accepts_line : (line : ℕ) (y : Slot) → target_of s m ≡ Line line → lowest_idle_beside w x line ≡ Some y → accept s w m (Some x) ≡ call_line m.reference (call_asked m) x y (new_reference w.legs line)
   accepts_line line y is chosen = ap (λ t. call w m x t (called_slot w x t)) is ∙ ap (λ o. call w m x (Line line) o) chosen
 
   pub accepts_full_line : (line : ℕ) → target_of s m ≡ Line line → lowest_idle_beside w x line ≡ None → accept s w m (Some x) ≡ []
   accepts_full_line line is none = ap (λ t. call w m x t (called_slot w x t)) is ∙ ap (λ o. call w m x (Line line) o) none
 
-  pub accepts_room : (room : ℕ) → target_of s m ≡ Room room → accept s w m (Some x) ≡ call_room m x room
+  pub accepts_room : (room : ℕ) → target_of s m ≡ Room room → accept s w m (Some x) ≡ call_room m.reference x room
   accepts_room room is = ap (λ t. call w m x t (called_slot w x t)) is
 
   pub accepts_more : target_of s m ≡ More → accept s w m (Some x) ≡ []

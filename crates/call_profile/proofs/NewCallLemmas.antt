@@ -20,7 +20,7 @@ use Rattle.call_profile.specs.IdleSlots.{idle}
 use Rattle.call_profile.specs.LegStanding.{LegStands, LegsStand, MayHear, AreOneCall}
 use Rattle.call_profile.specs.Legs.{Legs, leg_at, leg_named}
 use Rattle.call_profile.specs.Operations.{making_at, making_after_all}
-use Rattle.call_profile.specs.Setup.{caller_leg, called_leg, call_line, call_room}
+use Rattle.call_profile.specs.Setup.{caller_leg, called_leg, call_asked, call_line, call_room}
 use Rattle.exchange_events.specs.Sizes.{Dimensions}
 use Rattle.call_profile.specs.World.{World, is_full}
 use Rattle.call_profile.proofs.BesideLemmas.{entry_here, entry_else, same_or_apart, Beside, each_stands}
@@ -106,7 +106,7 @@ module _ (d : Dimensions) (tones : Tones) (w : World) (m : Message) (x y : Slot)
   called = called_leg reference x
 
   abbrev after_call : World
-  after_call = (making_after_all d (making_at w) (call_line m x y reference)).world
+  after_call = (making_after_all d (making_at w) (call_line m.reference (call_asked m) x y reference)).world
 
   at_caller : leg_at after_call.legs x ≡ Some caller
   at_caller = both_first d.external w.legs x y (Some caller) (Some called) may.stand.count may.in_x offer.in_y offer.apart
@@ -164,7 +164,7 @@ module _ (d : Dimensions) (tones : Tones) (w : World) (m : Message) (x y : Slot)
     | inr other ↦ none_named w.legs y.line true reference offer.free z l (line, in_z.1) (else_is d.external w.legs x caller may.stand.count may.in_x z l in_z other at) side same
   ]
 
-  pub line_call_kept : Kept d tones (making_after_all d (making_at w) (call_line m x y reference)).world
+  pub line_call_kept : Kept d tones (making_after_all d (making_at w) (call_line m.reference (call_asked m) x y reference)).world
   line_call_kept = (
     may.valid,
     record {
@@ -182,7 +182,7 @@ module _ (d : Dimensions) (tones : Tones) (w : World) (m : Message) (x : Slot) (
   member = caller_leg active m.reference (peer.Room room)
 
   abbrev after_seat : World
-  after_seat = (making_after_all d (making_at w) (call_room m x room)).world
+  after_seat = (making_after_all d (making_at w) (call_room m.reference x room)).world
 
   at_member : leg_at after_seat.legs x ≡ Some member
   at_member = entry_here d.external w.legs x (Some member) may.stand.count may.in_x
@@ -217,7 +217,7 @@ module _ (d : Dimensions) (tones : Tones) (w : World) (m : Message) (x : Slot) (
   none_member : HasNone d.external w.legs x member
   none_member z l in_z apart at line side same = none_named w.legs x.line false m.reference may.unused z l (line, in_z.1) at side same
 
-  pub room_call_kept : Kept d tones (making_after_all d (making_at w) (call_room m x room)).world
+  pub room_call_kept : Kept d tones (making_after_all d (making_at w) (call_room m.reference x room)).world
   room_call_kept = (
     valid-seat d.bridges w.holding x room may.valid idle_member (not_full d.bridges w.holding may.valid free),
     record {

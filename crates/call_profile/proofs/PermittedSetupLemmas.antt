@@ -1,19 +1,20 @@
 -- What a SETUP does is permitted.
 use Rattle.std.proofs.Common.{◌≡◌, ℕ, ◌<◌, ◌≤◌, ◌^◌, ◌||◌, inl, inr, true, false, List, [], length, Option, Some, None, refl, sym, subst, arith}
-use Rattle.std.specs.Prelude.{nat_lt, nat_le, ◌&&◌, unwrap_or, option_map, option_and_then}
+use Rattle.std.specs.Prelude.{nat_lt, nat_le, unwrap_or, option_map}
 use Rattle.std.proofs.lemmas.Grind.{common_steps}
 use Rattle.std.proofs.lemmas.Bool.Decides.{nat_tests}
 use Rattle.circuit_model.specs.declared.channel.Slot.{Slot}
 use Rattle.circuit_model.specs.Channels.{channel_at}
 use Rattle.circuit_model.specs.Extent.{IsExternal}
 use Rattle.circuit_model.proofs.Slots.{true_or_false}
-use Rattle.q931_codec.specs.Contents.{is_bearer_channel, bearer_in, bearer_of, called_of, channel_in, contents_in, contents_passed_on}
+use Rattle.q931_codec.specs.Contents.{is_bearer_channel, bearer_in, bearer_of, channel_in, contents_in, contents_passed_on}
 use Rattle.q931_codec.specs.Identifiers as identifier
 use Rattle.q931_codec.specs.Outgoing.{IsWritable, bare}
 use Rattle.q931_codec.specs.declared.kind.MessageKind.TheVariants as kind
 use Rattle.q931_codec.specs.declared.message.Message.{Message}
-use Rattle.q931_elements.specs.InformationElement.{first_of}
 use Rattle.call_states.specs.declared.leg.Leg.{Leg}
+use Rattle.call_states.specs.declared.pending.Pending.{Pending}
+use Rattle.call_states.specs.Pending.{FitsElements}
 use Rattle.call_states.specs.Status.{FitsMessages}
 use Rattle.number_plan.specs.declared.target.Found.{Found}
 use Rattle.number_plan.specs.declared.target.Found.TheVariants.{Line, Room, More, Nothing}
@@ -23,7 +24,7 @@ use Rattle.call_profile.specs.Operations.{making_at}
 use Rattle.call_profile.specs.Permitted.{CanSeat}
 use Rattle.call_profile.proofs.Permitted.{ArePermitted}
 use Rattle.exchange_events.specs.Sizes.{Setting}
-use Rattle.call_profile.specs.Setup.{checks, refusal, setup, accept, call, call_line, call_room, call_proceeding, offer, caller_slot, called_slot, target_of, is_unreadable, course_of_setup}
+use Rattle.call_profile.specs.Setup.{bearer_asked, checks, refusal, call_asked, setup, accept, call, call_line, call_room, call_proceeding, offer, caller_slot, called_slot, target_of, is_unreadable, course_of_setup}
 use Rattle.exchange_events.specs.Sound.{IsPlanned}
 use Rattle.call_profile.specs.World.{World}
 use Rattle.call_profile.proofs.AcceptedSetupLemmas.{can_seat, refusal_small, can_still}
@@ -39,18 +40,20 @@ bearer_short (Some contents) e = elim (true_or_false (nat_lt (length contents) 2
   | inr short ↦ grind (arith, nat_tests, short)
 ]
 
-called_short : (o : Option (List ℕ)) → length (unwrap_or (option_and_then called_of o) []) ≤ 21
-called_short None = omega arith
-called_short (Some contents) = elim (true_or_false (nat_le 1 (length contents) && nat_le (length contents) 21)) [
-  | inl short ↦ rw short (grind (arith, nat_tests, short))
-  | inr long ↦ rw long (omega arith)
-]
-
 passed_short : (most : ℕ) (contents : List ℕ) → length (contents_passed_on most contents) ≤ most
 passed_short most contents = elim (true_or_false (nat_le (length contents) most)) [
   | inl short ↦ rw short (grind (arith, nat_tests, short))
   | inr long ↦ rw long (omega arith)
 ]
+
+pub asked_fits : (m : Message) → is_unreadable (bearer_asked m) ≡ false → FitsElements (call_asked m)
+asked_fits m readable = record {
+  bearer = bearer_short (bearer_in m.elements) readable;
+  calling = passed_short 22 (contents_in identifier.calling_party_number m.elements);
+  called = passed_short 21 (contents_in identifier.called_party_number m.elements);
+  low = passed_short 16 (contents_in identifier.low_layer_compatibility m.elements);
+  high = passed_short 3 (contents_in identifier.high_layer_compatibility m.elements);
+}
 
 -- ---- what is sent can be written
 
@@ -85,25 +88,25 @@ proceeding_writable x leg within told = record {
   high = omega arith;
 }
 
-offer_writable : (m : Message) (y : Slot) (leg : Leg) → y.place < 30 → FitsMessages leg → is_unreadable (option_map bearer_of (bearer_in m.elements)) ≡ false → IsWritable (offer m y leg)
-offer_writable m y leg within told readable = record {
+offer_writable : (p : Pending) (y : Slot) (leg : Leg) → y.place < 30 → FitsMessages leg → FitsElements p → IsWritable (offer p y leg)
+offer_writable p y leg within told fits = record {
   reference = told.reference;
   kind = tt;
-  bearer = bearer_short (bearer_in m.elements) readable;
+  bearer = fits.bearer;
   cause = tt;
   state = tt;
   channel = bears y.place within;
-  calling = passed_short 22 (contents_in identifier.calling_party_number m.elements);
-  called = called_short (first_of identifier.called_party_number m.elements);
-  low = passed_short 16 (contents_in identifier.low_layer_compatibility m.elements);
-  high = passed_short 3 (contents_in identifier.high_layer_compatibility m.elements);
+  calling = fits.calling;
+  called = fits.called;
+  low = fits.low;
+  high = fits.high;
 }
 
 -- ---- what is done
 
 module _ (s : Setting) (w : World) (line : ℕ) (m : Message) (planned : IsPlanned s) (stands : CallsStand s w) (below : line < s.dimensions.external) (own : (1 ≤ m.reference) × (m.reference < 2 ^ 15)) where
   line_permitted : (x y : Slot) (reference : ℕ) → IsExternal s.dimensions.external x → IsExternal s.dimensions.external y → reference < 2 ^ 15 → is_unreadable (option_map bearer_of (bearer_in m.elements)) ≡ false
-      → ArePermitted s.dimensions s.tones (making_at w) (call_line m x y reference)
+      → ArePermitted s.dimensions s.tones (making_at w) (call_line m.reference (call_asked m) x y reference)
   line_permitted x y reference in_x in_y small readable =
       let caller : FitsMessages _ = record { state = omega arith; reference = own.1 } in
       let called : FitsMessages _ = record { state = omega arith; reference = small } in (
@@ -112,12 +115,12 @@ module _ (s : Setting) (w : World) (line : ℕ) (m : Message) (planned : IsPlann
           (in_y, called),
           (
             (in_x.0, proceeding_writable x _ in_x.1 caller),
-            ((in_y.0, offer_writable m y _ in_y.1 called readable), tt),
+            ((in_y.0, offer_writable (call_asked m) y _ in_y.1 called (asked_fits m readable)), tt),
           ),
         ),
       )
 
-  room_permitted : (x : Slot) (room : ℕ) → IsExternal s.dimensions.external x → CanSeat s.dimensions w x → ArePermitted s.dimensions s.tones (making_at w) (call_room m x room)
+  room_permitted : (x : Slot) (room : ℕ) → IsExternal s.dimensions.external x → CanSeat s.dimensions w x → ArePermitted s.dimensions s.tones (making_at w) (call_room m.reference x room)
   room_permitted x room in_x can =
       let told : FitsMessages _ = record { state = omega arith; reference = own.1 } in (
         (in_x, told),

@@ -14,7 +14,7 @@ use Rattle.call_profile.specs.LegStanding.{CallsStand}
 use Rattle.call_profile.specs.Legs.{leg_at, new_reference}
 use Rattle.call_profile.specs.Operations.{making_at, making_after_all}
 use Rattle.exchange_events.specs.Sizes.{Setting}
-use Rattle.call_profile.specs.Setup.{caller_leg, called_leg, caller_slot, called_slot, target_of, call_line, call_room, call, accept, setup, refusal, course_of_setup}
+use Rattle.call_profile.specs.Setup.{caller_leg, called_leg, caller_slot, called_slot, target_of, call_asked, call_line, call_room, call, accept, setup, refusal, course_of_setup}
 use Rattle.exchange_events.specs.Sound.{IsPlanned}
 use Rattle.call_profile.specs.World.{World}
 use Rattle.call_profile.proofs.BesideLemmas.{entry_else}
@@ -28,16 +28,16 @@ use Rattle.call_profile.proofs.LegTableLemmas.{both_else}
 module _ (s : Setting) (w : World) (line : ℕ) (m : Message) (planned : IsPlanned s) (stands : CallsStand s w) (below : line < s.dimensions.external) where
   -- the legs are put where none stood
   line_ends : (x y : Slot) (reference : ℕ) → IsExternal s.dimensions.external x → IsExternal s.dimensions.external y → (y ≡ x → ⊥) → leg_at w.legs x ≡ None → leg_at w.legs y ≡ None
-      → records w (making_after_all s.dimensions (making_at w) (call_line m x y reference)).world 0 ≡ []
+      → records w (making_after_all s.dimensions (making_at w) (call_line m.reference (call_asked m) x y reference)).world 0 ≡ []
   line_ends x y reference in_x in_y apart empty_x empty_y =
-      no_record_where_kept s.dimensions.external w (making_after_all s.dimensions (making_at w) (call_line m x y reference)).world 0 stands.legs.count
+      no_record_where_kept s.dimensions.external w (making_after_all s.dimensions (making_at w) (call_line m.reference (call_asked m) x y reference)).world 0 stands.legs.count
       (λ z leg in_z at calls.
       both_else s.dimensions.external w.legs x y (Some (caller_leg outgoing_call_proceeding m.reference (peer.Leg y))) (Some (called_leg reference x)) stands.legs.count in_x in_y apart z in_z
       (not_empty w.legs x z leg empty_x at) (not_empty w.legs y z leg empty_y at) ∙ at)
 
-  room_ends : (x : Slot) (room : ℕ) → IsExternal s.dimensions.external x → leg_at w.legs x ≡ None → records w (making_after_all s.dimensions (making_at w) (call_room m x room)).world 0 ≡ []
+  room_ends : (x : Slot) (room : ℕ) → IsExternal s.dimensions.external x → leg_at w.legs x ≡ None → records w (making_after_all s.dimensions (making_at w) (call_room m.reference x room)).world 0 ≡ []
   room_ends x room in_x empty_x =
-      no_record_where_kept s.dimensions.external w (making_after_all s.dimensions (making_at w) (call_room m x room)).world 0 stands.legs.count
+      no_record_where_kept s.dimensions.external w (making_after_all s.dimensions (making_at w) (call_room m.reference x room)).world 0 stands.legs.count
       (λ z leg in_z at calls. entry_else s.dimensions.external w.legs x z (Some (caller_leg active m.reference (peer.Room room))) in_x in_z (not_empty w.legs x z leg empty_x at) ∙ at)
 
   call_ends : (x : Slot) → IsExternal s.dimensions.external x → leg_at w.legs x ≡ None → (t : Found) (o : Option Slot) → target_of s m ≡ t → called_slot w x t ≡ o

@@ -1,6 +1,6 @@
 -- SETUP: the checks in their order, and what is chosen. Which check comes first, and what is chosen, is this exchange's own profile of ITU-T
 -- Q.931 (05/98), 5.1 and 5.2.
-use Rattle.std.specs.Prelude.{ℕ, Bool, true, false, List, [], ◌∷◌, ◌++◌, Option, Some, None, is_none, option_map, option_and_then, unwrap_or, if◌then◌else◌}
+use Rattle.std.specs.Prelude.{ℕ, Bool, true, false, List, [], ◌∷◌, ◌++◌, Option, Some, None, is_none, not, option_map, option_and_then, unwrap_or, if◌then◌else◌}
 use Rattle.std.specs.Option.{option_or}
 use Rattle.circuit_model.specs.declared.channel.Slot.{Slot}
 use Rattle.circuit_model.specs.Channels.{place_of, channel_at}
@@ -12,12 +12,13 @@ use Rattle.q931_codec.specs.declared.kind.MessageKind.TheVariants as kind
 use Rattle.q931_codec.specs.declared.message.Message.{Message}
 use Rattle.q931_codec.specs.CallStates.{outgoing_call_proceeding, call_present, active}
 use Rattle.q931_codec.specs.Causes.{unallocated_number, invalid_number_format, no_channel_available, switching_equipment_congestion, requested_channel_not_available, bearer_capability_not_implemented, mandatory_element_missing, invalid_element_contents}
-use Rattle.q931_codec.specs.Contents.{channel_in, bearer_in, bearer_of, called_in, dialled_digits, calling_in, low_layer_in, high_layer_in}
+use Rattle.q931_codec.specs.Contents.{channel_in, bearer_in, bearer_of, is_called_number, called_received, called_in, dialled_digits, calling_in, low_layer_in, high_layer_in}
 use Rattle.q931_codec.specs.Outgoing.{OutgoingMessage, bare}
 use Rattle.call_states.specs.declared.leg.Leg.{Leg}
 use Rattle.call_states.specs.declared.leg.Peer.{Peer}
 use Rattle.call_states.specs.declared.leg.Peer.TheVariants as peer
 use Rattle.call_states.specs.declared.leg.Side.TheVariants.{Caller, Called}
+use Rattle.call_states.specs.declared.pending.Pending.{Pending}
 use Rattle.number_plan.specs.declared.target.Found.{Found}
 use Rattle.number_plan.specs.declared.target.Found.TheVariants.{Line, Room, More, Nothing}
 use Rattle.number_plan.specs.Plan.{found_for}
@@ -31,16 +32,26 @@ use Rattle.call_profile.specs.World.{World, is_full}
 
 -- ---- what is read of a SETUP
 
--- what its bearer capability is, and the digits that it dials
+-- what its bearer capability is, and the digits that it dials, where all of them are digits
 abbrev pub bearer_asked : Message → Option BearerCapability
 bearer_asked m = option_map bearer_of (bearer_in m.elements)
 
 abbrev pub digits_in : Message → Option (List ℕ)
-digits_in m = option_and_then dialled_digits (called_in m.elements)
+digits_in m = dialled_digits (called_in m.elements)
 
 -- what the plan knows of them
 abbrev pub target_of : Setting → Message → Found
 target_of s m = found_for s.plan (unwrap_or (digits_in m) [])
+
+-- what a call is made from: the contents of the elements that are passed on to the called user
+abbrev pub call_asked : Message → Pending
+call_asked m = record {
+  bearer = unwrap_or (bearer_in m.elements) [];
+  calling = calling_in m.elements;
+  called = called_in m.elements;
+  low = low_layer_in m.elements;
+  high = high_layer_in m.elements;
+}
 
 -- ---- what is chosen
 
@@ -85,13 +96,17 @@ abbrev pub is_not_carried : Option BearerCapability → Bool
 is_not_carried (Some bearer.NotCarried) = true
 is_not_carried _ = false
 
+abbrev pub lacks_number : Option (List ℕ) → Bool
+lacks_number None = true
+lacks_number (Some contents) = not (is_called_number contents)
+
 abbrev pub element_checks : Message → List Check
 element_checks m =
     (is_none (bearer_in m.elements), mandatory_element_missing)
     ∷ (is_unreadable (bearer_asked m), invalid_element_contents)
     ∷ (is_not_carried (bearer_asked m), bearer_capability_not_implemented)
     ∷ (is_invalid (channel_in m.elements), invalid_element_contents)
-    ∷ (is_none (called_in m.elements), invalid_number_format)
+    ∷ (lacks_number (called_received m.elements), invalid_number_format)
     ∷ (is_none (digits_in m), invalid_number_format)
     ∷ []
 
@@ -167,32 +182,32 @@ abbrev pub call_proceeding : Slot → Leg → OutgoingMessage
 call_proceeding x leg = record (message_to leg kind.CallProceeding) { channel = Some (channel_at x.place) }
 
 -- the SETUP to the called user
-abbrev pub offer : Message → Slot → Leg → OutgoingMessage
-offer m y leg = record (message_to leg kind.Setup) {
+abbrev pub offer : Pending → Slot → Leg → OutgoingMessage
+offer asked y leg = record (message_to leg kind.Setup) {
   complete = true;
-  bearer = unwrap_or (bearer_in m.elements) [];
+  bearer = asked.bearer;
   channel = Some (channel_at y.place);
-  calling = calling_in m.elements;
-  called = unwrap_or (called_in m.elements) [];
-  low = low_layer_in m.elements;
-  high = high_layer_in m.elements;
+  calling = asked.calling;
+  called = asked.called;
+  low = asked.low;
+  high = asked.high;
 }
 
 -- a call to a line: the caller waits, and the called user is offered the call
-abbrev pub call_line : Message → Slot → Slot → ℕ → List Operation
-call_line m x y reference =
-    let caller = caller_leg outgoing_call_proceeding m.reference (peer.Leg y) in
+abbrev pub call_line : ℕ → Pending → Slot → Slot → ℕ → List Operation
+call_line own asked x y reference =
+    let caller = caller_leg outgoing_call_proceeding own (peer.Leg y) in
     let called = called_leg reference x in
     Put x caller
     ∷ Put y called
     ∷ Send x.line (call_proceeding x caller)
-    ∷ Send y.line (offer m y called)
+    ∷ Send y.line (offer asked y called)
     ∷ []
 
 -- a call to a room is answered at once
-abbrev pub call_room : Message → Slot → ℕ → List Operation
-call_room m x room =
-    let caller = caller_leg active m.reference (peer.Room room) in
+abbrev pub call_room : ℕ → Slot → ℕ → List Operation
+call_room own x room =
+    let caller = caller_leg active own (peer.Room room) in
     Put x caller
     ∷ Seat x room
     ∷ Send x.line (call_proceeding x caller)
@@ -200,8 +215,8 @@ call_room m x room =
     ∷ []
 
 abbrev pub call : World → Message → Slot → Found → Option Slot → List Operation
-call w m x (Line line) (Some y) = call_line m x y (new_reference w.legs line)
-call w m x (Room room) called = call_room m x room
+call w m x (Line line) (Some y) = call_line m.reference (call_asked m) x y (new_reference w.legs line)
+call w m x (Room room) called = call_room m.reference x room
 call w m x _ _ = []
 
 -- an accepted SETUP has a slot for the caller

@@ -6,7 +6,7 @@ use Rattle.q931_codec.specs.declared.kind.MessageKind.{MessageKind}
 use Rattle.q931_codec.specs.declared.kind.MessageKind.TheVariants as kind
 use Rattle.q931_codec.specs.declared.message.Message.{Message}
 use Rattle.q931_codec.specs.Contents.{cause_in, call_state_in}
-use Rattle.q931_codec.specs.CallStates.{null, outgoing_call_proceeding, call_delivered, call_present, call_received, incoming_call_proceeding, active, disconnect_indication, release_request}
+use Rattle.q931_codec.specs.CallStates.{null, overlap_sending, outgoing_call_proceeding, call_delivered, call_present, call_received, incoming_call_proceeding, active, disconnect_indication, release_request}
 use Rattle.q931_codec.specs.Causes.{normal_call_clearing, temporary_failure}
 use Rattle.call_states.specs.declared.act.Act.{Act}
 use Rattle.call_states.specs.declared.act.Act.TheVariants as act
@@ -19,7 +19,7 @@ is_among (one ∷ others) state = state == one || is_among others state
 
 -- the states of a leg that was not asked to release its channel
 abbrev pub before_release_request : List ℕ
-before_release_request = outgoing_call_proceeding ∷ call_delivered ∷ call_present ∷ call_received ∷ incoming_call_proceeding ∷ active ∷ disconnect_indication ∷ []
+before_release_request = overlap_sending ∷ outgoing_call_proceeding ∷ call_delivered ∷ call_present ∷ call_received ∷ incoming_call_proceeding ∷ active ∷ disconnect_indication ∷ []
 
 -- the states of a leg
 abbrev pub every_state : List ℕ

@@ -7,19 +7,21 @@
 //! - [`on_message`] returns the act of the table, for every message and leg.
 //! - [`status`] and [`unexpected`] return the STATUS that tells a leg its state, with its cause.
 //!
-//! Nothing here allocates.
+//! [`Pending`] is what is kept of a call whose number is dialled in parts. Nothing here allocates.
 //!
-//! It stands on `circuit_model`, `q931_elements` and `q931_codec`.
+//! It stands on `circuit_model`, `q931_elements` and `q931_codec`, and on the kit's `arrayvec`.
 #![tactic(auto)]
 
 mod act;
 mod laws;
 mod leg;
+mod pending;
 mod status_message;
 mod table;
 
 pub use act::Act;
 pub use laws::{law_of_channels, law_of_passed_causes, law_of_status};
 pub use leg::{Held, Leg, Peer, Side};
+pub use pending::{Contents, Pending};
 pub use status_message::{status, unexpected};
 pub use table::on_message;

@@ -8,7 +8,7 @@ use crate::leg::Leg;
 use q931_codec::causes::{NORMAL_CALL_CLEARING, TEMPORARY_FAILURE};
 use q931_codec::states::{
     ACTIVE, CALL_DELIVERED, CALL_PRESENT, CALL_RECEIVED, DISCONNECT_INDICATION,
-    INCOMING_CALL_PROCEEDING, NULL, OUTGOING_CALL_PROCEEDING, RELEASE_REQUEST,
+    INCOMING_CALL_PROCEEDING, NULL, OUTGOING_CALL_PROCEEDING, OVERLAP_SENDING, RELEASE_REQUEST,
 };
 use q931_codec::{Message, MessageKind};
 
@@ -66,7 +66,8 @@ fn is_before_release_request(state: u8) -> bool
 {
     matches!(
         state,
-        OUTGOING_CALL_PROCEEDING
+        OVERLAP_SENDING
+            | OUTGOING_CALL_PROCEEDING
             | CALL_DELIVERED
             | CALL_PRESENT
             | CALL_RECEIVED

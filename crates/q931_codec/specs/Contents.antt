@@ -1,5 +1,5 @@
 -- What the contents of information elements mean (ITU-T Q.931 (05/98), 4.5).
-use Rattle.std.specs.Prelude.{ℕ, ◌%◌, Bool, false, ◌&&◌, ◌||◌, ◌==◌, not, nat_lt, nat_le, if◌then◌else◌, List, [], ◌∷◌, length, drop, map, Option, Some, None, unwrap_or, option_and_then, option_map}
+use Rattle.std.specs.Prelude.{ℕ, ◌%◌, Bool, false, ◌&&◌, ◌||◌, ◌==◌, not, nat_lt, nat_le, if◌then◌else◌, List, [], ◌∷◌, length, drop, map, Option, Some, None, is_some, unwrap_or, option_and_then, option_map}
 use Rattle.std.specs.List.{list_all}
 use Rattle.std.specs.Char.{is_ascii_digit}
 use Rattle.q931_elements.specs.InformationElement.{InformationElement, first_of}
@@ -88,20 +88,26 @@ bearer_of contents =
 abbrev pub bearer_in : List InformationElement → Option (List ℕ)
 bearer_in elements = first_of identifier.bearer_capability elements
 
+-- ---- sending complete (4.5.27): nothing more of the called number comes
+
+abbrev pub complete_in : List InformationElement → Bool
+complete_in elements = is_some (first_of identifier.sending_complete elements)
+
 -- ---- called party number (4.5.8)
 
--- contents of 1 to 21 octets: the type of number with the numbering plan, and the digits
-abbrev pub called_of : List ℕ → Option (List ℕ)
-called_of contents = if nat_le 1 (length contents) && nat_le (length contents) 21 then Some contents else None
+-- its contents as they were received, where there is one
+abbrev pub called_received : List InformationElement → Option (List ℕ)
+called_received elements = first_of identifier.called_party_number elements
 
-abbrev pub called_in : List InformationElement → Option (List ℕ)
-called_in elements = option_and_then called_of (first_of identifier.called_party_number elements)
+-- contents of 1 to 21 octets: the type of number with the numbering plan, and the digits
+abbrev pub is_called_number : List ℕ → Bool
+is_called_number contents = nat_le 1 (length contents) && nat_le (length contents) 21
 
 -- IA5 characters without their top bits, where all of them are digits 0 to 9
 abbrev pub decimal_digits : List ℕ → Option (List ℕ)
 decimal_digits octets = let digits = map (λ octet. octet % 0x80) octets in if list_all is_ascii_digit digits then Some digits else None
 
--- the digits of a called party number
+-- the digits of a called party number: none where it has no octet
 abbrev pub dialled_digits : List ℕ → Option (List ℕ)
 dialled_digits contents = decimal_digits (drop 1 contents)
 
@@ -117,6 +123,10 @@ contents_in code elements = unwrap_or (first_of code elements) []
 -- calling party number (4.5.10)
 abbrev pub calling_in : List InformationElement → List ℕ
 calling_in elements = contents_passed_on 22 (contents_in identifier.calling_party_number elements)
+
+-- called party number (4.5.8)
+abbrev pub called_in : List InformationElement → List ℕ
+called_in elements = contents_passed_on 21 (contents_in identifier.called_party_number elements)
 
 -- low layer compatibility (4.5.19)
 abbrev pub low_layer_in : List InformationElement → List ℕ

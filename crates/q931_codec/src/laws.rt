@@ -18,7 +18,7 @@ use crate::causes::{
 use crate::restart_classes::{ALL_INTERFACES, INDICATED_CHANNELS, SINGLE_INTERFACE};
 use crate::states::{
     ACTIVE, CALL_DELIVERED, CALL_PRESENT, CALL_RECEIVED, DISCONNECT_INDICATION,
-    INCOMING_CALL_PROCEEDING, NULL, OUTGOING_CALL_PROCEEDING, RELEASE_REQUEST,
+    INCOMING_CALL_PROCEEDING, NULL, OUTGOING_CALL_PROCEEDING, OVERLAP_SENDING, RELEASE_REQUEST,
 };
 
 /// A string of octets is at most one message.
@@ -34,6 +34,7 @@ pub fn written_fields_are_read()
 /// The call state values of the code are those of the definitions.
 pub fn law_of_states()
     ensures null { NULL ≡ state.null }
+    ensures overlap_sending { OVERLAP_SENDING ≡ state.overlap_sending }
     ensures outgoing_call_proceeding { OUTGOING_CALL_PROCEEDING ≡ state.outgoing_call_proceeding }
     ensures call_delivered { CALL_DELIVERED ≡ state.call_delivered }
     ensures call_present { CALL_PRESENT ≡ state.call_present }

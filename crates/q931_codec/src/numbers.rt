@@ -1,7 +1,7 @@
 //! The numbers of a received message, and the digits that were dialled.
 
 use crate::bearer::contents_passed_on;
-use crate::codes::{CALLED_PARTY_NUMBER, CALLING_PARTY_NUMBER};
+use crate::codes::{CALLED_PARTY_NUMBER, CALLING_PARTY_NUMBER, SENDING_COMPLETE};
 use crate::message::Message;
 use arrayvec::ArrayVec;
 
@@ -10,20 +10,34 @@ use arrayvec::ArrayVec;
 pub const MOST_DIGITS: usize = 20;
 
 impl<'a> Message<'a> {
-    ghost use Rattle.std.specs.Prelude.{◌≡◌};
+    ghost use Rattle.std.specs.Prelude.{◌≡◌, ◌≤◌, length};
     ghost use Rattle.std.specs.Option.{option_copied};
-    ghost use Rattle.q931_codec.specs.Contents.{called_in, calling_in};
+    ghost use Rattle.q931_codec.specs.Contents.{called_in, called_received, calling_in, complete_in};
 
-    /// The contents of the first called party number (Q.931, 4.5.8), `None` where there is none or they
-    /// have no octet or more than 21.
-    pub fn called_number(&self) -> Option<&'a [u8]>
-        ensures { option_copied result ≡ called_in self.now.elements }
+    /// Whether the message has a Sending complete (Q.931, 4.5.27): nothing more of the called number comes.
+    pub fn sending_complete(&self) -> bool
+        ensures { result ≡ complete_in self.now.elements }
     {
-        let contents = self.elements.first(CALLED_PARTY_NUMBER)?;
-        if contents.is_empty() || contents.len() > 21 {
-            return None;
+        self.elements.first(SENDING_COMPLETE).is_some()
+    }
+
+    /// The contents of the first called party number (4.5.8) as they were received, `None` where there is
+    /// none.
+    pub fn called_contents(&self) -> Option<&'a [u8]>
+        ensures { option_copied result ≡ called_received self.now.elements }
+    {
+        self.elements.first(CALLED_PARTY_NUMBER)
+    }
+
+    /// The contents of the first called party number where they have at most 21 octets, else none.
+    pub fn called_number(&self) -> &'a [u8]
+        ensures called { result.now ≡ called_in self.now.elements }
+        ensures short { length result.now ≤ 21 }
+    {
+        match self.elements.first(CALLED_PARTY_NUMBER) {
+            Some(contents) => contents_passed_on(contents, 21),
+            None => &[],
         }
-        Some(contents)
     }
 
     /// The contents of the first calling party number (4.5.10) where they have at most 22 octets, else
@@ -39,7 +53,14 @@ impl<'a> Message<'a> {
 }
 
 ghost use Rattle.std.specs.Prelude.{◌≡◌, ◌≤◌, length, option_map};
-ghost use Rattle.q931_codec.specs.Contents.{dialled_digits};
+ghost use Rattle.q931_codec.specs.Contents.{dialled_digits, is_called_number};
+
+/// Whether contents are those of a called party number (4.5.8): they have an octet, and not more than 21.
+pub fn is_called_number(contents: &[u8]) -> bool
+    ensures { result ≡ is_called_number contents.now }
+{
+    !contents.is_empty() && contents.len() <= 21
+}
 
 /// The digits of the contents of a called party number (4.5.8) as IA5 characters: the low seven bits of
 /// the octets after the first. `None` where one of them isn't a digit 0 to 9.

@@ -4,9 +4,9 @@ use circuit_model::Slot;
 use q931_codec::{MessageKind, read};
 use std::test::*;
 
-const EVERY: &[u8] = &[3, 4, 6, 7, 9, 10, 12, 19];
+const EVERY: &[u8] = &[2, 3, 4, 6, 7, 9, 10, 12, 19];
 
-const UNRELEASED: &[u8] = &[3, 4, 6, 7, 9, 10, 12];
+const UNRELEASED: &[u8] = &[2, 3, 4, 6, 7, 9, 10, 12];
 
 // A message, and its acts by the leg's state. In every other state it isn't expected.
 struct Row {

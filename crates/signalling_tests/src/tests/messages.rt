@@ -360,17 +360,21 @@ fn reads_digits(rt: HostRuntime) {
 struct Asked {
     octets: &'static [u8],
     bearer: Option<&'static [u8]>,
-    called: Option<&'static [u8]>,
+    received: Option<&'static [u8]>,
+    called: &'static [u8],
+    complete: bool,
     calling: &'static [u8],
     low: &'static [u8],
     high: &'static [u8],
 }
 
-const ASKED: [Asked; 3] = [
+const ASKED: [Asked; 4] = [
     Asked {
         octets: b"\x08\x02\x00\x01\x05\x7D\x02\x91\x81\x7C\x02\x88\x90\x70\x04\x80101\x6C\x04\x21\x83\x35\x35\x04\x03\x80\x90\xA3",
         bearer: Some(b"\x80\x90\xA3"),
-        called: Some(b"\x80101"),
+        received: Some(b"\x80101"),
+        called: b"\x80101",
+        complete: false,
         calling: b"\x21\x83\x35\x35",
         low: b"\x88\x90",
         high: b"\x91\x81",
@@ -380,7 +384,9 @@ const ASKED: [Asked; 3] = [
     Asked {
         octets: b"\x08\x02\x00\x01\x05\x04\x00\x70\x00\x7D\x04\x91\x81\x80\x80",
         bearer: Some(b""),
-        called: None,
+        received: Some(b""),
+        called: b"",
+        complete: false,
         calling: b"",
         low: b"",
         high: b"",
@@ -388,7 +394,20 @@ const ASKED: [Asked; 3] = [
     Asked {
         octets: b"\x08\x02\x00\x01\x05\x70\x16\x80012345678901234567890",
         bearer: None,
-        called: None,
+        received: Some(b"\x80012345678901234567890"),
+        called: b"",
+        complete: false,
+        calling: b"",
+        low: b"",
+        high: b"",
+    },
+    // No called number, and nothing more of it comes.
+    Asked {
+        octets: b"\x08\x02\x00\x01\x05\xA1\x04\x03\x80\x90\xA3",
+        bearer: Some(b"\x80\x90\xA3"),
+        received: None,
+        called: b"",
+        complete: true,
         calling: b"",
         low: b"",
         high: b"",
@@ -400,7 +419,9 @@ fn is_asked(asked: &Asked) -> bool {
         return false;
     };
     message.bearer() == asked.bearer
+        && message.called_contents() == asked.received
         && message.called_number() == asked.called
+        && message.sending_complete() == asked.complete
         && message.calling_number() == asked.calling
         && message.low_layer() == asked.low
         && message.high_layer() == asked.high

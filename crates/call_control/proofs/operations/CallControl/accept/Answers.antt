@@ -2,8 +2,12 @@ use Rattle.std.proofs.Common.{[], subst, sym, ◌∙◌, ap}
 use Rattle.q931_codec.specs.Contents.{channel_in}
 use Rattle.call_profile.specs.Legs.{Legs, new_reference}
 use Rattle.call_profile.specs.Operations.{making_at}
-use Rattle.call_profile.specs.Setup.{caller_slot, accept, call_line, call_room}
+use Rattle.call_profile.specs.Setup.{checks, caller_slot, accept, call_line, call_room}
 use Rattle.call_profile.proofs.AcceptedSetupLemmas.{accepts_line, accepts_full_line, accepts_room, accepts_more, accepts_nothing, can_seat}
+use Rattle.call_states.specs.Pending.{FitsElements}
+use Rattle.call_profile.proofs.PermittedSetupLemmas.{asked_fits}
+use Rattle.call_profile.proofs.SetupLemmas.{all_pass}
+use Rattle.call_control.specs.Asked.{asked_of}
 use Rattle.call_control.specs.Choices.{IsReached}
 use Rattle.call_control.proofs.AtWorkLemmas.{row_inside}
 use Rattle.call_control.proofs.SetupMakingLemmas.{makes_begun, makes_same, external_by, chosen_external}
@@ -47,9 +51,9 @@ returns-in-Some-lowest_idle_beside-clause-makes g c s w leads work =
     let target = leads ∙ c.in-Line.is in
     let chosen = sym (c.lowest_idle_beside.ensures.slot s.dimensions w work.holds) ∙ c.in-Some-lowest_idle_beside.is in
     let reference = c.new_reference-reference.ensures.reference ∙ ap (λ (ls : Legs). new_reference ls c.in-Line.line) work.holds.legs_are in
-    makes_same s.dimensions c.call_line.new.self.map c.call_line.new.self.legs c.call_line.new.out.sends c.call_line.new.out.moved (making_at w) (call_line m c.in-Some.caller c.in-Some-lowest_idle_beside.called c.new_reference-reference.result)
+    makes_same s.dimensions c.call_line.new.self.map c.call_line.new.self.legs c.call_line.new.out.sends c.call_line.new.out.moved (making_at w) (call_line m.reference (asked_of c.asked_by-asked.result) c.in-Some.caller c.in-Some-lowest_idle_beside.called c.new_reference-reference.result)
     (accept s w m (caller_slot w c.args.line (channel_in m.elements)))
-    (ap (accept s w m) is ∙ accepts_line s w m c.in-Some.caller c.in-Line.line c.in-Some-lowest_idle_beside.called target chosen ∙ ap (call_line m c.in-Some.caller c.in-Some-lowest_idle_beside.called) (sym reference))
+    (ap (accept s w m) is ∙ accepts_line s w m c.in-Some.caller c.in-Line.line c.in-Some-lowest_idle_beside.called target chosen ∙ (λ i. call_line m.reference (sym c.asked_by-asked.ensures i) c.in-Some.caller c.in-Some-lowest_idle_beside.called (sym reference i)))
     (c.call_line.ensures.makes s.dimensions (making_at w) (makes_begun s.dimensions c.args.self.now.map c.args.self.now.legs c.args.out.now.sends c.args.out.now.moved w work.holds c.requires.fresh))
 
 pub returns-in-Room-clause-makes : goal.returns-in-Room-clause-makes
@@ -57,7 +61,7 @@ returns-in-Room-clause-makes g c s w leads work =
     let m = c.args.message.now in
     let is = ap (caller_slot w c.args.line) (sym c.channel.ensures) ∙ sym (c.caller_slot.ensures.slot s.dimensions w work.holds) ∙ c.in-Some.is in
     let target = leads ∙ c.in-Room.is in
-    makes_same s.dimensions c.call_room.new.self.map c.call_room.new.self.legs c.call_room.new.out.sends c.call_room.new.out.moved (making_at w) (call_room m c.in-Some.caller c.in-Room.room)
+    makes_same s.dimensions c.call_room.new.self.map c.call_room.new.self.legs c.call_room.new.out.sends c.call_room.new.out.moved (making_at w) (call_room m.reference c.in-Some.caller c.in-Room.room)
     (accept s w m (caller_slot w c.args.line (channel_in m.elements)))
     (ap (accept s w m) is ∙ accepts_room s w m c.in-Some.caller c.in-Room.room target)
     (c.call_room.ensures.makes s.dimensions (making_at w) (makes_begun s.dimensions c.args.self.now.map c.args.self.now.legs c.args.out.now.sends c.args.out.now.moved w work.holds c.requires.fresh))
@@ -79,6 +83,11 @@ returns-in-Nothing-clause-makes g c s w leads work =
     makes_same s.dimensions c.args.self.now.map c.args.self.now.legs c.args.out.now.sends c.args.out.now.moved (making_at w) [] (accept s w m (caller_slot w c.args.line (channel_in m.elements)))
     (ap (accept s w m) is ∙ accepts_nothing s w m c.in-Some.caller target)
     (makes_begun s.dimensions c.args.self.now.map c.args.self.now.legs c.args.out.now.sends c.args.out.now.moved w work.holds c.requires.fresh)
+
+pub call_line-requires-clause-fits : goal.call_line-requires-clause-fits
+call_line-requires-clause-fits g c =
+    let work = c.requires.work in
+    subst FitsElements (sym c.asked_by-asked.ensures) (asked_fits c.args.message.now (all_pass (checks work.0 work.1 c.args.line c.args.message.now) work.2.passes).1.0)
 
 pub new_reference-reference-requires : goal.new_reference-reference-requires
 new_reference-reference-requires g c =

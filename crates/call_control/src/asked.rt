@@ -1,0 +1,35 @@
+//! What a call is made from.
+ghost use Rattle.std.specs.Prelude.{◌≡◌};
+ghost use Rattle.call_profile.specs.Setup.{call_asked};
+ghost use Rattle.call_control.specs.Asked.{asked_of};
+
+use q931_codec::Message;
+
+/// What a call is made from: the contents of the elements that are passed on to the called user. No octets
+/// stand for no element.
+#[derive(Clone, Copy)]
+pub(crate) struct Asked<'a> {
+    /// The bearer capability (ITU-T Q.931 (05/98), 4.5.5).
+    pub bearer: &'a [u8],
+    /// The calling party number (4.5.10).
+    pub calling: &'a [u8],
+    /// The called party number (4.5.8).
+    pub called: &'a [u8],
+    /// The low layer compatibility (4.5.19).
+    pub low: &'a [u8],
+    /// The high layer compatibility (4.5.17).
+    pub high: &'a [u8],
+}
+
+/// What the call of a SETUP is made from.
+pub(crate) fn asked_by<'a>(message: &Message<'a>) -> Asked<'a>
+    ensures { asked_of result ≡ call_asked message.now }
+{
+    Asked {
+        bearer: message.bearer().unwrap_or(&[]),
+        calling: message.calling_number(),
+        called: message.called_number(),
+        low: message.low_layer(),
+        high: message.high_layer(),
+    }
+}

@@ -1,0 +1,58 @@
+//! What is kept of a call whose number is dialled in parts, until the number is complete.
+ghost use Rattle.std.specs.Prelude.{◌≡◌, ◌≤◌, [], length};
+
+use arrayvec::ArrayVec;
+use std::marker::Model;
+
+/// The contents of an information element, of so many octets at most. Contracts see their list.
+#[derive(Debug, Drop)]
+pub struct Contents<const MOST: usize> {
+    octets: ArrayVec<u8, MOST>,
+}
+
+impl<const MOST: usize> Model for Contents<MOST> {
+    ghost use Rattle.std.specs.Prelude.{List, ℕ};
+
+    ghost Value = { List ℕ };
+
+    ghost view = { λ c. c.octets.items };
+}
+
+impl<const MOST: usize> Contents<MOST> {
+    /// These octets.
+    pub fn of(octets: &[u8]) -> Contents<MOST>
+        requires { length octets.now ≤ MOST }
+        ensures { result ≡ octets.now }
+    {
+        let mut kept = ArrayVec::new();
+        match kept.try_extend_from_slice(octets) {
+            Ok(()) => {}
+            Err(_) => unreachable!(),
+        }
+        Contents { octets: kept }
+    }
+
+    /// The octets in the order in which they were received.
+    pub fn as_slice(&self) -> &[u8]
+        ensures octets { result.now ≡ self.now }
+        ensures few { length result.now ≤ MOST }
+    {
+        self.octets.as_slice()
+    }
+}
+
+/// What is kept of a call in overlap sending (Q.931, 5.1.3): the contents of the SETUP's elements that are
+/// passed on to the called user, with the number as far as it was dialled. No octets stand for no element.
+#[derive(Debug, Drop)]
+pub struct Pending {
+    /// The bearer capability (4.5.5).
+    pub bearer: Contents<10>,
+    /// The calling party number (4.5.10).
+    pub calling: Contents<22>,
+    /// The called party number so far (4.5.8): the octet that says what kind of number it is, and the digits.
+    pub called: Contents<21>,
+    /// The low layer compatibility (4.5.19).
+    pub low: Contents<16>,
+    /// The high layer compatibility (4.5.17).
+    pub high: Contents<3>,
+}
