@@ -1,10 +1,10 @@
-"""Runs the built program over a trace."""
+"""A trace that is being written, and the program that says what is answered to it."""
 
 import os
 import subprocess
 from pathlib import Path
 
-from reading import Refused, reply
+from reading import MOST_BYTES, MOST_EVENTS, Refused, reply
 
 TOP = Path(__file__).resolve().parent.parent
 PROGRAM = TOP / "crates" / "tst" / "out" / "tst"
@@ -32,3 +32,47 @@ def replies_of(program, trace, first):
     if None in replies:
         raise Refused(f"{program} printed what is no report")
     return replies
+
+
+class Trace:
+    """The lines of a trace so far, and what of them decides which messages are sent."""
+
+    def __init__(self, program=None):
+        self.program = program
+        self.lines = []
+        self.bytes = 0
+        self.asked = []  # the lines without comments, and without the octets of frames
+        self.events = 0
+        self.answered = 0  # the events whose replies were looked at
+
+    def note(self, text):
+        self.add(f"# {text}")
+
+    def header(self, text):
+        self.add(text)
+        self.asked.append(text)
+
+    def event(self, text, asked=None):
+        if self.events == MOST_EVENTS:
+            raise Refused(f"the trace has more than {MOST_EVENTS} events")
+        self.events += 1
+        self.add(text)
+        self.asked.append(text if asked is None else asked)
+
+    def segment(self):
+        self.header("sync")
+
+    def add(self, line):
+        self.bytes += len(line) + 1
+        if self.bytes > MOST_BYTES:
+            raise Refused(f"the trace has more than {MOST_BYTES} bytes")
+        self.lines.append(line)
+
+    def sent(self):
+        """What the exchange sends for the events that were added last: pairs of a line and octets."""
+        trace = "".join(line + "\n" for line in self.asked).encode()
+        first, self.answered = self.answered, self.events
+        return [pair for reply in replies_of(program_at(self.program), trace, first) for pair in reply.sent]
+
+    def text(self):
+        return "".join(line + "\n" for line in self.lines).encode("latin-1")
