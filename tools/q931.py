@@ -1,4 +1,4 @@
-"""Reads messages of ITU-T Q.931 as the exchange does, and names what they say.
+"""Reads messages of ITU-T Q.931 as the exchange does, names what they say, and writes those of an endpoint.
 
 Only codeset 0 is read, elements may come in any order, and the first of a kind counts.
 """
@@ -7,20 +7,25 @@ from __future__ import annotations
 
 from dataclasses import dataclass
 
+BEARER_CAPABILITY = 0x04
 CAUSE = 0x08
 CALL_STATE = 0x14
 CHANNEL_IDENTIFICATION = 0x18
 PROGRESS_INDICATOR = 0x1E
+CALLING_PARTY_NUMBER = 0x6C
 CALLED_PARTY_NUMBER = 0x70
 RESTART_INDICATOR = 0x79
 
+ALERTING = 0x01
 CALL_PROCEEDING = 0x02
 SETUP = 0x05
 CONNECT = 0x07
+CONNECT_ACKNOWLEDGE = 0x0F
 DISCONNECT = 0x45
 RESTART = 0x46
 RELEASE = 0x4D
 RELEASE_COMPLETE = 0x5A
+STATUS_ENQUIRY = 0x75
 STATUS = 0x7D
 
 TYPES = {
@@ -212,6 +217,38 @@ def read_elements(octets):
     return elements
 
 
+# ---- what an endpoint writes
+
+SPEECH = (BEARER_CAPABILITY, b"\x80\x90\xa3")  # 64 kbit/s in circuit mode, coded by A-law
+USER = 0x80  # the location of a cause
+
+
+def written(flag, reference, kind, *elements):
+    """The octets of a message; its elements are pairs of a code and contents, in rising order of code."""
+    head = bytes([0x08, 0x02, flag << 7 | reference >> 8, reference & 0xFF, kind])
+    return head + b"".join(bytes([code, len(contents)]) + contents for code, contents in elements)
+
+
+def exclusive(channel):
+    return CHANNEL_IDENTIFICATION, bytes([0xA9, 0x83, 0x80 | channel])
+
+
+def number(code, digits):
+    """A calling or called party number, whose type and plan are unknown."""
+    return code, b"\x80" + digits.encode("ascii")
+
+
+def cause(value):
+    return CAUSE, bytes([USER, 0x80 | value])
+
+
+def restart_indicator(whole_line):
+    return RESTART_INDICATOR, b"\x86" if whole_line else b"\x80"
+
+
+# ---- in words
+
+
 def cause_text(cause):
     name = CAUSES.get(cause)
     return f"cause {cause}" if name is None else f"cause {cause}, {name}"
@@ -244,3 +281,12 @@ def contents_text(message):
     if PROGRESS_INDICATOR in message.elements:
         said.append("tone in band")
     return "; ".join(said)
+
+
+def message_text(octets):
+    """The name of a message, its call reference, and what it says."""
+    message = read_message(octets)
+    if message is None:
+        return "octets that are no message"
+    contents = contents_text(message)
+    return f"{message.name} {message.reference_digits}" + (f": {contents}" if contents else "")

@@ -1,14 +1,15 @@
 """Reads traces and reports, as docs/FORMATS.md says they are written.
 
 `read_trace` and `read_report` refuse what is none with `Refused`, whose text is one line. `command`
-is the frame of each tool: it answers wrong words with the usage and status 2, and a file that cannot
-be taken with that line and status 1.
+is the frame of each tool: it answers `--help` with the usage, wrong words with the usage and status 2,
+and a file that cannot be taken with that line and status 1. `watched` says how far a tool is.
 """
 
 from __future__ import annotations
 
 import re
 import sys
+import time
 from dataclasses import dataclass
 from pathlib import Path
 
@@ -254,7 +255,7 @@ def read_trace(path):
     if lines[-1] == "":
         lines.pop()
     reader = TraceReader()
-    for number, line in enumerate(lines, start=1):
+    for number, line in enumerate(watched(lines, path), start=1):
         if line.startswith("#") or not line.strip(" "):
             continue
         try:
@@ -308,7 +309,7 @@ def read_report(path):
         raise Refused(f"{path} is no report: its last line has no end")
     replies = []
     frames = 0
-    for number, line in enumerate(lines, start=1):
+    for number, line in enumerate(watched(lines, path), start=1):
         answer = reply(line)
         if answer is None:
             raise Refused(f"{path} is no report: line {number}")
@@ -355,9 +356,22 @@ def read_run(trace_path, report_path):
 # ---- commands
 
 
+def watched(items, what):
+    """The same items; where they take long, a line on standard error each second says how many were taken."""
+    name, said = Path(sys.argv[0]).name, time.monotonic()
+    for number, item in enumerate(items):
+        if time.monotonic() - said >= 1:
+            said = time.monotonic()
+            print(f"{name}: {what}: {number} of {len(items)}", file=sys.stderr, flush=True)
+        yield item
+
+
 def command(usage, work):
     """Runs a tool on the words of its command, and ends with its status."""
     name = Path(sys.argv[0]).name
+    if sys.argv[1:] == ["--help"]:
+        print(usage)
+        sys.exit(0)
     try:
         output = work(*sys.argv[1:])
     except WrongWords:

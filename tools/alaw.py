@@ -1,0 +1,21 @@
+"""A-law of ITU-T G.711 (11/88), table 1a: the octet of a sample, by the decision values."""
+
+from bisect import bisect_right
+from itertools import accumulate
+
+# How wide the intervals are, from the lowest on; their ends are the 129 decision values from 0 to 4096.
+WIDTHS = [2] * 32 + [4] * 16 + [8] * 16 + [16] * 16 + [32] * 16 + [64] * 16 + [128] * 16
+DECISION_VALUES = list(accumulate(WIDTHS, initial=0))
+
+POSITIVE = 0x80  # the first bit of a character signal
+EVEN_BITS = 0x55  # they are inverted on the line
+STEPS = 8  # of a sample of 16 bits to a unit of the table
+
+# The number of the interval that holds a magnitude; the lower end belongs to it.
+INTERVALS = bytes(bisect_right(DECISION_VALUES, magnitude) - 1 for magnitude in range(DECISION_VALUES[-1]))
+
+
+def octet_of(sample):
+    """The octet on the line of a sample of 16 bits: its sign, 0 being positive, and its magnitude's interval."""
+    interval = INTERVALS[min(abs(sample) // STEPS, len(INTERVALS) - 1)]
+    return (interval | (POSITIVE if sample >= 0 else 0)) ^ EVEN_BITS

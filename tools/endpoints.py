@@ -1,0 +1,168 @@
+"""The endpoints on the lines of an exchange: their calls, and what each answers of its own accord.
+
+An endpoint acknowledges CONNECT, answers DISCONNECT by RELEASE and RELEASE by RELEASE COMPLETE. Where
+DISCONNECT says that there is a tone in band, it listens until its user hangs up.
+"""
+
+from __future__ import annotations
+
+from dataclasses import dataclass
+
+from q931 import (
+    ALERTING,
+    CALL_PROCEEDING,
+    CALLED_PARTY_NUMBER,
+    CALLING_PARTY_NUMBER,
+    CONNECT,
+    CONNECT_ACKNOWLEDGE,
+    DISCONNECT,
+    PROGRESS_INDICATOR,
+    RELEASE,
+    RELEASE_COMPLETE,
+    RESTART,
+    SETUP,
+    SPEECH,
+    STATUS_ENQUIRY,
+    cause,
+    exclusive,
+    number,
+    read_message,
+    restart_indicator,
+    written,
+)
+from reading import Refused
+
+# The states of a leg, as its user sees it.
+CALLS = "calls"  # the caller, before CONNECT
+IS_CALLED = "is called"  # the called user, before its first answer
+PROCEEDS = "proceeds"
+ALERTS = "alerts"
+TALKS = "talks"
+HEARS_TONE = "hears a tone"  # the other side has cleared
+CLEARS = "clears"  # DISCONNECT was sent
+RELEASES = "releases"  # RELEASE was sent
+
+UNANSWERED = (IS_CALLED, PROCEEDS, ALERTS)
+STANDING = (CALLS, *UNANSWERED, TALKS)
+
+
+@dataclass(eq=False)
+class Leg:
+    """An endpoint's side of a call."""
+
+    line: int
+    reference: int
+    is_own: bool  # whether the endpoint chose the call reference, and not the exchange
+    state: str
+    channel: int | None = None
+
+    def message(self, kind, *elements):
+        return written(0 if self.is_own else 1, self.reference, kind, *elements)
+
+
+class Endpoints:
+    """The legs on all lines. What an endpoint sends is returned as octets of a message."""
+
+    def __init__(self):
+        self.legs = []
+
+    def find(self, where, states, what):
+        """The leg on a line, or on a slot, that is in one of these states."""
+        line, channel = where if isinstance(where, tuple) else (where, None)
+        at_hand = [
+            leg
+            for leg in self.legs
+            if leg.line == line and leg.state in states and channel in (None, leg.channel)
+        ]
+        place = f"line {line}" + ("" if channel is None else f", channel {channel}")
+        if not at_hand:
+            raise Refused(f"{place} has no call {what}")
+        if len(at_hand) > 1:
+            slots = ", ".join(f"{line}/{leg.channel}" for leg in at_hand)
+            raise Refused(f"{place} has several calls {what}: name one of {slots}")
+        return at_hand[0]
+
+    # ---- what a user asks for
+
+    def call(self, where, digits, caller=None):
+        line, channel = where if isinstance(where, tuple) else (where, None)
+        used = {leg.reference for leg in self.legs if leg.line == line and leg.is_own}
+        leg = Leg(line, min(set(range(1, len(used) + 2)) - used), True, CALLS, channel)
+        self.legs.append(leg)
+        elements = [SPEECH]
+        if channel is not None:
+            elements.append(exclusive(channel))
+        if caller is not None:
+            elements.append(number(CALLING_PARTY_NUMBER, caller))
+        return leg.message(SETUP, *elements, number(CALLED_PARTY_NUMBER, digits))
+
+    def proceed(self, where):
+        return self._advance(where, (IS_CALLED,), PROCEEDS, CALL_PROCEEDING, "to proceed with")
+
+    def alert(self, where):
+        return self._advance(where, (IS_CALLED, PROCEEDS), ALERTS, ALERTING, "to alert for")
+
+    def answer(self, where):
+        return self._advance(where, UNANSWERED, TALKS, CONNECT, "to answer")
+
+    def hang_up(self, where, value):
+        leg = self.find(where, (*STANDING, HEARS_TONE), "to hang up")
+        if leg.state == HEARS_TONE:
+            leg.state = RELEASES
+            return leg.message(RELEASE)
+        leg.state = CLEARS
+        return leg.message(DISCONNECT, cause(value))
+
+    def reject(self, where, value):
+        leg = self.find(where, (IS_CALLED,), "to reject")
+        self.legs.remove(leg)
+        return leg.message(RELEASE_COMPLETE, cause(value))
+
+    def ask(self, where):
+        leg = self.find(where, (*STANDING, HEARS_TONE, CLEARS, RELEASES), "to ask for")
+        return leg.message(STATUS_ENQUIRY)
+
+    def restart(self, where):
+        line, channel = where if isinstance(where, tuple) else (where, None)
+        self.legs = [leg for leg in self.legs if leg.line != line or channel not in (None, leg.channel)]
+        elements = [] if channel is None else [exclusive(channel)]
+        return written(0, 0, RESTART, *elements, restart_indicator(whole_line=channel is None))
+
+    def _advance(self, where, states, state, kind, what):
+        leg = self.find(where, states, what)
+        leg.state = state
+        return leg.message(kind)
+
+    # ---- what the exchange sends
+
+    def receive(self, line, octets):
+        """What the endpoint on a line answers to a message of the exchange; None where it is nothing."""
+        message = read_message(octets)
+        if message.kind == SETUP:
+            self.legs.append(Leg(line, message.reference, False, IS_CALLED, message.channel[0]))
+            return None
+        leg = self._named(line, message)
+        return None if leg is None else self._take(leg, message)
+
+    def _named(self, line, message):
+        for leg in self.legs:
+            if (leg.line, leg.reference, leg.is_own) == (line, message.reference, message.flag == 1):
+                return leg
+        return None
+
+    def _take(self, leg, message):
+        if message.kind == CALL_PROCEEDING:
+            leg.channel = message.channel[0]
+        elif message.kind == CONNECT:
+            leg.state = TALKS
+            return leg.message(CONNECT_ACKNOWLEDGE)
+        elif message.kind == DISCONNECT and PROGRESS_INDICATOR in message.elements:
+            leg.state = HEARS_TONE
+        elif message.kind == DISCONNECT:
+            leg.state = RELEASES
+            return leg.message(RELEASE)
+        elif message.kind in (RELEASE, RELEASE_COMPLETE):
+            self.legs.remove(leg)
+            if message.kind == RELEASE and leg.state != RELEASES:
+                return leg.message(RELEASE_COMPLETE)
+        return None
