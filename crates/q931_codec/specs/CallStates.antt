@@ -5,6 +5,9 @@ use Rattle.std.specs.Prelude.{ℕ}
 abbrev pub null : ℕ
 null = 0
 
+abbrev pub overlap_sending : ℕ
+overlap_sending = 2
+
 abbrev pub outgoing_call_proceeding : ℕ
 outgoing_call_proceeding = 3
 

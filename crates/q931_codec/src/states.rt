@@ -4,6 +4,9 @@
 /// Null: there is no call.
 pub const NULL: u8 = 0;
 
+/// Overlap sending: the caller sends its number in parts.
+pub const OVERLAP_SENDING: u8 = 2;
+
 /// Outgoing call proceeding: the caller was told that nothing more is needed to set up the call.
 pub const OUTGOING_CALL_PROCEEDING: u8 = 3;
 
