@@ -142,10 +142,12 @@ class TraceReader:
         self.sizes = None
         self.numbers = {}
         self.tones = {}
+        self.timers = {}
         self.events = []
         self.kinds = {
             "number": (self.number, range(3, 4)),
             "tone": (self.tone, range(2, 3)),
+            "timer": (self.timer, range(2, 3)),
             "nail": (self.nail, range(2, 3)),
             "seat": (self.seat, range(2, 3)),
             "free": (self.free, range(1, 2)),
@@ -164,7 +166,7 @@ class TraceReader:
         first, *words = line.split()
         if first not in self.kinds:
             raise Fault("word")
-        if first in ("number", "tone") and self.events:
+        if first in ("number", "tone", "timer") and self.events:
             raise Fault("word")
         act, counts = self.kinds[first]
         if len(words) not in counts:
@@ -204,6 +206,13 @@ class TraceReader:
         if kind not in ("ringback", "busy") or kind in self.tones:
             raise Fault("word")
         self.tones[kind] = hexadecimal(octets, 2, MOST_TONE_DIGITS)
+
+    def timer(self, name, frames):
+        if name not in ("T302", "T303", "T305", "T308", "T310") or name in self.timers:
+            raise Fault("word")
+        self.timers[name] = numeral(frames)
+        if not self.timers[name]:
+            raise Fault("number")
 
     def nail(self, first, second):
         nail = Nail(self.slot(first), self.slot(second))

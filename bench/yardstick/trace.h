@@ -192,6 +192,17 @@ static void read_tone(Word *words, size_t count) {
     tone->length = read_hex(words[2], tone->octets, TONE);
 }
 
+// A timer's line. No timer runs yet, so that it is enough to know which were given.
+static void read_timer(Word *words, size_t count) {
+    static int given[5];
+    if (event_count || count != 3) refuse("word");
+    int timer = is(words[1], "T302") ? 0 : is(words[1], "T303") ? 1 : is(words[1], "T305") ? 2
+        : is(words[1], "T308") ? 3 : is(words[1], "T310") ? 4 : -1;
+    if (timer < 0 || given[timer]) refuse("word");
+    given[timer] = 1;
+    if (number(&words[2], 0) < 1) refuse("number");
+}
+
 // Room for the octets of one more message.
 static uint8_t *new_octets(void) {
     if (message_count + MESSAGE > message_room) {
@@ -255,6 +266,8 @@ static void read_words(Word *words, size_t count) {
         read_number(words, count);
     } else if (is(words[0], "tone")) {
         read_tone(words, count);
+    } else if (is(words[0], "timer")) {
+        read_timer(words, count);
     } else {
         refuse("word");
     }

@@ -1,5 +1,6 @@
 //! A trace and its events.
 use crate::list::ListOf;
+use call_timers::Timers;
 use circuit_model::Slot;
 use number_plan::Plan;
 use tone_rules::Tones;
@@ -32,7 +33,7 @@ pub type Events = ListOf<Event>;
 /// The number of the last event of each segment that has events, rising. Contracts see their list.
 pub type Segments = ListOf<u32>;
 
-/// A trace: the sizes of the exchange, its number plan and its tones, and what happens to it.
+/// A trace: the sizes of the exchange, its number plan, its tones and its timers, and what happens to it.
 #[derive(Drop)]
 pub struct Trace {
     /// How many external lines there are, 1 to 32.
@@ -45,6 +46,8 @@ pub struct Trace {
     pub plan: Plan,
     /// The octets of the tones; one that isn't given has none.
     pub tones: Tones,
+    /// How long a leg waits in a state, in frames; a timer that isn't given has its usual value.
+    pub timers: Timers,
     /// What happens, in file order.
     pub events: Events,
     /// Where the segments end.

@@ -53,9 +53,14 @@ moves (Some (a, b)) = codes " moved " ++ decimal a ++ codes " " ++ decimal b
 abbrev pub message_line : ℕ → Option (ℕ × ℕ) → List Signal → List ℕ
 message_line n moved sends = decimal n ++ codes " message" ++ moves moved ++ messages sends ++ codes "\n"
 
--- the line of frame k, with what each line sends in it; it tells no messages, since none is sent at a boundary
-abbrev pub frame_line : List (List ℕ) → ℕ → ℕ → List ℕ
-frame_line octets n k = decimal n ++ codes " frame " ++ decimal k ++ parts 0 octets ++ codes "\n"
+-- the messages that were sent at a boundary, each behind the word `send` and the number of its line
+abbrev pub frame_messages : List Signal → List ℕ
+frame_messages [] = []
+frame_messages (sent ∷ rest) = codes " send" ++ on_line sent.line sent.octets ++ frame_messages rest
+
+-- the line of frame k, with the messages that were sent at its boundary and what each line sends in it
+abbrev pub frame_line : List (List ℕ) → ℕ → ℕ → List Signal → List ℕ
+frame_line octets n k sends = decimal n ++ codes " frame " ++ decimal k ++ frame_messages sends ++ parts 0 octets ++ codes "\n"
 
 -- the line of a report for event number n, given what each line sends where it is the event of a frame; the records of calls are told nowhere
 abbrev pub report_line : List (List ℕ) → ℕ → Kept → List ℕ
@@ -66,7 +71,7 @@ report_line octets n NoPort = decimal n ++ codes " noport\n"
 report_line octets n Freed = decimal n ++ codes " freed\n"
 report_line octets n NotNailed = decimal n ++ codes " notnailed\n"
 report_line octets n (Sent sends moved records) = message_line n moved sends
-report_line octets n (Frame k sends records) = frame_line octets n k
+report_line octets n (Frame k sends records) = frame_line octets n k sends
 
 -- the line of an answer
 abbrev pub answer_line : Answer → List ℕ
@@ -85,7 +90,7 @@ kept_with response.NoPort moved sends = NoPort
 kept_with response.Freed moved sends = Freed
 kept_with response.NotNailed moved sends = NotNailed
 kept_with response.Sent moved sends = Sent sends moved []
-kept_with (response.Frame n) moved sends = Frame n [] []
+kept_with (response.Frame n) moved sends = Frame n sends []
 
 abbrev pub parts_line : List (List ℕ) → ℕ → Response → Option (ℕ × ℕ) → List Signal → List ℕ
 parts_line octets n said moved sends = report_line (lines_sent (octet_of octets) (length octets)) n (kept_with said moved sends)
@@ -107,4 +112,5 @@ moved_kept _ = None
 
 abbrev pub sends_kept : Kept → List Signal
 sends_kept (Sent sends moved records) = sends
+sends_kept (Frame number sends records) = sends
 sends_kept _ = []

@@ -1,7 +1,7 @@
-// The line of a message.
-ghost use Rattle.std.specs.Prelude.{◌≡◌, ◌++◌, ◌≤◌, length, take, OnOk};
+// The line of a message, and the messages of a frame's line.
+ghost use Rattle.std.specs.Prelude.{◌≡◌, ◌++◌, ◌≤◌, codes, length, take, OnOk};
 ghost use Rattle.hex.specs.Hex.{encode_upper};
-ghost use Rattle.report_text.specs.Report.{message_line, messages, moves, on_line};
+ghost use Rattle.report_text.specs.Report.{frame_messages, message_line, messages, moves, on_line};
 
 use crate::digits::{put_row_digits, wide_row};
 use crate::report::{put_sent, put_word};
@@ -50,6 +50,26 @@ fn put_signals(out: &mut Vec<u8>, sends: &[Signal]) -> Result<(), AllocError>
         put_signal(out, sent)?;
     }
     Ok(())
+}
+
+// The messages that were sent at a boundary, in order.
+pub(crate) fn put_frame_signals(out: &mut Vec<u8>, sends: &[Signal]) -> Result<(), AllocError>
+    ensures messages { OnOk result (out.new.items ≡ out.old.items ++ frame_messages sends.now) }
+    ensures front { take (length out.old.items) out.new.items ≡ out.old.items }
+{
+    for sent in sends {
+        put_frame_signal(out, sent)?;
+    }
+    Ok(())
+}
+
+// A message that was sent at a boundary.
+fn put_frame_signal(out: &mut Vec<u8>, sent: &Signal) -> Result<(), AllocError>
+    ensures message { OnOk result (out.new.items ≡ out.old.items ++ codes " send" ++ on_line sent.now.line sent.now.octets) }
+    ensures front { take (length out.old.items) out.new.items ≡ out.old.items }
+{
+    out.extend_from_slice(b" send")?;
+    put_signal(out, sent)
 }
 
 // A message that was sent, behind the number of its line.

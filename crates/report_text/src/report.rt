@@ -5,7 +5,7 @@ ghost use Rattle.exchange_events.specs.declared.answer.Kept.TheVariants.{Granted
 ghost use Rattle.report_text.specs.Report.{answer_line, frame_line, line_octets, lines_sent, moved_kept, octet_of, part, parts, parts_line, report_line, response_kept, response_line, sends_kept};
 
 use crate::digits::{is_idle, put_row_digits, wide_row};
-use crate::message::put_message;
+use crate::message::{put_frame_signals, put_message};
 use crate::text::{put_before, put_line_before, put_number_before};
 use exchange_events::{Answer, Kept, Outbox, Response, Signal};
 use std::alloc::AllocError;
@@ -14,8 +14,8 @@ use std::alloc::AllocError;
 const ROOM: usize = 48;
 
 /// Appends a report's line for one event: its number and what it was answered, for a message what
-/// was sent for it, and for a frame the thirty octets of each line that sends an octet other than
-/// idle. The octets of an answer are read for a frame alone.
+/// was sent for it, and for a frame what was sent at its boundary and the thirty octets of each line
+/// that sends an octet other than idle. The octets of an answer are read for a frame alone.
 ///
 /// # Errors
 ///
@@ -86,12 +86,12 @@ fn moved_of(reply: &Kept) -> Option<(u32, u32)>
     }
 }
 
-// The messages that were sent for a message.
+// The messages that were sent for a message, or at the boundary of a frame.
 fn sends_of(reply: &Kept) -> &[Signal]
     ensures { result.now ≡ sends_kept reply.now }
 {
     match reply {
-        Kept::Sent { sends, .. } => sends.as_slice(),
+        Kept::Sent { sends, .. } | Kept::Frame { sends, .. } => sends.as_slice(),
         _ => &[],
     }
 }
@@ -136,7 +136,7 @@ fn put_parts_line(
         Response::Freed => put_freed(out, event),
         Response::NotNailed => put_not_nailed(out, event),
         Response::Sent => put_message(out, event, moved, sends),
-        Response::Frame(number) => put_frame(out, event, number, octets),
+        Response::Frame(number) => put_frame(out, event, number, sends, octets),
     }
 }
 
@@ -226,12 +226,15 @@ fn put_frame(
     out: &mut Vec<u8>,
     event: u32,
     number: u32,
+    sends: &[Signal],
     octets: &[[u8; 30]],
 ) -> Result<(), AllocError>
-    ensures line { OnOk result (out.new.items ≡ out.old.items ++ frame_line (lines_sent (octet_of octets.now) (length octets.now)) event number) }
+    ensures line { OnOk result (out.new.items
+        ≡ out.old.items ++ frame_line (lines_sent (octet_of octets.now) (length octets.now)) event number sends.now) }
     ensures front { take (length out.old.items) out.new.items ≡ out.old.items }
 {
     put_pair(out, event, b" frame ", number)?;
+    put_frame_signals(out, sends)?;
     put_parts(out, octets)?;
     out.extend_from_slice(b"\n")
 }

@@ -31,8 +31,8 @@ fn spelled(alloc: Global, text: &str) -> Result<Vec<u8>, AllocError> {
     Ok(bytes)
 }
 
-// What is sent for a message: these octets to these lines. A call is told of as well.
-fn sent(moved: Option<(u32, u32)>, sends: &[(u8, &[u8])]) -> Result<Reply, Fail> {
+// Messages of these octets to these lines.
+fn signals(sends: &[(u8, &[u8])]) -> Result<Signals, Fail> {
     let mut signals = ArrayVec::new();
     for (line, octets) in sends {
         signals.try_push(Signal {
@@ -40,21 +40,27 @@ fn sent(moved: Option<(u32, u32)>, sends: &[(u8, &[u8])]) -> Result<Reply, Fail>
             octets: Encoded::of(ArrayVec::try_from(*octets)?),
         })?;
     }
+    Ok(Signals::of(signals))
+}
+
+// What is sent for a message: these octets to these lines. A call is told of as well.
+fn sent(moved: Option<(u32, u32)>, sends: &[(u8, &[u8])]) -> Result<Reply, Fail> {
     let mut records = Records::new();
     records.push(TOLD);
     Ok(Reply::Sent {
-        sends: Signals::of(signals),
+        sends: signals(sends)?,
         moved,
         records,
     })
 }
 
-fn frame(number: u32) -> Reply {
-    Reply::Frame {
+// A frame at whose boundary these octets are sent to these lines.
+fn frame(number: u32, sends: &[(u8, &[u8])]) -> Result<Reply, Fail> {
+    Ok(Reply::Frame {
         number,
-        sends: Signals::new(),
+        sends: signals(sends)?,
         records: Records::new(),
-    }
+    })
 }
 
 // Whether the line of an answer is this one, behind what was there before.
@@ -90,8 +96,13 @@ fn each_answer_has_its_line(rt: HostRuntime) -> Result<(), Fail> {
         (65535, Reply::NotNailed, "65535 notnailed\n"),
         (
             7,
-            frame(4294967295),
+            frame(4294967295, &[])?,
             "7 frame 4294967295 0:2AD5+ 9:D5+0F 31:FE+BC\n",
+        ),
+        (
+            8,
+            frame(0, &[(31, b"\x08\x02\x00\x01\x4D"), (9, b"\xAB")])?,
+            "8 frame 0 send 31:080200014D send 9:AB 0:2AD5+ 9:D5+0F 31:FE+BC\n",
         ),
     ] {
         assert!(rt; has_line(alloc, event, &reply, &octets, line)?, "{line}");

@@ -5,7 +5,7 @@ use Rattle.std.proofs.lemmas.Bool.{cases_eq, eq-eqb, ne_eqb}
 use Rattle.std.proofs.lemmas.List.Elements.{All-nil, All-cons, All-weaker}
 use Rattle.std.proofs.lemmas.List.Kept.{AllPairs-cons}
 use Rattle.trace_text.specs.declared.said.Said.{Said}
-use Rattle.trace_text.specs.declared.said.Said.TheVariants.{Nothing, Header, Numbered, Toned, Happens, Sync}
+use Rattle.trace_text.specs.declared.said.Said.TheVariants.{Nothing, Header, Numbered, Toned, Timed, Happens, Sync}
 use Rattle.trace_text.specs.TraceGrammar.{events_in, open_segment_end, ends_after, segment_ends}
 use Rattle.exchange_events.specs.Sound.{last_of, AreSegments}
 
@@ -46,6 +46,7 @@ are_ends begun count (Nothing ∷ told) le = are_ends begun count told le
 are_ends begun count (Header sizes ∷ told) le = are_ends begun count told le
 are_ends begun count (Numbered number ∷ told) le = are_ends begun count told le
 are_ends begun count (Toned given ∷ told) le = are_ends begun count told le
+are_ends begun count (Timed given ∷ told) le = are_ends begun count told le
 are_ends begun count (Happens event ∷ told) le =
     let more : count + 1 + length (events_in told) ≡ count + length (event ∷ events_in told) = omega arith in
     let e = are_ends begun (count + 1) told (omega (arith, le)) in

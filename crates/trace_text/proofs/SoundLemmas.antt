@@ -17,8 +17,9 @@ use Rattle.trace_text.specs.declared.fault.Reason.{Reason}
 use Rattle.trace_text.specs.declared.fault.Reason.TheVariants as reason
 use Rattle.trace_text.specs.declared.said.Sizes.{Sizes}
 use Rattle.trace_text.specs.declared.said.GivenTone.{GivenTone}
+use Rattle.trace_text.specs.declared.timing.GivenTimer.{GivenTimer}
 use Rattle.trace_text.specs.declared.said.Said.{Said}
-use Rattle.trace_text.specs.declared.said.Said.TheVariants.{Nothing, Header, Numbered, Toned, Happens, Sync}
+use Rattle.trace_text.specs.declared.said.Said.TheVariants.{Nothing, Header, Numbered, Toned, Timed, Happens, Sync}
 use Rattle.trace_text.specs.declared.said.Kind.{Kind}
 use Rattle.trace_text.specs.declared.said.Kind.TheVariants as kind
 use Rattle.exchange_events.specs.declared.trace.Event.{Event}
@@ -31,7 +32,7 @@ use Rattle.number_plan.proofs.OrderFacts.{all_with}
 use Rattle.exchange_events.specs.declared.trace.Trace.{Trace}
 use Rattle.trace_text.specs.TraceFields.{slash, numeral_in, external_line, slot, room, octets_written, thirty, at_most, longest_message, header}
 use Rattle.trace_text.specs.TraceWords.{cut_at, numeral, lines, words, two, one_or_two, three, is_comment, is_blank, is_printable}
-use Rattle.trace_text.specs.TraceLines.{◌>>=◌, colon, with_part, with_parts, frame, message, nail, seat, free, target, number, numbered, tone, toned, happens, SoFar, before_events, by_kind, kind_of, by_words, by_place, reads, joins, says}
+use Rattle.trace_text.specs.TraceLines.{◌>>=◌, colon, with_part, with_parts, frame, message, nail, seat, free, target, number, numbered, tone, timer, toned, timed, happens, SoFar, before_events, by_kind, kind_of, by_words, by_place, reads, joins, says}
 use Rattle.trace_text.specs.TraceGrammar.{sizes_in, numbers_in, plan_of, events_in, so_far, EachSays, IsTrace}
 use Rattle.exchange_events.specs.Sound.{Fits, is_reached, IsSound}
 use Rattle.trace_text.proofs.TraceOctets.{in_range, are_octets}
@@ -316,6 +317,7 @@ IsFine s Nothing = Unit {0}
 IsFine s (Header sizes) = AreSizes sizes
 IsFine s (Numbered n) = IsOfExchange s.sizes (λ sizes. is_reached sizes.external n.target ≡ true)
 IsFine s (Toned given) = Unit {0}
+IsFine s (Timed given) = Unit {0}
 IsFine s (Happens e) = IsOfExchange s.sizes (λ sizes. Fits sizes.external e)
 IsFine s Sync = Unit {0}
 
@@ -346,6 +348,16 @@ tone_fine s r said h =
       tone_given s (Err why) said h = absurd (grind (arith, h))
       tone_given s (Ok t) said h = let is : Toned t ≡ said = grind (arith, h) in subst (λ v. IsFine s v) is tt
 
+timer_fine : (s : SoFar) (r : Result GivenTimer Reason) (said : Said) → before_events s (timed r) ≡ Ok said → IsFine s said
+timer_fine s r said h =
+    elim (true_or_false (nat_eq s.events 0)) [
+      | inr late ↦ let failed = rw late at h in absurd (grind (arith, failed))
+      | inl early ↦ timer_given s r said (rw early at h)
+    ] where
+      timer_given : (s : SoFar) (r : Result GivenTimer Reason) (said : Said) → timed r ≡ Ok said → IsFine s said
+      timer_given s (Err why) said h = absurd (grind (arith, h))
+      timer_given s (Ok t) said h = let is : Timed t ≡ said = grind (arith, h) in subst (λ v. IsFine s v) is tt
+
 kind_fine : (s : SoFar) (sizes : Sizes) (k : Kind) (others : List (List ℕ)) (said : Said) → s.sizes ≡ Some sizes → by_kind s sizes.external k others ≡ Ok said → IsFine s said
 kind_fine s sizes kind.Frame others said known h = event_fine s sizes (frame sizes.external others) said known (frame_fits sizes.external others) h
 kind_fine s sizes kind.Message others said known h = event_fine s sizes (message sizes.external others) said known (message_fits sizes.external others) h
@@ -354,6 +366,7 @@ kind_fine s sizes kind.Seat others said known h = event_fine s sizes (seat sizes
 kind_fine s sizes kind.Free others said known h = event_fine s sizes (free sizes.external others) said known (free_fits sizes.external others) h
 kind_fine s sizes kind.Number others said known h = number_fine s sizes (number sizes.external others) said known (number_reached sizes.external others) h
 kind_fine s sizes kind.Tone others said known h = tone_fine s (tone s.tones others) said h
+kind_fine s sizes kind.Timer others said known h = timer_fine s (timer s.timers others) said h
 kind_fine s sizes kind.Sync [] said known h = let is : Sync ≡ said = grind (arith, h) in subst (λ v. IsFine s v) is tt
 kind_fine s sizes kind.Sync (word ∷ others) said known h = absurd (grind (arith, h))
 kind_fine s sizes kind.Unknown others said known h = absurd (grind (arith, h))
@@ -390,6 +403,7 @@ IsCounted s Nothing = Unit {0}
 IsCounted s (Header sizes) = Unit {0}
 IsCounted s (Numbered n) = Unit {0}
 IsCounted s (Toned given) = Unit {0}
+IsCounted s (Timed given) = Unit {0}
 IsCounted s (Happens e) = s.events < 65535
 IsCounted s Sync = Unit {0}
 
@@ -397,6 +411,7 @@ joins_same : (s : SoFar) (said other : Said) → joins s said ≡ Ok other → (
 joins_same s Nothing other h = (grind (arith, h), tt)
 joins_same s (Header sizes) other h = (grind (arith, h), tt)
 joins_same s (Toned given) other h = (grind (arith, h), tt)
+joins_same s (Timed given) other h = (grind (arith, h), tt)
 joins_same s Sync other h = (grind (arith, h), tt)
 joins_same s (Happens e) other h =
     elim (true_or_false (nat_lt s.events 65535)) [
@@ -441,6 +456,7 @@ one_more : (sizes : Sizes) (told : List Said) (said : Said) → ((first : Sizes)
 one_more sizes told Nothing same fine counted front = stays sizes.external told Nothing refl refl front
 one_more sizes told (Header first) same fine counted front = stays sizes.external told (Header first) refl refl front
 one_more sizes told (Toned given) same fine counted front = stays sizes.external told (Toned given) refl refl front
+one_more sizes told (Timed given) same fine counted front = stays sizes.external told (Timed given) refl refl front
 one_more sizes told Sync same fine counted front = stays sizes.external told Sync refl refl front
 one_more sizes told (Numbered n) same fine counted front =
     let kept : events_in (told ++ Numbered n ∷ []) ≡ events_in told = events-append told (Numbered n ∷ []) ∙ append-nil (events_in told) in
@@ -480,6 +496,7 @@ sizes_behind_all before (said ∷ told) [] sizes meets known = absurd meets
 sizes_behind_all before (Nothing ∷ told) (row ∷ rows) sizes meets known = sizes_behind_all (before ++ Nothing ∷ []) told rows sizes meets.1 known
 sizes_behind_all before (Numbered n ∷ told) (row ∷ rows) sizes meets known = sizes_behind_all (before ++ Numbered n ∷ []) told rows sizes meets.1 known
 sizes_behind_all before (Toned given ∷ told) (row ∷ rows) sizes meets known = sizes_behind_all (before ++ Toned given ∷ []) told rows sizes meets.1 known
+sizes_behind_all before (Timed given ∷ told) (row ∷ rows) sizes meets known = sizes_behind_all (before ++ Timed given ∷ []) told rows sizes meets.1 known
 sizes_behind_all before (Sync ∷ told) (row ∷ rows) sizes meets known = sizes_behind_all (before ++ Sync ∷ []) told rows sizes meets.1 known
 sizes_behind_all before (Happens e ∷ told) (row ∷ rows) sizes meets known = sizes_behind_all (before ++ Happens e ∷ []) told rows sizes meets.1 known
 sizes_behind_all before (Header first ∷ told) (row ∷ rows) sizes meets known =

@@ -10,9 +10,11 @@ use Rattle.trace_text.specs.declared.draft.Draft.{Draft}
 use Rattle.trace_text.specs.declared.said.Sizes.{Sizes}
 use Rattle.trace_text.specs.declared.said.GivenTone.{GivenTone}
 use Rattle.trace_text.specs.declared.said.Said.{Said}
-use Rattle.trace_text.specs.declared.said.Said.TheVariants.{Nothing, Header, Numbered, Toned, Happens, Sync}
-use Rattle.trace_text.specs.TraceGrammar.{sizes_in, numbers_in, plan_of, tones_in, no_tones, tones_of, events_in, open_segment_end, ends_after, segment_ends}
+use Rattle.trace_text.specs.declared.said.Said.TheVariants.{Nothing, Header, Numbered, Toned, Timed, Happens, Sync}
+use Rattle.trace_text.specs.TraceGrammar.{sizes_in, numbers_in, plan_of, tones_in, no_tones, tones_of, timers_in, timers_of, events_in, open_segment_end, ends_after, segment_ends}
+use Rattle.trace_text.specs.declared.timing.GivenTimer.{GivenTimer}
 use Rattle.trace_text.specs.TraceLines.{with_tone}
+use Rattle.trace_text.specs.TraceTimers.{no_timers, with_timer}
 use Rattle.trace_text.specs.TraceDraft.{Holds}
 
 -- the header is the first
@@ -22,6 +24,7 @@ sizes_first (Nothing ∷ told) more sizes e = sizes_first told more sizes e
 sizes_first (Header first ∷ told) more sizes e = e
 sizes_first (Numbered number ∷ told) more sizes e = sizes_first told more sizes e
 sizes_first (Toned given ∷ told) more sizes e = sizes_first told more sizes e
+sizes_first (Timed given ∷ told) more sizes e = sizes_first told more sizes e
 sizes_first (Happens event ∷ told) more sizes e = sizes_first told more sizes e
 sizes_first (Sync ∷ told) more sizes e = sizes_first told more sizes e
 
@@ -31,6 +34,7 @@ sizes_behind (Nothing ∷ told) more e = sizes_behind told more e
 sizes_behind (Header first ∷ told) more e = absurd cc
 sizes_behind (Numbered number ∷ told) more e = sizes_behind told more e
 sizes_behind (Toned given ∷ told) more e = sizes_behind told more e
+sizes_behind (Timed given ∷ told) more e = sizes_behind told more e
 sizes_behind (Happens event ∷ told) more e = sizes_behind told more e
 sizes_behind (Sync ∷ told) more e = sizes_behind told more e
 
@@ -41,6 +45,7 @@ sizes_stay (Nothing ∷ told) said e = sizes_stay told said e
 sizes_stay (Header first ∷ told) said e = refl
 sizes_stay (Numbered number ∷ told) said e = sizes_stay told said e
 sizes_stay (Toned given ∷ told) said e = sizes_stay told said e
+sizes_stay (Timed given ∷ told) said e = sizes_stay told said e
 sizes_stay (Happens event ∷ told) said e = sizes_stay told said e
 sizes_stay (Sync ∷ told) said e = sizes_stay told said e
 
@@ -50,6 +55,7 @@ events-append (Nothing ∷ told) more = events-append told more
 events-append (Header first ∷ told) more = events-append told more
 events-append (Numbered number ∷ told) more = events-append told more
 events-append (Toned given ∷ told) more = events-append told more
+events-append (Timed given ∷ told) more = events-append told more
 events-append (Happens event ∷ told) more = ap (λ (es : List Event). event ∷ es) (events-append told more)
 events-append (Sync ∷ told) more = events-append told more
 
@@ -59,6 +65,7 @@ numbers-append (Nothing ∷ told) more = numbers-append told more
 numbers-append (Header first ∷ told) more = numbers-append told more
 numbers-append (Numbered number ∷ told) more = ap (λ (ns : List Number). number ∷ ns) (numbers-append told more)
 numbers-append (Toned given ∷ told) more = numbers-append told more
+numbers-append (Timed given ∷ told) more = numbers-append told more
 numbers-append (Happens event ∷ told) more = numbers-append told more
 numbers-append (Sync ∷ told) more = numbers-append told more
 
@@ -76,6 +83,7 @@ tones-append (Nothing ∷ told) more = tones-append told more
 tones-append (Header first ∷ told) more = tones-append told more
 tones-append (Numbered number ∷ told) more = tones-append told more
 tones-append (Toned given ∷ told) more = ap (λ (ts : List GivenTone). given ∷ ts) (tones-append told more)
+tones-append (Timed given ∷ told) more = tones-append told more
 tones-append (Happens event ∷ told) more = tones-append told more
 tones-append (Sync ∷ told) more = tones-append told more
 
@@ -87,63 +95,97 @@ tones_stay told said none = ap tones_of (sym (tones-append told (said ∷ []) �
 pub tones_more : (told : List Said) (given : GivenTone) → with_tone (tones_of (tones_in told)) given ≡ tones_of (tones_in (told ++ Toned given ∷ []))
 tones_more told given = sym (ap tones_of (tones-append told (Toned given ∷ [])) ∙ fold-append with_tone no_tones (tones_in told) (given ∷ []))
 
+pub timers-append : (told more : List Said) → timers_in (told ++ more) ≡ timers_in told ++ timers_in more
+timers-append [] more = refl
+timers-append (Nothing ∷ told) more = timers-append told more
+timers-append (Header first ∷ told) more = timers-append told more
+timers-append (Numbered number ∷ told) more = timers-append told more
+timers-append (Toned given ∷ told) more = timers-append told more
+timers-append (Timed given ∷ told) more = ap (λ (ts : List GivenTimer). given ∷ ts) (timers-append told more)
+timers-append (Happens event ∷ told) more = timers-append told more
+timers-append (Sync ∷ told) more = timers-append told more
+
+-- what gives no timer changes none
+pub timers_stay : (told : List Said) (said : Said) → timers_in (said ∷ []) ≡ [] → timers_of (timers_in told) ≡ timers_of (timers_in (told ++ said ∷ []))
+timers_stay told said none = ap timers_of (sym (timers-append told (said ∷ []) ∙ ap (λ (ts : List GivenTimer). timers_in told ++ ts) none ∙ append-nil (timers_in told)))
+
+-- one more timer is put under its name
+pub timers_more : (told : List Said) (given : GivenTimer) → with_timer (timers_of (timers_in told)) given ≡ timers_of (timers_in (told ++ Timed given ∷ []))
+timers_more told given = sym (ap timers_of (timers-append told (Timed given ∷ [])) ∙ fold-append with_timer no_timers (timers_in told) (given ∷ []))
+
 -- the draft of no lines
-pub holds_none : (d : Draft) → d.sizes ≡ None → d.plan ≡ [] → d.tones ≡ no_tones → d.events.items ≡ [] → d.ends.items ≡ [] → d.begun ≡ 0 → Holds d []
-holds_none d a p t b c e = record { sizes = a; plan = p; tones = t; events = b; ends = λ more. rw (b, c, e) refl }
+pub holds_none : (d : Draft) → d.sizes ≡ None → d.plan ≡ [] → d.tones ≡ no_tones → d.timers ≡ no_timers → d.events.items ≡ [] → d.ends.items ≡ [] → d.begun ≡ 0 → Holds d []
+holds_none d a p t m b c e = record { sizes = a; plan = p; tones = t; timers = m; events = b; ends = λ more. rw (b, c, e) refl }
 
 module _ (d n : Draft) (told : List Said) where
   -- a line that says nothing
-  pub holds_nothing : n.sizes ≡ d.sizes → n.plan ≡ d.plan → n.tones ≡ d.tones → n.events.items ≡ d.events.items → n.ends.items ≡ d.ends.items → n.begun ≡ d.begun → Holds d told → Holds n (told ++ Nothing ∷ [])
-  holds_nothing a p t b c e h = record {
+  pub holds_nothing : n.sizes ≡ d.sizes → n.plan ≡ d.plan → n.tones ≡ d.tones → n.timers ≡ d.timers → n.events.items ≡ d.events.items → n.ends.items ≡ d.ends.items → n.begun ≡ d.begun → Holds d told → Holds n (told ++ Nothing ∷ [])
+  holds_nothing a p t m b c e h = record {
     sizes = a ∙ h.sizes ∙ sym (sizes_stay told Nothing refl);
     plan = p ∙ h.plan ∙ plan_stays told Nothing refl;
     tones = t ∙ h.tones ∙ tones_stay told Nothing refl;
+    timers = m ∙ h.timers ∙ timers_stay told Nothing refl;
     events = b ∙ h.events ∙ sym (events-append told (Nothing ∷ []) ∙ append-nil (events_in told));
     ends = λ more. rw (b, c, e, append_assoc told (Nothing ∷ []) more) (h.ends (Nothing ∷ more));
   }
 
-  pub holds_header : (sizes : Sizes) → d.sizes ≡ None → n.sizes ≡ Some sizes → n.plan ≡ d.plan → n.tones ≡ d.tones → n.events.items ≡ d.events.items → n.ends.items ≡ d.ends.items → n.begun ≡ d.begun → Holds d told → Holds n (told ++ Header sizes ∷ [])
-  holds_header sizes fresh a p t b c e h = record {
+  pub holds_header : (sizes : Sizes) → d.sizes ≡ None → n.sizes ≡ Some sizes → n.plan ≡ d.plan → n.tones ≡ d.tones → n.timers ≡ d.timers → n.events.items ≡ d.events.items → n.ends.items ≡ d.ends.items → n.begun ≡ d.begun → Holds d told → Holds n (told ++ Header sizes ∷ [])
+  holds_header sizes fresh a p t m b c e h = record {
     sizes = a ∙ sym (sizes_behind told (Header sizes ∷ []) (sym h.sizes ∙ fresh));
     plan = p ∙ h.plan ∙ plan_stays told (Header sizes) refl;
     tones = t ∙ h.tones ∙ tones_stay told (Header sizes) refl;
+    timers = m ∙ h.timers ∙ timers_stay told (Header sizes) refl;
     events = b ∙ h.events ∙ sym (events-append told (Header sizes ∷ []) ∙ append-nil (events_in told));
     ends = λ more. rw (b, c, e, append_assoc told (Header sizes ∷ []) more) (h.ends (Header sizes ∷ more));
   }
 
-  pub holds_number : (number : Number) → n.sizes ≡ d.sizes → n.plan ≡ with_number d.plan number → n.tones ≡ d.tones → n.events.items ≡ d.events.items → n.ends.items ≡ d.ends.items → n.begun ≡ d.begun → Holds d told → Holds n (told ++ Numbered number ∷ [])
-  holds_number number a p t b c e h = record {
+  pub holds_number : (number : Number) → n.sizes ≡ d.sizes → n.plan ≡ with_number d.plan number → n.tones ≡ d.tones → n.timers ≡ d.timers → n.events.items ≡ d.events.items → n.ends.items ≡ d.ends.items → n.begun ≡ d.begun → Holds d told → Holds n (told ++ Numbered number ∷ [])
+  holds_number number a p t m b c e h = record {
     sizes = a ∙ h.sizes ∙ sym (sizes_stay told (Numbered number) refl);
     plan = p ∙ ap (λ plan. with_number plan number) h.plan ∙ plan_more told number;
     tones = t ∙ h.tones ∙ tones_stay told (Numbered number) refl;
+    timers = m ∙ h.timers ∙ timers_stay told (Numbered number) refl;
     events = b ∙ h.events ∙ sym (events-append told (Numbered number ∷ []) ∙ append-nil (events_in told));
     ends = λ more. rw (b, c, e, append_assoc told (Numbered number ∷ []) more) (h.ends (Numbered number ∷ more));
   }
 
-  pub holds_tone : (given : GivenTone) → n.sizes ≡ d.sizes → n.plan ≡ d.plan → n.tones ≡ with_tone d.tones given → n.events.items ≡ d.events.items → n.ends.items ≡ d.ends.items → n.begun ≡ d.begun → Holds d told → Holds n (told ++ Toned given ∷ [])
-  holds_tone given a p t b c e h = record {
+  pub holds_tone : (given : GivenTone) → n.sizes ≡ d.sizes → n.plan ≡ d.plan → n.tones ≡ with_tone d.tones given → n.timers ≡ d.timers → n.events.items ≡ d.events.items → n.ends.items ≡ d.ends.items → n.begun ≡ d.begun → Holds d told → Holds n (told ++ Toned given ∷ [])
+  holds_tone given a p t m b c e h = record {
     sizes = a ∙ h.sizes ∙ sym (sizes_stay told (Toned given) refl);
     plan = p ∙ h.plan ∙ plan_stays told (Toned given) refl;
     tones = t ∙ ap (λ tones. with_tone tones given) h.tones ∙ tones_more told given;
+    timers = m ∙ h.timers ∙ timers_stay told (Toned given) refl;
     events = b ∙ h.events ∙ sym (events-append told (Toned given ∷ []) ∙ append-nil (events_in told));
     ends = λ more. rw (b, c, e, append_assoc told (Toned given ∷ []) more) (h.ends (Toned given ∷ more));
   }
 
-  pub holds_event : (event : Event) → n.sizes ≡ d.sizes → n.plan ≡ d.plan → n.tones ≡ d.tones → n.events.items ≡ d.events.items ++ event ∷ [] → n.ends.items ≡ d.ends.items → n.begun ≡ d.begun → Holds d told → Holds n (told ++ Happens event ∷ [])
-  holds_event event a p t b c e h = record {
+  pub holds_timer : (given : GivenTimer) → n.sizes ≡ d.sizes → n.plan ≡ d.plan → n.tones ≡ d.tones → n.timers ≡ with_timer d.timers given → n.events.items ≡ d.events.items → n.ends.items ≡ d.ends.items → n.begun ≡ d.begun → Holds d told → Holds n (told ++ Timed given ∷ [])
+  holds_timer given a p t m b c e h = record {
+    sizes = a ∙ h.sizes ∙ sym (sizes_stay told (Timed given) refl);
+    plan = p ∙ h.plan ∙ plan_stays told (Timed given) refl;
+    tones = t ∙ h.tones ∙ tones_stay told (Timed given) refl;
+    timers = m ∙ ap (λ timers. with_timer timers given) h.timers ∙ timers_more told given;
+    events = b ∙ h.events ∙ sym (events-append told (Timed given ∷ []) ∙ append-nil (events_in told));
+    ends = λ more. rw (b, c, e, append_assoc told (Timed given ∷ []) more) (h.ends (Timed given ∷ more));
+  }
+
+  pub holds_event : (event : Event) → n.sizes ≡ d.sizes → n.plan ≡ d.plan → n.tones ≡ d.tones → n.timers ≡ d.timers → n.events.items ≡ d.events.items ++ event ∷ [] → n.ends.items ≡ d.ends.items → n.begun ≡ d.begun → Holds d told → Holds n (told ++ Happens event ∷ [])
+  holds_event event a p t m b c e h = record {
     sizes = a ∙ h.sizes ∙ sym (sizes_stay told (Happens event) refl);
     plan = p ∙ h.plan ∙ plan_stays told (Happens event) refl;
     tones = t ∙ h.tones ∙ tones_stay told (Happens event) refl;
+    timers = m ∙ h.timers ∙ timers_stay told (Happens event) refl;
     events = b ∙ ap (λ es. es ++ event ∷ []) h.events ∙ sym (events-append told (Happens event ∷ []));
     ends = λ more. rw (b, c, e, append_assoc told (Happens event ∷ []) more, length_push d.events.items event) (h.ends (Happens event ∷ more));
   }
 
   -- the end of a segment that has events
-  pub holds_end : n.sizes ≡ d.sizes → n.plan ≡ d.plan → n.tones ≡ d.tones → n.events.items ≡ d.events.items → n.ends.items ≡ d.ends.items ++ length d.events.items ∷ [] → n.begun ≡ length d.events.items → d.begun ≢ length d.events.items → Holds d told → Holds n (told ++ Sync ∷ [])
-  holds_end a p t b c e other h = record {
+  pub holds_end : n.sizes ≡ d.sizes → n.plan ≡ d.plan → n.tones ≡ d.tones → n.timers ≡ d.timers → n.events.items ≡ d.events.items → n.ends.items ≡ d.ends.items ++ length d.events.items ∷ [] → n.begun ≡ length d.events.items → d.begun ≢ length d.events.items → Holds d told → Holds n (told ++ Sync ∷ [])
+  holds_end a p t m b c e other h = record {
     sizes = a ∙ h.sizes ∙ sym (sizes_stay told Sync refl);
     plan = p ∙ h.plan ∙ plan_stays told Sync refl;
     tones = t ∙ h.tones ∙ tones_stay told Sync refl;
+    timers = m ∙ h.timers ∙ timers_stay told Sync refl;
     events = b ∙ h.events ∙ sym (events-append told (Sync ∷ []) ∙ append-nil (events_in told));
     ends = λ more.
         let count = length d.events.items in
@@ -153,11 +195,12 @@ module _ (d n : Draft) (told : List Said) where
   }
 
   -- the end of a segment that has none
-  pub holds_empty_end : n.sizes ≡ d.sizes → n.plan ≡ d.plan → n.tones ≡ d.tones → n.events.items ≡ d.events.items → n.ends.items ≡ d.ends.items → n.begun ≡ d.begun → d.begun ≡ length d.events.items → Holds d told → Holds n (told ++ Sync ∷ [])
-  holds_empty_end a p t b c e same h = record {
+  pub holds_empty_end : n.sizes ≡ d.sizes → n.plan ≡ d.plan → n.tones ≡ d.tones → n.timers ≡ d.timers → n.events.items ≡ d.events.items → n.ends.items ≡ d.ends.items → n.begun ≡ d.begun → d.begun ≡ length d.events.items → Holds d told → Holds n (told ++ Sync ∷ [])
+  holds_empty_end a p t m b c e same h = record {
     sizes = a ∙ h.sizes ∙ sym (sizes_stay told Sync refl);
     plan = p ∙ h.plan ∙ plan_stays told Sync refl;
     tones = t ∙ h.tones ∙ tones_stay told Sync refl;
+    timers = m ∙ h.timers ∙ timers_stay told Sync refl;
     events = b ∙ h.events ∙ sym (events-append told (Sync ∷ []) ∙ append-nil (events_in told));
     ends = λ more.
         let count = length d.events.items in

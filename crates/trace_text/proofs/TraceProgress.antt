@@ -8,6 +8,7 @@ use Rattle.trace_text.specs.declared.fault.TraceFault.{TraceFault}
 use Rattle.trace_text.specs.declared.fault.Reason.{Reason}
 use Rattle.trace_text.specs.declared.fault.Reason.TheVariants as reason
 use Rattle.tone_rules.specs.declared.tones.Tones.{Tones}
+use Rattle.trace_text.specs.declared.timing.GivenTimers.{GivenTimers}
 use Rattle.trace_text.specs.declared.said.Sizes.{Sizes}
 use Rattle.tone_rules.specs.declared.tones.Tones.{Tones}
 use Rattle.trace_text.specs.declared.said.Said.{Said}
@@ -41,19 +42,20 @@ pub begun : (bytes : List ℕ) (d : Draft) → Holds d [] → Progress bytes byt
 begun bytes d held = record { front = []; told = []; parts = refl; meets = tt; held = held; place = refl; room = omega arith }
 
 -- what the draft keeps is what the lines before said
-known_so_far : Option Sizes → ℕ → List Number → Tones → SoFar
-known_so_far sizes events plan tones = record { sizes = sizes; events = events; plan = plan; tones = tones }
+known_so_far : Option Sizes → ℕ → List Number → Tones → GivenTimers → SoFar
+known_so_far sizes events plan tones timers = record { sizes = sizes; events = events; plan = plan; tones = tones; timers = timers }
 
-same_so_far : (s u : SoFar) → s.sizes ≡ u.sizes → s.events ≡ u.events → s.plan ≡ u.plan → s.tones ≡ u.tones → s ≡ u
+same_so_far : (s u : SoFar) → s.sizes ≡ u.sizes → s.events ≡ u.events → s.plan ≡ u.plan → s.tones ≡ u.tones → s.timers ≡ u.timers → s ≡ u
 unfolding known_so_far
-same_so_far s u a b c t =
-    ap (λ x. known_so_far x s.events s.plan s.tones) a
-    ∙ ap (λ x. known_so_far u.sizes x s.plan s.tones) b
-    ∙ ap (λ x. known_so_far u.sizes u.events x s.tones) c
-    ∙ ap (λ (x : Tones). known_so_far u.sizes u.events u.plan x) t
+same_so_far s u a b c t m =
+    ap (λ x. known_so_far x s.events s.plan s.tones s.timers) a
+    ∙ ap (λ x. known_so_far u.sizes x s.plan s.tones s.timers) b
+    ∙ ap (λ x. known_so_far u.sizes u.events x s.tones s.timers) c
+    ∙ ap (λ (x : Tones). known_so_far u.sizes u.events u.plan x s.timers) t
+    ∙ ap (λ (x : GivenTimers). known_so_far u.sizes u.events u.plan u.tones x) m
 
 kept_so_far : (d : Draft) (told : List Said) → Holds d told → kept d ≡ so_far told
-kept_so_far d told held = same_so_far (kept d) (so_far told) held.sizes (ap length held.events) held.plan held.tones
+kept_so_far d told held = same_so_far (kept d) (so_far told) held.sizes (ap length held.events) held.plan held.tones held.timers
 
 -- what a line says, by the draft, is what it says behind the lines before it
 says_held : (d : Draft) (told : List Said) (line : List ℕ) → Holds d told → says (kept d) line ≡ says (so_far told) line

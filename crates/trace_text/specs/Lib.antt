@@ -1,5 +1,6 @@
 pub mod TraceWords
 pub mod TraceFields
+pub mod TraceTimers
 pub mod TraceLines
 pub mod TraceGrammar
 pub mod TraceDraft

@@ -11,13 +11,13 @@ use Rattle.trace_text.specs.declared.fault.TraceFault.TheVariants as trace_fault
 use Rattle.trace_text.specs.declared.fault.Reason.TheVariants as reason
 use Rattle.trace_text.specs.declared.said.Sizes.{Sizes}
 use Rattle.trace_text.specs.declared.said.Said.{Said}
-use Rattle.trace_text.specs.declared.said.Said.TheVariants.{Nothing, Header, Numbered, Toned, Happens, Sync}
+use Rattle.trace_text.specs.declared.said.Said.TheVariants.{Nothing, Header, Numbered, Toned, Timed, Happens, Sync}
 use Rattle.trace_text.specs.TraceLines.{SoFar}
-use Rattle.trace_text.specs.TraceGrammar.{sizes_in, numbers_in, plan_of, tones_in, tones_of, events_in, segment_ends, ends_after, IsRefused}
+use Rattle.trace_text.specs.TraceGrammar.{sizes_in, numbers_in, plan_of, tones_in, tones_of, timers_in, timers_of, events_in, segment_ends, ends_after, IsRefused}
 
 -- what a draft keeps of the lines so far, as far as the next line depends on it
 abbrev pub kept : Draft → SoFar
-kept d = record { sizes = d.sizes; events = length d.events.items; plan = d.plan; tones = d.tones }
+kept d = record { sizes = d.sizes; events = length d.events.items; plan = d.plan; tones = d.tones; timers = d.timers }
 
 -- what a line said fits a draft: a header is the first, and a number is one
 abbrev pub Suits : Draft → Said → Type 0
@@ -25,6 +25,7 @@ Suits d Nothing = Unit {0}
 Suits d (Header sizes) = d.sizes ≡ None
 Suits d (Numbered number) = IsTrue (is_number number.digits)
 Suits d (Toned given) = Unit {0}
+Suits d (Timed given) = Unit {0}
 Suits d (Happens event) = Unit {0}
 Suits d Sync = Unit {0}
 
@@ -39,11 +40,12 @@ of_plan plan_fault.Prefix = line_fault.Refused reason.Prefix
 of_plan plan_fault.TooMany = line_fault.Refused reason.Limit
 of_plan plan_fault.Memory = line_fault.Memory
 
--- the draft holds what the lines so far said: the sizes, the plan, the tones, the events, and the ends of the segments that ended
+-- the draft holds what the lines so far said: the sizes, the plan, the tones, the timers, the events, and the ends of the segments that ended
 pub record Holds (d : Draft) (told : List Said) : Type 0 where
   pub sizes : d.sizes ≡ sizes_in told
   pub plan : d.plan ≡ plan_of (numbers_in told)
   pub tones : d.tones ≡ tones_of (tones_in told)
+  pub timers : d.timers ≡ timers_of (timers_in told)
   pub events : d.events.items ≡ events_in told
   pub ends : (more : List Said) → segment_ends (told ++ more) ≡ d.ends.items ++ ends_after d.begun (length d.events.items) more
 

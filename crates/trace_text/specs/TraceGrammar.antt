@@ -10,7 +10,10 @@ use Rattle.trace_text.specs.declared.fault.Reason.TheVariants as reason
 use Rattle.trace_text.specs.declared.said.Sizes.{Sizes}
 use Rattle.trace_text.specs.declared.said.GivenTone.{GivenTone}
 use Rattle.trace_text.specs.declared.said.Said.{Said}
-use Rattle.trace_text.specs.declared.said.Said.TheVariants.{Nothing, Header, Numbered, Toned, Happens, Sync}
+use Rattle.trace_text.specs.declared.said.Said.TheVariants.{Nothing, Header, Numbered, Toned, Timed, Happens, Sync}
+use Rattle.trace_text.specs.declared.timing.GivenTimer.{GivenTimer}
+use Rattle.trace_text.specs.declared.timing.GivenTimers.{GivenTimers}
+use Rattle.trace_text.specs.TraceTimers.{no_timers, with_timer, timers_by}
 use Rattle.trace_text.specs.TraceWords.{lines}
 use Rattle.trace_text.specs.TraceLines.{SoFar, says, with_tone}
 
@@ -25,6 +28,7 @@ sizes_in (Nothing ∷ others) = sizes_in others
 sizes_in (Header sizes ∷ others) = Some sizes
 sizes_in (Numbered number ∷ others) = sizes_in others
 sizes_in (Toned given ∷ others) = sizes_in others
+sizes_in (Timed given ∷ others) = sizes_in others
 sizes_in (Happens event ∷ others) = sizes_in others
 sizes_in (Sync ∷ others) = sizes_in others
 
@@ -35,6 +39,7 @@ events_in (Nothing ∷ others) = events_in others
 events_in (Header sizes ∷ others) = events_in others
 events_in (Numbered number ∷ others) = events_in others
 events_in (Toned given ∷ others) = events_in others
+events_in (Timed given ∷ others) = events_in others
 events_in (Happens event ∷ others) = event ∷ events_in others
 events_in (Sync ∷ others) = events_in others
 
@@ -45,6 +50,7 @@ numbers_in (Nothing ∷ others) = numbers_in others
 numbers_in (Header sizes ∷ others) = numbers_in others
 numbers_in (Numbered number ∷ others) = number ∷ numbers_in others
 numbers_in (Toned given ∷ others) = numbers_in others
+numbers_in (Timed given ∷ others) = numbers_in others
 numbers_in (Happens event ∷ others) = numbers_in others
 numbers_in (Sync ∷ others) = numbers_in others
 
@@ -59,6 +65,7 @@ tones_in (Nothing ∷ others) = tones_in others
 tones_in (Header sizes ∷ others) = tones_in others
 tones_in (Numbered number ∷ others) = tones_in others
 tones_in (Toned given ∷ others) = given ∷ tones_in others
+tones_in (Timed given ∷ others) = tones_in others
 tones_in (Happens event ∷ others) = tones_in others
 tones_in (Sync ∷ others) = tones_in others
 
@@ -69,9 +76,24 @@ no_tones = record { ringback = []; busy = [] }
 abbrev pub tones_of : List GivenTone → Tones
 tones_of given = fold with_tone no_tones given
 
+-- the timers that are given, in file order
+abbrev pub timers_in : List Said → List GivenTimer
+timers_in [] = []
+timers_in (Nothing ∷ others) = timers_in others
+timers_in (Header sizes ∷ others) = timers_in others
+timers_in (Numbered number ∷ others) = timers_in others
+timers_in (Toned given ∷ others) = timers_in others
+timers_in (Timed given ∷ others) = given ∷ timers_in others
+timers_in (Happens event ∷ others) = timers_in others
+timers_in (Sync ∷ others) = timers_in others
+
+-- these timers, each under its name
+abbrev pub timers_of : List GivenTimer → GivenTimers
+timers_of given = fold with_timer no_timers given
+
 -- what lines said, as far as the next line depends on it
 abbrev pub so_far : List Said → SoFar
-so_far told = record { sizes = sizes_in told; events = length (events_in told); plan = plan_of (numbers_in told); tones = tones_of (tones_in told) }
+so_far told = record { sizes = sizes_in told; events = length (events_in told); plan = plan_of (numbers_in told); tones = tones_of (tones_in told); timers = timers_of (timers_in told) }
 
 -- a segment ends with the last event so far, where it has any
 abbrev pub open_segment_end : ℕ → ℕ → List ℕ
@@ -84,6 +106,7 @@ ends_after begun count (Nothing ∷ others) = ends_after begun count others
 ends_after begun count (Header sizes ∷ others) = ends_after begun count others
 ends_after begun count (Numbered number ∷ others) = ends_after begun count others
 ends_after begun count (Toned given ∷ others) = ends_after begun count others
+ends_after begun count (Timed given ∷ others) = ends_after begun count others
 ends_after begun count (Happens event ∷ others) = ends_after begun (count + 1) others
 ends_after begun count (Sync ∷ others) = open_segment_end begun count ++ ends_after count count others
 
@@ -97,11 +120,12 @@ EachSays before [] (said ∷ told) = ⊥
 EachSays before (line ∷ others) [] = ⊥
 EachSays before (line ∷ others) (said ∷ told) = (says (so_far before) line ≡ Ok said) × EachSays (before ++ said ∷ []) others told
 
--- the trace is what the lines say: the sizes of the header, the plan of the numbers, the tones, the events, and the ends of the segments
+-- the trace is what the lines say: the sizes of the header, the plan of the numbers, the tones, the timers, the events, and the ends of the segments
 pub record IsWhatLinesSay (t : Trace) (told : List Said) : Type 0 where
   pub sizes : sizes_in told ≡ Some (record { external = t.external; bridges = t.bridges; processors = t.processors })
   pub plan : t.plan ≡ plan_of (numbers_in told)
   pub tones : t.tones ≡ tones_of (tones_in told)
+  pub timers : t.timers ≡ timers_by (timers_of (timers_in told))
   pub events : t.events ≡ events_in told
   pub segments : t.segments ≡ segment_ends told
 

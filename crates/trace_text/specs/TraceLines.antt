@@ -1,5 +1,5 @@
 -- What a line of a trace says, or the first of its checks that fails. Source: this exchange's own.
-use Rattle.std.specs.Prelude.{◌≡◌, ℕ, nat_lt, ◌==◌, ◌||◌, List, [], ◌∷◌, length, codes, replicate, slice_index_or, slice_set, Option, Some, None, is_some, ok_or, Result, Ok, Err, if◌then◌else◌}
+use Rattle.std.specs.Prelude.{◌≡◌, ℕ, nat_lt, ◌==◌, ◌||◌, List, [], ◌∷◌, length, codes, replicate, slice_index_or, slice_set, Option, Some, None, is_some, ok_or, option_and_then, Result, Ok, Err, if◌then◌else◌}
 use Rattle.std.specs.List.{list_all}
 use Rattle.std.specs.Str.{bytes_eq}
 use Rattle.circuit_model.specs.declared.circuit.Kind.{Kind as Tone}
@@ -25,7 +25,10 @@ use Rattle.trace_text.specs.declared.said.Kind.TheVariants as kind
 use Rattle.trace_text.specs.declared.said.GivenTone.{GivenTone}
 use Rattle.trace_text.specs.declared.said.Said.{Said}
 use Rattle.trace_text.specs.declared.said.Said.TheVariants as said
-use Rattle.trace_text.specs.TraceWords.{words, two, one_or_two, three, cut_at, is_comment, is_blank, is_printable}
+use Rattle.trace_text.specs.declared.timing.GivenTimer.{GivenTimer}
+use Rattle.trace_text.specs.declared.timing.GivenTimers.{GivenTimers}
+use Rattle.trace_text.specs.TraceTimers.{timer_named, if_some_frames, frames_given}
+use Rattle.trace_text.specs.TraceWords.{numeral, words, two, one_or_two, three, cut_at, is_comment, is_blank, is_printable}
 use Rattle.trace_text.specs.TraceFields.{external_line, slot, room, octets_written, thirty, at_most, longest_message, of_tone, header}
 
 -- the second step where the first passed its checks
@@ -143,6 +146,19 @@ with_octets tones Busy octets = record tones { busy = octets }
 abbrev pub with_tone : Tones → GivenTone → Tones
 with_tone tones given = with_octets tones given.kind given.octets
 
+-- a timer: its name, which isn't given yet, and how many frames it runs
+abbrev pub timer : GivenTimers → List (List ℕ) → Result GivenTimer Reason
+timer given others = do
+  both ← ok_or (two others) reason.Word
+  name ← ok_or (timer_named both.0) reason.Word
+  fresh ← if is_some (frames_given given name) then Err reason.Word else Ok name
+  frames ← ok_or (option_and_then if_some_frames (numeral both.1)) reason.Number
+  Ok (record { name = name; frames = frames })
+
+-- a timer is given
+abbrev pub timed : Result GivenTimer Reason → Result Said Reason
+timed reading = reading >>= λ t. Ok (said.Timed t)
+
 -- the end of a segment: one word
 abbrev pub sync : List (List ℕ) → Result Said Reason
 sync [] = Ok said.Sync
@@ -159,15 +175,17 @@ kind_of word =
     else if bytes_eq word (codes "free") then kind.Free
     else if bytes_eq word (codes "number") then kind.Number
     else if bytes_eq word (codes "tone") then kind.Tone
+    else if bytes_eq word (codes "timer") then kind.Timer
     else kind.Unknown
 
 -- what the lines so far said, as far as the next line depends on it: the sizes of the header, where there was one, how many events, the
--- numbers and the tones
+-- numbers, the tones and the timers
 pub record SoFar : Type 0 where
   pub sizes : Option Sizes
   pub events : ℕ
   pub plan : List Number
   pub tones : Tones
+  pub timers : GivenTimers
 
 -- a line that stands before the first event, or nowhere
 abbrev pub before_events : SoFar → Result Said Reason → Result Said Reason
@@ -182,6 +200,7 @@ by_kind so_far external kind.Seat others = happens (seat external others)
 by_kind so_far external kind.Free others = happens (free external others)
 by_kind so_far external kind.Number others = before_events so_far (numbered (number external others))
 by_kind so_far external kind.Tone others = before_events so_far (toned (tone so_far.tones others))
+by_kind so_far external kind.Timer others = before_events so_far (timed (timer so_far.timers others))
 by_kind so_far external kind.Sync others = sync others
 by_kind so_far external kind.Unknown others = Err reason.Word
 

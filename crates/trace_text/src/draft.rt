@@ -5,10 +5,11 @@ use crate::cut::{first_word, is_text};
 use crate::fault::{LineFault, Reason, TraceFault};
 use crate::fields::header_of;
 use crate::line::{
-    frame_of, free_of, kind_of, message_of, nail_of, number_of, seat_of, sync_of, tone_of,
+    frame_of, free_of, kind_of, message_of, nail_of, number_of, seat_of, sync_of, timer_of, tone_of,
 };
 use crate::plain::{ends_word, plain_frame, plain_free, plain_message, plain_nail};
 use crate::said::{GivenTone, Kind, Said, Sizes};
+use crate::timing::GivenTimers;
 use circuit_model::Kind as Tone;
 use exchange_events::{Event, Events, Segments, Trace};
 use number_plan::Plan;
@@ -24,6 +25,7 @@ pub struct Draft {
     sizes: Option<Sizes>,
     plan: Plan,
     tones: Tones,
+    timers: GivenTimers,
     events: Vec<Event>,
     ends: Vec<u32>,
     // How many events came before the segment that is open.
@@ -47,7 +49,7 @@ fn give(tones: &mut Tones, given: GivenTone)
 impl Draft {
     ghost use Rattle.std.specs.Prelude.{◌≡◌, ◌<◌, ◌++◌, ◌∷◌, [], List, Ok, OnOk, IfOk, IfErr, IfSome, vec_len};
     ghost use Rattle.trace_text.specs.TraceWords.{words};
-    ghost use Rattle.trace_text.specs.TraceLines.{number, numbered, tone, toned, before_events, by_kind, reads, joins, says, Fails, Gives};
+    ghost use Rattle.trace_text.specs.TraceLines.{number, numbered, tone, toned, timer, timed, before_events, by_kind, reads, joins, says, Fails, Gives};
     ghost use Rattle.trace_text.specs.TraceGrammar.{open_segment_end, IsWhatLinesSay};
     ghost use Rattle.trace_text.specs.TraceDraft.{kept, Holds, Suits, FailsAtEnd};
 
@@ -59,6 +61,7 @@ impl Draft {
             sizes: None,
             plan: Plan::new(alloc),
             tones: Tones::none(alloc),
+            timers: GivenTimers::none(),
             events: Vec::new(alloc),
             ends: Vec::new(alloc),
             begun: 0,
@@ -73,6 +76,7 @@ impl Draft {
             ≡ self.old.ends.items ++ open_segment_end self.old.begun (vec_len self.old.events)) }
         ensures plan { OnOk result (self.new.plan ≡ self.old.plan) }
         ensures tones { OnOk result (self.new.tones ≡ self.old.tones) }
+        ensures timers { OnOk result (self.new.timers ≡ self.old.timers) }
         ensures events { OnOk result (self.new.events.items ≡ self.old.events.items) }
     {
         let count = self.events.len() as u32;
@@ -96,6 +100,7 @@ impl Draft {
             Said::Header(sizes) => self.sizes = Some(sizes),
             Said::Numbered(number) => self.plan.add(number.digits.as_slice(), number.target)?,
             Said::Toned(given) => give(&mut self.tones, given),
+            Said::Timed(given) => self.timers.give(given),
             Said::Happens(_) if self.events.len() == MOST_EVENTS => {
                 return Err(LineFault::Refused(Reason::Limit));
             }
@@ -127,6 +132,17 @@ impl Draft {
         Ok(Said::Toned(tone_of(alloc, &self.tones, line)?))
     }
 
+    // A timer's line, whose further words are given.
+    fn timer_line(&self, line: &[u8]) -> Result<Said, Reason>
+        ensures reads { result ≡ before_events (kept self.now) (timed (timer self.now.timers (words line.now))) }
+        ensures suits { IfOk result (λ said. Suits self.now said) }
+    {
+        if !self.events.is_empty() {
+            return Err(Reason::Word);
+        }
+        Ok(Said::Timed(timer_of(&self.timers, line)?))
+    }
+
     // A line of a kind, whose further words are given.
     fn line_of_kind(
         &self,
@@ -146,6 +162,7 @@ impl Draft {
             Kind::Free => Ok(Said::Happens(free_of(external, line)?)),
             Kind::Number => Ok(self.number_line(external, line)?),
             Kind::Tone => Ok(self.tone_line(alloc, line)?),
+            Kind::Timer => Ok(self.timer_line(line)?),
             Kind::Sync => Ok(sync_of(line)?),
             Kind::Unknown => Err(LineFault::Refused(Reason::Word)),
         }
@@ -229,6 +246,7 @@ impl Draft {
             processors: sizes.processors,
             plan: self.plan,
             tones: self.tones,
+            timers: self.timers.timers(),
             events: Events::of(self.events),
             segments: Segments::of(self.ends),
         })

@@ -12,9 +12,9 @@ use std::alloc::{AllocError, AllocFailed};
 pub enum Reason {
     /// The first line that is neither blank nor a comment is no header, or there is none.
     Header,
-    /// An octet that isn't printable, an unknown first word, a number or a tone behind an event, a wrong
-    /// count of words, a number that stands for neither a line nor a room, or a tone that is none or was
-    /// given before.
+    /// An octet that isn't printable, an unknown first word, a number, a tone or a timer behind an event,
+    /// a wrong count of words, a number that stands for neither a line nor a room, or a tone or a timer
+    /// that is none or was given before.
     Word,
     /// A word that writes no line or no slot of the exchange, a line given twice in one frame, or a
     /// slot nailed to itself.
@@ -23,7 +23,7 @@ pub enum Reason {
     Hex,
     /// Octets that are too few or too many.
     Length,
-    /// A subscriber number, a room or a time that isn't one.
+    /// A subscriber number, a room or a count of frames that isn't one.
     Number,
     /// A subscriber number that equals, begins or continues an earlier one.
     Prefix,

@@ -8,8 +8,8 @@
 //! - Every trace that is read is sound: its lines exist, and its sizes are those of an exchange
 //!   ([`traces_are_sound`]).
 //!
-//! It stands on `circuit_model`, `number_plan`, `tone_rules` and `exchange_events`, and on the
-//! kit's `memchr`.
+//! It stands on `circuit_model`, `number_plan`, `tone_rules`, `call_timers` and `exchange_events`, and
+//! on the kit's `memchr`.
 #![tactic(auto)]
 
 mod cut;
@@ -22,6 +22,7 @@ mod octets;
 mod plain;
 mod reader;
 mod said;
+mod timing;
 
 pub use fault::{Reason, TraceFault};
 pub use laws::{one_reading, some_reading, traces_are_sound};

@@ -2,13 +2,15 @@
 ghost use Rattle.std.specs.Prelude.{◌≡◌, ◌<◌, IsTrue, length, MatchResult, IfOk, Ok, Err};
 ghost use Rattle.number_plan.specs.Plan.{is_number};
 ghost use Rattle.trace_text.specs.TraceWords.{words};
-ghost use Rattle.trace_text.specs.TraceLines.{with_part, frame, message, nail, seat, free, target, number, tone, tone_named, sync, kind_of, Gives};
+ghost use Rattle.trace_text.specs.TraceLines.{with_part, frame, message, nail, seat, free, target, number, tone, tone_named, timer, sync, kind_of, Gives};
+ghost use Rattle.trace_text.specs.TraceTimers.{timer_named};
 
-use crate::cut::{first_word, halves_at, one_or_two_words, three_words, two_words};
+use crate::cut::{first_word, halves_at, numeral_of, one_or_two_words, three_words, two_words};
 use crate::fault::{LineFault, Reason};
 use crate::fields::{line_of_word, room_of_word, slot_of_word};
 use crate::octets::{message_octets, thirty_octets, tone_octets};
 use crate::said::{GivenTone, Kind, Said};
+use crate::timing::{GivenTimer, GivenTimers, TimerName};
 use circuit_model::Kind as Tone;
 use exchange_events::{Event, Input};
 use number_plan::{Digits, Number, Target, is_number};
@@ -144,6 +146,41 @@ pub(crate) fn tone_of(alloc: Global, tones: &Tones, line: &[u8]) -> Result<Given
     Ok(GivenTone { kind, octets })
 }
 
+// The timer that a word names.
+fn timer_named(word: &[u8]) -> Option<TimerName>
+    ensures { result ≡ timer_named word.now }
+{
+    if word == b"T302".as_slice() {
+        Some(TimerName::T302)
+    } else if word == b"T303".as_slice() {
+        Some(TimerName::T303)
+    } else if word == b"T305".as_slice() {
+        Some(TimerName::T305)
+    } else if word == b"T308".as_slice() {
+        Some(TimerName::T308)
+    } else if word == b"T310".as_slice() {
+        Some(TimerName::T310)
+    } else {
+        None
+    }
+}
+
+/// The timer that the words of a line give, where it isn't among those that are given already.
+pub(crate) fn timer_of(given: &GivenTimers, line: &[u8]) -> Result<GivenTimer, Reason>
+    ensures { result ≡ timer given.now (words line.now) }
+{
+    let (name, frames) = two_words(line).ok_or(Reason::Word)?;
+    let name = timer_named(name).ok_or(Reason::Word)?;
+    if given.frames(name).is_some() {
+        return Err(Reason::Word);
+    }
+    let frames = numeral_of(frames).ok_or(Reason::Number)?;
+    if frames == 0 {
+        return Err(Reason::Number);
+    }
+    Ok(GivenTimer { name, frames })
+}
+
 /// The end of a segment, where a line has no further word.
 pub(crate) fn sync_of(line: &[u8]) -> Result<Said, Reason>
     ensures says { result ≡ sync (words line.now) }
@@ -175,6 +212,8 @@ pub(crate) fn kind_of(word: &[u8]) -> Kind
         Kind::Number
     } else if word == b"tone".as_slice() {
         Kind::Tone
+    } else if word == b"timer".as_slice() {
+        Kind::Timer
     } else {
         Kind::Unknown
     }

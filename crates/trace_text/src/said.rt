@@ -1,4 +1,5 @@
 //! What a line of a trace says.
+use crate::timing::GivenTimer;
 use circuit_model::Kind as Tone;
 use exchange_events::Event;
 use number_plan::Number;
@@ -34,6 +35,8 @@ pub enum Kind {
     Number,
     /// A tone is given its octets.
     Tone,
+    /// A timer is given its frames.
+    Timer,
     /// The line is none of a trace.
     Unknown,
 }
@@ -58,6 +61,8 @@ pub enum Said {
     Numbered(Number),
     /// A tone is given.
     Toned(GivenTone),
+    /// A timer is given.
+    Timed(GivenTimer),
     /// An event happens.
     Happens(Event),
     /// The segment ends.

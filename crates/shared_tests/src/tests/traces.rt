@@ -2,6 +2,7 @@
 ghost use Rattle.std.specs.Prelude.{◌≡◌, length, IfOk, All, ◌*◌, ◌+◌};
 ghost use Rattle.exchange_events.specs.Sound.{IsSound, Fits};
 
+use call_timers::Timers;
 use circuit_model::Slot;
 use exchange_events::{Event, Events, Input, Segments, Trace};
 use number_plan::Plan;
@@ -51,6 +52,7 @@ pub fn nails_and_frames(alloc: Global) -> Result<Trace, AllocError>
         processors: 2,
         plan: Plan::new(alloc),
         tones: Tones::none(alloc),
+        timers: Timers::usual(),
         events: Events::of(events),
         segments: Segments::of(ends),
     })

@@ -1,5 +1,6 @@
-use Rattle.std.proofs.Common.{◌≡◌, ◌++◌, length, sym, ◌∙◌, arith}
+use Rattle.std.proofs.Common.{◌≡◌, ◌++◌, length, sym, ap, ◌∙◌, arith}
 use Rattle.trace_text.specs.TraceGrammar.{open_segment_end}
+use Rattle.trace_text.specs.TraceTimers.{timers_by}
 use Rattle.trace_text.proofs.TraceHolds.{segments_all}
 use Rattle.trace_text.proofs.draft.Draft.finish.Goals as goal
 
@@ -11,10 +12,12 @@ returns-clause-read c = λ told h.
     let kept : n.events.items ≡ d.events.items = grind arith in
     let planned : n.plan ≡ d.plan = grind arith in
     let toned : n.tones ≡ d.tones = grind arith in
+    let timed : n.timers ≡ d.timers = grind arith in
     record {
       sizes = sym h.sizes ∙ c.in-Some.is;
       plan = planned ∙ h.plan;
       tones = toned ∙ h.tones;
+      timers = c.timers.ensures ∙ ap timers_by (timed ∙ h.timers);
       events = c.of.ensures ∙ kept ∙ h.events;
       segments = c.of-2.ensures ∙ closed ∙ sym (segments_all d told h);
     }

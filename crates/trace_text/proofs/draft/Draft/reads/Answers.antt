@@ -9,7 +9,7 @@ pub returns-clause-reads : goal.returns-clause-reads
 returns-clause-reads c =
     let line = c.args.line.now in
     let first = c.in-Some-first_word.kind.now in
-    let comment : is_comment line ≡ false = grind arith in
+    let comment : is_comment line ≡ false = grind (arith, c.if-eq, c.eq, c.first) in
     let cut : words line ≡ first ∷ words c.in-Some-first_word.rest.now = grind arith in
     let text : list_all is_printable line ≡ true = grind arith in
     rw (reads_by_kind (kept c.args.self.now) c.in-Some-sizes.sizes line first (words c.in-Some-first_word.rest.now) c.in-Some-sizes.is comment cut text, ← c.kind_of.ensures) c.line_of_kind.ensures.reads

@@ -1,0 +1,40 @@
+-- The timers of calls at the network side of an interface: which one runs in a state, and what its expiry asks for (ITU-T Q.931 (05/98),
+-- 9.1, table 9-1). Time is counted in frames; a second expiry of T303 and T308 ends the leg.
+use Rattle.std.specs.Prelude.{ℕ, ◌+◌, ◌==◌, nat_le, Bool, Option, Some, None, option_and_then, if◌then◌else◌}
+use Rattle.q931_codec.specs.CallStates.{overlap_sending, call_present, incoming_call_proceeding, disconnect_indication, release_request}
+use Rattle.call_timers.specs.declared.expiry.Expiry.{Expiry}
+use Rattle.call_timers.specs.declared.expiry.Expiry.TheVariants as expiry
+use Rattle.call_timers.specs.declared.timers.Timers.{Timers}
+
+-- what the expiry of a state's timer asks for, where the state has one; in two states that goes by whether what was sent was sent again
+-- already
+abbrev pub expiry_in : ℕ → Bool → Option Expiry
+expiry_in state resent =
+    if state == overlap_sending then Some expiry.Digits
+    else if state == call_present then Some (if resent then expiry.SetupOver else expiry.SetupAgain)
+    else if state == incoming_call_proceeding then Some expiry.Proceeding
+    else if state == disconnect_indication then Some expiry.Disconnect
+    else if state == release_request then Some (if resent then expiry.ReleaseOver else expiry.ReleaseAgain)
+    else None
+
+-- how many frames its timer runs
+abbrev pub frames_to : Timers → Expiry → ℕ
+frames_to timers expiry.Digits = timers.t302
+frames_to timers expiry.SetupAgain = timers.t303
+frames_to timers expiry.SetupOver = timers.t303
+frames_to timers expiry.Proceeding = timers.t310
+frames_to timers expiry.Disconnect = timers.t305
+frames_to timers expiry.ReleaseAgain = timers.t308
+frames_to timers expiry.ReleaseOver = timers.t308
+
+-- the expiry, where its timer has run since one frame when another one comes
+abbrev pub if_run_out : Timers → ℕ → ℕ → Expiry → Option Expiry
+if_run_out timers since frame e = if nat_le (since + frames_to timers e) frame then Some e else None
+
+-- what is due in a frame of a leg that has waited in its state since one
+abbrev pub due : ℕ → Bool → ℕ → ℕ → Timers → Option Expiry
+due state resent since frame timers = option_and_then (if_run_out timers since frame) (expiry_in state resent)
+
+-- the usual timers: T302 15 seconds, T303 4, T305 30, T308 4 and T310 10, in frames of 125 microseconds
+abbrev pub usual : Timers
+usual = record { t302 = 120000; t303 = 32000; t305 = 240000; t308 = 32000; t310 = 80000 }

@@ -1,0 +1,72 @@
+//! What the expiry of a timer asks for, and when.
+
+ghost use Rattle.std.specs.Prelude.{◌≡◌};
+ghost use Rattle.call_timers.specs.Expiries.{due, expiry_in, frames_to};
+
+use crate::timers::Timers;
+use q931_codec::states::{
+    CALL_PRESENT, DISCONNECT_INDICATION, INCOMING_CALL_PROCEEDING, OVERLAP_SENDING, RELEASE_REQUEST,
+};
+
+/// What the expiry of a timer asks for (Q.931, 9.1, table 9-1).
+#[derive(Clone, Copy, Debug, PartialEq, Eq)]
+pub enum Expiry {
+    /// T302 in overlap sending: the number stays incomplete.
+    Digits,
+    /// T303 in call present, for the first time: the SETUP is sent again.
+    SetupAgain,
+    /// T303 in call present, once more: the called user doesn't answer.
+    SetupOver,
+    /// T310 in incoming call proceeding: the called user is neither alerted nor answers.
+    Proceeding,
+    /// T305 in disconnect indication: the user is asked to release the call.
+    Disconnect,
+    /// T308 in release request, for the first time: the RELEASE is sent again.
+    ReleaseAgain,
+    /// T308 in release request, once more: the user doesn't complete the release.
+    ReleaseOver,
+}
+
+/// What is due in this frame of a leg in this call state (Q.931, 4.5.7), which has waited since that frame,
+/// and whose SETUP or RELEASE was sent again or not: `Some` exactly where the state has a timer that has
+/// run out, be it in this frame or before it.
+pub fn due(state: u8, resent: bool, since: u32, frame: u32, timers: &Timers) -> Option<Expiry>
+    ensures { result ≡ due state resent since frame timers.now }
+{
+    let expiry = expiry_in(state, resent)?;
+    let end = u64::from(since) + u64::from(frames_to(timers, expiry));
+    if end <= u64::from(frame) {
+        Some(expiry)
+    } else {
+        None
+    }
+}
+
+// What the expiry of the state's timer asks for, where it has one.
+fn expiry_in(state: u8, resent: bool) -> Option<Expiry>
+    ensures { result ≡ expiry_in state resent }
+{
+    match (state, resent) {
+        (OVERLAP_SENDING, _) => Some(Expiry::Digits),
+        (CALL_PRESENT, false) => Some(Expiry::SetupAgain),
+        (CALL_PRESENT, true) => Some(Expiry::SetupOver),
+        (INCOMING_CALL_PROCEEDING, _) => Some(Expiry::Proceeding),
+        (DISCONNECT_INDICATION, _) => Some(Expiry::Disconnect),
+        (RELEASE_REQUEST, false) => Some(Expiry::ReleaseAgain),
+        (RELEASE_REQUEST, true) => Some(Expiry::ReleaseOver),
+        _ => None,
+    }
+}
+
+// How many frames its timer runs.
+fn frames_to(timers: &Timers, expiry: Expiry) -> u32
+    ensures { result ≡ frames_to timers.now expiry }
+{
+    match expiry {
+        Expiry::Digits => timers.t302,
+        Expiry::SetupAgain | Expiry::SetupOver => timers.t303,
+        Expiry::Proceeding => timers.t310,
+        Expiry::Disconnect => timers.t305,
+        Expiry::ReleaseAgain | Expiry::ReleaseOver => timers.t308,
+    }
+}

@@ -1,0 +1,35 @@
+//! How long a leg of a call waits in a state.
+
+ghost use Rattle.std.specs.Prelude.{◌≡◌};
+ghost use Rattle.call_timers.specs.Expiries.{usual};
+
+/// The timers of calls at the network side of an interface (Q.931, 9.1, table 9-1), each in frames of 125
+/// microseconds.
+#[derive(Clone, Copy, Debug, PartialEq, Eq)]
+pub struct Timers {
+    /// T302: how long the next digits of a number may take.
+    pub t302: u32,
+    /// T303: how long a called user may take to answer a SETUP in any way.
+    pub t303: u32,
+    /// T305: how long a user who was asked to clear a call by DISCONNECT may take to release it.
+    pub t305: u32,
+    /// T308: how long a user who was sent a RELEASE may take to complete it.
+    pub t308: u32,
+    /// T310: how long a called user who has all that is needed may take to alert or to answer.
+    pub t310: u32,
+}
+
+impl Timers {
+    /// The usual timers: 15 seconds, 4, 30, 4 and 10, which are values of table 9-1, in frames.
+    pub fn usual() -> Timers
+        ensures { result ≡ usual }
+    {
+        Timers {
+            t302: 120_000,
+            t303: 32_000,
+            t305: 240_000,
+            t308: 32_000,
+            t310: 80_000,
+        }
+    }
+}

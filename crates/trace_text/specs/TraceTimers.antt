@@ -1,0 +1,57 @@
+-- The timers that a trace gives. Source: this exchange's own; their names are those of ITU-T Q.931 (05/98), 9.1, table 9-1.
+use Rattle.std.specs.Prelude.{ℕ, ◌==◌, List, codes, Option, Some, None, unwrap_or, if◌then◌else◌}
+use Rattle.std.specs.Str.{bytes_eq}
+use Rattle.call_timers.specs.declared.timers.Timers.{Timers}
+use Rattle.call_timers.specs.Expiries.{usual}
+use Rattle.trace_text.specs.declared.timing.GivenTimer.{GivenTimer}
+use Rattle.trace_text.specs.declared.timing.GivenTimers.{GivenTimers}
+use Rattle.trace_text.specs.declared.timing.TimerName.{TimerName}
+use Rattle.trace_text.specs.declared.timing.TimerName.TheVariants.{T302, T303, T305, T308, T310}
+use Rattle.trace_text.specs.TraceWords.{numeral}
+
+-- the timer that a word names
+abbrev pub timer_named : List ℕ → Option TimerName
+timer_named word =
+    if bytes_eq word (codes "T302") then Some T302
+    else if bytes_eq word (codes "T303") then Some T303
+    else if bytes_eq word (codes "T305") then Some T305
+    else if bytes_eq word (codes "T308") then Some T308
+    else if bytes_eq word (codes "T310") then Some T310
+    else None
+
+-- how many frames a word writes, at least one
+abbrev pub if_some_frames : ℕ → Option ℕ
+if_some_frames frames = if frames == 0 then None else Some frames
+
+-- no timer is given
+abbrev pub no_timers : GivenTimers
+no_timers = record { t302 = None; t303 = None; t305 = None; t308 = None; t310 = None }
+
+-- how many frames a timer runs, where it is given
+abbrev pub frames_given : GivenTimers → TimerName → Option ℕ
+frames_given given T302 = given.t302
+frames_given given T303 = given.t303
+frames_given given T305 = given.t305
+frames_given given T308 = given.t308
+frames_given given T310 = given.t310
+
+-- the timers once one more is given
+abbrev pub with_frames : GivenTimers → TimerName → ℕ → GivenTimers
+with_frames given T302 frames = record given { t302 = Some frames }
+with_frames given T303 frames = record given { t303 = Some frames }
+with_frames given T305 frames = record given { t305 = Some frames }
+with_frames given T308 frames = record given { t308 = Some frames }
+with_frames given T310 frames = record given { t310 = Some frames }
+
+abbrev pub with_timer : GivenTimers → GivenTimer → GivenTimers
+with_timer given one = with_frames given one.name one.frames
+
+-- the timers of a trace: a timer that is not given has its usual value
+abbrev pub timers_by : GivenTimers → Timers
+timers_by given = record {
+  t302 = unwrap_or given.t302 usual.t302;
+  t303 = unwrap_or given.t303 usual.t303;
+  t305 = unwrap_or given.t305 usual.t305;
+  t308 = unwrap_or given.t308 usual.t308;
+  t310 = unwrap_or given.t310 usual.t310;
+}
