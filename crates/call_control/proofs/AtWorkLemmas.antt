@@ -39,10 +39,10 @@ silent_on_map map w same None deaf = tt
 silent_on_map map w same (Some c) deaf = same c.slot ∙ deaf
 
 -- a line has a place for each of its thirty legs
-pub row_inside : (s : Setting) (map : Connections) (legs : Legs) (w : World) (line : ℕ) → IsAtWork s map legs w → line < map.external → 30 * line + 30 ≤ length legs
+pub row_inside : (s : Setting) (map : Connections) (legs : Legs) (w : World) (line : ℕ) → IsAtWork s map legs w → line < map.external → 30 * line + 30 ≤ length legs.held
 row_inside s map legs w line work within =
     let same : map.external ≡ s.dimensions.external = ap (λ (d : Dimensions). d.external) work.holds.sizes in
-    let count : length legs ≡ 30 * s.dimensions.external = ap length work.holds.legs_are ∙ work.stands.legs.count in
+    let count : length legs.held ≡ 30 * s.dimensions.external = ap (λ (ls : Legs). length ls.held) work.holds.legs_are ∙ work.stands.legs.count in
     omega (arith, within, same, count)
 
 module _ (s : Setting) (map : Connections) (legs : Legs) (w : World) (work : IsAtWork s map legs w) (h : Held) (within : IsExternal map.external h.slot) (at : leg_at legs h.slot ≡ Some h.leg) where

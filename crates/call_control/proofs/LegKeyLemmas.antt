@@ -11,7 +11,7 @@ use Rattle.call_profile.specs.Legs.{Legs, leg_at, held_at, leg_named, same_side,
 use Rattle.call_profile.proofs.LineLemmas.{found_from, found_all, found_end, found_none, found_other, found_here}
 use Rattle.call_control.specs.LegKeys.{key_named, key_by, key_of, no_key, leg_on, IsRowOf}
 
-pub told_at : (legs : Legs) (n : ℕ) → All (λ leg. IfSome leg FitsMessages) legs → IfSome (get_or legs n None) FitsMessages
+pub told_at : (legs : List (Option Leg)) (n : ℕ) → All (λ leg. IfSome leg FitsMessages) legs → IfSome (get_or legs n None) FitsMessages
 told_at legs n told = elim (cases_lt n (length legs)) [
   | inl inside ↦ told n None inside
   | inr past ↦ subst (λ (o : Option Leg). IfSome o FitsMessages) (sym (get_or_past legs n None past)) tt
@@ -34,7 +34,7 @@ other_side false reference Called r apart = refl
 
 -- ---- a look along the row of a line
 
-module _ (legs : Legs) (line : ℕ) (row : List ℕ) (of : IsRowOf legs line row) (told : All (λ leg. IfSome leg FitsMessages) legs) (flag : Bool) (reference : ℕ) (small : reference < 2 ^ 16) where
+module _ (legs : Legs) (line : ℕ) (row : List ℕ) (of : IsRowOf legs line row) (told : All (λ leg. IfSome leg FitsMessages) legs.held) (flag : Bool) (reference : ℕ) (small : reference < 2 ^ 16) where
   passed : (place : ℕ) → place < 30 → (o : Option Leg) → leg_at legs (record { line = line; place = place }) ≡ o → key_of o ≢ key_named flag reference
       → found_from legs line flag reference place ≡ found_from legs line flag reference (place + 1)
   passed place within None at apart = found_none legs line flag reference place within at
@@ -60,7 +60,7 @@ module _ (legs : Legs) (line : ℕ) (row : List ℕ) (of : IsRowOf legs line row
   walk (suc n) within none =
       let next : n + 1 ≡ suc n = omega arith in
       walk n (omega (arith, within)) (λ place below. none place (omega (arith, below)))
-      ∙ passed n (omega (arith, within)) (leg_on legs line n) refl (λ same. none n (omega arith) (of.each n (omega (arith, within)) ∙ same))
+      ∙ passed n (omega (arith, within)) (leg_on legs.held line n) refl (λ same. none n (omega arith) (of.each n (omega (arith, within)) ∙ same))
       ∙ ap (found_from legs line flag reference) next
 
   pub named_nowhere : LacksBelow 30 → leg_named legs line flag reference ≡ None
@@ -71,7 +71,7 @@ module _ (legs : Legs) (line : ℕ) (row : List ℕ) (of : IsRowOf legs line row
   named_first place near same none = elim (cases_lt place 30) [
     | inl within ↦
         found_all legs line flag reference ∙ walk place (omega (arith, within)) none
-        ∙ held place within (leg_on legs line place) refl (told_at legs (30 * line + place) told) (sym (of.each place within) ∙ same)
+        ∙ held place within (leg_on legs.held line place) refl (told_at legs.held (30 * line + place) told) (sym (of.each place within) ∙ same)
     | inr far ↦ absurd (no_message flag (sym (of.behind place far near) ∙ same))
   ]
     where

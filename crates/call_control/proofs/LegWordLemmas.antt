@@ -60,7 +60,7 @@ hits_other row key count word near hits apart = record {
 }
 
 -- what the word tells of the leg that a message is for
-module _ (legs : Legs) (line : ℕ) (row : List ℕ) (of : IsRowOf legs line row) (told : All (λ leg. IfSome leg FitsMessages) legs) (flag : Bool) (reference : ℕ) (small : reference < 2 ^ 16)
+module _ (legs : Legs) (line : ℕ) (row : List ℕ) (of : IsRowOf legs line row) (told : All (λ leg. IfSome leg FitsMessages) legs.held) (flag : Bool) (reference : ℕ) (small : reference < 2 ^ 16)
     (word : ℕ) (fits : word < 2 ^ 32) (bits : (place : ℕ) → place < 32 → bit_at word place ≡ hit (key_named flag reference) (slice_index row place)) where
   lacks_at : (place : ℕ) → place < 32 → bit_at word place ≡ 0 → slice_index row place ≢ key_named flag reference
   lacks_at place near clear = hit_not (key_named flag reference) (slice_index row place) (sym (bits place near) ∙ clear)
@@ -120,13 +120,13 @@ uses_other row count word uses apart = record {
   ];
 }
 
-module _ (legs : Legs) (line : ℕ) (row : List ℕ) (of : IsRowOf legs line row) (told : All (λ leg. IfSome leg FitsMessages) legs) where
+module _ (legs : Legs) (line : ℕ) (row : List ℕ) (of : IsRowOf legs line row) (told : All (λ leg. IfSome leg FitsMessages) legs.held) where
   -- a called leg with this reference
   called_key : (side : Side) (r reference : ℕ) → r < 2 ^ 15 → key_by side r ≡ 2 ^ 16 + reference → (side ≡ Called) × (r ≡ reference)
   called_key Caller r reference few e = absurd (omega (arith, e, few))
   called_key Called r reference few e = (refl, omega (arith, e))
 
-  names : (reference place : ℕ) → place < 30 → (o : Option Leg) → leg_on legs line place ≡ o → IfSome o FitsMessages → key_of o ≡ 2 ^ 16 + reference → reference < 32
+  names : (reference place : ℕ) → place < 30 → (o : Option Leg) → leg_on legs.held line place ≡ o → IfSome o FitsMessages → key_of o ≡ 2 ^ 16 + reference → reference < 32
       → leg_named legs line true reference ≡ None → ⊥
   names reference place within None at tell e few none = omega (arith, e, few)
   names reference place within (Some leg) at tell e few none =
@@ -141,7 +141,7 @@ module _ (legs : Legs) (line : ℕ) (row : List ℕ) (of : IsRowOf legs line row
   is_used reference few has = elim (cases_lt has.0 30) [
     | inl within ↦
         not_none reference (leg_named legs line true reference)
-        (names reference has.0 within (leg_on legs line has.0) refl (told_at legs (30 * line + has.0) told) (sym (of.each has.0 within) ∙ has.2) few)
+        (names reference has.0 within (leg_on legs.held line has.0) refl (told_at legs.held (30 * line + has.0) told) (sym (of.each has.0 within) ∙ has.2) few)
     | inr far ↦ absurd (let nobody = of.behind has.0 far has.1 in let is = has.2 in omega (arith, nobody, is, few))
   ]
 

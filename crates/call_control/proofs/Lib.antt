@@ -9,4 +9,5 @@ pub mod ActMakingLemmas
 pub mod SetupMakingLemmas
 pub mod RestartMakingLemmas
 pub mod LegKeyLemmas
+pub mod KeptNumberLemmas
 pub mod LegWordLemmas

@@ -6,9 +6,10 @@ use Rattle.circuit_model.specs.Holding.{Seat as Take_seat, Clear as Clear_slot}
 use Rattle.circuit_map.specs.Connections.{Connections}
 use Rattle.q931_codec.specs.Outgoing.{OutgoingMessage, encoding}
 use Rattle.call_states.specs.declared.leg.Leg.{Leg}
+use Rattle.call_states.specs.declared.pending.Pending.{Pending}
 use Rattle.exchange_events.specs.declared.signal.Signal.{Signal}
-use Rattle.call_profile.specs.Legs.{Legs, with_leg}
-use Rattle.call_profile.specs.Operations.{Clear, Seat, Sound, Put, Send, Making, moves_of_seat, making_after, with_tone}
+use Rattle.call_profile.specs.Legs.{Legs, with_leg, with_waiting}
+use Rattle.call_profile.specs.Operations.{Clear, Seat, Sound, Put, Wait, Send, Making, moves_of_seat, making_after, with_tone}
 use Rattle.call_control.specs.Standing.{Holds, Makes}
 use Rattle.exchange_events.specs.Sizes.{Dimensions}
 use Rattle.call_profile.specs.World.{World, obey}
@@ -22,6 +23,15 @@ module _ (d : Dimensions) (map map' : Connections) (legs legs' : Legs) (sends se
   pub makes_put : (x : Slot) (leg : Leg) → map' ≡ map → legs' ≡ with_leg legs x leg → Makes d map' legs' sends moved (making_after d m (Put x leg))
   makes_put x leg same put =
       let legs_are : legs' ≡ with_leg m.world.legs x leg = put ∙ ap (λ ls. with_leg ls x leg) makes.holds.legs_are in
+      record {
+        holds = subst (λ ls. Holds d map' legs' (record m.world { legs = ls })) legs_are (holds_with d map map' legs legs' m.world makes.holds same);
+        sent = makes.sent;
+        moves = makes.moves;
+      }
+
+  pub makes_wait : (x : Slot) (leg : Leg) (p : Pending) → map' ≡ map → legs' ≡ with_waiting legs x leg p → Makes d map' legs' sends moved (making_after d m (Wait x leg p))
+  makes_wait x leg p same waits =
+      let legs_are : legs' ≡ with_waiting m.world.legs x leg p = waits ∙ ap (λ ls. with_waiting ls x leg p) makes.holds.legs_are in
       record {
         holds = subst (λ ls. Holds d map' legs' (record m.world { legs = ls })) legs_are (holds_with d map map' legs legs' m.world makes.holds same);
         sent = makes.sent;

@@ -5,7 +5,7 @@ use Rattle.std.proofs.lemmas.Bool.Decides.{nat_tests}
 use Rattle.circuit_model.specs.declared.channel.Slot.{Slot}
 use Rattle.q931_codec.specs.declared.contents.ChannelIdentification.{ChannelIdentification}
 use Rattle.q931_codec.specs.declared.message.Message.{Message}
-use Rattle.q931_codec.specs.Contents.{channel_in}
+use Rattle.q931_codec.specs.Contents.{channel_in, complete_in}
 use Rattle.number_plan.specs.declared.plan.Number.{Number}
 use Rattle.number_plan.specs.declared.target.Found.{Found}
 use Rattle.number_plan.specs.declared.target.Found.TheVariants.{Line, Room, More, Nothing}
@@ -57,16 +57,16 @@ same_target s m numbers target plan is = ap (λ ns. found_for ns (unwrap_or (dig
 
 module _ (s : Setting) (w : World) (line : ℕ) (m : Message) (target : Found) (leads : target_of s m ≡ target) where
   pub element_refused : (cause : ℕ) → first_cause (element_checks m) ≡ Some cause → refusal s w line m ≡ Some cause
-  element_refused cause e = some_fails (element_checks m) (number_checks (target_of s m) ++ slot_checks s.dimensions w line (channel_in m.elements) (target_of s m)) cause e
+  element_refused cause e = some_fails (element_checks m) (number_checks (target_of s m) (complete_in m.elements) ++ slot_checks s.dimensions w line (channel_in m.elements) (target_of s m)) cause e
 
-  pub number_refused : (cause : ℕ) → first_cause (element_checks m) ≡ None → first_cause (number_checks target) ≡ Some cause → refusal s w line m ≡ Some cause
+  pub number_refused : (cause : ℕ) → first_cause (element_checks m) ≡ None → first_cause (number_checks target (complete_in m.elements)) ≡ Some cause → refusal s w line m ≡ Some cause
   number_refused cause read e =
-      none_fails (element_checks m) (number_checks (target_of s m) ++ slot_checks s.dimensions w line (channel_in m.elements) (target_of s m)) read
-      ∙ some_fails (number_checks (target_of s m)) (slot_checks s.dimensions w line (channel_in m.elements) (target_of s m)) cause (ap (λ t. first_cause (number_checks t)) leads ∙ e)
+      none_fails (element_checks m) (number_checks (target_of s m) (complete_in m.elements) ++ slot_checks s.dimensions w line (channel_in m.elements) (target_of s m)) read
+      ∙ some_fails (number_checks (target_of s m) (complete_in m.elements)) (slot_checks s.dimensions w line (channel_in m.elements) (target_of s m)) cause (ap (λ t. first_cause (number_checks t (complete_in m.elements))) leads ∙ e)
 
-  pub slot_refused : (why : Option ℕ) → first_cause (element_checks m) ≡ None → first_cause (number_checks target) ≡ None → first_cause (slot_checks s.dimensions w line (channel_in m.elements) target) ≡ why → refusal s w line m ≡ why
+  pub slot_refused : (why : Option ℕ) → first_cause (element_checks m) ≡ None → first_cause (number_checks target (complete_in m.elements)) ≡ None → first_cause (slot_checks s.dimensions w line (channel_in m.elements) target) ≡ why → refusal s w line m ≡ why
   slot_refused why read known e =
-      none_fails (element_checks m) (number_checks (target_of s m) ++ slot_checks s.dimensions w line (channel_in m.elements) (target_of s m)) read
-      ∙ none_fails (number_checks (target_of s m)) (slot_checks s.dimensions w line (channel_in m.elements) (target_of s m)) (ap (λ t. first_cause (number_checks t)) leads ∙ known)
+      none_fails (element_checks m) (number_checks (target_of s m) (complete_in m.elements) ++ slot_checks s.dimensions w line (channel_in m.elements) (target_of s m)) read
+      ∙ none_fails (number_checks (target_of s m) (complete_in m.elements)) (slot_checks s.dimensions w line (channel_in m.elements) (target_of s m)) (ap (λ t. first_cause (number_checks t (complete_in m.elements))) leads ∙ known)
       ∙ ap (λ t. first_cause (slot_checks s.dimensions w line (channel_in m.elements) t)) leads
       ∙ e

@@ -30,12 +30,12 @@ abbrev pub key_on : List ℕ → ℕ → ℕ → ℕ
 key_on keys line place = slice_index_or keys (32 * line + place) no_key
 
 -- the leg at a place of a line
-abbrev pub leg_on : Legs → ℕ → ℕ → Option Leg
+abbrev pub leg_on : List (Option Leg) → ℕ → ℕ → Option Leg
 leg_on legs line place = slice_index_or legs (30 * line + place) None
 
 -- so many lines have thirty slots each, whose legs have numbers that a message can carry; and each line has the keys of its thirty slots, with two
 -- places behind them that have no leg's
-pub record AreKeysOf (lines : ℕ) (legs : Legs) (keys : List ℕ) : Type 0 where
+pub record AreKeysOf (lines : ℕ) (legs : List (Option Leg)) (keys : List ℕ) : Type 0 where
   pub slots : length legs ≡ 30 * lines
   pub rows : length keys ≡ 32 * lines
   pub told : All (λ leg. IfSome leg FitsMessages) legs
@@ -45,7 +45,7 @@ pub record AreKeysOf (lines : ℕ) (legs : Legs) (keys : List ℕ) : Type 0 wher
 -- a row of 32 keys is that of a line
 pub record IsRowOf (legs : Legs) (line : ℕ) (row : List ℕ) : Type 0 where
   pub size : length row ≡ 32
-  pub each : (place : ℕ) → place < 30 → slice_index row place ≡ key_of (leg_on legs line place)
+  pub each : (place : ℕ) → place < 30 → slice_index row place ≡ key_of (leg_on legs.held line place)
   pub behind : (place : ℕ) → 30 ≤ place → place < 32 → slice_index row place ≡ no_key
 
 -- the bit of a place whose key this is

@@ -76,7 +76,7 @@ impl<P: PathMap> CallControl<P> {
     )
         requires work { (d : Dimensions) × (w : World) × Holds d self.old.map self.old.legs w }
         requires there { IsThere self.old.map.external held }
-        requires count { length self.old.legs ≡ 30 * self.old.map.external }
+        requires count { length self.old.legs.held ≡ 30 * self.old.map.external }
         requires peer { peer ≡ peer_of self.old.legs held.leg.peer }
         requires peer_there { PeerIsThere self.old.map.external held peer }
         requires cause { IfSome (cause_of_act act) (λ cause. cause < 128) }
@@ -120,7 +120,7 @@ impl<P: PathMap> CallControl<P> {
     // trace gives that tone.
     fn on_alerting(&mut self, out: &mut Outbox, tones: &Tones, held: Held, peer: Option<Held>)
         requires there { IsThere self.old.map.external held }
-        requires count { length self.old.legs ≡ 30 * self.old.map.external }
+        requires count { length self.old.legs.held ≡ 30 * self.old.map.external }
         requires peer_there { PeerIsThere self.old.map.external held peer }
         requires waiting { IsSilent self.old.map peer }
         requires room { length out.old.sends < most_sends }
@@ -144,7 +144,7 @@ impl<P: PathMap> CallControl<P> {
     fn on_connect(&mut self, out: &mut Outbox, held: Held, peer: Option<Held>)
         requires work { (d : Dimensions) × (w : World) × Holds d self.old.map self.old.legs w }
         requires there { IsThere self.old.map.external held }
-        requires count { length self.old.legs ≡ 30 * self.old.map.external }
+        requires count { length self.old.legs.held ≡ 30 * self.old.map.external }
         requires peer_there { PeerIsThere self.old.map.external held peer }
         requires silent { hears_at self.old.map held.slot ≡ None }
         requires room { length out.old.sends + 1 < most_sends }
@@ -184,10 +184,10 @@ impl<P: PathMap> CallControl<P> {
     // DISCONNECT: the user of the leg has asked for the call to be cleared.
     fn on_disconnect(&mut self, out: &mut Outbox, held: Held)
         requires there { IsThere self.old.map.external held }
-        requires count { length self.old.legs ≡ 30 * self.old.map.external }
+        requires count { length self.old.legs.held ≡ 30 * self.old.map.external }
         requires room { length out.old.sends < most_sends }
         ensures makes { Performs (on_disconnect held) self.old.map self.old.legs out.old self.new.map self.new.legs out.new }
-        ensures count { length self.new.legs ≡ length self.old.legs }
+        ensures count { length self.new.legs.held ≡ length self.old.legs.held }
         ensures sends { length out.new.sends ≡ length out.old.sends + 1 }
         ensures moved { out.new.moved ≡ out.old.moved }
         ensures sizes { SameSizes self.old.map self.new.map }
@@ -207,10 +207,10 @@ impl<P: PathMap> CallControl<P> {
     // RELEASE: the user of the leg has released its channel, and its call reference is released.
     fn on_release(&mut self, out: &mut Outbox, held: Held)
         requires there { IsThere self.old.map.external held }
-        requires count { length self.old.legs ≡ 30 * self.old.map.external }
+        requires count { length self.old.legs.held ≡ 30 * self.old.map.external }
         requires room { length out.old.sends < most_sends }
         ensures makes { Performs (on_release held) self.old.map self.old.legs out.old self.new.map self.new.legs out.new }
-        ensures count { length self.new.legs ≡ length self.old.legs }
+        ensures count { length self.new.legs.held ≡ length self.old.legs.held }
         ensures sends { length out.new.sends ≡ length out.old.sends + 1 }
         ensures moved { out.new.moved ≡ out.old.moved }
         ensures sizes { SameSizes self.old.map self.new.map }
@@ -222,9 +222,9 @@ impl<P: PathMap> CallControl<P> {
     /// RELEASE COMPLETE, or a restart: the leg is gone, and every circuit that names its slot.
     pub(crate) fn remove_leg(&mut self, held: Held)
         requires external { IsExternal self.old.map.external held.slot }
-        requires count { length self.old.legs ≡ 30 * self.old.map.external }
+        requires count { length self.old.legs.held ≡ 30 * self.old.map.external }
         ensures makes { PerformsQuietly (remove_leg held) self.old.map self.old.legs self.new.map self.new.legs }
-        ensures count { length self.new.legs ≡ length self.old.legs }
+        ensures count { length self.new.legs.held ≡ length self.old.legs.held }
         ensures sizes { SameSizes self.old.map self.new.map }
     {
         self.clear(held.slot);
@@ -241,7 +241,7 @@ impl<P: PathMap> CallControl<P> {
         cause: u8,
     )
         requires there { IfSome peer (λ other. IsThere self.old.map.external other) }
-        requires count { length self.old.legs ≡ 30 * self.old.map.external }
+        requires count { length self.old.legs.held ≡ 30 * self.old.map.external }
         requires room { length out.old.sends < most_sends }
         requires cause { cause < 128 }
         ensures makes { Performs (with_peer peer (clear_with tones.now cause)) self.old.map self.old.legs out.old self.new.map self.new.legs out.new }

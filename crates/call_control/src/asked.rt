@@ -1,8 +1,10 @@
 //! What a call is made from.
 ghost use Rattle.std.specs.Prelude.{◌≡◌};
+ghost use Rattle.call_states.specs.Pending.{FitsElements};
 ghost use Rattle.call_profile.specs.Setup.{call_asked};
 ghost use Rattle.call_control.specs.Asked.{asked_of};
 
+use call_states::{Contents, Pending};
 use q931_codec::Message;
 
 /// What a call is made from: the contents of the elements that are passed on to the called user. No octets
@@ -31,5 +33,19 @@ pub(crate) fn asked_by<'a>(message: &Message<'a>) -> Asked<'a>
         called: message.called_number(),
         low: message.low_layer(),
         high: message.high_layer(),
+    }
+}
+
+/// The same as it is kept until the number is complete.
+pub(crate) fn pending_of(asked: &Asked) -> Pending
+    requires { FitsElements (asked_of asked.now) }
+    ensures { result ≡ asked_of asked.now }
+{
+    Pending {
+        bearer: Contents::of(asked.bearer),
+        calling: Contents::of(asked.calling),
+        called: Contents::of(asked.called),
+        low: Contents::of(asked.low),
+        high: Contents::of(asked.high),
     }
 }

@@ -4,9 +4,10 @@ ghost use Rattle.circuit_model.specs.declared.channel.Slot.{Slot};
 ghost use Rattle.circuit_model.specs.Extent.{IsExternal};
 ghost use Rattle.circuit_model.specs.Holding.{Connect, Seat as Take_seat, Clear};
 ghost use Rattle.circuit_map.specs.Connections.{SameSizes, hears_at, hears_after};
+ghost use Rattle.q931_codec.specs.CallStates.{overlap_sending};
 ghost use Rattle.call_states.specs.Status.{FitsMessages};
 ghost use Rattle.call_profile.specs.IdleSlots.{idle};
-ghost use Rattle.call_profile.specs.Legs.{leg_at, with_leg, without_leg};
+ghost use Rattle.call_profile.specs.Legs.{leg_at, with_leg, with_waiting, without_leg};
 ghost use Rattle.call_profile.specs.Operations.{moves_for, moves_of_seat, with_tone};
 ghost use Rattle.call_profile.specs.Permitted.{CanSeat};
 ghost use Rattle.call_control.specs.Standing.{Holds};
@@ -14,7 +15,7 @@ ghost use Rattle.exchange_events.specs.Sizes.{Dimensions};
 ghost use Rattle.call_profile.specs.World.{World, obey};
 
 use crate::leg_table::LegTable;
-use call_states::Leg;
+use call_states::{Leg, Pending};
 use circuit_map::CircuitMap;
 use circuit_model::{Kind, Slot};
 use control_memory::PathMap;
@@ -99,21 +100,34 @@ impl<P: PathMap> CallControl<P> {
         }
     }
 
-    /// Lets a leg hold a slot, in place of any other.
+    /// Lets a leg hold a slot, in place of any other; no number is pending there then.
     pub(crate) fn put(&mut self, x: Slot, leg: Leg)
         requires external { IsExternal self.old.map.external x }
-        requires count { length self.old.legs ≡ 30 * self.old.map.external }
+        requires count { length self.old.legs.held ≡ 30 * self.old.map.external }
         requires told { FitsMessages leg }
+        requires state { leg.state ≢ overlap_sending }
         ensures legs { self.new.legs ≡ with_leg self.old.legs x leg }
         ensures map { self.new.map ≡ self.old.map }
     {
         self.legs.put(x, leg);
     }
 
-    /// Lets no leg hold a slot.
+    /// Lets a leg hold a slot, in place of any other, and wait there with its number.
+    pub(crate) fn wait(&mut self, x: Slot, leg: Leg, pending: Pending)
+        requires external { IsExternal self.old.map.external x }
+        requires count { length self.old.legs.held ≡ 30 * self.old.map.external }
+        requires told { FitsMessages leg }
+        requires state { leg.state ≡ overlap_sending }
+        ensures legs { self.new.legs ≡ with_waiting self.old.legs x leg pending }
+        ensures map { self.new.map ≡ self.old.map }
+    {
+        self.legs.wait(x, leg, pending);
+    }
+
+    /// Lets no leg hold a slot; no number is pending there then.
     pub(crate) fn remove(&mut self, x: Slot)
         requires external { IsExternal self.old.map.external x }
-        requires count { length self.old.legs ≡ 30 * self.old.map.external }
+        requires count { length self.old.legs.held ≡ 30 * self.old.map.external }
         ensures legs { self.new.legs ≡ without_leg self.old.legs x }
         ensures map { self.new.map ≡ self.old.map }
     {

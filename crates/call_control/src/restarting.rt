@@ -94,7 +94,7 @@ impl<P: PathMap> CallControl<P> {
         peer: Option<Held>,
     )
         requires there { IfSome peer (λ other. IsThere self.old.map.external other) }
-        requires count { length self.old.legs ≡ 30 * self.old.map.external }
+        requires count { length self.old.legs.held ≡ 30 * self.old.map.external }
         requires room { length out.old.sends < most_sends }
         ensures makes { Performs (with_peer peer (restart_peer tones.now asked line)) self.old.map self.old.legs out.old self.new.map self.new.legs out.new }
         ensures few { length out.new.sends ≤ length out.old.sends + 1 }

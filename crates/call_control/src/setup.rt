@@ -8,7 +8,7 @@ ghost use Rattle.call_control.specs.Choices.{IsReached, MayAccept, accept_setup}
 ghost use Rattle.call_profile.specs.Legs.{leg_named};
 ghost use Rattle.call_profile.specs.Operations.{making_at, making_after_all};
 ghost use Rattle.exchange_events.specs.Sizes.{Setting, Dimensions};
-ghost use Rattle.call_profile.specs.Setup.{course_of_setup, target_of, caller_leg, called_leg, call_proceeding, offer, call_line, call_room};
+ghost use Rattle.call_profile.specs.Setup.{course_of_setup, target_of, caller_leg, called_leg, with_channel, call_proceeding, setup_acknowledge, offer, call_line, call_room, await_digits};
 ghost use Rattle.call_control.specs.Standing.{Holds, HasMade, Performs};
 ghost use Rattle.call_profile.specs.World.{World};
 ghost use Rattle.circuit_model.specs.Extent.{IsExternal};
@@ -17,7 +17,7 @@ ghost use Rattle.call_control.specs.Asked.{asked_of};
 ghost use Rattle.call_states.specs.Pending.{FitsElements};
 ghost use Rattle.q931_codec.specs.Outgoing.{outgoing_of};
 
-use crate::asked::{Asked, asked_by};
+use crate::asked::{Asked, asked_by, pending_of};
 use crate::operations::CallControl;
 use crate::reading_ahead::{DialledNumber, dialled};
 use crate::sending::{message_to, refuse, send};
@@ -26,7 +26,7 @@ use circuit_model::{Slot, channel_of};
 use control_memory::PathMap;
 use exchange_events::Outbox;
 use number_plan::{Found, Plan};
-use q931_codec::states::{ACTIVE, CALL_PRESENT, OUTGOING_CALL_PROCEEDING};
+use q931_codec::states::{ACTIVE, CALL_PRESENT, OUTGOING_CALL_PROCEEDING, OVERLAP_SENDING};
 use q931_codec::{Message, MessageKind, Outgoing};
 
 impl<P: PathMap> CallControl<P> {
@@ -73,17 +73,17 @@ impl<P: PathMap> CallControl<P> {
         let Some(caller) = self.caller_slot(line, message.channel()) else {
             return;
         };
+        let asked = asked_by(message);
         match target {
             Found::Line(line) => {
                 let Some(called) = self.lowest_idle_beside(caller, line) else {
                     return;
                 };
                 let reference = self.legs.new_reference(line);
-                let asked = asked_by(message);
                 self.call_line(out, message.reference, &asked, caller, called, reference);
             }
             Found::Room(room) => self.call_room(out, message.reference, caller, room),
-            Found::More => {}
+            Found::More => self.await_digits(out, message.reference, &asked, caller),
             Found::Nothing => {}
         }
     }
@@ -101,7 +101,7 @@ impl<P: PathMap> CallControl<P> {
     )
         requires external_x { IsExternal self.old.map.external x }
         requires external_y { IsExternal self.old.map.external y }
-        requires count { length self.old.legs ≡ 30 * self.old.map.external }
+        requires count { length self.old.legs.held ≡ 30 * self.old.map.external }
         requires room { length out.old.sends ≤ 60 }
         requires own { own < 2 ^ 15 }
         requires reference { reference < 2 ^ 15 }
@@ -118,11 +118,27 @@ impl<P: PathMap> CallControl<P> {
         send(out, y.line, &offer(asked, y, &called));
     }
 
+    // Lets a caller wait for the rest of its number, and asks it for that.
+    fn await_digits(&mut self, out: &mut Outbox, own: u16, asked: &Asked, x: Slot)
+        requires external { IsExternal self.old.map.external x }
+        requires count { length self.old.legs.held ≡ 30 * self.old.map.external }
+        requires room { length out.old.sends ≤ 60 }
+        requires own { own < 2 ^ 15 }
+        requires fits { FitsElements (asked_of asked.now) }
+        ensures makes { Performs (await_digits own (asked_of asked.now) x) self.old.map self.old.legs out.old self.new.map self.new.legs out.new }
+        ensures moved { out.new.moved ≡ out.old.moved }
+        ensures map { self.new.map ≡ self.old.map }
+    {
+        let caller = caller_leg(OVERLAP_SENDING, own, Peer::Alone);
+        self.wait(x, caller, pending_of(asked));
+        send(out, x.line, &setup_acknowledge(x, &caller));
+    }
+
     // Makes a call to a conference room, which is answered at once.
     fn call_room(&mut self, out: &mut Outbox, own: u16, x: Slot, room: u8)
         requires can { (d : Dimensions) × (w : World) × Holds d self.old.map self.old.legs w × CanSeat d w x }
         requires external { IsExternal self.old.map.external x }
-        requires count { length self.old.legs ≡ 30 * self.old.map.external }
+        requires count { length self.old.legs.held ≡ 30 * self.old.map.external }
         requires room { length out.old.sends ≤ 60 }
         requires own { own < 2 ^ 15 }
         ensures makes { Performs (call_room own x room) self.old.map self.old.legs out.old self.new.map self.new.legs out.new }
@@ -168,9 +184,25 @@ fn call_proceeding(x: Slot, leg: &Leg) -> Outgoing<'static>
     requires place { x.place < 30 }
     ensures { outgoing_of result ≡ call_proceeding x leg.now }
 {
+    with_channel(x, message_to(leg, MessageKind::CallProceeding))
+}
+
+// The SETUP ACKNOWLEDGE that tells the caller its channel, and asks for the rest of the number.
+fn setup_acknowledge(x: Slot, leg: &Leg) -> Outgoing<'static>
+    requires place { x.place < 30 }
+    ensures { outgoing_of result ≡ setup_acknowledge x leg.now }
+{
+    with_channel(x, message_to(leg, MessageKind::SetupAcknowledge))
+}
+
+// A message that tells the user the channel of its call.
+fn with_channel(x: Slot, message: Outgoing<'static>) -> Outgoing<'static>
+    requires place { x.place < 30 }
+    ensures { outgoing_of result ≡ with_channel x (outgoing_of message.entry) }
+{
     Outgoing {
         channel: Some(channel_of(x.place)),
-        ..message_to(leg, MessageKind::CallProceeding)
+        ..message
     }
 }
 

@@ -1,7 +1,7 @@
 //! The checks of a SETUP: what it asks for, which slots its call gets, and the cause with which it is refused.
 ghost use Rattle.std.specs.Prelude.{◌≡◌, ◌<◌, is_some, IfSome};
 ghost use Rattle.call_profile.specs.Setup.{digits_in, lacks_number, slot_of, slot_asked, element_checks, number_checks, first_cause, caller_slot, is_taken, slot_checks, refusal, target_of};
-ghost use Rattle.q931_codec.specs.Contents.{called_received};
+ghost use Rattle.q931_codec.specs.Contents.{called_received, complete_in};
 ghost use Rattle.circuit_model.specs.Extent.{IsExternal};
 ghost use Rattle.call_control.specs.Choices.{IsReached, idle_beside, called_checks};
 ghost use Rattle.call_profile.specs.IdleSlots.{lowest_idle, lowest_idle_beside};
@@ -138,7 +138,7 @@ impl<P: PathMap> CallControl<P> {
         if let Some(cause) = element_cause(message, number.is_readable) {
             return Some(cause);
         }
-        match number_cause(number.target) {
+        match number_cause(number.target, message.sending_complete()) {
             Some(cause) => Some(cause),
             None => self.slot_cause(line, message.channel(), number.target),
         }
@@ -190,23 +190,23 @@ fn element_cause(message: &Message, is_readable: bool) -> Option<u8>
     None
 }
 
-// Whether a SETUP has no called party number that can be one.
+// Whether a SETUP has a called party number that can't be one, or none though nothing more of it comes.
 fn lacks_number(message: &Message) -> bool
-    ensures { result ≡ lacks_number (called_received message.now.elements) }
+    ensures { result ≡ lacks_number (called_received message.now.elements) (complete_in message.now.elements) }
 {
     match message.called_contents() {
         Some(contents) => !is_called_number(contents),
-        None => true,
+        None => message.sending_complete(),
     }
 }
 
-// The cause of the first check of its number that a SETUP fails.
-fn number_cause(target: Found) -> Option<u8>
-    ensures { result ≡ first_cause (number_checks target) }
+// The cause of the first check of its number that a SETUP fails, given whether nothing more of it comes.
+fn number_cause(target: Found, complete: bool) -> Option<u8>
+    ensures { result ≡ first_cause (number_checks target complete) }
 {
     match target {
         Found::Nothing => Some(UNALLOCATED_NUMBER),
-        Found::More => Some(INVALID_NUMBER_FORMAT),
-        Found::Line(_) | Found::Room(_) => None,
+        Found::More if complete => Some(INVALID_NUMBER_FORMAT),
+        Found::More | Found::Line(_) | Found::Room(_) => None,
     }
 }

@@ -13,7 +13,7 @@ use Rattle.call_profile.specs.LegStanding.{CallsStand}
 use Rattle.call_profile.specs.Legs.{Legs, leg_at, new_reference}
 use Rattle.call_profile.specs.Permitted.{CanSeat}
 use Rattle.exchange_events.specs.Sizes.{Setting, Dimensions}
-use Rattle.call_profile.specs.Setup.{Check, checks, first_cause, refusal, caller_slot, called_slot, target_of, call, call_asked, call_line, call_room, accept, is_room_full}
+use Rattle.call_profile.specs.Setup.{Check, checks, first_cause, refusal, caller_slot, called_slot, target_of, call, call_asked, call_line, call_room, await_digits, accept, is_room_full}
 use Rattle.call_profile.specs.World.{World, is_full}
 use Rattle.call_profile.proofs.CommandLemmas.{both_true, not_full}
 use Rattle.call_profile.proofs.SetupLemmas.{all_pass, all_from, caller_is}
@@ -30,7 +30,7 @@ module _ (s : Setting) (w : World) (m : Message) (x : Slot) where
   pub accepts_room : (room : ℕ) → target_of s m ≡ Room room → accept s w m (Some x) ≡ call_room m.reference x room
   accepts_room room is = ap (λ t. call w m x t (called_slot w x t)) is
 
-  pub accepts_more : target_of s m ≡ More → accept s w m (Some x) ≡ []
+  pub accepts_more : target_of s m ≡ More → accept s w m (Some x) ≡ await_digits m.reference (call_asked m) x
   accepts_more is = ap (λ t. call w m x t (called_slot w x t)) is
 
   pub accepts_nothing : target_of s m ≡ Nothing → accept s w m (Some x) ≡ []

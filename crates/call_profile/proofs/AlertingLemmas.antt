@@ -76,7 +76,7 @@ module _ (d : Dimensions) (tones : Tones) (w : World) (x y : Slot) (leg other : 
           state_x = refl;
           state_y = old.state;
           matched = subst (λ t. are_matched t incoming_call_proceeding ≡ true) (sym waited) refl;
-          size = length-set w.legs (number_of x) (Some (in_state incoming_call_proceeding leg)) ∙ stand.count;
+          size = length-set w.legs.held (number_of x) (Some (in_state incoming_call_proceeding leg)) ∙ stand.count;
           here_x = entry_here d.external w.legs x (Some (in_state incoming_call_proceeding leg)) stand.count peers.in_x;
           here_y = entry_else d.external w.legs x y (Some (in_state incoming_call_proceeding leg)) peers.in_x peers.in_y peers.apart ∙ peers.at_y;
           hears_x = subst (MayHear tones (in_state incoming_call_proceeding leg)) (sym silent) (λ e. absurd cc, refl);

@@ -1,5 +1,5 @@
 -- Legs stand as before where a message touches two slots alone.
-use Rattle.std.proofs.Common.{◌≡◌, ℕ, ◌*◌, ◌⊎◌, inl, inr, length, set, Option, Some, None, refl, sym, ◌∙◌, ap, subst, arith, get_or-set_same, get_or-set_other}
+use Rattle.std.proofs.Common.{◌≡◌, ℕ, ◌*◌, ◌⊎◌, inl, inr, length, Option, Some, None, refl, sym, ◌∙◌, ap, subst, arith, get_or-set_same, get_or-set_other, set-set}
 use Rattle.circuit_model.specs.declared.channel.Slot.{Slot}
 use Rattle.circuit_model.specs.Circuits.{heard_by, same_slot}
 use Rattle.circuit_model.specs.Extent.{IsExternal}
@@ -13,16 +13,20 @@ use Rattle.call_states.specs.declared.leg.Side.{Side}
 use Rattle.call_states.specs.declared.leg.Side.TheVariants.{Caller, Called}
 use Rattle.tone_rules.specs.declared.tones.Tones.{Tones}
 use Rattle.call_profile.specs.LegStanding.{LegStands, LegsStand, HasPeer, MayHear, IsInCall}
-use Rattle.call_profile.specs.Legs.{Legs, leg_at}
+use Rattle.call_profile.specs.Legs.{Legs, leg_at, with_entry}
 use Rattle.call_profile.specs.World.{World}
 
 -- ---- a table of legs with one entry written
 
-pub entry_here : (external : ℕ) (legs : Legs) (x : Slot) (o : Option Leg) → length legs ≡ 30 * external → IsExternal external x → leg_at (set legs (number_of x) o) x ≡ o
-entry_here external legs x o size inside = get_or-set_same legs (number_of x) o None (let n = number_inside external x inside in omega (arith, n, size))
+pub entry_here : (external : ℕ) (legs : Legs) (x : Slot) (o : Option Leg) → length legs.held ≡ 30 * external → IsExternal external x → leg_at (with_entry legs x o) x ≡ o
+entry_here external legs x o size inside = get_or-set_same legs.held (number_of x) o None (let n = number_inside external x inside in omega (arith, n, size))
 
-pub entry_else : (external : ℕ) (legs : Legs) (x z : Slot) (o : Option Leg) → IsExternal external x → IsExternal external z → (z ≡ x → ⊥) → leg_at (set legs (number_of x) o) z ≡ leg_at legs z
-entry_else external legs x z o at_x at_z apart = get_or-set_other legs (number_of x) (number_of z) o None (λ e. apart (same_number z x at_z.1 at_x.1 e))
+pub entry_else : (external : ℕ) (legs : Legs) (x z : Slot) (o : Option Leg) → IsExternal external x → IsExternal external z → (z ≡ x → ⊥) → leg_at (with_entry legs x o) z ≡ leg_at legs z
+entry_else external legs x z o at_x at_z apart = get_or-set_other legs.held (number_of x) (number_of z) o None (λ e. apart (same_number z x at_z.1 at_x.1 e))
+
+-- of two entries for one slot the second is left
+pub entry_twice : (legs : Legs) (x : Slot) (o p : Option Leg) → with_entry (with_entry legs x o) x p ≡ with_entry legs x p
+entry_twice legs x o p = λ i. record { held = set-set legs.held (number_of x) o p i; pending = set-set legs.pending (number_of x) None None i }
 
 -- one slot or another
 pub same_or_apart : (x y : Slot) → (x ≡ y) ⊎ (x ≡ y → ⊥)

@@ -1,5 +1,5 @@
 -- The legs stand after one leg of a call is released and the other is disconnected.
-use Rattle.std.proofs.Common.{◌≡◌, ℕ, ◌<◌, true, inl, inr, length, set, Option, Some, None, refl, sym, ◌∙◌, ap, subst, length-set}
+use Rattle.std.proofs.Common.{◌≡◌, ℕ, ◌<◌, true, inl, inr, length, Option, Some, None, refl, sym, ◌∙◌, ap, subst, length-set}
 use Rattle.circuit_model.specs.declared.channel.Slot.{Slot}
 use Rattle.circuit_model.specs.declared.circuit.Kind.{Kind}
 use Rattle.circuit_model.specs.Circuits.{heard_by, is_idle}
@@ -12,7 +12,7 @@ use Rattle.call_states.specs.declared.leg.Peer.TheVariants as peer
 use Rattle.tone_rules.specs.declared.tones.Tones.{Tones}
 use Rattle.call_profile.specs.Acts.{in_disconnect_indication, tone_of}
 use Rattle.call_profile.specs.LegStanding.{LegStands, LegsStand, MayHear}
-use Rattle.call_profile.specs.Legs.{leg_at}
+use Rattle.call_profile.specs.Legs.{Legs, leg_at, with_entry}
 use Rattle.call_profile.specs.Operations.{with_tone}
 use Rattle.call_profile.specs.World.{World}
 use Rattle.call_profile.proofs.BesideLemmas.{entry_here, entry_else, same_or_apart, named_back, Beside, each_stands, SameReferences, still_one}
@@ -47,7 +47,7 @@ strange_both external tones w x y leg other stand peers z l in_z at_z not_x not_
 
 module _ (external : ℕ) (tones : Tones) (bridges : ℕ) (w v : World) (x y : Slot) (leg other : Leg) (o : Option Leg) (cause : ℕ) (small : cause < 128) (valid : Valid bridges w.holding) (stand : LegsStand external tones w)
     (peers : ArePeers external w x y leg other) (left : IsLeft leg o)
-    (legs : v.legs ≡ set (set w.legs (number_of x) o) (number_of y) (Some (in_disconnect_indication cause other)))
+    (legs : v.legs ≡ with_entry (with_entry w.legs x o) y (Some (in_disconnect_indication cause other)))
     (holding : v.holding ≡ with_tone (after (after w.holding (Clear x)) (Clear y)) y (tone_of tones (in_disconnect_indication cause other))) where
   -- once both slots are cleared, and before the one gets its tone
   abbrev cleared : Holding
@@ -62,19 +62,19 @@ module _ (external : ℕ) (tones : Tones) (bridges : ℕ) (w v : World) (x y : S
   legs_both : (z : Slot) → IsExternal external z → (z ≡ x → ⊥) → (z ≡ y → ⊥) → leg_at v.legs z ≡ leg_at w.legs z
   legs_both z in_z not_x not_y =
       ap (λ ls. leg_at ls z) legs
-      ∙ entry_else external (set w.legs (number_of x) o) y z (Some (in_disconnect_indication cause other)) peers.in_y in_z not_y
+      ∙ entry_else external (with_entry w.legs x o) y z (Some (in_disconnect_indication cause other)) peers.in_y in_z not_y
       ∙ entry_else external w.legs x z o peers.in_x in_z not_x
 
   here_x : leg_at v.legs x ≡ o
   here_x =
       ap (λ ls. leg_at ls x) legs
-      ∙ entry_else external (set w.legs (number_of x) o) y x (Some (in_disconnect_indication cause other)) peers.in_y peers.in_x (λ e. peers.apart (sym e))
+      ∙ entry_else external (with_entry w.legs x o) y x (Some (in_disconnect_indication cause other)) peers.in_y peers.in_x (λ e. peers.apart (sym e))
       ∙ entry_here external w.legs x o stand.count peers.in_x
 
   here_y : leg_at v.legs y ≡ Some (in_disconnect_indication cause other)
   here_y =
       ap (λ ls. leg_at ls y) legs
-      ∙ entry_here external (set w.legs (number_of x) o) y (Some (in_disconnect_indication cause other)) (length-set w.legs (number_of x) o ∙ stand.count) peers.in_y
+      ∙ entry_here external (with_entry w.legs x o) y (Some (in_disconnect_indication cause other)) (length-set w.legs.held (number_of x) o ∙ stand.count) peers.in_y
 
   beside_both : Beside external w v x y
   beside_both = record {
@@ -123,7 +123,7 @@ module _ (external : ℕ) (tones : Tones) (bridges : ℕ) (w v : World) (x y : S
 
   pub both_cleared : LegsStand external tones v
   both_cleared = record {
-    count = ap length legs ∙ length-set (set w.legs (number_of x) o) (number_of y) (Some (in_disconnect_indication cause other)) ∙ length-set w.legs (number_of x) o ∙ stand.count;
+    count = ap (λ (ls : Legs). length ls.held) legs ∙ length-set (with_entry w.legs x o).held (number_of y) (Some (in_disconnect_indication cause other)) ∙ length-set w.legs.held (number_of x) o ∙ stand.count;
     each = each_stands external tones w v x y beside_both stand new_x new_y;
     one = still_one external tones w v references_both stand;
   }

@@ -1,10 +1,9 @@
 -- The acts that begin to clear a call keep the legs standing.
-use Rattle.std.proofs.Common.{◌≡◌, ℕ, ◌<◌, inl, inr, set, Option, Some, None, refl, sym, ◌∙◌, ap, subst}
+use Rattle.std.proofs.Common.{◌≡◌, ℕ, ◌<◌, inl, inr, Option, Some, None, refl, sym, ◌∙◌, ap, subst}
 use Rattle.circuit_model.specs.declared.channel.Slot.{Slot}
 use Rattle.circuit_model.specs.Extent.{IsExternal}
 use Rattle.circuit_model.specs.Holding.{Holding, Clear as Clear_slot, after, Valid}
 use Rattle.circuit_model.proofs.Validity.{valid-clear}
-use Rattle.control_memory.specs.Layout.{number_of}
 use Rattle.q931_codec.specs.declared.kind.MessageKind.{MessageKind}
 use Rattle.call_states.specs.declared.act.Act.TheVariants as act
 use Rattle.call_states.specs.declared.leg.Leg.{Leg}
@@ -17,7 +16,7 @@ use Rattle.call_states.specs.declared.leg.Held.{Held}
 use Rattle.call_profile.specs.Acts.{course_of, in_release_request, in_disconnect_indication, tone_of, peer_of, with_peer, clear_with, on_disconnect, on_release, remove_leg}
 use Rattle.call_profile.specs.Calls.{making_by}
 use Rattle.call_profile.specs.LegStanding.{LegsStand, HasPeer, IsInCall}
-use Rattle.call_profile.specs.Legs.{Legs, leg_at, held_at}
+use Rattle.call_profile.specs.Legs.{Legs, leg_at, held_at, with_entry}
 use Rattle.call_profile.specs.Operations.{Making, making_at, making_after_all, with_tone}
 use Rattle.exchange_events.specs.Sizes.{Setting, Dimensions}
 use Rattle.call_profile.specs.World.{World}
@@ -60,7 +59,7 @@ peers_of external w x y leg other in_x in_y at_x at_y call = record {
 
 module _ (d : Dimensions) (tones : Tones) (w : World) (x : Slot) (leg : Leg) (o : Option Leg) (cause : ℕ) (small : cause < 128) (valid : Valid d.bridges w.holding) (stand : LegsStand d.external tones w)
     (within : IsExternal d.external x) (at : leg_at w.legs x ≡ Some leg) (left : IsLeft leg o)
-    (m : Making) (legs : m.world.legs ≡ set w.legs (number_of x) o) (holding : m.world.holding ≡ after w.holding (Clear_slot x)) where
+    (m : Making) (legs : m.world.legs ≡ with_entry w.legs x o) (holding : m.world.holding ≡ after w.holding (Clear_slot x)) where
   valid_left : Valid d.bridges m.world.holding
   valid_left = subst (Valid d.bridges) (sym holding) (valid-clear d.bridges w.holding x valid)
 
@@ -74,7 +73,7 @@ module _ (d : Dimensions) (tones : Tones) (w : World) (x : Slot) (leg : Leg) (o 
         (tone_of tones (in_disconnect_indication cause other)),
     both_cleared d.external tones d.bridges w (making_after_all d m (clear_with tones cause (record { slot = y; leg = other }))).world x y leg other o cause small valid stand
         (peers_of d.external w x y leg other within in_y at at_y call) left
-        (ap (λ (ls : Legs). set ls (number_of y) (Some (in_disconnect_indication cause other))) legs)
+        (ap (λ (ls : Legs). with_entry ls y (Some (in_disconnect_indication cause other))) legs)
         (ap (λ (h : Holding). with_tone (after h (Clear_slot y)) y (tone_of tones (in_disconnect_indication cause other))) holding),
   )
 

@@ -68,7 +68,7 @@ module _ (external : ℕ) (tones : Tones) (w v : World) (same : v.legs ≡ w.leg
 
   pub still_stand : LegsStand external tones v
   still_stand = record {
-    count = ap length same ∙ stand.count;
+    count = ap (λ (ls : Legs). length ls.held) same ∙ stand.count;
     each = leg_stands;
     one = λ x y a b in_x in_y at_x at_y. stand.one x y a b in_x in_y (sym (ap (λ (ls : Legs). leg_at ls x) same) ∙ at_x) (sym (ap (λ (ls : Legs). leg_at ls y) same) ∙ at_y);
   }

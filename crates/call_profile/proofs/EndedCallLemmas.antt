@@ -73,10 +73,10 @@ told before after cause x leg at over =
 abbrev pub GoesOn : Legs → Legs → Slot → Type 0
 GoesOn before after x = is_calling (leg_at before x) ≡ true → is_calling (leg_at after x) ≡ true
 
-pub no_record_where_calling : (external : ℕ) (before after : World) (cause : ℕ) → length before.legs ≡ 30 * external
+pub no_record_where_calling : (external : ℕ) (before after : World) (cause : ℕ) → length before.legs.held ≡ 30 * external
     → ((x : Slot) → IsExternal external x → GoesOn before.legs after.legs x) → records before after cause ≡ []
 no_record_where_calling external before after cause size kept =
-    none_hit (λ n. record_at before after cause (slot_numbered n)) 0 (length before.legs)
+    none_hit (λ n. record_at before after cause (slot_numbered n)) 0 (length before.legs.held)
     (λ n low high. untold before after cause (slot_numbered n) (kept (slot_numbered n) (in_numbered external n (omega (arith, high, size)))))
 
 still_there : (before after : Legs) (x : Slot) (o : Option Leg) → leg_at before x ≡ o → ((leg : Leg) → o ≡ Some leg → is_calling (Some leg) ≡ true → leg_at after x ≡ Some leg)
@@ -85,7 +85,7 @@ still_there before after x None at kept calls = absurd cc
 still_there before after x (Some leg) at kept calls = rw (kept leg refl calls) calls
 
 -- no call ends where each caller's leg that calls stays as it was
-pub no_record_where_kept : (external : ℕ) (before after : World) (cause : ℕ) → length before.legs ≡ 30 * external
+pub no_record_where_kept : (external : ℕ) (before after : World) (cause : ℕ) → length before.legs.held ≡ 30 * external
     → ((x : Slot) (leg : Leg) → IsExternal external x → leg_at before.legs x ≡ Some leg → is_calling (Some leg) ≡ true → leg_at after.legs x ≡ Some leg)
     → records before after cause ≡ []
 no_record_where_kept external before after cause size kept =
@@ -93,7 +93,7 @@ no_record_where_kept external before after cause size kept =
     (λ x within calls. still_there before.legs after.legs x (leg_at before.legs x) refl (λ leg at. kept x leg within at) calls)
 
 -- where the caller's leg at one slot stops, and all others go on, its record is told alone
-pub one_record : (external : ℕ) (before after : World) (cause : ℕ) (x : Slot) (leg : Leg) → length before.legs ≡ 30 * external → IsExternal external x
+pub one_record : (external : ℕ) (before after : World) (cause : ℕ) (x : Slot) (leg : Leg) → length before.legs.held ≡ 30 * external → IsExternal external x
     → leg_at before.legs x ≡ Some leg → is_calling (leg_at after.legs x) ≡ false
     → ((z : Slot) → IsExternal external z → (z ≡ x → ⊥) → GoesOn before.legs after.legs z)
     → records before after cause ≡ cons_option (record_calling before cause (record { slot = x; leg = leg })) []
@@ -101,7 +101,7 @@ one_record external before after cause x leg size within at over others =
     let f : ℕ → Option CallRecord = λ n. record_at before after cause (slot_numbered n) in
     let inside = number_inside external x within in
     let slot = numbered_number x within.1 in
-    one_hit f 0 (length before.legs) (number_of x) (omega arith) (omega (arith, inside, size))
+    one_hit f 0 (length before.legs.held) (number_of x) (omega arith) (omega (arith, inside, size))
     (λ n low high apart.
     untold before after cause (slot_numbered n)
     (others (slot_numbered n) (in_numbered external n (omega (arith, high, size))) (λ e. apart (sym (number_numbered n) ∙ ap number_of e))))

@@ -21,11 +21,12 @@ use Rattle.exchange_events.specs.declared.trace.Event.TheVariants.{Nail, Seat as
 use Rattle.call_states.specs.Acts.{act_on}
 use Rattle.clearing_rules.specs.declared.scope.Restart.{Restart}
 use Rattle.clearing_rules.specs.UnknownReference.{answer_without_call}
+use Rattle.number_plan.specs.declared.plan.Number.{Number}
 use Rattle.call_profile.specs.Acts.{course_of}
 use Rattle.call_profile.specs.Calls.{Request, For_leg, New_call, On_no_call, Restarts, Unanswered, request_of, answer_back, outcome_for}
 use Rattle.call_profile.specs.IdleSlots.{idle, is_nailed}
 use Rattle.call_profile.specs.LegStanding.{CallsStand}
-use Rattle.call_profile.specs.Legs.{Legs, leg_at, with_leg, without_leg}
+use Rattle.call_profile.specs.Legs.{Legs, leg_at, with_leg, with_waiting, without_leg}
 use Rattle.call_profile.specs.Operations.{Operation, Making, making_at, making_after, making_after_all, with_tone}
 use Rattle.call_profile.specs.Operations as op
 use Rattle.call_profile.specs.Permitted.{CanSeat}
@@ -154,18 +155,19 @@ module _ (d : Dimensions) (tones : Tones) (w : World) (made : IsMade d tones w) 
 
 -- ---- a world after operations that were permitted
 
-made_performed : (d : Dimensions) (tones : Tones) (m : Making) (o : Operation) → IsPermitted d tones m o → IsMade d tones m.world → IsMade d tones (making_after d m o).world
-made_performed d tones m (op.Clear x) may made = made_clear d tones m.world made x
-made_performed d tones m (op.Pair x y) may made = made_pair d tones m.world made x y may
-made_performed d tones m (op.Seat x room) may made = made_seat d tones m.world made x room may
-made_performed d tones m (op.Sound x kind) may made = made_sound d tones m.world made x kind may
-made_performed d tones m (op.Put x leg) may made = made_legs d tones m.world made (with_leg m.world.legs x leg)
-made_performed d tones m (op.Remove x) may made = made_legs d tones m.world made (without_leg m.world.legs x)
-made_performed d tones m (op.Send line message) may made = made
+made_performed : (d : Dimensions) (tones : Tones) (plan : List Number) (m : Making) (o : Operation) → IsPermitted d tones plan m o → IsMade d tones m.world → IsMade d tones (making_after d m o).world
+made_performed d tones plan m (op.Clear x) may made = made_clear d tones m.world made x
+made_performed d tones plan m (op.Pair x y) may made = made_pair d tones m.world made x y may
+made_performed d tones plan m (op.Seat x room) may made = made_seat d tones m.world made x room may
+made_performed d tones plan m (op.Sound x kind) may made = made_sound d tones m.world made x kind may
+made_performed d tones plan m (op.Put x leg) may made = made_legs d tones m.world made (with_leg m.world.legs x leg)
+made_performed d tones plan m (op.Wait x leg p) may made = made_legs d tones m.world made (with_waiting m.world.legs x leg p)
+made_performed d tones plan m (op.Remove x) may made = made_legs d tones m.world made (without_leg m.world.legs x)
+made_performed d tones plan m (op.Send line message) may made = made
 
-made_performed_all : (d : Dimensions) (tones : Tones) (m : Making) (os : List Operation) → ArePermitted d tones m os → IsMade d tones m.world → IsMade d tones (making_after_all d m os).world
-made_performed_all d tones m [] may made = made
-made_performed_all d tones m (o ∷ os) may made = made_performed_all d tones (making_after d m o) os may.1 (made_performed d tones m o may.0 made)
+made_performed_all : (d : Dimensions) (tones : Tones) (plan : List Number) (m : Making) (os : List Operation) → ArePermitted d tones plan m os → IsMade d tones m.world → IsMade d tones (making_after_all d m os).world
+made_performed_all d tones plan m [] may made = made
+made_performed_all d tones plan m (o ∷ os) may made = made_performed_all d tones plan (making_after d m o) os may.1 (made_performed d tones plan m o may.0 made)
 
 -- ---- a world after a message
 
@@ -177,14 +179,14 @@ module _ (s : Setting) (w : World) (line : ℕ) (octets : List ℕ) (planned : I
   made_restarted : (r : Restart) → IsMade s.dimensions s.tones (restarts r).making.world
   made_restarted r = (each_below s.dimensions s.tones r line w (λ a. IsMade s.dimensions s.tones a.making.world × Kept s.dimensions s.tones a.making.world) (made, (stands.circuits, stands.legs)) (λ a place small k.
       let x : Slot = record { line = line; place = place } in (
-        made_performed_all s.dimensions s.tones a.making (restart_slot s.tones r a.making.world.legs x) (slot_permitted s.dimensions s.tones r a.making x k.1 (fits.0, small)) k.0,
+        made_performed_all s.dimensions s.tones s.plan a.making (restart_slot s.tones r a.making.world.legs x) (slot_permitted s.dimensions s.tones r a.making x k.1 (fits.0, small) s.plan) k.0,
         slot_kept s.dimensions s.tones r a.making x k.1 (fits.0, small),
       )) 30 (omega arith)).0
 
   made_received : (r : Request) → request_of w.legs line octets ≡ r → IsMade s.dimensions s.tones (outcome_for s w line r).making.world
-  made_received (For_leg h m) is = made_performed_all s.dimensions s.tones (making_at w) (course_of s.tones w.legs h m.kind (act_on h.leg.state m)).operations (act_may s w line octets planned fits stands h m is) made
-  made_received (New_call m) is = made_performed_all s.dimensions s.tones (making_at w) (course_of_setup s w line m).operations (call_may s w line octets planned fits stands m is) made
-  made_received (On_no_call m) is = made_performed_all s.dimensions s.tones (making_at w) (answer_back line (answer_without_call m)) (answer_may s w line octets planned fits stands m is) made
+  made_received (For_leg h m) is = made_performed_all s.dimensions s.tones s.plan (making_at w) (course_of s.tones w.legs h m.kind (act_on h.leg.state m)).operations (act_may s w line octets planned fits stands h m is) made
+  made_received (New_call m) is = made_performed_all s.dimensions s.tones s.plan (making_at w) (course_of_setup s w line m).operations (call_may s w line octets planned fits stands m is) made
+  made_received (On_no_call m) is = made_performed_all s.dimensions s.tones s.plan (making_at w) (answer_back line (answer_without_call m)) (answer_may s w line octets planned fits stands m is) made
   made_received (Restarts r) is = made_restarted r
   made_received Unanswered is = made
 

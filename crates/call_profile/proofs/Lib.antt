@@ -21,6 +21,9 @@ pub mod CommandLemmas
 pub mod NewCallLemmas
 pub mod SetupLemmas
 pub mod AcceptedSetupLemmas
+pub mod OctetLemmas
+pub mod PendingNumberLemmas
+pub mod WaitingLegLemmas
 pub mod StandingLegLemmas
 pub mod EndedCallLemmas
 pub mod RecordOfActLemmas

@@ -1,5 +1,5 @@
 -- An accepted SETUP keeps the legs standing.
-use Rattle.std.proofs.Common.{◌≡◌, ℕ, ◌*◌, ◌^◌, ◌<◌, ◌≤◌, inl, inr, true, false, length, set, Some, None, refl, sym, ◌∙◌, ap, subst, arith, length-set}
+use Rattle.std.proofs.Common.{◌≡◌, ℕ, ◌*◌, ◌^◌, ◌<◌, ◌≤◌, inl, inr, true, false, length, Some, None, refl, sym, ◌∙◌, ap, subst, arith, length-set}
 use Rattle.std.specs.Prelude.{is_none}
 use Rattle.circuit_model.specs.declared.channel.Slot.{Slot}
 use Rattle.circuit_model.specs.declared.circuit.Circuit.TheVariants.{Member}
@@ -11,16 +11,16 @@ use Rattle.circuit_model.proofs.Slots.{same_slot-refl, idle_is_deaf}
 use Rattle.circuit_model.proofs.Validity.{valid-seat}
 use Rattle.control_memory.specs.Layout.{number_of}
 use Rattle.q931_codec.specs.declared.message.Message.{Message}
-use Rattle.q931_codec.specs.CallStates.{outgoing_call_proceeding, active}
+use Rattle.q931_codec.specs.CallStates.{overlap_sending, outgoing_call_proceeding, active}
 use Rattle.call_states.specs.declared.leg.Leg.{Leg}
 use Rattle.call_states.specs.declared.leg.Peer.TheVariants as peer
 use Rattle.call_states.specs.declared.leg.Side.TheVariants.{Caller, Called}
 use Rattle.tone_rules.specs.declared.tones.Tones.{Tones}
 use Rattle.call_profile.specs.IdleSlots.{idle}
 use Rattle.call_profile.specs.LegStanding.{LegStands, LegsStand, MayHear, AreOneCall}
-use Rattle.call_profile.specs.Legs.{Legs, leg_at, leg_named}
+use Rattle.call_profile.specs.Legs.{Legs, leg_at, leg_named, with_entry}
 use Rattle.call_profile.specs.Operations.{making_at, making_after_all}
-use Rattle.call_profile.specs.Setup.{caller_leg, called_leg, call_asked, call_line, call_room}
+use Rattle.call_profile.specs.Setup.{caller_leg, called_leg, call_asked, call_line, call_room, await_digits}
 use Rattle.exchange_events.specs.Sizes.{Dimensions}
 use Rattle.call_profile.specs.World.{World, is_full}
 use Rattle.call_profile.proofs.BesideLemmas.{entry_here, entry_else, same_or_apart, Beside, each_stands}
@@ -41,16 +41,16 @@ Distinct external legs = (x y : Slot) (a b : Leg) → IsExternal external x → 
 abbrev HasNone : ℕ → Legs → Slot → Leg → Type 0
 HasNone external legs x new = (z : Slot) (l : Leg) → IsExternal external z → (z ≡ x → ⊥) → leg_at legs z ≡ Some l → z.line ≡ x.line → l.side ≡ new.side → l.reference ≡ new.reference → ⊥
 
-module _ (external : ℕ) (legs : Legs) (x : Slot) (new : Leg) (size : length legs ≡ 30 * external) (in_x : IsExternal external x) where
-  here_is : (z : Slot) (l : Leg) → z ≡ x → leg_at (set legs (number_of x) (Some new)) z ≡ Some l → l ≡ new
+module _ (external : ℕ) (legs : Legs) (x : Slot) (new : Leg) (size : length legs.held ≡ 30 * external) (in_x : IsExternal external x) where
+  here_is : (z : Slot) (l : Leg) → z ≡ x → leg_at (with_entry legs x (Some new)) z ≡ Some l → l ≡ new
   here_is z l is at =
-      let e : Some l ≡ Some new = sym at ∙ ap (leg_at (set legs (number_of x) (Some new))) is ∙ entry_here external legs x (Some new) size in_x in
+      let e : Some l ≡ Some new = sym at ∙ ap (leg_at (with_entry legs x (Some new))) is ∙ entry_here external legs x (Some new) size in_x in
       cc
 
-  else_is : (z : Slot) (l : Leg) → IsExternal external z → (z ≡ x → ⊥) → leg_at (set legs (number_of x) (Some new)) z ≡ Some l → leg_at legs z ≡ Some l
+  else_is : (z : Slot) (l : Leg) → IsExternal external z → (z ≡ x → ⊥) → leg_at (with_entry legs x (Some new)) z ≡ Some l → leg_at legs z ≡ Some l
   else_is z l in_z apart at = sym (entry_else external legs x z (Some new) in_x in_z apart) ∙ at
 
-  distinct_with : Distinct external legs → HasNone external legs x new → Distinct external (set legs (number_of x) (Some new))
+  distinct_with : Distinct external legs → HasNone external legs x new → Distinct external (with_entry legs x (Some new))
   distinct_with distinct none p q a b in_p in_q at_p at_q line side reference = elim (same_or_apart p x) [
     | inl p_is ↦ elim (same_or_apart q x) [
       | inl q_is ↦ p_is ∙ sym q_is
@@ -155,7 +155,7 @@ module _ (d : Dimensions) (tones : Tones) (w : World) (m : Message) (x y : Slot)
   none_caller z l in_z apart at line side same = none_named w.legs x.line false m.reference may.unused z l (line, in_z.1) at side same
 
   -- the caller's new leg is of the other side
-  none_called : HasNone d.external (set w.legs (number_of x) (Some caller)) y called
+  none_called : HasNone d.external (with_entry w.legs x (Some caller)) y called
   none_called z l in_z apart at line side same = elim (same_or_apart z x) [
     | inl is ↦
         let new_is = here_is d.external w.legs x caller may.stand.count may.in_x z l is at in
@@ -170,7 +170,7 @@ module _ (d : Dimensions) (tones : Tones) (w : World) (m : Message) (x y : Slot)
     record {
       count = both_size d.external w.legs x y (Some caller) (Some called) may.stand.count may.in_x offer.in_y offer.apart;
       each = each_stands d.external tones w after_call x y beside_call may.stand at_x at_y;
-      one = distinct_with d.external (set w.legs (number_of x) (Some caller)) y called (length-set w.legs (number_of x) (Some caller) ∙ may.stand.count) offer.in_y
+      one = distinct_with d.external (with_entry w.legs x (Some caller)) y called (length-set w.legs.held (number_of x) (Some caller) ∙ may.stand.count) offer.in_y
           (distinct_with d.external w.legs x caller may.stand.count may.in_x may.stand.one none_caller) none_called;
     },
   )
@@ -221,8 +221,54 @@ module _ (d : Dimensions) (tones : Tones) (w : World) (m : Message) (x : Slot) (
   room_call_kept = (
     valid-seat d.bridges w.holding x room may.valid idle_member (not_full d.bridges w.holding may.valid free),
     record {
-      count = length-set w.legs (number_of x) (Some member) ∙ may.stand.count;
+      count = length-set w.legs.held (number_of x) (Some member) ∙ may.stand.count;
       each = each_stands d.external tones w after_seat x x beside_seat may.stand seated_leg seated_leg;
       one = distinct_with d.external w.legs x member may.stand.count may.in_x may.stand.one none_member;
+    },
+  )
+
+-- ---- a call whose number isn't complete
+
+module _ (d : Dimensions) (tones : Tones) (w : World) (m : Message) (x : Slot) (may : MayCall d tones w m x) where
+  abbrev waiting : Leg
+  waiting = caller_leg overlap_sending m.reference peer.Alone
+
+  abbrev after_wait : World
+  after_wait = (making_after_all d (making_at w) (await_digits m.reference (call_asked m) x)).world
+
+  at_waiting : leg_at after_wait.legs x ≡ Some waiting
+  at_waiting = entry_here d.external w.legs x (Some waiting) may.stand.count may.in_x
+
+  waiting_stands : LegStands d.external tones after_wait x waiting
+  waiting_stands = record {
+    state = refl;
+    reference = may.own;
+    cause = omega arith;
+    peer = refl;
+    hears = subst (MayHear tones waiting) (sym (silent_slot w x may.idle_x)) (λ e. absurd cc, refl);
+  }
+
+  beside_wait : Beside d.external w after_wait x x
+  beside_wait = record {
+    legs = λ z in_z not_x same. entry_else d.external w.legs x z (Some waiting) may.in_x in_z not_x;
+    heard = λ z l in_z at_z not_x same. refl;
+    strange = λ z l p in_z at_z not_x same is.
+        let strange = strange_to_empty d.external tones w x may.stand (empty_slot w x may.idle_x) z l in_z at_z p is in
+        (strange, strange);
+  }
+
+  waiting_leg : (l : Leg) → leg_at after_wait.legs x ≡ Some l → LegStands d.external tones after_wait x l
+  waiting_leg l is = let e : Some waiting ≡ Some l = sym at_waiting ∙ is in let same : waiting ≡ l = cc in subst (LegStands d.external tones after_wait x) same waiting_stands
+
+  none_waiting : HasNone d.external w.legs x waiting
+  none_waiting z l in_z apart at line side same = none_named w.legs x.line false m.reference may.unused z l (line, in_z.1) at side same
+
+  pub waiting_kept : Kept d tones (making_after_all d (making_at w) (await_digits m.reference (call_asked m) x)).world
+  waiting_kept = (
+    may.valid,
+    record {
+      count = length-set w.legs.held (number_of x) (Some waiting) ∙ may.stand.count;
+      each = each_stands d.external tones w after_wait x x beside_wait may.stand waiting_leg waiting_leg;
+      one = distinct_with d.external w.legs x waiting may.stand.count may.in_x may.stand.one none_waiting;
     },
   )

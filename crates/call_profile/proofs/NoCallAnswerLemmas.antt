@@ -1,5 +1,5 @@
 -- The answer to a message on the call reference of no call.
-use Rattle.std.proofs.Common.{◌≡◌, ℕ, ◌<◌, Bool, true, false, inl, inr, Option, Some, None, ◌∙◌, ap}
+use Rattle.std.proofs.Common.{◌≡◌, ℕ, ◌<◌, Bool, true, false, inl, inr, List, Option, Some, None, ◌∙◌, ap}
 use Rattle.std.specs.Prelude.{◌==◌, IfSome, if◌then◌else◌}
 use Rattle.std.proofs.lemmas.Bool.{eqb-true, eq-eqb}
 use Rattle.circuit_model.proofs.Slots.{true_or_false}
@@ -7,6 +7,7 @@ use Rattle.q931_codec.specs.declared.message.Message.{Message}
 use Rattle.q931_codec.specs.Outgoing.{OutgoingMessage, IsWritable}
 use Rattle.clearing_rules.specs.Restarting.{restart_asked}
 use Rattle.tone_rules.specs.declared.tones.Tones.{Tones}
+use Rattle.number_plan.specs.declared.plan.Number.{Number}
 use Rattle.call_profile.specs.Calls.{New_call, On_no_call, answer_back, asks_for_call, on_global_reference, request_without_leg}
 use Rattle.call_profile.specs.Operations.{Making}
 use Rattle.call_profile.proofs.Permitted.{ArePermitted}
@@ -18,9 +19,9 @@ differs n k apart = elim (true_or_false (n == k)) [
   | inr differ ↦ differ
 ]
 
-pub back_permitted : (d : Dimensions) (tones : Tones) (m : Making) (line : ℕ) → line < d.external → (o : Option OutgoingMessage) → IfSome o IsWritable → ArePermitted d tones m (answer_back line o)
-back_permitted d tones m line below None writable = tt
-back_permitted d tones m line below (Some message) writable = ((below, writable), tt)
+pub back_permitted : (d : Dimensions) (tones : Tones) (plan : List Number) (m : Making) (line : ℕ) → line < d.external → (o : Option OutgoingMessage) → IfSome o IsWritable → ArePermitted d tones plan m (answer_back line o)
+back_permitted d tones plan m line below None writable = tt
+back_permitted d tones plan m line below (Some message) writable = ((below, writable), tt)
 
 -- ---- what a message that names no leg asks for
 

@@ -1,5 +1,5 @@
 -- The legs stand after one of a call is released and the other is told so.
-use Rattle.std.proofs.Common.{◌≡◌, ℕ, ◌<◌, ◌⊎◌, inl, inr, length, set, Option, Some, None, refl, sym, ◌∙◌, ap, subst, length-set}
+use Rattle.std.proofs.Common.{◌≡◌, ℕ, ◌<◌, ◌⊎◌, inl, inr, length, Option, Some, None, refl, sym, ◌∙◌, ap, subst, length-set}
 use Rattle.circuit_model.specs.declared.channel.Slot.{Slot}
 use Rattle.circuit_model.specs.Circuits.{heard_by, unless_naming}
 use Rattle.circuit_model.specs.Extent.{IsExternal}
@@ -11,7 +11,7 @@ use Rattle.call_states.specs.declared.leg.Peer.TheVariants as peer
 use Rattle.tone_rules.specs.declared.tones.Tones.{Tones}
 use Rattle.call_profile.specs.Acts.{in_release_request, in_disconnect_indication}
 use Rattle.call_profile.specs.LegStanding.{LegStands, LegsStand, MayHear}
-use Rattle.call_profile.specs.Legs.{leg_at}
+use Rattle.call_profile.specs.Legs.{Legs, leg_at, with_entry}
 use Rattle.call_profile.specs.World.{World}
 use Rattle.call_profile.proofs.AnsweringLemmas.{cleared_by}
 use Rattle.call_profile.proofs.BesideLemmas.{entry_here, entry_else, same_or_apart, named_back, Beside, each_stands, SameReferences, still_one}
@@ -68,7 +68,7 @@ left_reference leg o (inr waits) b is =
 
 module _ (external : ℕ) (tones : Tones) (bridges : ℕ) (w v : World) (x : Slot) (leg : Leg) (o : Option Leg) (valid : Valid bridges w.holding) (stand : LegsStand external tones w)
     (within : IsExternal external x) (at : leg_at w.legs x ≡ Some leg) (left : IsLeft leg o)
-    (legs : v.legs ≡ set w.legs (number_of x) o) (holding : v.holding ≡ after w.holding (Clear x)) (no_peer : (p : Slot) → leg.peer ≡ peer.Leg p → ⊥) where
+    (legs : v.legs ≡ with_entry w.legs x o) (holding : v.holding ≡ after w.holding (Clear x)) (no_peer : (p : Slot) → leg.peer ≡ peer.Leg p → ⊥) where
   legs_alone : (z : Slot) → IsExternal external z → (z ≡ x → ⊥) → leg_at v.legs z ≡ leg_at w.legs z
   legs_alone z in_z apart = ap (λ ls. leg_at ls z) legs ∙ entry_else external w.legs x z o within in_z apart
 
@@ -106,7 +106,7 @@ module _ (external : ℕ) (tones : Tones) (bridges : ℕ) (w v : World) (x : Slo
 
   pub alone_left : LegsStand external tones v
   alone_left = record {
-    count = ap length legs ∙ length-set w.legs (number_of x) o ∙ stand.count;
+    count = ap (λ (ls : Legs). length ls.held) legs ∙ length-set w.legs.held (number_of x) o ∙ stand.count;
     each = each_stands external tones w v x x beside_alone stand new_alone new_alone;
     one = still_one external tones w v references_alone stand;
   }

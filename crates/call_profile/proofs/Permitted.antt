@@ -4,14 +4,17 @@ use Rattle.circuit_model.specs.declared.channel.Slot.{Slot}
 use Rattle.circuit_model.specs.declared.circuit.Kind.{Kind}
 use Rattle.circuit_model.specs.Circuits.{is_idle}
 use Rattle.circuit_model.specs.Extent.{IsExternal}
+use Rattle.number_plan.specs.declared.plan.Number.{Number}
+use Rattle.q931_codec.specs.CallStates.{overlap_sending}
 use Rattle.q931_codec.specs.Outgoing.{IsWritable}
 use Rattle.call_states.specs.Status.{FitsMessages}
 use Rattle.tone_rules.specs.declared.tones.Tones.{Tones}
 use Rattle.tone_rules.specs.Tables.{IsGiven}
-use Rattle.call_profile.specs.Operations.{Operation, Clear, Pair, Seat, Sound, Put, Remove, Send, Making, making_after}
+use Rattle.call_profile.specs.Operations.{Operation, Clear, Pair, Seat, Sound, Put, Wait, Remove, Send, Making, making_after}
 use Rattle.exchange_events.specs.Sizes.{Dimensions}
 use Rattle.call_profile.specs.World.{World}
 use Rattle.call_profile.specs.Permitted.{CanSeat}
+use Rattle.call_profile.specs.Waiting.{IsWaiting}
 
 -- two different slots that no circuit names
 pub record CanPair (d : Dimensions) (w : World) (x y : Slot) : Type 0 where
@@ -27,16 +30,17 @@ pub record CanSound (d : Dimensions) (tones : Tones) (w : World) (x : Slot) (kin
   pub idle : is_idle w.holding.circuits x ≡ true
   pub octets : IfSome kind (IsGiven tones)
 
-abbrev pub IsPermitted : Dimensions → Tones → Making → Operation → Type 0
-IsPermitted d tones m (Clear x) = IsExternal d.external x
-IsPermitted d tones m (Pair x y) = CanPair d m.world x y
-IsPermitted d tones m (Seat x room) = CanSeat d m.world x
-IsPermitted d tones m (Sound x kind) = CanSound d tones m.world x kind
-IsPermitted d tones m (Put x leg) = IsExternal d.external x × FitsMessages leg
-IsPermitted d tones m (Remove x) = IsExternal d.external x
-IsPermitted d tones m (Send line message) = (line < d.external) × IsWritable message
+abbrev pub IsPermitted : Dimensions → Tones → List Number → Making → Operation → Type 0
+IsPermitted d tones plan m (Clear x) = IsExternal d.external x
+IsPermitted d tones plan m (Pair x y) = CanPair d m.world x y
+IsPermitted d tones plan m (Seat x room) = CanSeat d m.world x
+IsPermitted d tones plan m (Sound x kind) = CanSound d tones m.world x kind
+IsPermitted d tones plan m (Put x leg) = IsExternal d.external x × FitsMessages leg × (leg.state ≢ overlap_sending)
+IsPermitted d tones plan m (Wait x leg p) = IsExternal d.external x × FitsMessages leg × IsWaiting plan leg p
+IsPermitted d tones plan m (Remove x) = IsExternal d.external x
+IsPermitted d tones plan m (Send line message) = (line < d.external) × IsWritable message
 
 -- each operation, when its turn comes
-abbrev pub ArePermitted : Dimensions → Tones → Making → List Operation → Type 0
-ArePermitted d tones m [] = Unit {0}
-ArePermitted d tones m (o ∷ os) = IsPermitted d tones m o × ArePermitted d tones (making_after d m o) os
+abbrev pub ArePermitted : Dimensions → Tones → List Number → Making → List Operation → Type 0
+ArePermitted d tones plan m [] = Unit {0}
+ArePermitted d tones plan m (o ∷ os) = IsPermitted d tones plan m o × ArePermitted d tones plan (making_after d m o) os

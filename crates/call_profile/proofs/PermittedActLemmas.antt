@@ -1,5 +1,5 @@
 -- What an act does for a message to a leg is permitted.
-use Rattle.std.proofs.Common.{◌≡◌, ℕ, ◌<◌, true, [], ◌∷◌, Option, Some, None, refl, sym, subst, arith}
+use Rattle.std.proofs.Common.{◌≡◌, ℕ, ◌≢◌, ◌<◌, true, List, [], ◌∷◌, Option, Some, None, refl, sym, subst, arith}
 use Rattle.std.specs.Prelude.{IfSome}
 use Rattle.std.proofs.lemmas.Grind.{common_steps}
 use Rattle.circuit_model.specs.declared.channel.Slot.{Slot}
@@ -13,7 +13,7 @@ use Rattle.q931_codec.specs.declared.kind.MessageKind.{MessageKind}
 use Rattle.q931_codec.specs.declared.kind.MessageKind.TheVariants as kind
 use Rattle.q931_codec.specs.declared.message.Message.{Message}
 use Rattle.q931_codec.specs.Causes.{response_to_status_enquiry}
-use Rattle.q931_codec.specs.CallStates.{active, call_delivered, call_present, call_received, incoming_call_proceeding}
+use Rattle.q931_codec.specs.CallStates.{active, call_delivered, call_present, call_received, incoming_call_proceeding, overlap_sending}
 use Rattle.q931_codec.specs.Contents.{call_state_in}
 use Rattle.q931_codec.specs.MessageType.{IsNamed}
 use Rattle.q931_codec.specs.Outgoing.{OutgoingMessage, IsWritable}
@@ -30,6 +30,7 @@ use Rattle.call_profile.specs.Acts.{with_progress, course_of, peer_of, tone_of, 
 use Rattle.call_profile.specs.LegStanding.{CallsStand, LegStands, LegsStand, HasPeer}
 use Rattle.call_profile.specs.Legs.{Legs, leg_at}
 use Rattle.call_profile.specs.Operations.{Making, making_at}
+use Rattle.number_plan.specs.declared.plan.Number.{Number}
 use Rattle.call_profile.specs.Peers.{IsThere, PeerIsThere}
 use Rattle.call_profile.proofs.Permitted.{CanPair, CanSound, ArePermitted}
 use Rattle.exchange_events.specs.Sizes.{Setting, Dimensions}
@@ -148,18 +149,18 @@ abbrev Sends : Dimensions → Held → OutgoingMessage → Type 0
 Sends d h message = (h.slot.line < d.external) × IsWritable message
 
 abbrev Puts : Dimensions → Held → Leg → Type 0
-Puts d h leg = IsExternal d.external h.slot × FitsMessages leg
+Puts d h leg = IsExternal d.external h.slot × FitsMessages leg × (leg.state ≢ overlap_sending)
 
 in_state_told : (leg : Leg) (state : ℕ) → FitsMessages leg → state < 64 → FitsMessages (in_state state leg)
 in_state_told leg state told small = record { state = small; reference = told.reference }
 
-pub clear_permitted : (d : Dimensions) (tones : Tones) (m : Making) (cause : ℕ) (c : Held) → IsThere d.external c → cause < 128
-    → ArePermitted d tones m (clear_with tones cause c)
-clear_permitted d tones m cause c there small =
+pub clear_permitted : (d : Dimensions) (tones : Tones) (plan : List Number) (m : Making) (cause : ℕ) (c : Held) → IsThere d.external c → cause < 128
+    → ArePermitted d tones plan m (clear_with tones cause c)
+clear_permitted d tones plan m cause c there small =
     let tone = tone_of tones (in_disconnect_indication cause c.leg) in
     let sends : Sends d c (with_progress tone (disconnect c.leg cause)) =
     (there.within.0, announced_writable tone (disconnect c.leg cause) (disconnect_writable c.leg cause there.told small)) in
-    let goes : Puts d c (in_disconnect_indication cause c.leg) = (there.within, record { state = omega arith; reference = there.told.reference }) in
+    let goes : Puts d c (in_disconnect_indication cause c.leg) = (there.within, record { state = omega arith; reference = there.told.reference }, λ e. absurd cc) in
     let sound : CanSound d tones (obey d m.world (Clear_slot c.slot)) c.slot tone = record {
       within = there.within;
       idle = cleared_is_idle m.world.holding c.slot;
@@ -167,20 +168,20 @@ clear_permitted d tones m cause c there small =
     } in
     (there.within, (goes, (record { within = sound.within; idle = sound.idle; octets = sound.octets }, (sends, tt))))
 
-peer_permitted : (d : Dimensions) (tones : Tones) (m : Making) (h : Held) (cause : ℕ) (o : Option Held) → PeerIsThere d.external h o → cause < 128
-    → ArePermitted d tones m (with_peer o (clear_with tones cause))
-peer_permitted d tones m h cause None there small = tt
-peer_permitted d tones m h cause (Some c) there small = clear_permitted d tones m cause c there.0 small
+peer_permitted : (d : Dimensions) (tones : Tones) (plan : List Number) (m : Making) (h : Held) (cause : ℕ) (o : Option Held) → PeerIsThere d.external h o → cause < 128
+    → ArePermitted d tones plan m (with_peer o (clear_with tones cause))
+peer_permitted d tones plan m h cause None there small = tt
+peer_permitted d tones plan m h cause (Some c) there small = clear_permitted d tones plan m cause c there.0 small
 
-alerting_permitted : (d : Dimensions) (tones : Tones) (m : Making) (h : Held) → IsThere d.external h → (o : Option Held) → PeerIsThere d.external h o
-    → IfSome o (λ c. is_idle m.world.holding.circuits c.slot ≡ true) → ArePermitted d tones m (with_peer o (on_alerting tones h))
-alerting_permitted d tones m h there None is idle = tt
-alerting_permitted d tones m h there (Some c) is idle =
+alerting_permitted : (d : Dimensions) (tones : Tones) (plan : List Number) (m : Making) (h : Held) → IsThere d.external h → (o : Option Held) → PeerIsThere d.external h o
+    → IfSome o (λ c. is_idle m.world.holding.circuits c.slot ≡ true) → ArePermitted d tones plan m (with_peer o (on_alerting tones h))
+alerting_permitted d tones plan m h there None is idle = tt
+alerting_permitted d tones plan m h there (Some c) is idle =
     let tone = tone_of tones (in_state call_delivered c.leg) in
     let sends : Sends d c (with_progress tone (message_to c.leg kind.Alerting)) =
     (is.0.within.0, announced_writable tone (message_to c.leg kind.Alerting) (message_writable c.leg kind.Alerting is.0.told tt)) in
-    let caller_goes : Puts d c (in_state call_delivered c.leg) = (is.0.within, in_state_told c.leg call_delivered is.0.told (omega arith)) in
-    let called_goes : Puts d h (in_state call_received h.leg) = (there.within, in_state_told h.leg call_received there.told (omega arith)) in
+    let caller_goes : Puts d c (in_state call_delivered c.leg) = (is.0.within, in_state_told c.leg call_delivered is.0.told (omega arith), λ e. absurd cc) in
+    let called_goes : Puts d h (in_state call_received h.leg) = (there.within, in_state_told h.leg call_received there.told (omega arith), λ e. absurd cc) in
     (called_goes, (caller_goes, (record { within = is.0.within; idle = idle; octets = tone_octets tones (in_state call_delivered c.leg) }, (sends, tt))))
 
 module _ (s : Setting) (w : World) (h : Held) (stand : CallsStand s w) (within : IsExternal s.dimensions.external h.slot) (at : leg_at w.legs h.slot ≡ Some h.leg) where
@@ -196,7 +197,7 @@ module _ (s : Setting) (w : World) (h : Held) (stand : CallsStand s w) (within :
   peer_too : PeerIsThere d.external h (peer_of w.legs h.leg.peer)
   peer_too = peer_there_too d.external tones w h stand.legs within at
 
-  answer_permitted : heard_by w.holding.circuits h.slot ≡ None → (o : Option Held) → PeerIsThere d.external h o → ArePermitted d tones (making_at w) (with_peer o (on_connect h))
+  answer_permitted : heard_by w.holding.circuits h.slot ≡ None → (o : Option Held) → PeerIsThere d.external h o → ArePermitted d tones s.plan (making_at w) (with_peer o (on_connect h))
   answer_permitted silent None is = tt
   answer_permitted silent (Some c) is =
       let can : CanPair d (obey d w (Clear_slot c.slot)) c.slot h.slot = record {
@@ -208,31 +209,31 @@ module _ (s : Setting) (w : World) (h : Held) (stand : CallsStand s w) (within :
       } in
       let connected : Sends d c (message_to c.leg kind.Connect) = (is.0.within.0, message_writable c.leg kind.Connect is.0.told tt) in
       let acknowledged : Sends d h (message_to h.leg kind.ConnectAcknowledge) = (within.0, message_writable h.leg kind.ConnectAcknowledge there.told tt) in
-      let caller_goes : Puts d c (in_state active c.leg) = (is.0.within, in_state_told c.leg active is.0.told (omega arith)) in
-      let called_goes : Puts d h (in_state active h.leg) = (within, in_state_told h.leg active there.told (omega arith)) in
+      let caller_goes : Puts d c (in_state active c.leg) = (is.0.within, in_state_told c.leg active is.0.told (omega arith), λ e. absurd cc) in
+      let called_goes : Puts d h (in_state active h.leg) = (within, in_state_told h.leg active there.told (omega arith), λ e. absurd cc) in
       (is.0.within, (can, (called_goes, (caller_goes, (acknowledged, (connected, tt))))))
 
   each_idle : (o : Option Held) → IfSome o (λ c. heard_by w.holding.circuits c.slot ≡ None) → IfSome o (λ c. is_idle w.holding.circuits c.slot ≡ true)
   each_idle None deaf = tt
   each_idle (Some c) deaf = deaf_is_idle w.holding.circuits c.slot (stand.circuits.standing c.slot) deaf
 
-  asked_permitted : (k : MessageKind) (a : Act) → Asked h.leg.state a → ArePermitted d tones (making_at w) (course_of s.tones w.legs h k a).operations
+  asked_permitted : (k : MessageKind) (a : Act) → Asked h.leg.state a → ArePermitted d tones s.plan (making_at w) (course_of s.tones w.legs h k a).operations
   asked_permitted k act.Nothing asks = tt
   asked_permitted k act.Unexpected asks = ((within.0, status_writable h.leg (unexpected_cause k) there.told (unexpected_fits k)), tt)
   asked_permitted k act.Enquiry asks = ((within.0, status_writable h.leg response_to_status_enquiry there.told (omega arith)), tt)
-  asked_permitted k act.Proceeding asks = ((within, in_state_told h.leg incoming_call_proceeding there.told (omega arith)), tt)
+  asked_permitted k act.Proceeding asks = ((within, in_state_told h.leg incoming_call_proceeding there.told (omega arith), λ e. absurd cc), tt)
   asked_permitted k act.Alerting asks =
-      alerting_permitted d tones (making_at w) h there (peer_of w.legs h.leg.peer) peer_too
+      alerting_permitted d tones s.plan (making_at w) h there (peer_of w.legs h.leg.peer) peer_too
       (each_idle (peer_of w.legs h.leg.peer) (caller_silent d.external tones w h stand.legs within at asks))
   asked_permitted k act.Answer asks = answer_permitted (rings_silent d.external tones w h stand.legs within at asks) (peer_of w.legs h.leg.peer) peer_too
   asked_permitted k (act.Disconnect cause) asks =
       let sends : Sends d h (message_to h.leg kind.Release) = (within.0, message_writable h.leg kind.Release there.told tt) in
-      let goes : Puts d h (in_release_request h.leg) = (within, record { state = omega arith; reference = there.told.reference }) in
-      (within, (goes, (sends, peer_permitted d tones _ h cause (peer_of w.legs h.leg.peer) peer_too asks)))
+      let goes : Puts d h (in_release_request h.leg) = (within, record { state = omega arith; reference = there.told.reference }, λ e. absurd cc) in
+      (within, (goes, (sends, peer_permitted d tones s.plan _ h cause (peer_of w.legs h.leg.peer) peer_too asks)))
   asked_permitted k (act.Release cause) asks =
       let sends : Sends d h (message_to h.leg kind.ReleaseComplete) = (within.0, message_writable h.leg kind.ReleaseComplete there.told tt) in
-      (within, (within, (sends, peer_permitted d tones _ h cause (peer_of w.legs h.leg.peer) peer_too asks)))
-  asked_permitted k (act.ReleaseComplete cause) asks = (within, (within, peer_permitted d tones _ h cause (peer_of w.legs h.leg.peer) peer_too asks))
+      (within, (within, (sends, peer_permitted d tones s.plan _ h cause (peer_of w.legs h.leg.peer) peer_too asks)))
+  asked_permitted k (act.ReleaseComplete cause) asks = (within, (within, peer_permitted d tones s.plan _ h cause (peer_of w.legs h.leg.peer) peer_too asks))
 
-  pub act_permitted : (m : Message) → ArePermitted s.dimensions s.tones (making_at w) (course_of s.tones w.legs h m.kind (act_on h.leg.state m)).operations
+  pub act_permitted : (m : Message) → ArePermitted s.dimensions s.tones s.plan (making_at w) (course_of s.tones w.legs h m.kind (act_on h.leg.state m)).operations
   act_permitted m = asked_permitted m.kind (act_on h.leg.state m) (asked h.leg.state m.kind (clearing_cause m.elements) (is_null (call_state_in m.elements)) (cause_fits m.elements))

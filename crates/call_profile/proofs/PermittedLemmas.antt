@@ -17,7 +17,7 @@ use Rattle.call_profile.specs.Setup.{course_of_setup}
 use Rattle.exchange_events.specs.Sound.{Fits, IsPlanned}
 use Rattle.call_profile.specs.World.{World}
 use Rattle.call_profile.proofs.PermittedActLemmas.{act_permitted}
-use Rattle.call_profile.proofs.StandingLegLemmas.{octets_small}
+use Rattle.call_profile.proofs.OctetLemmas.{octets_small}
 use Rattle.clearing_rules.proofs.AnswerFacts.{answer_writable}
 use Rattle.call_profile.proofs.NoCallAnswerLemmas.{back_permitted}
 use Rattle.call_profile.proofs.NamedLegLemmas.{received_stands}
@@ -25,20 +25,20 @@ use Rattle.call_profile.proofs.PermittedSetupLemmas.{setup_permitted}
 use Rattle.call_profile.proofs.SetupLemmas.{new_from, no_call_read}
 
 module _ (s : Setting) (w : World) (line : ℕ) (octets : List ℕ) (planned : IsPlanned s) (fits : Fits s.dimensions.external (Message line octets)) (stands : CallsStand s w) where
-  pub act_may : (h : Held) (m : Q931) → request_of w.legs line octets ≡ For_leg h m → ArePermitted s.dimensions s.tones (making_at w) (course_of s.tones w.legs h m.kind (act_on h.leg.state m)).operations
+  pub act_may : (h : Held) (m : Q931) → request_of w.legs line octets ≡ For_leg h m → ArePermitted s.dimensions s.tones s.plan (making_at w) (course_of s.tones w.legs h m.kind (act_on h.leg.state m)).operations
   act_may h m is =
       let named = received_stands w.legs line octets h m is in
       let on = named.among in
       act_permitted s w h stands (subst (λ n. n < s.dimensions.external) (sym on.0) fits.0, on.1) named.at m
 
-  pub call_may : (m : Q931) → request_of w.legs line octets ≡ New_call m → ArePermitted s.dimensions s.tones (making_at w) (course_of_setup s w line m).operations
+  pub call_may : (m : Q931) → request_of w.legs line octets ≡ New_call m → ArePermitted s.dimensions s.tones s.plan (making_at w) (course_of_setup s w line m).operations
   call_may m is =
       let new = new_from w.legs line (reading octets) m is in
       let message = read_message octets m (octets_small octets fits.1) new.0 in
       setup_permitted s w line m planned stands fits.0 (new.1, message.value) new.2
 
-  pub answer_may : (m : Q931) → request_of w.legs line octets ≡ On_no_call m → ArePermitted s.dimensions s.tones (making_at w) (answer_back line (answer_without_call m))
+  pub answer_may : (m : Q931) → request_of w.legs line octets ≡ On_no_call m → ArePermitted s.dimensions s.tones s.plan (making_at w) (answer_back line (answer_without_call m))
   answer_may m is =
       let read = no_call_read w.legs line (reading octets) m is in
       let message = read_message octets m (octets_small octets fits.1) read in
-      back_permitted s.dimensions s.tones (making_at w) line fits.0 (answer_without_call m) (answer_writable m message.value)
+      back_permitted s.dimensions s.tones s.plan (making_at w) line fits.0 (answer_without_call m) (answer_writable m message.value)

@@ -1,6 +1,6 @@
 -- What a SETUP does is permitted.
-use Rattle.std.proofs.Common.{◌≡◌, ℕ, ◌<◌, ◌≤◌, ◌^◌, ◌||◌, inl, inr, true, false, List, [], length, Option, Some, None, refl, sym, subst, arith}
-use Rattle.std.specs.Prelude.{nat_lt, nat_le, unwrap_or, option_map}
+use Rattle.std.proofs.Common.{◌≡◌, ℕ, ◌<◌, ◌≤◌, ◌^◌, ◌||◌, inl, inr, true, false, List, [], length, Option, Some, None, refl, sym, ap, subst, arith}
+use Rattle.std.specs.Prelude.{nat_lt, nat_le, is_none, unwrap_or, option_map}
 use Rattle.std.proofs.lemmas.Grind.{common_steps}
 use Rattle.std.proofs.lemmas.Bool.Decides.{nat_tests}
 use Rattle.circuit_model.specs.declared.channel.Slot.{Slot}
@@ -16,6 +16,10 @@ use Rattle.call_states.specs.declared.leg.Leg.{Leg}
 use Rattle.call_states.specs.declared.pending.Pending.{Pending}
 use Rattle.call_states.specs.Pending.{FitsElements}
 use Rattle.call_states.specs.Status.{FitsMessages}
+use Rattle.number_plan.specs.declared.plan.Number.{Number}
+use Rattle.number_plan.specs.Plan.{found_for}
+use Rattle.q931_codec.specs.CallStates.{overlap_sending}
+use Rattle.call_states.specs.declared.leg.Peer.TheVariants as peer
 use Rattle.number_plan.specs.declared.target.Found.{Found}
 use Rattle.number_plan.specs.declared.target.Found.TheVariants.{Line, Room, More, Nothing}
 use Rattle.call_profile.specs.LegStanding.{CallsStand}
@@ -24,12 +28,13 @@ use Rattle.call_profile.specs.Operations.{making_at}
 use Rattle.call_profile.specs.Permitted.{CanSeat}
 use Rattle.call_profile.proofs.Permitted.{ArePermitted}
 use Rattle.exchange_events.specs.Sizes.{Setting}
-use Rattle.call_profile.specs.Setup.{bearer_asked, checks, refusal, call_asked, setup, accept, call, call_line, call_room, call_proceeding, offer, caller_slot, called_slot, target_of, is_unreadable, course_of_setup}
+use Rattle.call_profile.specs.Setup.{bearer_asked, checks, refusal, call_asked, setup, accept, call, call_line, call_room, await_digits, caller_leg, digits_in, setup_acknowledge, call_proceeding, offer, caller_slot, called_slot, target_of, is_unreadable, course_of_setup}
 use Rattle.exchange_events.specs.Sound.{IsPlanned}
+use Rattle.call_profile.specs.Waiting.{IsWaiting}
 use Rattle.call_profile.specs.World.{World}
 use Rattle.call_profile.proofs.AcceptedSetupLemmas.{can_seat, refusal_small, can_still}
 use Rattle.call_profile.proofs.PermittedActLemmas.{message_writable}
-use Rattle.call_profile.proofs.SetupLemmas.{all_pass, caller_is, offered, reached}
+use Rattle.call_profile.proofs.SetupLemmas.{all_pass, all_from, caller_is, offered, reached}
 
 -- ---- what is passed on is not too long
 
@@ -88,6 +93,20 @@ proceeding_writable x leg within told = record {
   high = omega arith;
 }
 
+acknowledge_writable : (x : Slot) (leg : Leg) → x.place < 30 → FitsMessages leg → IsWritable (setup_acknowledge x leg)
+acknowledge_writable x leg within told = record {
+  reference = told.reference;
+  kind = tt;
+  bearer = omega arith;
+  cause = tt;
+  state = tt;
+  channel = bears x.place within;
+  calling = omega arith;
+  called = omega arith;
+  low = omega arith;
+  high = omega arith;
+}
+
 offer_writable : (p : Pending) (y : Slot) (leg : Leg) → y.place < 30 → FitsMessages leg → FitsElements p → IsWritable (offer p y leg)
 offer_writable p y leg within told fits = record {
   reference = told.reference;
@@ -102,17 +121,23 @@ offer_writable p y leg within told fits = record {
   high = fits.high;
 }
 
+-- ---- the digits so far, where the plan finds that more are to come
+
+begun : (plan : List Number) (o : Option (List ℕ)) → is_none o ≡ false → found_for plan (unwrap_or o []) ≡ More → option_map (found_for plan) o ≡ Some More
+begun plan None some is = absurd cc
+begun plan (Some digits) some is = ap (λ t. Some t) is
+
 -- ---- what is done
 
 module _ (s : Setting) (w : World) (line : ℕ) (m : Message) (planned : IsPlanned s) (stands : CallsStand s w) (below : line < s.dimensions.external) (own : (1 ≤ m.reference) × (m.reference < 2 ^ 15)) where
   line_permitted : (x y : Slot) (reference : ℕ) → IsExternal s.dimensions.external x → IsExternal s.dimensions.external y → reference < 2 ^ 15 → is_unreadable (option_map bearer_of (bearer_in m.elements)) ≡ false
-      → ArePermitted s.dimensions s.tones (making_at w) (call_line m.reference (call_asked m) x y reference)
+      → ArePermitted s.dimensions s.tones s.plan (making_at w) (call_line m.reference (call_asked m) x y reference)
   line_permitted x y reference in_x in_y small readable =
       let caller : FitsMessages _ = record { state = omega arith; reference = own.1 } in
       let called : FitsMessages _ = record { state = omega arith; reference = small } in (
-        (in_x, caller),
+        (in_x, caller, λ e. absurd cc),
         (
-          (in_y, called),
+          (in_y, called, λ e. absurd cc),
           (
             (in_x.0, proceeding_writable x _ in_x.1 caller),
             ((in_y.0, offer_writable (call_asked m) y _ in_y.1 called (asked_fits m readable)), tt),
@@ -120,10 +145,10 @@ module _ (s : Setting) (w : World) (line : ℕ) (m : Message) (planned : IsPlann
         ),
       )
 
-  room_permitted : (x : Slot) (room : ℕ) → IsExternal s.dimensions.external x → CanSeat s.dimensions w x → ArePermitted s.dimensions s.tones (making_at w) (call_room m.reference x room)
+  room_permitted : (x : Slot) (room : ℕ) → IsExternal s.dimensions.external x → CanSeat s.dimensions w x → ArePermitted s.dimensions s.tones s.plan (making_at w) (call_room m.reference x room)
   room_permitted x room in_x can =
       let told : FitsMessages _ = record { state = omega arith; reference = own.1 } in (
-        (in_x, told),
+        (in_x, told, λ e. absurd cc),
         (
           can_still s.dimensions w x _ can,
           (
@@ -133,26 +158,40 @@ module _ (s : Setting) (w : World) (line : ℕ) (m : Message) (planned : IsPlann
         ),
       )
 
+  waiting_permitted : (x : Slot) → IsExternal s.dimensions.external x → refusal s w line m ≡ None → target_of s m ≡ More
+      → ArePermitted s.dimensions s.tones s.plan (making_at w) (await_digits m.reference (call_asked m) x)
+  waiting_permitted x in_x accepted is =
+      let told : FitsMessages _ = record { state = omega arith; reference = own.1 } in
+      let passed = all_pass (checks s w line m) accepted in
+      let waits : IsWaiting s.plan (caller_leg overlap_sending m.reference peer.Alone) (call_asked m) = record {
+        state = refl;
+        calls = refl;
+        alone = refl;
+        dialled = begun s.plan (digits_in m) (all_from 5 (checks s w line m) passed).0 is;
+        fits = asked_fits m passed.1.0;
+      } in
+      ((in_x, told, waits), ((in_x.0, acknowledge_writable x _ in_x.1 told), tt))
+
   call_permitted : (x : Slot) → refusal s w line m ≡ None → caller_slot w line (channel_in m.elements) ≡ Some x → IsExternal s.dimensions.external x → (t : Found) (o : Option Slot) → target_of s m ≡ t → called_slot w x t ≡ o
-      → ArePermitted s.dimensions s.tones (making_at w) (call w m x t o)
+      → ArePermitted s.dimensions s.tones s.plan (making_at w) (call w m x t o)
   call_permitted x accepted at in_x (Line l) (Some y) is chosen =
       let may = offered s w x l y (reached s m l planned is) chosen in
       line_permitted x y (new_reference w.legs l) in_x may.in_y may.small.1 (all_pass (checks s w line m) accepted).1.0
   call_permitted x accepted at in_x (Line l) None is chosen = tt
   call_permitted x accepted at in_x (Room room) o is chosen = room_permitted x room in_x (can_seat s w line m x room stands in_x accepted at is)
-  call_permitted x accepted at in_x More o is chosen = tt
+  call_permitted x accepted at in_x More o is chosen = waiting_permitted x in_x accepted is
   call_permitted x accepted at in_x Nothing o is chosen = tt
 
-  accept_permitted : (o : Option Slot) → refusal s w line m ≡ None → caller_slot w line (channel_in m.elements) ≡ o → ArePermitted s.dimensions s.tones (making_at w) (accept s w m o)
+  accept_permitted : (o : Option Slot) → refusal s w line m ≡ None → caller_slot w line (channel_in m.elements) ≡ o → ArePermitted s.dimensions s.tones s.plan (making_at w) (accept s w m o)
   accept_permitted None accepted at = tt
   accept_permitted (Some x) accepted at =
       let on = caller_is w line (channel_in m.elements) x at in
       call_permitted x accepted at (subst (λ n. n < s.dimensions.external) (sym on.1.0) below, on.1.1) (target_of s m) (called_slot w x (target_of s m)) refl refl
 
-  setup_by : (o : Option ℕ) → refusal s w line m ≡ o → ArePermitted s.dimensions s.tones (making_at w) (setup s w line m o)
+  setup_by : (o : Option ℕ) → refusal s w line m ≡ o → ArePermitted s.dimensions s.tones s.plan (making_at w) (setup s w line m o)
   setup_by (Some cause) is = ((below, refusal_writable m.reference cause own.1 (refusal_small s w line m cause is)), tt)
   setup_by None is = accept_permitted (caller_slot w line (channel_in m.elements)) is refl
 
 pub setup_permitted : (s : Setting) (w : World) (line : ℕ) (m : Message) → IsPlanned s → CallsStand s w → line < s.dimensions.external → (1 ≤ m.reference) × (m.reference < 2 ^ 15) → leg_named w.legs line false m.reference ≡ None
-    → ArePermitted s.dimensions s.tones (making_at w) (course_of_setup s w line m).operations
+    → ArePermitted s.dimensions s.tones s.plan (making_at w) (course_of_setup s w line m).operations
 setup_permitted s w line m planned stands below own unused = setup_by s w line m planned stands below own (refusal s w line m) refl

@@ -1,5 +1,5 @@
 -- The records of what an act ends: of an act that clears a call the one of its caller, of any other none.
-use Rattle.std.proofs.Common.{◌≡◌, ℕ, ◌*◌, Bool, true, false, ◌&&◌, inl, inr, List, [], length, set, Option, Some, None, refl, sym, ◌∙◌, ap, subst}
+use Rattle.std.proofs.Common.{◌≡◌, ℕ, ◌*◌, Bool, true, false, ◌&&◌, inl, inr, List, [], length, Option, Some, None, refl, sym, ◌∙◌, ap, subst}
 use Rattle.std.specs.Prelude.{option_and_then, unwrap_or}
 use Rattle.std.specs.List.{cons_option}
 use Rattle.circuit_model.specs.declared.channel.Slot.{Slot}
@@ -26,7 +26,7 @@ use Rattle.call_profile.specs.CallRecords.{is_calling, records, records_by}
 use Rattle.call_profile.specs.Calls.{making_by}
 use Rattle.call_profile.specs.EndedCalls.{caller_in, record_calling, record_ended, record_of_act}
 use Rattle.call_profile.specs.LegStanding.{LegsStand, HasPeer, IsInCall, AreOneCall}
-use Rattle.call_profile.specs.Legs.{Legs, leg_at}
+use Rattle.call_profile.specs.Legs.{Legs, leg_at, with_entry}
 use Rattle.call_profile.specs.Operations.{Operation, Making, making_at, making_after_all}
 use Rattle.exchange_events.specs.Sizes.{Setting, Dimensions}
 use Rattle.call_profile.specs.World.{World}
@@ -78,7 +78,7 @@ same_goes_on before after x same calls = ap is_calling same ∙ calls
 
 module _ (d : Dimensions) (tones : Tones) (w : World) (x : Slot) (leg : Leg) (o : Option Leg) (cause : ℕ) (stand : LegsStand d.external tones w)
     (within : IsExternal d.external x) (at : leg_at w.legs x ≡ Some leg) (left : IsLeft leg o)
-    (m : Making) (legs : m.world.legs ≡ set w.legs (number_of x) o) where
+    (m : Making) (legs : m.world.legs ≡ with_entry w.legs x o) where
   abbrev one : Leg → Slot → List CallRecord
   one l z = cons_option (record_calling w cause (record { slot = z; leg = l })) []
 
@@ -104,9 +104,9 @@ module _ (d : Dimensions) (tones : Tones) (w : World) (x : Slot) (leg : Leg) (o 
 
   -- with the other leg of its call, which calls no more either
   module _ (v : World) (y : Slot) (other : Leg) (p : Option Leg) (in_y : IsExternal d.external y) (at_y : leg_at w.legs y ≡ Some other) (apart : y ≡ x → ⊥)
-      (over : is_calling p ≡ false) (both : v.legs ≡ set m.world.legs (number_of y) p) where
-    both_legs : v.legs ≡ set (set w.legs (number_of x) o) (number_of y) p
-    both_legs = both ∙ ap (λ (ls : Legs). set ls (number_of y) p) legs
+      (over : is_calling p ≡ false) (both : v.legs ≡ with_entry m.world.legs y p) where
+    both_legs : v.legs ≡ with_entry (with_entry w.legs x o) y p
+    both_legs = both ∙ ap (λ (ls : Legs). with_entry ls y p) legs
 
     both_others : (z : Slot) → IsExternal d.external z → (z ≡ x → ⊥) → (z ≡ y → ⊥) → GoesOn w.legs v.legs z
     both_others z in_z not_x not_y =
@@ -160,16 +160,16 @@ module _ (d : Dimensions) (tones : Tones) (w : World) (x : Slot) (leg : Leg) (o 
 -- ---- where a call goes on
 
 -- the called leg at x is in another state, and so is its caller's, which calls on
-module _ (external : ℕ) (w v : World) (x y : Slot) (leg other : Leg) (cause : ℕ) (size : length w.legs ≡ 30 * external)
+module _ (external : ℕ) (w v : World) (x y : Slot) (leg other : Leg) (cause : ℕ) (size : length w.legs.held ≡ 30 * external)
     (in_x : IsExternal external x) (at_x : leg_at w.legs x ≡ Some leg) (is_called : leg.side ≡ Called) where
-  called_alone : (o : Option Leg) → v.legs ≡ set w.legs (number_of x) o → records w v cause ≡ []
+  called_alone : (o : Option Leg) → v.legs ≡ with_entry w.legs x o → records w v cause ≡ []
   called_alone o legs = no_record_where_calling external w v cause size (λ z in_z. elim (same_or_apart z x) [
     | inl same ↦ subst (GoesOn w.legs v.legs) (sym same) (called_silent w.legs v.legs x leg at_x is_called)
     | inr not_x ↦ same_goes_on w.legs v.legs z (ap (λ ls. leg_at ls z) legs ∙ entry_else external w.legs x z o in_x in_z not_x)
   ])
 
   caller_too : (o : Option Leg) (new : Leg) → IsExternal external y → (y ≡ x → ⊥) → is_calling (Some new) ≡ true
-      → v.legs ≡ set (set w.legs (number_of x) o) (number_of y) (Some new) → records w v cause ≡ []
+      → v.legs ≡ with_entry (with_entry w.legs x o) y (Some new) → records w v cause ≡ []
   caller_too o new in_y apart calls legs = no_record_where_calling external w v cause size (λ z in_z. elim (same_or_apart z x) [
     | inl same ↦ subst (GoesOn w.legs v.legs) (sym same) (called_silent w.legs v.legs x leg at_x is_called)
     | inr not_x ↦ elim (same_or_apart z y) [

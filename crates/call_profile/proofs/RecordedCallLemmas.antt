@@ -84,17 +84,17 @@ is_at external u v cause h c ended e =
 
 -- ---- the records of a step
 
-module _ (external : ℕ) (u v : World) (cause : ℕ) (size : length u.legs ≡ 30 * external) where
+module _ (external : ℕ) (u v : World) (cause : ℕ) (size : length u.legs.held ≡ 30 * external) where
   pub record_ends : (c : CallRecord) → Contains (records u v cause) c → EndsWith external u v cause c
   record_ends c inside =
-      let g = given_by (λ n. record_at u v cause (slot_numbered n)) 0 (length u.legs) c inside in
+      let g = given_by (λ n. record_at u v cause (slot_numbered n)) 0 (length u.legs.held) c inside in
       let high = g.2 in
       ends_at external u v cause (slot_numbered g.0) c (in_numbered external g.0 (omega (arith, high, size))) g.3
 
   pub end_recorded : (h : Held) (c : CallRecord) → HasEnded external u v h → record_of u cause h ≡ Some c → Contains (records u v cause) c
   end_recorded h c ended e =
       let inside = number_inside external h.slot ended.within in
-      is_given (λ n. record_at u v cause (slot_numbered n)) 0 (length u.legs) (number_of h.slot) c (omega arith) (omega (arith, inside, size))
+      is_given (λ n. record_at u v cause (slot_numbered n)) 0 (length u.legs.held) (number_of h.slot) c (omega arith) (omega (arith, inside, size))
       (ap (record_at u v cause) (numbered_number h.slot ended.within.1) ∙ is_at external u v cause h c ended e)
 
 -- ---- a leg that calls has its other party

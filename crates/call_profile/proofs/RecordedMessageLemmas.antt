@@ -45,7 +45,7 @@ pub record AreOfEnded (external : ℕ) (before afterwards : World) (cause : ℕ)
   pub ends : (c : CallRecord) → Contains told c → EndsWith external before afterwards cause c
   pub recorded : (h : Held) (c : CallRecord) → HasEnded external before afterwards h → record_of before cause h ≡ Some c → Contains told c
 
-of_records : (external : ℕ) (u v : World) (cause : ℕ) → length u.legs ≡ 30 * external → AreOfEnded external u v cause (records u v cause)
+of_records : (external : ℕ) (u v : World) (cause : ℕ) → length u.legs.held ≡ 30 * external → AreOfEnded external u v cause (records u v cause)
 of_records external u v cause size = record { ends = record_ends external u v cause size; recorded = end_recorded external u v cause size }
 
 -- ---- one slot is restarted
@@ -221,7 +221,7 @@ act_clears w h (act.Release cause) = inl refl
 act_clears w h (act.ReleaseComplete cause) = inl refl
 
 module _ (s : Setting) (w : World) (line : ℕ) (octets : List ℕ) (may : Arrive s w line octets) where
-  abbrev size : length w.legs ≡ 30 * s.dimensions.external
+  abbrev size : length w.legs.held ≡ 30 * s.dimensions.external
   size = may.stands.legs.count
 
   leg_accounted : (h : Held) (m : Message) → request_of w.legs line octets ≡ For_leg h m

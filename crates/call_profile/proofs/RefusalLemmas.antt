@@ -18,7 +18,7 @@ use Rattle.call_profile.specs.Acts.{course_of}
 use Rattle.call_profile.specs.CallRecords.{record_at, records, records_by, is_ended, is_calling}
 use Rattle.call_profile.specs.Calls.{Request, For_leg, New_call, On_no_call, Restarts, Unanswered, request_of, answer_back, outcome_for, outcome_of_octets, after_message}
 use Rattle.call_profile.specs.Legs.{leg_at}
-use Rattle.call_profile.specs.Operations.{Operation, Clear, Pair, Seat, Sound, Put, Remove, Send, Making, making_at, making_after, making_after_all, moves_for, moves_of_seat, with_tone}
+use Rattle.call_profile.specs.Operations.{Operation, Clear, Pair, Seat, Sound, Put, Wait, Remove, Send, Making, making_at, making_after, making_after_all, moves_for, moves_of_seat, with_tone}
 use Rattle.call_profile.specs.Restarts.{MessageOutcome, outcome_at_slot, restart_slot, outcome_below, outcome_of_restart}
 use Rattle.exchange_events.specs.declared.trace.Event.{Event}
 use Rattle.exchange_events.specs.declared.trace.Event.TheVariants.{Nail, Seat as Seat_event, Free, Message as Message_event, Frame}
@@ -49,7 +49,7 @@ none_of f [] each = refl
 none_of f (n ∷ ns) each = rw (each n) (none_of f ns each)
 
 pub no_records : (w : World) (cause : ℕ) → records w w cause ≡ []
-no_records w cause = none_of (λ n. record_at w w cause (slot_numbered n)) (range_with_len 0 (length w.legs)) (no_record_at w cause)
+no_records w cause = none_of (λ n. record_at w w cause (slot_numbered n)) (range_with_len 0 (length w.legs.held)) (no_record_at w cause)
 
 -- ---- a call that is refused
 
@@ -138,6 +138,7 @@ same_performed d a b (Pair x y) same = record { holding = rw same.holding refl; 
 same_performed d a b (Seat x room) same = record { holding = rw same.holding refl; legs = same.legs; ports = ap (ports_with x) same.ports; sends = same.sends; moved = seat_moved d a.world b.world x same.ports }
 same_performed d a b (Sound x kind) same = record { holding = ap (λ (h : Holding). with_tone h x kind) same.holding; legs = same.legs; ports = same.ports; sends = same.sends; moved = same.moved }
 same_performed d a b (Put x leg) same = record { holding = same.holding; legs = rw same.legs refl; ports = same.ports; sends = same.sends; moved = same.moved }
+same_performed d a b (Wait x leg p) same = record { holding = same.holding; legs = rw same.legs refl; ports = same.ports; sends = same.sends; moved = same.moved }
 same_performed d a b (Remove x) same = record { holding = same.holding; legs = rw same.legs refl; ports = same.ports; sends = same.sends; moved = same.moved }
 same_performed d a b (Send line message) same = record { holding = same.holding; legs = same.legs; ports = same.ports; sends = rw same.sends refl; moved = same.moved }
 
@@ -151,7 +152,7 @@ append_both xs ys us vs e f = λ i. e i ++ f i
 -- records look at the circuits and the legs alone
 same_records : (u v after_u after_v : World) (cause : ℕ) → u.holding ≡ v.holding → u.legs ≡ v.legs → after_u.legs ≡ after_v.legs → records u after_u cause ≡ records v after_v cause
 same_records u v after_u after_v cause holding legs after_legs =
-    λ i. filter_map (λ n. record_at (record u { holding = holding i; legs = legs i }) (record u { legs = after_legs i }) cause (slot_numbered n)) (range_with_len 0 (length (legs i)))
+    λ i. filter_map (λ n. record_at (record u { holding = holding i; legs = legs i }) (record u { legs = after_legs i }) cause (slot_numbered n)) (range_with_len 0 (length (legs i).held))
 
 -- what was done differs in nothing but paths
 pub record DoneAlike (a b : MessageOutcome) : Type 0 where

@@ -1,5 +1,5 @@
 -- A restart keeps the legs standing, slot by slot.
-use Rattle.std.proofs.Common.{◌≡◌, ℕ, ◌*◌, ◌<◌, ◌≤◌, Bool, true, List, [], ◌∷◌, inl, inr, length, Option, Some, None, refl, sym, ◌∙◌, ap, arith, length-set, set-set}
+use Rattle.std.proofs.Common.{◌≡◌, ℕ, ◌*◌, ◌<◌, ◌≤◌, Bool, true, List, [], ◌∷◌, inl, inr, length, Option, Some, None, refl, sym, ◌∙◌, ap, arith, length-set}
 use Rattle.std.specs.Prelude.{filter, not, option_map, option_and_then}
 use Rattle.std.specs.List.{cons_option}
 use Rattle.circuit_model.specs.declared.channel.Slot.{Slot}
@@ -19,6 +19,7 @@ use Rattle.clearing_rules.specs.Restarting.{is_restarted, acknowledgement, IsOnL
 use Rattle.clearing_rules.specs.declared.scope.Restart.TheVariants.{Channel, Interface}
 use Rattle.tone_rules.specs.declared.tones.Tones.{Tones}
 use Rattle.call_states.specs.declared.leg.Held.{Held}
+use Rattle.number_plan.specs.declared.plan.Number.{Number}
 use Rattle.call_profile.specs.Acts.{in_disconnect_indication, peer_of, with_peer, clear_with, remove_leg}
 use Rattle.call_profile.specs.CallRecords.{records}
 use Rattle.call_profile.specs.EndedCalls.{caller_in, record_calling, record_ended, slot_records}
@@ -32,7 +33,7 @@ use Rattle.exchange_events.specs.Sizes.{Dimensions}
 use Rattle.call_profile.specs.World.{World}
 use Rattle.call_profile.proofs.PermittedActLemmas.{clear_permitted, peer_there_too}
 use Rattle.call_profile.proofs.RestartedSlotLemmas.{each_below}
-use Rattle.call_profile.proofs.BesideLemmas.{entry_here}
+use Rattle.call_profile.proofs.BesideLemmas.{entry_here, entry_twice}
 use Rattle.call_profile.proofs.OneLegClearedLemmas.{alone_left}
 use Rattle.call_profile.proofs.ClearingLemmas.{Kept, held_there, peers_apart, alone_kept, both_kept}
 use Rattle.call_profile.proofs.RecordOfActLemmas.{alone_records, both_records, disconnected_silent}
@@ -68,11 +69,11 @@ module _ (d : Dimensions) (tones : Tones) (r : Restart) (m : Making) (x : Slot) 
   gone_kept y other in_y at_y call =
       let waits : World = (making_after_all d gone (clear_with tones temporary_failure (record { slot = y; leg = other }))).world in
       let stands = both_kept d tones m.world x leg None temporary_failure (omega arith) kept.0 kept.1 within at (inl refl) gone refl refl y other in_y at_y call in
-      let size : length gone.world.legs ≡ 30 * d.external = length-set m.world.legs (number_of x) None ∙ kept.1.count in
+      let size : length gone.world.legs.held ≡ 30 * d.external = length-set m.world.legs.held (number_of x) None ∙ kept.1.count in
       let there : leg_at waits.legs y ≡ Some (in_disconnect_indication temporary_failure other) = entry_here d.external gone.world.legs y (Some (in_disconnect_indication temporary_failure other)) size in_y in (
         stands.0,
         alone_left d.external tones d.bridges waits (both_gone y other) y (in_disconnect_indication temporary_failure other) None stands.0 stands.1 in_y there (inl refl)
-            (sym (set-set gone.world.legs (number_of y) (Some (in_disconnect_indication temporary_failure other)) None))
+            (sym (entry_twice gone.world.legs y (Some (in_disconnect_indication temporary_failure other)) None))
             (sym (cleared_twice gone.world.holding y))
             (λ p is. cc),
       )
@@ -109,15 +110,15 @@ module _ (d : Dimensions) (tones : Tones) (r : Restart) (m : Making) (x : Slot) 
   leg_told = told_by leg.peer refl (kept.1.each x leg within at).peer
 
   -- and each operation is permitted
-  permitted_by : (o : Option Held) → PeerIsThere d.external held o → ArePermitted d tones gone (with_peer o (restart_peer tones r x.line))
-  permitted_by None there = tt
-  permitted_by (Some other) there = elim (true_or_false (restarts_slot r x.line other.slot)) [
+  permitted_by : (plan : List Number) (o : Option Held) → PeerIsThere d.external held o → ArePermitted d tones plan gone (with_peer o (restart_peer tones r x.line))
+  permitted_by plan None there = tt
+  permitted_by plan (Some other) there = elim (true_or_false (restarts_slot r x.line other.slot)) [
     | inl too ↦ rw too (there.0.within, (there.0.within, tt))
-    | inr not_so ↦ rw not_so (clear_permitted d tones gone temporary_failure other there.0 (omega arith))
+    | inr not_so ↦ rw not_so (clear_permitted d tones plan gone temporary_failure other there.0 (omega arith))
   ]
 
-  pub leg_permitted : ArePermitted d tones m (restart_leg tones r m.world.legs (Some held))
-  leg_permitted = (within, (within, permitted_by (peer_of m.world.legs leg.peer) (peer_there_too d.external tones m.world held kept.1 within at)))
+  pub leg_permitted : (plan : List Number) → ArePermitted d tones plan m (restart_leg tones r m.world.legs (Some held))
+  leg_permitted plan = (within, (within, permitted_by plan (peer_of m.world.legs leg.peer) (peer_there_too d.external tones m.world held kept.1 within at)))
 
 -- ---- a slot
 
@@ -138,8 +139,8 @@ module _ (d : Dimensions) (tones : Tones) (r : Restart) (m : Making) (x : Slot) 
   pub slot_kept : Kept d tones (making_after_all d m (restart_slot tones r m.world.legs x)).world
   slot_kept = at_slot tones r m.world.legs x (λ os. Kept d tones (making_after_all d m os).world) kept (λ leg at. leg_kept d tones r m x leg kept within at)
 
-  pub slot_permitted : ArePermitted d tones m (restart_slot tones r m.world.legs x)
-  slot_permitted = at_slot tones r m.world.legs x (ArePermitted d tones m) tt (λ leg at. leg_permitted d tones r m x leg kept within at)
+  pub slot_permitted : (plan : List Number) → ArePermitted d tones plan m (restart_slot tones r m.world.legs x)
+  slot_permitted plan = at_slot tones r m.world.legs x (ArePermitted d tones plan m) tt (λ leg at. leg_permitted d tones r m x leg kept within at plan)
 
   told_of : (o : Option Leg) → leg_at m.world.legs x ≡ o
       → records m.world (making_after_all d m (restart_leg tones r m.world.legs (option_map (λ (leg : Leg). let h : Held = record { slot = x; leg = leg } in h) o))).world temporary_failure

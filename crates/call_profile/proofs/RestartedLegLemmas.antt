@@ -1,5 +1,5 @@
 -- What the restart of a slot makes of the legs, and of what slots hear that no leg holds.
-use Rattle.std.proofs.Common.{◌≡◌, ℕ, true, false, inl, inr, set, Option, Some, None, refl, sym, ◌∙◌, ap, subst, if◌then◌else◌}
+use Rattle.std.proofs.Common.{◌≡◌, ℕ, true, false, inl, inr, Option, Some, None, refl, sym, ◌∙◌, ap, subst, if◌then◌else◌}
 use Rattle.std.specs.Prelude.{option_map}
 use Rattle.circuit_model.specs.declared.channel.Slot.{Slot}
 use Rattle.circuit_model.specs.declared.circuit.Circuit.{Circuit}
@@ -22,7 +22,7 @@ use Rattle.tone_rules.specs.declared.tones.Tones.{Tones}
 use Rattle.call_states.specs.declared.leg.Held.{Held}
 use Rattle.call_profile.specs.Acts.{in_disconnect_indication, tone_of, peer_of, with_peer, clear_with, remove_leg}
 use Rattle.call_profile.specs.LegStanding.{LegsStand, HasPeer, MayHear, IsInCall}
-use Rattle.call_profile.specs.Legs.{leg_at}
+use Rattle.call_profile.specs.Legs.{leg_at, with_entry}
 use Rattle.call_profile.specs.Operations.{Making, making_after_all, with_tone}
 use Rattle.call_profile.specs.Restarts.{restarts_slot, restart_peer, restart_leg, restart_slot}
 use Rattle.exchange_events.specs.Sizes.{Dimensions}
@@ -135,7 +135,7 @@ module _ (d : Dimensions) (tones : Tones) (r : Restart) (line : ℕ) (m : Making
     -- it has one, which becomes this
     module _ (y : Slot) (other : Leg) (in_y : IsExternal d.external y) (at_y : leg_at u.legs y ≡ Some other) (call : IsInCall leg.side x leg y other)
         (o : Option Leg) (is : peer_after r line y other ≡ o) (tone : Option Kind)
-        (v : World) (legs : v.legs ≡ set (set u.legs (number_of x) None) (number_of y) o)
+        (v : World) (legs : v.legs ≡ with_entry (with_entry u.legs x None) y o)
         (holding : v.holding ≡ with_tone (after (after u.holding (Clear_slot x)) (Clear_slot y)) y tone) where
       peers : ArePeers d.external u x y leg other
       peers = peers_of d.external u x y leg other in_x in_y at at_y call

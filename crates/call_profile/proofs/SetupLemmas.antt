@@ -32,7 +32,7 @@ use Rattle.call_profile.specs.World.{World, is_full}
 use Rattle.call_profile.proofs.ClearingLemmas.{Kept}
 use Rattle.call_profile.proofs.CommandLemmas.{both_true}
 use Rattle.call_profile.proofs.NamedLegLemmas.{IsOn, without_leg_by}
-use Rattle.call_profile.proofs.NewCallLemmas.{MayCall, MayOffer, empty_slot, line_call_kept, room_call_kept}
+use Rattle.call_profile.proofs.NewCallLemmas.{MayCall, MayOffer, empty_slot, line_call_kept, room_call_kept, waiting_kept}
 use Rattle.call_profile.proofs.VacantSlotLemmas.{found_on, new_unused}
 
 -- ---- a SETUP that is not refused has passed each check
@@ -145,7 +145,7 @@ module _ (s : Setting) (w : World) (m : Message) (x : Slot) (planned : IsPlanned
   call_kept (Line line) (Some y) is chosen free = line_call_kept s.dimensions s.tones w m x y (new_reference w.legs line) may (offered s w x line y (reached s m line planned is) chosen)
   call_kept (Line line) None is chosen free = (may.valid, may.stand)
   call_kept (Room room) called is chosen free = room_call_kept s.dimensions s.tones w m x room may (free room refl)
-  call_kept More called is chosen free = (may.valid, may.stand)
+  call_kept More called is chosen free = waiting_kept s.dimensions s.tones w m x may
   call_kept Nothing called is chosen free = (may.valid, may.stand)
 
 -- a SETUP with a call reference that nobody has

@@ -4,7 +4,7 @@ use Rattle.circuit_model.specs.declared.channel.Slot.{Slot}
 use Rattle.circuit_model.specs.Extent.{IsExternal}
 use Rattle.q931_codec.specs.declared.message.Message.{Message}
 use Rattle.q931_codec.specs.Contents.{channel_in}
-use Rattle.q931_codec.specs.CallStates.{outgoing_call_proceeding, active}
+use Rattle.q931_codec.specs.CallStates.{overlap_sending, outgoing_call_proceeding, active}
 use Rattle.call_states.specs.declared.leg.Peer.TheVariants as peer
 use Rattle.number_plan.specs.declared.target.Found.{Found}
 use Rattle.number_plan.specs.declared.target.Found.TheVariants.{Line, Room, More, Nothing}
@@ -14,7 +14,7 @@ use Rattle.call_profile.specs.LegStanding.{CallsStand}
 use Rattle.call_profile.specs.Legs.{leg_at, new_reference}
 use Rattle.call_profile.specs.Operations.{making_at, making_after_all}
 use Rattle.exchange_events.specs.Sizes.{Setting}
-use Rattle.call_profile.specs.Setup.{caller_leg, called_leg, caller_slot, called_slot, target_of, call_asked, call_line, call_room, call, accept, setup, refusal, course_of_setup}
+use Rattle.call_profile.specs.Setup.{caller_leg, called_leg, caller_slot, called_slot, target_of, call_asked, call_line, call_room, await_digits, call, accept, setup, refusal, course_of_setup}
 use Rattle.exchange_events.specs.Sound.{IsPlanned}
 use Rattle.call_profile.specs.World.{World}
 use Rattle.call_profile.proofs.BesideLemmas.{entry_else}
@@ -40,6 +40,11 @@ module _ (s : Setting) (w : World) (line : ℕ) (m : Message) (planned : IsPlann
       no_record_where_kept s.dimensions.external w (making_after_all s.dimensions (making_at w) (call_room m.reference x room)).world 0 stands.legs.count
       (λ z leg in_z at calls. entry_else s.dimensions.external w.legs x z (Some (caller_leg active m.reference (peer.Room room))) in_x in_z (not_empty w.legs x z leg empty_x at) ∙ at)
 
+  waiting_ends : (x : Slot) → IsExternal s.dimensions.external x → leg_at w.legs x ≡ None → records w (making_after_all s.dimensions (making_at w) (await_digits m.reference (call_asked m) x)).world 0 ≡ []
+  waiting_ends x in_x empty_x =
+      no_record_where_kept s.dimensions.external w (making_after_all s.dimensions (making_at w) (await_digits m.reference (call_asked m) x)).world 0 stands.legs.count
+      (λ z leg in_z at calls. entry_else s.dimensions.external w.legs x z (Some (caller_leg overlap_sending m.reference peer.Alone)) in_x in_z (not_empty w.legs x z leg empty_x at) ∙ at)
+
   call_ends : (x : Slot) → IsExternal s.dimensions.external x → leg_at w.legs x ≡ None → (t : Found) (o : Option Slot) → target_of s m ≡ t → called_slot w x t ≡ o
       → records w (making_after_all s.dimensions (making_at w) (call w m x t o)).world 0 ≡ []
   call_ends x in_x empty_x (Line l) (Some y) is chosen =
@@ -47,7 +52,7 @@ module _ (s : Setting) (w : World) (line : ℕ) (m : Message) (planned : IsPlann
       line_ends x y (new_reference w.legs l) in_x may.in_y may.apart empty_x (empty_slot w y may.idle_y)
   call_ends x in_x empty_x (Line l) None is chosen = no_records w 0
   call_ends x in_x empty_x (Room room) o is chosen = room_ends x room in_x empty_x
-  call_ends x in_x empty_x More o is chosen = no_records w 0
+  call_ends x in_x empty_x More o is chosen = waiting_ends x in_x empty_x
   call_ends x in_x empty_x Nothing o is chosen = no_records w 0
 
   accept_ends : (o : Option Slot) → caller_slot w line (channel_in m.elements) ≡ o → records w (making_after_all s.dimensions (making_at w) (accept s w m o)).world 0 ≡ []

@@ -1,9 +1,7 @@
 -- Every event keeps the legs standing.
-use Rattle.std.proofs.Common.{◌≡◌, ℕ, zero, suc, inl, inr, ◌*◌, ◌<◌, List, [], ◌∷◌, Option, Some, None, refl, sym, ◌∙◌, subst, arith, get_or}
+use Rattle.std.proofs.Common.{◌≡◌, ℕ, zero, suc, ◌*◌, ◌<◌, List, [], ◌∷◌, Option, Some, None, refl, sym, ◌∙◌, subst, arith, get_or}
 use Rattle.std.specs.Prelude.{All, length, replicate}
-use Rattle.std.proofs.lemmas.Bool.{cases_lt}
 use Rattle.std.proofs.lemmas.List.{length-replicate}
-use Rattle.std.proofs.Math.ListN.{get_or-eq_default}
 use Rattle.circuit_model.specs.declared.channel.Slot.{Slot}
 use Rattle.circuit_model.specs.Holding.{Valid}
 use Rattle.circuit_model.proofs.Validity.{valid-empty}
@@ -28,21 +26,18 @@ use Rattle.call_profile.proofs.CommandLemmas.{nail_kept, seat_kept, free_kept, f
 use Rattle.call_profile.proofs.MessageToLegLemmas.{leg_kept}
 use Rattle.call_profile.proofs.NamedLegLemmas.{received_stands}
 use Rattle.call_profile.proofs.RestartLemmas.{below_kept}
+use Rattle.call_profile.specs.Waiting.{NumbersPend}
+use Rattle.call_profile.proofs.OctetLemmas.{octets_small}
+use Rattle.call_profile.proofs.PendingNumberLemmas.{none_pend, numbers_happened}
 use Rattle.call_profile.proofs.SetupLemmas.{setup_kept, new_from}
-
-pub octets_small : (octets : List ℕ) → All (λ octet. octet < 256) octets → (i : ℕ) → get_or octets i 0 < 256
-octets_small octets all i = elim (cases_lt i (length octets)) [
-  | inl inside ↦ all i 0 inside
-  | inr beyond ↦ subst (λ n. n < 256) (sym (get_or-eq_default octets 0 beyond)) (omega arith)
-]
 
 -- a message that is sent changes nothing else
 kept_without : (s : Setting) (w : World) (line : ℕ) (o : Option OutgoingMessage) → Kept s.dimensions s.tones w → Kept s.dimensions s.tones (making_by s w (only (answer_back line o))).world
 kept_without s w line None kept = kept
 kept_without s w line (Some message) kept = kept
 
-kept_stands : (s : Setting) (v : World) → Kept s.dimensions s.tones v → CallsStand s v
-kept_stands s v kept = record { circuits = kept.0; legs = kept.1 }
+kept_stands : (s : Setting) (v : World) → Kept s.dimensions s.tones v → NumbersPend s.dimensions.external s.plan v.legs → CallsStand s v
+kept_stands s v kept numbers = record { circuits = kept.0; legs = kept.1; numbers = numbers }
 
 module _ (s : Setting) (w : World) (line : ℕ) (octets : List ℕ) (planned : IsPlanned s) (can : Fits s.dimensions.external (Message line octets)) (valid : Valid s.dimensions.bridges w.holding)
     (stand : LegsStand s.dimensions.external s.tones w) where
@@ -60,17 +55,18 @@ module _ (s : Setting) (w : World) (line : ℕ) (octets : List ℕ) (planned : I
   received_kept Unanswered is = (valid, stand)
 
 pub happened_kept : (s : Setting) (w : World) (e : Event) → IsPlanned s → Fits s.dimensions.external e → CallsStand s w → CallsStand s (next s w e)
-happened_kept s w (Nail x y) planned fits stands = kept_stands s (next s w (Nail x y)) (nail_kept s w stands.circuits stands.legs x y fits)
-happened_kept s w (Seat x room) planned fits stands = kept_stands s (next s w (Seat x room)) (seat_kept s w stands.circuits stands.legs x room fits)
-happened_kept s w (Free x) planned fits stands = kept_stands s (next s w (Free x)) (free_kept s w stands.circuits stands.legs x fits)
+happened_kept s w (Nail x y) planned fits stands = kept_stands s (next s w (Nail x y)) (nail_kept s w stands.circuits stands.legs x y fits) (numbers_happened s w (Nail x y) planned fits stands)
+happened_kept s w (Seat x room) planned fits stands = kept_stands s (next s w (Seat x room)) (seat_kept s w stands.circuits stands.legs x room fits) (numbers_happened s w (Seat x room) planned fits stands)
+happened_kept s w (Free x) planned fits stands = kept_stands s (next s w (Free x)) (free_kept s w stands.circuits stands.legs x fits) (numbers_happened s w (Free x) planned fits stands)
 happened_kept s w (Message line octets) planned fits stands =
     kept_stands s (next s w (Message line octets)) (received_kept s w line octets planned fits stands.circuits stands.legs (request_of w.legs line octets) refl)
-happened_kept s w (Frame input) planned fits stands = kept_stands s (next s w (Frame input)) (frame_kept s w stands.circuits stands.legs input)
+    (numbers_happened s w (Message line octets) planned fits stands)
+happened_kept s w (Frame input) planned fits stands = kept_stands s (next s w (Frame input)) (frame_kept s w stands.circuits stands.legs input) (numbers_happened s w (Frame input) planned fits stands)
 
 -- ---- whole runs
 
 -- a table without legs
-abbrev bare : ℕ → Legs
+abbrev bare : ℕ → List (Option Leg)
 bare n = replicate n None
 
 none_in : (n i : ℕ) → get_or (bare n) i None ≡ None
@@ -89,6 +85,7 @@ start_stands s = record {
     each = λ x leg in_x at. absurd (none_at s.dimensions.external x leg at);
     one = λ x y a b in_x in_y at_x at_y line side reference. absurd (none_at s.dimensions.external x a at_x);
   };
+  numbers = none_pend s.dimensions.external s.plan;
 }
 
 pub run_stands : (s : Setting) (w : World) (es : List Event) → IsPlanned s → All (Fits s.dimensions.external) es → CallsStand s w → CallsStand s (world_after_all s w es)

@@ -24,7 +24,7 @@ pub record HasGone (external : ℕ) (tones : Tones) (w v : World) (x y : Slot) (
   pub state_x : is_among every_state s ≡ true
   pub state_y : is_among every_state t ≡ true
   pub matched : are_matched t s ≡ true
-  pub size : length v.legs ≡ 30 * external
+  pub size : length v.legs.held ≡ 30 * external
   pub here_x : leg_at v.legs x ≡ Some (in_state s leg)
   pub here_y : leg_at v.legs y ≡ Some (in_state t other)
   pub hears_x : MayHear tones (in_state s leg) (heard_by v.holding.circuits x)

@@ -61,7 +61,7 @@ record_at before after cause x = if is_ended before after x then option_and_then
 
 -- the records of the calls that were ended
 abbrev pub records : World → World → ℕ → List CallRecord
-records before after cause = filter_map (λ n. record_at before after cause (slot_numbered n)) (range_with_len 0 (length before.legs))
+records before after cause = filter_map (λ n. record_at before after cause (slot_numbered n)) (range_with_len 0 (length before.legs.held))
 
 -- none where no cause is given
 abbrev pub records_by : World → World → Option ℕ → List CallRecord

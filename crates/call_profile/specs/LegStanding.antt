@@ -6,7 +6,7 @@ use Rattle.circuit_model.specs.declared.circuit.Circuit.TheVariants.{Pair, Membe
 use Rattle.circuit_model.specs.Circuits.{heard_by}
 use Rattle.circuit_model.specs.Extent.{IsExternal}
 use Rattle.circuit_model.specs.Holding.{Valid}
-use Rattle.q931_codec.specs.CallStates.{outgoing_call_proceeding, call_delivered, call_present, call_received, incoming_call_proceeding, active, disconnect_indication, release_request}
+use Rattle.q931_codec.specs.CallStates.{overlap_sending, outgoing_call_proceeding, call_delivered, call_present, call_received, incoming_call_proceeding, active, disconnect_indication, release_request}
 use Rattle.call_states.specs.Acts.{every_state, is_among}
 use Rattle.call_states.specs.declared.leg.Leg.{Leg}
 use Rattle.call_states.specs.declared.leg.Peer.{Peer}
@@ -17,6 +17,7 @@ use Rattle.tone_rules.specs.declared.tones.Tones.{Tones}
 use Rattle.call_profile.specs.Acts.{tone_of}
 use Rattle.call_profile.specs.Legs.{Legs, leg_at}
 use Rattle.exchange_events.specs.Sizes.{Setting}
+use Rattle.call_profile.specs.Waiting.{NumbersPend}
 use Rattle.call_profile.specs.World.{World}
 
 -- the states of a caller's leg and of its called leg
@@ -40,9 +41,9 @@ IsInCall Called x leg y other = AreOneCall y other x leg
 
 -- the states in which a leg stands alone
 abbrev pub alone : List ℕ
-alone = disconnect_indication ∷ release_request ∷ []
+alone = overlap_sending ∷ disconnect_indication ∷ release_request ∷ []
 
--- what a leg has for its peer: nothing once clearing has begun, the other leg of its call, or a conference room
+-- what a leg has for its peer: nothing in overlap sending and once clearing has begun, the other leg of its call, or a conference room
 abbrev pub HasPeer : ℕ → Legs → Slot → Leg → Peer → Type 0
 HasPeer external legs x leg peer.Alone = IsTrue (is_among alone leg.state)
 HasPeer external legs x leg (peer.Leg y) = IsExternal external y × ((other : Leg) × (leg_at legs y ≡ Some other) × IsInCall leg.side x leg y other)
@@ -65,12 +66,13 @@ pub record LegStands (external : ℕ) (tones : Tones) (w : World) (x : Slot) (le
 
 -- each leg stands rightly, and no two called legs of a line, and no two callers' legs of a line, have one call reference
 pub record LegsStand (external : ℕ) (tones : Tones) (w : World) : Type 0 where
-  pub count : length w.legs ≡ 30 * external
+  pub count : length w.legs.held ≡ 30 * external
   pub each : (x : Slot) (leg : Leg) → IsExternal external x → leg_at w.legs x ≡ Some leg → LegStands external tones w x leg
   pub one : (x y : Slot) (a b : Leg) → IsExternal external x → IsExternal external y → leg_at w.legs x ≡ Some a → leg_at w.legs y ≡ Some b
       → x.line ≡ y.line → a.side ≡ b.side → a.reference ≡ b.reference → x ≡ y
 
--- each slot stands in one way, and the legs stand
+-- each slot stands in one way, the legs stand, and numbers are pending where legs wait for the rest of them
 pub record CallsStand (s : Setting) (w : World) : Type 0 where
   pub circuits : Valid s.dimensions.bridges w.holding
   pub legs : LegsStand s.dimensions.external s.tones w
+  pub numbers : NumbersPend s.dimensions.external s.plan w.legs

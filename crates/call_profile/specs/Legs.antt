@@ -8,22 +8,35 @@ use Rattle.call_states.specs.declared.leg.Leg.{Leg}
 use Rattle.call_states.specs.declared.leg.Side.{Side}
 use Rattle.call_states.specs.declared.leg.Side.TheVariants.{Caller, Called}
 use Rattle.call_states.specs.declared.leg.Held.{Held}
+use Rattle.call_states.specs.declared.pending.Pending.{Pending}
 
--- for each external slot, by its number, the leg that holds it
-abbrev pub Legs : Type 0
-Legs = List (Option Leg)
+-- for each external slot, by its number, the leg that holds it, and the number that is pending there
+pub record Legs : Type 0 where
+  pub held : List (Option Leg)
+  pub pending : List (Option Pending)
 
 abbrev pub no_legs : ℕ → Legs
-no_legs external = replicate (30 * external) None
+no_legs external = record { held = replicate (30 * external) None; pending = replicate (30 * external) None }
 
 abbrev pub leg_at : Legs → Slot → Option Leg
-leg_at legs x = slice_index_or legs (number_of x) None
+leg_at legs x = slice_index_or legs.held (number_of x) None
+
+abbrev pub pending_at : Legs → Slot → Option Pending
+pending_at legs x = slice_index_or legs.pending (number_of x) None
+
+-- the slot is held by this leg, if by any, and no number is pending there
+abbrev pub with_entry : Legs → Slot → Option Leg → Legs
+with_entry legs x leg = record { held = slice_set legs.held (number_of x) leg; pending = slice_set legs.pending (number_of x) None }
 
 abbrev pub with_leg : Legs → Slot → Leg → Legs
-with_leg legs x leg = slice_set legs (number_of x) (Some leg)
+with_leg legs x leg = with_entry legs x (Some leg)
 
 abbrev pub without_leg : Legs → Slot → Legs
-without_leg legs x = slice_set legs (number_of x) None
+without_leg legs x = with_entry legs x None
+
+-- the slot is held by this leg, whose number is pending
+abbrev pub with_waiting : Legs → Slot → Leg → Pending → Legs
+with_waiting legs x leg pending = record { held = slice_set legs.held (number_of x) (Some leg); pending = slice_set legs.pending (number_of x) (Some pending) }
 
 -- the slots of a line, lowest first
 unfoldable pub slots_of : ℕ → List Slot

@@ -9,6 +9,7 @@ pub mod CallRecords
 pub mod Restarts
 pub mod Setup
 pub mod Calls
+pub mod Waiting
 pub mod LegStanding
 pub mod Step
 pub mod WorkedCalls
@@ -22,4 +23,5 @@ pub mod References
 pub mod Restarted
 pub mod Recorded
 pub mod WorkedMessages
+pub mod WorkedOverlap
 pub mod CallsTold

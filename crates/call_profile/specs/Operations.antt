@@ -8,8 +8,9 @@ use Rattle.control_memory.specs.Layout.{Layout}
 use Rattle.control_memory.specs.Connecting.{moved}
 use Rattle.q931_codec.specs.Outgoing.{OutgoingMessage, encoding}
 use Rattle.call_states.specs.declared.leg.Leg.{Leg}
+use Rattle.call_states.specs.declared.pending.Pending.{Pending}
 use Rattle.exchange_events.specs.declared.signal.Signal.{Signal}
-use Rattle.call_profile.specs.Legs.{with_leg, without_leg}
+use Rattle.call_profile.specs.Legs.{with_leg, with_waiting, without_leg}
 use Rattle.exchange_events.specs.Sizes.{Dimensions}
 use Rattle.call_profile.specs.World.{World, obey, one_way, both_ways}
 
@@ -22,9 +23,11 @@ pub data Operation : Type 0 where
   Seat : (x : Slot) (room : ℕ) → Operation
   -- the slot gets this tone, if there is one
   Sound : (x : Slot) (kind : Option Kind) → Operation
-  -- the slot is held by this leg, in place of any other
+  -- the slot is held by this leg, in place of any other, and no number is pending there
   Put : (x : Slot) (leg : Leg) → Operation
-  -- the slot is held by no leg
+  -- the slot is held by this leg, in place of any other, and its number is pending
+  Wait : (x : Slot) (leg : Leg) (pending : Pending) → Operation
+  -- the slot is held by no leg, and no number is pending there
   Remove : (x : Slot) → Operation
   -- a message goes to the user of a line
   Send : (line : ℕ) (message : OutgoingMessage) → Operation
@@ -56,6 +59,7 @@ making_after d m (Pair x y) = record m { world = obey d m.world (Connect x y); m
 making_after d m (Seat x room) = record m { world = obey d m.world (Take_seat x room); moves = moves_of_seat d m.world x }
 making_after d m (Sound x kind) = record m { world = record m.world { holding = with_tone m.world.holding x kind } }
 making_after d m (Put x leg) = record m { world = record m.world { legs = with_leg m.world.legs x leg } }
+making_after d m (Wait x leg pending) = record m { world = record m.world { legs = with_waiting m.world.legs x leg pending } }
 making_after d m (Remove x) = record m { world = record m.world { legs = without_leg m.world.legs x } }
 making_after d m (Send line message) = record m { sends = m.sends ++ record { line = line; octets = encoding message } ∷ [] }
 

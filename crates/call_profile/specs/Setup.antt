@@ -1,6 +1,6 @@
 -- SETUP: the checks in their order, and what is chosen. Which check comes first, and what is chosen, is this exchange's own profile of ITU-T
 -- Q.931 (05/98), 5.1 and 5.2.
-use Rattle.std.specs.Prelude.{ℕ, Bool, true, false, List, [], ◌∷◌, ◌++◌, Option, Some, None, is_none, not, option_map, option_and_then, unwrap_or, if◌then◌else◌}
+use Rattle.std.specs.Prelude.{ℕ, ◌&&◌, Bool, true, false, List, [], ◌∷◌, ◌++◌, Option, Some, None, is_none, not, option_map, option_and_then, unwrap_or, if◌then◌else◌}
 use Rattle.std.specs.Option.{option_or}
 use Rattle.circuit_model.specs.declared.channel.Slot.{Slot}
 use Rattle.circuit_model.specs.Channels.{place_of, channel_at}
@@ -10,9 +10,9 @@ use Rattle.q931_codec.specs.declared.contents.ChannelIdentification.{ChannelIden
 use Rattle.q931_codec.specs.declared.contents.ChannelIdentification.TheVariants.{Any, Preferred, Exclusive, Invalid}
 use Rattle.q931_codec.specs.declared.kind.MessageKind.TheVariants as kind
 use Rattle.q931_codec.specs.declared.message.Message.{Message}
-use Rattle.q931_codec.specs.CallStates.{outgoing_call_proceeding, call_present, active}
+use Rattle.q931_codec.specs.CallStates.{overlap_sending, outgoing_call_proceeding, call_present, active}
 use Rattle.q931_codec.specs.Causes.{unallocated_number, invalid_number_format, no_channel_available, switching_equipment_congestion, requested_channel_not_available, bearer_capability_not_implemented, mandatory_element_missing, invalid_element_contents}
-use Rattle.q931_codec.specs.Contents.{channel_in, bearer_in, bearer_of, is_called_number, called_received, called_in, dialled_digits, calling_in, low_layer_in, high_layer_in}
+use Rattle.q931_codec.specs.Contents.{channel_in, bearer_in, bearer_of, is_called_number, called_received, called_in, complete_in, dialled_digits, calling_in, low_layer_in, high_layer_in}
 use Rattle.q931_codec.specs.Outgoing.{OutgoingMessage, bare}
 use Rattle.call_states.specs.declared.leg.Leg.{Leg}
 use Rattle.call_states.specs.declared.leg.Peer.{Peer}
@@ -26,7 +26,7 @@ use Rattle.call_profile.specs.Acts.{message_to}
 use Rattle.call_profile.specs.Course.{Course, only}
 use Rattle.call_profile.specs.IdleSlots.{idle, lowest_idle, lowest_idle_beside}
 use Rattle.call_profile.specs.Legs.{new_reference}
-use Rattle.call_profile.specs.Operations.{Operation, Seat, Put, Send}
+use Rattle.call_profile.specs.Operations.{Operation, Seat, Put, Wait, Send}
 use Rattle.exchange_events.specs.Sizes.{Setting, Dimensions}
 use Rattle.call_profile.specs.World.{World, is_full}
 
@@ -96,9 +96,10 @@ abbrev pub is_not_carried : Option BearerCapability → Bool
 is_not_carried (Some bearer.NotCarried) = true
 is_not_carried _ = false
 
-abbrev pub lacks_number : Option (List ℕ) → Bool
-lacks_number None = true
-lacks_number (Some contents) = not (is_called_number contents)
+-- without a called party number the digits are still to come, unless nothing more comes
+abbrev pub lacks_number : Option (List ℕ) → Bool → Bool
+lacks_number None complete = complete
+lacks_number (Some contents) complete = not (is_called_number contents)
 
 abbrev pub element_checks : Message → List Check
 element_checks m =
@@ -106,7 +107,7 @@ element_checks m =
     ∷ (is_unreadable (bearer_asked m), invalid_element_contents)
     ∷ (is_not_carried (bearer_asked m), bearer_capability_not_implemented)
     ∷ (is_invalid (channel_in m.elements), invalid_element_contents)
-    ∷ (lacks_number (called_received m.elements), invalid_number_format)
+    ∷ (lacks_number (called_received m.elements) (complete_in m.elements), invalid_number_format)
     ∷ (is_none (digits_in m), invalid_number_format)
     ∷ []
 
@@ -118,11 +119,11 @@ abbrev pub is_incomplete : Found → Bool
 is_incomplete More = true
 is_incomplete _ = false
 
--- what the plan knows of the number
-abbrev pub number_checks : Found → List Check
-number_checks target =
+-- what the plan knows of the number; one that isn't complete is refused where nothing more of it comes
+abbrev pub number_checks : Found → Bool → List Check
+number_checks target complete =
     (is_unknown target, unallocated_number)
-    ∷ (is_incomplete target, invalid_number_format)
+    ∷ (is_incomplete target && complete, invalid_number_format)
     ∷ []
 
 -- the slot of the one channel that is asked for is not idle
@@ -152,7 +153,7 @@ slot_checks d w line channel target =
 
 -- the twelve checks in their order
 abbrev pub checks : Setting → World → ℕ → Message → List Check
-checks s w line m = element_checks m ++ number_checks (target_of s m) ++ slot_checks s.dimensions w line (channel_in m.elements) (target_of s m)
+checks s w line m = element_checks m ++ number_checks (target_of s m) (complete_in m.elements) ++ slot_checks s.dimensions w line (channel_in m.elements) (target_of s m)
 
 -- the first check that fails decides
 abbrev pub first_cause : List Check → Option ℕ
@@ -178,8 +179,16 @@ release_complete reference cause = record (bare true reference kind.ReleaseCompl
 abbrev pub refuse : ℕ → ℕ → ℕ → List Operation
 refuse line reference cause = Send line (release_complete reference cause) ∷ []
 
+-- a message that tells the user the channel of its call
+abbrev pub with_channel : Slot → OutgoingMessage → OutgoingMessage
+with_channel x message = record message { channel = Some (channel_at x.place) }
+
 abbrev pub call_proceeding : Slot → Leg → OutgoingMessage
-call_proceeding x leg = record (message_to leg kind.CallProceeding) { channel = Some (channel_at x.place) }
+call_proceeding x leg = with_channel x (message_to leg kind.CallProceeding)
+
+-- SETUP ACKNOWLEDGE: the caller is asked for the rest of the number
+abbrev pub setup_acknowledge : Slot → Leg → OutgoingMessage
+setup_acknowledge x leg = with_channel x (message_to leg kind.SetupAcknowledge)
 
 -- the SETUP to the called user
 abbrev pub offer : Pending → Slot → Leg → OutgoingMessage
@@ -214,9 +223,18 @@ call_room own x room =
     ∷ Send x.line (message_to caller kind.Connect)
     ∷ []
 
+-- a number that isn't complete: the caller's leg waits for the rest of it
+abbrev pub await_digits : ℕ → Pending → Slot → List Operation
+await_digits own asked x =
+    let caller = caller_leg overlap_sending own peer.Alone in
+    Wait x caller asked
+    ∷ Send x.line (setup_acknowledge x caller)
+    ∷ []
+
 abbrev pub call : World → Message → Slot → Found → Option Slot → List Operation
 call w m x (Line line) (Some y) = call_line m.reference (call_asked m) x y (new_reference w.legs line)
 call w m x (Room room) called = call_room m.reference x room
+call w m x More called = await_digits m.reference (call_asked m) x
 call w m x _ _ = []
 
 -- an accepted SETUP has a slot for the caller

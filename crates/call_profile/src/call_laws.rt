@@ -12,6 +12,7 @@ ghost use Rattle.exchange_events.specs.Sizes.{Setting};
 ghost use Rattle.exchange_events.specs.Sound.{Fits, IsPlanned};
 ghost use Rattle.call_profile.specs.Refused.{IsRefused, refusal_reply};
 ghost use Rattle.call_profile.specs.Step.{reply, next, world_after_all};
+ghost use Rattle.call_profile.specs.Waiting.{EachWaits, NoneElsePends};
 ghost use Rattle.call_profile.specs.World.{World, start};
 ghost use Rattle.call_profile.specs.WorkedCalls.{two_lines, one_line, answers, whole_call, whole_call_answered, refused_or_moved, refused_or_moved_answered, clear_collision, clear_collision_answered, without_call, without_call_answered, own_line, restart_of_called, restart_of_called_answered, restart_of_both, restart_of_both_answered, restart_of_one, restart_of_one_answered, lenient_reading, lenient_reading_answered, call_to_room, call_to_room_answered, no_port_answered, unexpected, unexpected_answered, line_full, line_full_answered, sounding_lines, circuits_after, rings, rings_answered, ringing_tone, found_busy, found_busy_answered, busy_tone, found_gone, found_gone_answered, found_there, conversation};
 
@@ -73,11 +74,15 @@ pub fn law_of_answered_calls()
 {}
 
 /// How legs stand is kept by every event: peers name each other, in states that go together, each slot
-/// hears by what its leg's state says, and call references name one leg. So it stands in every run.
+/// hears by what its leg's state says, and call references name one leg. So it stands in every run. A leg in
+/// overlap sending is then a caller's and alone, its slot hears nothing, and its number is pending, whose
+/// digits so far are the beginning of a number of the plan; in no other state a number is pending.
 pub fn law_of_legs()
     ensures begins { (s : Setting) → CallsStand s (start s.dimensions) }
     ensures kept { (s : Setting) (w : World) (e : Event) → IsPlanned s → Fits s.dimensions.external e → CallsStand s w
         → CallsStand s (next s w e) }
     ensures always { (s : Setting) (es : List Event) → IsPlanned s → All (Fits s.dimensions.external) es
         → CallsStand s (world_after_all s (start s.dimensions) es) }
+    ensures waiting { (s : Setting) (w : World) → CallsStand s w → EachWaits s w }
+    ensures pending { (s : Setting) (w : World) → CallsStand s w → NoneElsePends s w }
 {}

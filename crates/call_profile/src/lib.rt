@@ -2,7 +2,8 @@
 //! answered and makes of the world, `Calls` what a message asks for, `Acts`, `Setup` and `Restarts` what is
 //! then done, one operation after another (`Operations`). But for [`is_for`], its functions are laws of these:
 //!
-//! - Every event keeps the legs standing ([`law_of_legs`]). A refused command changes nothing
+//! - Every event keeps the legs standing, and a number pending where a leg waits for the rest of it
+//!   ([`law_of_legs`]). A refused command changes nothing
 //!   ([`law_of_refusals`]), nor does a refused SETUP ([`law_of_refused_calls`]).
 //! - What is sent does not depend on the layout ([`law_of_paths`]); an answered call and a granted nail get
 //!   both paths ([`law_of_answered_calls`], [`law_of_granted_nails`]).
@@ -29,4 +30,4 @@ pub use command_laws::{law_of_granted_nails, law_of_refusals};
 pub use laws::{later_frames_change_nothing, worlds_are_made};
 pub use leg_laws::{law_of_progress, law_of_records, law_of_references, law_of_restarts};
 pub use legs::is_for;
-pub use worked::worked_messages;
+pub use worked::{worked_messages, worked_overlap};

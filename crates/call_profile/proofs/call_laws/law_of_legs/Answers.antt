@@ -1,3 +1,4 @@
+use Rattle.call_profile.proofs.WaitingLegLemmas.{each_waits, none_else}
 use Rattle.call_profile.proofs.StandingLegLemmas.{start_stands, happened_kept, run_stands}
 use Rattle.call_profile.proofs.call_laws.law_of_legs.Goals as goal
 
@@ -9,3 +10,9 @@ returns-clause-kept c = happened_kept
 
 pub returns-clause-always : goal.returns-clause-always
 returns-clause-always c s hs planned can = run_stands s _ hs planned can (start_stands s)
+
+pub returns-clause-waiting : goal.returns-clause-waiting
+returns-clause-waiting c s w stands = each_waits s w stands
+
+pub returns-clause-pending : goal.returns-clause-pending
+returns-clause-pending c s w stands = none_else s w stands
