@@ -1,5 +1,5 @@
 -- What is read of a message before its turn. Source: ITU-T Q.931 (05/98), 4.2 to 4.5, for the header; the rest is this exchange's own.
-use Rattle.std.specs.Prelude.{◌≡◌, ℕ, ◌<◌, ◌≤◌, ◌^◌, List, [], length, drop, Ok, is_some, unwrap_or, IfSome}
+use Rattle.std.specs.Prelude.{◌≡◌, ℕ, ◌<◌, ◌≤◌, ◌^◌, Bool, List, [], length, drop, Ok, is_ok, is_some, unwrap_or, IfSome}
 use Rattle.number_plan.specs.declared.plan.Number.{Number}
 use Rattle.number_plan.specs.Plan.{found_for}
 use Rattle.q931_elements.specs.Reading.{elements_of}
@@ -17,6 +17,10 @@ pub record IsDialled (plan : List Number) (m : Message) (number : DialledNumber)
 -- the message of which this was read: its elements are those behind a header of five octets
 abbrev pub message_ahead : ReadAhead → List ℕ → Message
 message_ahead known octets = record { flag = known.flag; reference = known.reference; kind = known.kind; elements = elements_of (drop 5 octets) }
+
+-- the octets are a message, so that it can be read ahead
+abbrev pub is_message : List ℕ → Bool
+is_message octets = is_ok (reading octets)
 
 -- the octets are that message, and its number is the one that it dials
 pub record IsReadAhead (plan : List Number) (octets : List ℕ) (known : ReadAhead) : Type 0 where

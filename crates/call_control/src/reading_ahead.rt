@@ -2,7 +2,7 @@
 ghost use Rattle.std.specs.Prelude.{◌≡◌, ◌≤◌, [], IfSome, is_some, length, option_map, unwrap_or};
 ghost use Rattle.number_plan.specs.Plan.{found_for};
 ghost use Rattle.call_profile.specs.Setup.{digits_in};
-ghost use Rattle.call_control.specs.Ahead.{IsDialled, IsReadAhead, message_ahead};
+ghost use Rattle.call_control.specs.Ahead.{IsDialled, IsReadAhead, is_message, message_ahead};
 
 use crate::messages::asks_for_call;
 use arrayvec::ArrayVec;
@@ -35,7 +35,8 @@ pub struct ReadAhead {
 /// Reads a message ahead, and looks up what it dials where it may ask for a call. `None` where the
 /// octets are no message.
 pub fn read_ahead(plan: &Plan, octets: &[u8]) -> Option<ReadAhead>
-    ensures { IfSome result (IsReadAhead plan.now octets.now) }
+    ensures read { IfSome result (IsReadAhead plan.now octets.now) }
+    ensures exact { is_some result ≡ is_message octets.now }
 {
     let Ok(message) = read(octets) else {
         return None;

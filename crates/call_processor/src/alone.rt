@@ -61,10 +61,10 @@ fn do_next<B: Switchboard, G: Gate, C: Carrier, K: Keeper, R: Threads + Wait + S
     ensures refused { OnErr result ((answers : List Placed) → K.holds keeper.old answers → K.holds keeper.new answers) }
 {
     let Some(input) = input_of(trace, event) else {
+        // Nobody waits for the turn, so nothing is gained by what is read before it.
+        desk.ahead = None;
         let processor = processor_at(trace, event);
-        return do_event(
-            rt, alloc, board, seat, trace, processor, event, desk, keeper, gate,
-        );
+        return do_event(rt, alloc, board, seat, processor, event, desk, keeper, gate);
     };
     desk.tool = replace(tool, Tool::Nothing);
     let worker = u32::from(trace.processors);

@@ -1,4 +1,5 @@
 ghost use Rattle.std.specs.Prelude.{◌≡◌, ◌<◌, ◌≤◌, [], true, All, List, OnOk, OnErr, is_ok, length};
+ghost use Rattle.exchange_core.specs.Ahead.{IsReadAt};
 ghost use Rattle.exchange_core.specs.Boards.{turns_of};
 ghost use Rattle.exchange_core.specs.declared.tool.Tool.TheVariants.{Nothing};
 ghost use Rattle.exchange_events.specs.Orders.{IsEvent, Processor};
@@ -20,13 +21,12 @@ use gate::Gate;
 use std::alloc::{AllocError, Global};
 use std::sync::Wait;
 
-// Does one event of a call processor in the seat's turn, and reads ahead before that what it asks for.
+// Does one event of a call processor in the seat's turn. What was read of it ahead, if anything, is on the desk.
 pub(crate) fn do_event<B: Switchboard, G: Gate, K: Keeper, R: Wait>(
     rt: &R,
     alloc: Global,
     board: &B,
     seat: &mut B::Seat,
-    trace: &Trace,
     processor: u32,
     event: u32,
     desk: &mut Desk,
@@ -34,11 +34,11 @@ pub(crate) fn do_event<B: Switchboard, G: Gate, K: Keeper, R: Wait>(
     gate: &G,
 ) -> Result<(), AllocError>
     requires seated { B.seated board.now seat.old }
-    requires trace { trace.now ≡ (B.board board.now).trace }
     requires known { IsEvent (B.board board.now).trace event }
     requires its { is_its (B.board board.now).trace (Processor processor) event ≡ true }
     requires turn { 0 < (B.known seat.old).left }
     requires tool { desk.old.tool ≡ Nothing }
+    requires ahead { IsReadAt (B.board board.now).trace event desk.old.ahead }
     ensures seated { B.seated board.now seat.new }
     ensures handled { DidEvent (B.known seat.old) event (B.known seat.new) }
     ensures next { IsOnly (B.known seat.old) → DidNext (turns_of (B.board board.now)) (B.known seat.old) event (B.known seat.new) }
@@ -46,7 +46,6 @@ pub(crate) fn do_event<B: Switchboard, G: Gate, K: Keeper, R: Wait>(
     ensures kept { OnOk result (HasKept K.holds (B.board board.now) (B.known seat.new) event has_no_octets keeper.old keeper.new) }
     ensures refused { OnErr result ((answers : List Placed) → K.holds keeper.old answers → K.holds keeper.new answers) }
 {
-    desk.look_ahead(trace, event);
     gate.before_turn(processor, event);
     let (place, response) = board.work(rt, seat, event, desk);
     gate.after_turn(processor, event);
@@ -83,9 +82,8 @@ fn do_events<B: Switchboard, G: Gate, K: Keeper, R: Wait>(
         if shortage.is_told() {
             return Err(AllocError);
         }
-        do_event(
-            rt, alloc, board, seat, trace, processor, event, desk, keeper, gate,
-        )?;
+        desk.look_ahead(trace, event);
+        do_event(rt, alloc, board, seat, processor, event, desk, keeper, gate)?;
     }
     Ok(())
 }

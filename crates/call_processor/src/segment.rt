@@ -42,21 +42,13 @@ pub fn processor_of(processors: u8, event: &Event) -> Option<u32>
     Some(u32::from(line % processors))
 }
 
-// The event with this number.
-fn event_numbered(trace: &Trace, event: u32) -> &Event
-    requires { IsEvent trace.now event }
-    ensures { IsNumbered trace.now event result.now }
-{
-    &trace.events.as_slice()[event as usize - 1]
-}
-
 /// Whether the call processor does the event with this number.
 pub(crate) fn is_of_processor(trace: &Trace, processor: u32, event: u32) -> bool
     requires some { 0 < trace.now.processors }
     requires event { IsEvent trace.now event }
     ensures { result ≡ is_its trace.now (Processor processor) event }
 {
-    processor_of(trace.processors, event_numbered(trace, event)) == Some(processor)
+    processor_of(trace.processors, trace.event(event)) == Some(processor)
 }
 
 /// The call processor that does the event with this number, which is no frame.
@@ -66,7 +58,7 @@ pub(crate) fn processor_at(trace: &Trace, event: u32) -> u32
     requires no_frame { is_its trace.now Frame_worker event ≡ false }
     ensures { is_its trace.now (Processor result) event ≡ true }
 {
-    let Some(processor) = processor_of(trace.processors, event_numbered(trace, event)) else {
+    let Some(processor) = processor_of(trace.processors, trace.event(event)) else {
         unreachable!()
     };
     processor
@@ -78,7 +70,7 @@ pub(crate) fn input_of(trace: &Trace, event: u32) -> Option<&Input>
     ensures its { is_some result ≡ is_its trace.now Frame_worker event }
     ensures input { IfSome result (λ input. IsNumbered trace.now event (Frame input.now)) }
 {
-    match event_numbered(trace, event) {
+    match trace.event(event) {
         Event::Frame(input) => Some(input),
         Event::Nail(_, _) => None,
         Event::Seat(_, _) => None,

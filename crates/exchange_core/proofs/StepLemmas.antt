@@ -1,9 +1,8 @@
 -- A core's map and legs are those of the world of its journal, step by step.
-use Rattle.std.proofs.Common.{◌≡◌, ℕ, suc, ◌+◌, ◌-◌, ◌<◌, ◌≤◌, List, [], ◌∷◌, ◌++◌, get_or, length, Option, Some, None, refl, sym, ◌∙◌, ap, subst, arith}
+use Rattle.std.proofs.Common.{◌≡◌, ℕ, suc, ◌+◌, ◌<◌, ◌≤◌, List, [], ◌∷◌, ◌++◌, length, Option, Some, None, refl, sym, ◌∙◌, ap, subst, arith}
 use Rattle.std.specs.Prelude.{All, map, IfSome}
 use Rattle.std.specs.List.{cons_option}
 use Rattle.std.proofs.lemmas.List.{map-append}
-use Rattle.std.proofs.lemmas.Option.{slice_get-get_or}
 use Rattle.std.proofs.lemmas.List.Elements.{All-nil, All-cons, All-append}
 use Rattle.circuit_model.specs.FrameInput.{Input}
 use Rattle.circuit_model.specs.Holding.{empty}
@@ -19,7 +18,7 @@ use Rattle.call_control.specs.AtWork.{IsAtWork}
 use Rattle.call_profile.specs.Legs.{Legs, no_legs}
 use Rattle.exchange_events.specs.Orders.{IsEvent, event_at}
 use Rattle.exchange_events.specs.Sound.{Fits, IsSound, setting_of}
-use Rattle.exchange_events.proofs.EventNumbers.{event_at-is, of_event_at}
+use Rattle.exchange_events.proofs.EventNumbers.{of_event_at}
 use Rattle.call_control.specs.Standing.{Holds}
 use Rattle.call_profile.specs.Step.{next, world_after_all, events_of}
 use Rattle.exchange_core.specs.Ahead.{IsReadAt, IsReadOf}
@@ -137,10 +136,7 @@ stepped x map legs room by n e map_after legs_after journal works known is more 
 
 -- ---- the event with a number
 
-pub number_is : (events : List Event) (n : ℕ) (e : Event) → (1 ≤ n) × (n ≤ length events) → e ≡ get_or events (n - 1) e → event_at events n ≡ Some e
-number_is events n e known is = event_at-is events n known.0 ∙ slice_get-get_or events (n - 1) e (omega (arith, known.0, known.1)) ∙ ap (λ (one : Event). Some one) (sym is)
-
-one_number : (o : Option Event) (one other : Event) → o ≡ Some one → o ≡ Some other → one ≡ other
+pub one_number : (o : Option Event) (one other : Event) → o ≡ Some one → o ≡ Some other → one ≡ other
 one_number o one other is is_too = let same : Some one ≡ Some other = sym is ∙ is_too in cc
 
 -- what is known of a core that does an event, which was looked up by its number
@@ -150,11 +146,10 @@ pub record Facts (x : Working) (map : Connections) (legs : Legs) (n : ℕ) (e : 
   pub fits : Fits x.trace.external e
   pub at : IsAtWork (setting x) map legs (world_of x)
 
-pub facts : (x y : Working) (map : Connections) (legs : Legs) (room n : ℕ) (events : List Event) (e : Event) → x ≡ y → IsWorking x map legs room → IsEvent y.trace n
-    → events ≡ x.trace.events → e ≡ get_or events (n - 1) e → Facts x map legs n e
-facts x y map legs room n events e same works known all found =
+pub facts : (x y : Working) (map : Connections) (legs : Legs) (room n : ℕ) (e : Event) → x ≡ y → IsWorking x map legs room → IsEvent y.trace n
+    → IsNumbered x.trace n e → Facts x map legs n e
+facts x y map legs room n e same works known number =
     let own = subst (λ (z : Working). IsEvent z.trace n) (sym same) known in
-    let number = number_is x.trace.events n e own (found ∙ ap (λ es. get_or es (n - 1) e) all) in
     record { known = own; number = number; fits = fits_at x.trace n e works.sound.events number; at = at_work x map legs room works }
 
 -- what holds of the event holds of each that has its number

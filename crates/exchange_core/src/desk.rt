@@ -1,6 +1,6 @@
-ghost use Rattle.std.specs.Prelude.{◌≡◌, [], None, IfSome};
+ghost use Rattle.std.specs.Prelude.{◌≡◌, [], None, IfSome, is_some};
 ghost use Rattle.exchange_events.specs.Orders.{IsEvent};
-ghost use Rattle.exchange_core.specs.Ahead.{IsReadAt, IsReadOf};
+ghost use Rattle.exchange_core.specs.Ahead.{IsReadAt, IsReadOf, LooksAhead, is_readable};
 
 use crate::tool::Tool;
 use call_control::{ReadAhead, read_ahead};
@@ -40,17 +40,18 @@ impl Desk {
     pub fn look_ahead(&mut self, trace: &Trace, event: u32)
         requires known { IsEvent trace.now event }
         ensures ahead { IsReadAt trace.now event self.new.ahead }
+        ensures exact { LooksAhead trace.now event self.new.ahead }
         ensures tool { self.new.tool ≡ self.old.tool }
         ensures out { self.new.out ≡ self.old.out }
     {
-        let next = &trace.events.as_slice()[event as usize - 1];
-        self.ahead = event_ahead(&trace.plan, next);
+        self.ahead = event_ahead(&trace.plan, trace.event(event));
     }
 }
 
 // What is read of an event ahead.
 fn event_ahead(plan: &Plan, event: &Event) -> Option<ReadAhead>
-    ensures { IfSome result (IsReadOf plan.now event.now) }
+    ensures read { IfSome result (IsReadOf plan.now event.now) }
+    ensures exact { is_some result ≡ is_readable event.now }
 {
     match event {
         Event::Message(_, octets) => read_ahead(plan, octets.as_slice()),

@@ -134,7 +134,7 @@ impl<'t, P: PathMap> Core<'t, P> {
     {
         out.clear();
         let trace = self.trace;
-        let event_done = &trace.events.as_slice()[event as usize - 1];
+        let event_done = trace.event(event);
         let response = happen(
             &mut self.control,
             &trace.plan,

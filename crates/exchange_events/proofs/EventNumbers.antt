@@ -1,7 +1,7 @@
 -- The events of a trace by their numbers.
-use Rattle.std.proofs.Common.{◌≡◌, ℕ, zero, suc, ◌-◌, ◌≤◌, List, [], ◌∷◌, length, Some, refl, ap, subst, arith}
+use Rattle.std.proofs.Common.{◌≡◌, ℕ, zero, suc, ◌-◌, ◌≤◌, List, [], ◌∷◌, get_or, length, Some, refl, sym, ◌∙◌, ap, subst, arith}
 use Rattle.std.specs.Prelude.{All, slice_get}
-use Rattle.std.proofs.lemmas.Option.{slice_get_within, get_or_from_slice_get}
+use Rattle.std.proofs.lemmas.Option.{slice_get_within, slice_get-get_or, get_or_from_slice_get}
 use Rattle.exchange_events.specs.declared.trace.Event.{Event}
 use Rattle.exchange_events.specs.declared.trace.Trace.{Trace}
 use Rattle.exchange_events.specs.Orders.{IsEvent, event_at}
@@ -11,6 +11,10 @@ pub event_at-is : (events : List Event) (n : ℕ) → 1 ≤ n → event_at event
 unfolding event_at
 event_at-is events zero some = absurd (omega (arith, some))
 event_at-is events (suc n) some = ap (slice_get events) (omega arith)
+
+-- and what is read there is the one with the number
+pub number_is : (events : List Event) (n : ℕ) (e : Event) → (1 ≤ n) × (n ≤ length events) → e ≡ get_or events (n - 1) e → event_at events n ≡ Some e
+number_is events n e known is = event_at-is events n known.0 ∙ slice_get-get_or events (n - 1) e (omega (arith, known.0, known.1)) ∙ ap (λ (one : Event). Some one) (sym is)
 
 there : (events : List Event) (n : ℕ) → 1 ≤ n → n ≤ length events → (e : Event) × (event_at events n ≡ Some e)
 unfolding event_at

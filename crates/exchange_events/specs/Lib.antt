@@ -4,3 +4,4 @@ pub mod Sound
 pub mod Orders
 pub mod Responses
 pub mod Kept
+pub mod Held

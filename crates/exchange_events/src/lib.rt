@@ -18,6 +18,7 @@
 mod answer;
 mod laws;
 mod list;
+mod octets;
 mod outbox;
 mod record;
 mod reply;
@@ -27,8 +28,9 @@ mod trace;
 pub use answer::{Answer, Kept, RecordList, Rows, SignalList};
 pub use laws::file_order_is_lawful;
 pub use list::ListOf;
+pub use octets::{FEW_OCTETS, Held, Octets};
 pub use outbox::{Outbox, Response};
 pub use record::{CallRecord, MOST_RECORDS, Party, Records};
 pub use reply::Reply;
 pub use signal::{Encoded, MOST_SENDS, Signal, Signals};
-pub use trace::{Event, Events, Input, Octets, Segments, Trace};
+pub use trace::{Event, Events, Input, Segments, Trace};

@@ -1,5 +1,9 @@
 //! A trace and its events.
+ghost use Rattle.std.specs.Prelude.{◌≡◌, Some};
+ghost use Rattle.exchange_events.specs.Orders.{IsEvent, event_at};
+
 use crate::list::ListOf;
+use crate::octets::Octets;
 use call_timers::Timers;
 use circuit_model::Slot;
 use number_plan::Plan;
@@ -8,9 +12,6 @@ use tone_rules::Tones;
 /// What arrives in one frame: for each external line its thirty octets in order of place, or
 /// nothing where the line is idle. Contracts see it as that list.
 pub type Input = ListOf<Option<[u8; 30]>>;
-
-/// The octets of a message from the user of a line. Contracts see their list.
-pub type Octets = ListOf<u8>;
 
 /// One event of a trace.
 #[derive(Drop)]
@@ -52,4 +53,14 @@ pub struct Trace {
     pub events: Events,
     /// Where the segments end.
     pub segments: Segments,
+}
+
+impl Trace {
+    /// The event with this number, counted from 1.
+    pub fn event(&self, number: u32) -> &Event
+        requires { IsEvent self.now number }
+        ensures { event_at self.now.events number ≡ Some result.now }
+    {
+        &self.events.as_slice()[number as usize - 1]
+    }
 }

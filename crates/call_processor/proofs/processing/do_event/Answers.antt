@@ -1,8 +1,5 @@
-use Rattle.std.proofs.Common.{[], refl, sym, subst, arith, length-take-le}
+use Rattle.std.proofs.Common.{[], refl, arith, length-take-le}
 use Rattle.exchange_events.specs.Responses.{reply_of}
-use Rattle.exchange_events.specs.declared.trace.Trace.{Trace}
-use Rattle.exchange_events.specs.Orders.{IsEvent}
-use Rattle.exchange_core.specs.Ahead.{IsReadAt}
 use Rattle.exchange_core.specs.Boards.{turns_of}
 use Rattle.seat_history.specs.Histories.{before}
 use Rattle.call_processor.specs.declared.worked.Placed.{Placed}
@@ -11,12 +8,6 @@ use Rattle.call_processor.proofs.AloneLemmas.{next_alone}
 use Rattle.call_processor.proofs.EventLemmas.{Next, answer_next}
 use Rattle.call_processor.proofs.KeepingLemmas.{on_ok}
 use Rattle.call_processor.proofs.processing.do_event.Goals as goal
-
-pub look_ahead-requires : goal.look_ahead-requires
-look_ahead-requires g c = record { known = subst (λ (t : Trace). IsEvent t c.args.event) (sym c.requires.trace) c.requires.known }
-
-pub work-place-requires-clause-ahead : goal.work-place-requires-clause-ahead
-work-place-requires-clause-ahead g c = subst (λ (t : Trace). IsReadAt t c.args.event c.look_ahead.new.self.ahead) c.requires.trace c.look_ahead.ensures.ahead
 
 pub returns-clause-kept : goal.returns-clause-kept
 returns-clause-kept g c =

@@ -1,6 +1,7 @@
 use Rattle.std.proofs.Common.{rules, ◌≡◌, ◌+◌, Bool, true, false, is_ok, [], ◌∷◌, ◌++◌, sym, subst}
 use Rattle.exchange_events.specs.declared.trace.Trace.{Trace}
 use Rattle.exchange_events.specs.Orders.{Processor, IsEvent}
+use Rattle.exchange_core.specs.Ahead.{IsReadAt}
 use Rattle.call_processor.specs.Keeping.{KeepsWork, has_no_octets}
 use Rattle.call_processor.specs.Parts.{is_its, part_of}
 use Rattle.call_processor.proofs.KeepingLemmas.{keeps_done, keeps_front, keeps_lacking, keeps_more}
@@ -35,6 +36,13 @@ returns-then-is_told-clause-works g c =
     keeps_front g.K.Keeper.holds (g.B.Switchboard.board c.args.board.now) (λ w. has_no_octets) part (up_to trace W first event) (rest_from trace W event end)
     (g.B.Switchboard.known c.args.seat.now) (g.B.Switchboard.known c.loop-event.seat) c.loop-event.keeper
     (front_here trace W part first event end (c.numbers_of-first.ensures.parts W) c.loop-event.invariant.from c.loop-event-test.true) c.loop-event.invariant.keeps
+
+pub look_ahead-requires : goal.look_ahead-requires
+look_ahead-requires g c = record { known = c.numbers_of-first.ensures.events c.loop-event.event c.loop-event.invariant.from c.loop-event-test.true }
+
+pub do_event-requires-clause-ahead : goal.do_event-requires-clause-ahead
+do_event-requires-clause-ahead g c κs within =
+    subst (λ (t : Trace). IsReadAt t c.loop-event.event c.look_ahead.new.self.ahead) c.requires.may.trace_is c.look_ahead.ensures.ahead
 
 pub do_event-requires-clause-known : goal.do_event-requires-clause-known
 do_event-requires-clause-known g c κs within =

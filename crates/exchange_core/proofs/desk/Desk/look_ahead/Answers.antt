@@ -1,11 +1,14 @@
-use Rattle.std.proofs.Common.{◌-◌, get_or, ap, ◌∙◌}
-use Rattle.exchange_core.proofs.StepLemmas.{number_is, read_at}
+use Rattle.std.proofs.Common.{◌≡◌, is_some, subst}
+use Rattle.exchange_events.specs.Orders.{event_at}
+use Rattle.exchange_events.specs.declared.trace.Event.{Event}
+use Rattle.exchange_core.specs.Ahead.{is_readable}
+use Rattle.exchange_core.proofs.StepLemmas.{one_number, read_at}
 use Rattle.exchange_core.proofs.desk.Desk.look_ahead.Goals as goal
 
 pub returns-clause-ahead : goal.returns-clause-ahead
-returns-clause-ahead c =
-    let trace = c.args.trace.now in
-    let n = c.args.event in
-    let e = c.index-as_slice-event.result in
-    let number = number_is trace.events n e c.requires.known (c.index-as_slice-event.is ∙ ap (λ es. get_or es (n - 1) e) c.as_slice.ensures) in
-    read_at trace n e c.event_ahead-self.result number c.event_ahead-self.ensures
+returns-clause-ahead c = read_at c.args.trace.now c.args.event c.event.result.now _ c.event.ensures c.event_ahead-self.ensures.read
+
+pub returns-clause-exact : goal.returns-clause-exact
+returns-clause-exact c = λ e named.
+    subst (λ (f : Event). is_some c.event_ahead-self.result ≡ is_readable f)
+    (one_number (event_at c.args.trace.now.events c.args.event) c.event.result.now e c.event.ensures named) c.event_ahead-self.ensures.exact

@@ -1,6 +1,8 @@
-use Rattle.std.proofs.Common.{◌≡◌, ◌<◌, ◌++◌, ◌∷◌, [], List, length, refl, sym, ◌∙◌, ap, subst}
+use Rattle.std.proofs.Common.{◌≡◌, ℕ, ◌<◌, ◌++◌, ◌∷◌, [], List, length, refl, sym, ◌∙◌, ap, subst}
 use Rattle.exchange_events.specs.declared.trace.Event.{Event}
 use Rattle.exchange_events.specs.Responses.{reply_of}
+use Rattle.exchange_events.specs.Sizes.{Dimensions}
+use Rattle.exchange_events.specs.Sound.{Fits}
 use Rattle.call_profile.specs.Step.{reply, next}
 use Rattle.exchange_core.specs.Working.{Entry, Working, IsWorking, IsNumbered, IsToolFor, ShowsWorld, order_of, setting, world_of, world_after}
 use Rattle.call_profile.specs.World.{World}
@@ -9,15 +11,21 @@ use Rattle.exchange_core.proofs.step.Core.work.Goals as goal
 
 pub happen-response-requires-clause-work : goal.happen-response-requires-clause-work
 happen-response-requires-clause-work g c =
-    let e = c.index-as_slice-event.result in
-    let f = facts _ c.args.self.now _ _ _ c.args.event _ e c.self.view_is c.self.invariant c.requires.known c.as_slice.ensures c.index-as_slice-event.is in
+    let e = c.event-event_done.result.now in
+    let f = facts _ c.args.self.now _ _ _ c.args.event e c.self.view_is c.self.invariant c.requires.known c.event-event_done.ensures in
     let tools = subst (λ (x : Working). (e : Event) → IsNumbered x.trace c.args.event e → IsToolFor (setting x).dimensions e c.args.tool.now) (sym c.self.view_is) c.requires.tool in
     (_, _, refl, refl, f.at, tools e f.number)
 
+pub happen-response-requires-clause-fits : goal.happen-response-requires-clause-fits
+happen-response-requires-clause-fits g c =
+    let e = c.event-event_done.result.now in
+    let f = facts _ c.args.self.now _ _ _ c.args.event e c.self.view_is c.self.invariant c.requires.known c.event-event_done.ensures in
+    subst (λ (n : ℕ). Fits n e) (sym (ap (λ (d : Dimensions). d.external) f.at.holds.sizes)) f.fits
+
 pub happen-response-requires-clause-ahead : goal.happen-response-requires-clause-ahead
 happen-response-requires-clause-ahead g c =
-    let e = c.index-as_slice-event.result in
-    let f = facts _ c.args.self.now _ _ _ c.args.event _ e c.self.view_is c.self.invariant c.requires.known c.as_slice.ensures c.index-as_slice-event.is in
+    let e = c.event-event_done.result.now in
+    let f = facts _ c.args.self.now _ _ _ c.args.event e c.self.view_is c.self.invariant c.requires.known c.event-event_done.ensures in
     read_of _ c.args.self.now c.args.event e c.args.ahead c.self.view_is f.number c.requires.ahead
 
 pub happen-response-requires-clause-room : goal.happen-response-requires-clause-room
@@ -26,8 +34,8 @@ happen-response-requires-clause-room g c =
 
 pub invariant_of-self : goal.invariant_of-self
 invariant_of-self g c =
-    let e = c.index-as_slice-event.result in
-    let f = facts _ c.args.self.now _ _ _ c.args.event _ e c.self.view_is c.self.invariant c.requires.known c.as_slice.ensures c.index-as_slice-event.is in
+    let e = c.event-event_done.result.now in
+    let f = facts _ c.args.self.now _ _ _ c.args.event e c.self.view_is c.self.invariant c.requires.known c.event-event_done.ensures in
     let own : Working = record { trace = c.self.inside.trace.now; slots = c.self.inside.control.map.slots; bound = c.self.inside.control.map.bound; journal = c.self.inside.journal.items } in
     let grown : Working = record {
       trace = c.self.inside.trace.now;
@@ -42,16 +50,16 @@ invariant_of-self g c =
 
 pub returns-clause-reply : goal.returns-clause-reply
 returns-clause-reply g c =
-    let e = c.index-as_slice-event.result in
-    let f = facts _ c.args.self.now _ _ _ c.args.event _ e c.self.view_is c.self.invariant c.requires.known c.as_slice.ensures c.index-as_slice-event.is in
+    let e = c.event-event_done.result.now in
+    let f = facts _ c.args.self.now _ _ _ c.args.event e c.self.view_is c.self.invariant c.requires.known c.event-event_done.ensures in
     of_each _ c.args.self.now c.args.event e (λ (x : Working) (e : Event). reply_of c.happen-response.result c.happen-response.new.out ≡ reply (setting x) (world_of x) e) c.self.view_is f.number
     (c.happen-response.ensures.reply _ _ refl refl f.at)
 
 pub returns-clause-world : goal.returns-clause-world
 returns-clause-world g c =
     let own : Working = record { trace = c.self.inside.trace.now; slots = c.self.inside.control.map.slots; bound = c.self.inside.control.map.bound; journal = c.self.inside.journal.items } in
-    let e = c.index-as_slice-event.result in
-    let f = facts _ c.args.self.now _ _ _ c.args.event _ e c.self.view_is c.self.invariant c.requires.known c.as_slice.ensures c.index-as_slice-event.is in
+    let e = c.event-event_done.result.now in
+    let f = facts _ c.args.self.now _ _ _ c.args.event e c.self.view_is c.self.invariant c.requires.known c.event-event_done.ensures in
     let slots = c.happen-response.ensures.sizes.slots in
     let grown : World = world_after c.happen-response.new.control.map.slots own.trace (order_of c.push_reserved.new.self.items) in
     let same : grown ≡ world_after own.slots own.trace (order_of (own.journal ++ (c.args.by, c.args.event) ∷ [])) =
@@ -62,15 +70,15 @@ returns-clause-world g c =
 
 pub returns-clause-shows : goal.returns-clause-shows
 returns-clause-shows g c =
-    let e = c.index-as_slice-event.result in
-    let f = facts _ c.args.self.now _ _ _ c.args.event _ e c.self.view_is c.self.invariant c.requires.known c.as_slice.ensures c.index-as_slice-event.is in
+    let e = c.event-event_done.result.now in
+    let f = facts _ c.args.self.now _ _ _ c.args.event e c.self.view_is c.self.invariant c.requires.known c.event-event_done.ensures in
     of_each _ c.args.self.now c.args.event e (λ (x : Working) (e : Event). ShowsWorld (world_of x) e c.happen-response.new.tool) c.self.view_is f.number
     (c.happen-response.ensures.shows _ _ f.at.holds)
 
 pub returns-clause-tool : goal.returns-clause-tool
 returns-clause-tool g c =
-    let e = c.index-as_slice-event.result in
-    let f = facts _ c.args.self.now _ _ _ c.args.event _ e c.self.view_is c.self.invariant c.requires.known c.as_slice.ensures c.index-as_slice-event.is in
+    let e = c.event-event_done.result.now in
+    let f = facts _ c.args.self.now _ _ _ c.args.event e c.self.view_is c.self.invariant c.requires.known c.event-event_done.ensures in
     let tools = subst (λ (x : Working). (e : Event) → IsNumbered x.trace c.args.event e → IsToolFor (setting x).dimensions e c.args.tool.now) (sym c.self.view_is) c.requires.tool in
     of_each _ c.args.self.now c.args.event e (λ (x : Working) (e : Event). IsToolFor (setting x).dimensions e c.happen-response.new.tool) c.self.view_is f.number
     (c.happen-response.ensures.tool _ (tools e f.number))

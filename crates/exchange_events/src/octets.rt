@@ -1,0 +1,66 @@
+//! The octets of a message.
+ghost use Rattle.std.specs.Prelude.{◌≡◌, ◌≤◌, length};
+
+use arrayvec::ArrayVec;
+use std::marker::Model;
+
+/// How many octets a message has at most that takes no memory of its own. Most messages that clear a
+/// call or answer one have fewer. Source: this exchange's own.
+pub const FEW_OCTETS: usize = 16;
+
+/// The octets of a message from the user of a line. Contracts see their list.
+#[derive(Drop)]
+pub struct Octets {
+    held: Held,
+}
+
+/// Where the octets of a message are: few of them in the value itself.
+#[derive(Drop)]
+pub enum Held {
+    Few(ArrayVec<u8, FEW_OCTETS>),
+    Many(Vec<u8>),
+}
+
+impl Model for Octets {
+    ghost use Rattle.std.specs.Prelude.{List, ℕ};
+    ghost use Rattle.exchange_events.specs.Held.{octets_in};
+
+    ghost Value = { List ℕ };
+
+    ghost view = { λ o. octets_in o.held };
+}
+
+impl Octets {
+    /// These octets.
+    pub fn of(items: Vec<u8>) -> Octets
+        ensures { result ≡ items.items }
+    {
+        Octets {
+            held: Held::Many(items),
+        }
+    }
+
+    /// These octets, at most [`FEW_OCTETS`]. It takes no memory.
+    pub fn few(octets: &[u8]) -> Octets
+        requires { length octets.now ≤ 16 }
+        ensures { result ≡ octets.now }
+    {
+        let mut items = ArrayVec::new();
+        if items.try_extend_from_slice(octets).is_err() {
+            unreachable!()
+        }
+        Octets {
+            held: Held::Few(items),
+        }
+    }
+
+    /// The octets in order.
+    pub fn as_slice(&self) -> &[u8]
+        ensures { result.now ≡ self.now }
+    {
+        match &self.held {
+            Held::Few(octets) => octets.as_slice(),
+            Held::Many(octets) => octets.as_slice(),
+        }
+    }
+}
