@@ -94,7 +94,7 @@ fn join(image: &mut Image, near: Slot, far: Slot, there: u8, back: u8, since: u3
     image.set_heard(far, Heard::Path { since });
 }
 
-// Writes the paths of lines 0 and 1 to line 2 and back, thirty of each. From frame 3 on two of those back
+// Writes the paths of lines 0 and 1 to line 2 and back, thirty of each. Once they moved, two of those back
 // are in other internal slots, and lines 0 and 1 are joined too.
 fn lay_pairs(image: &mut Image, moved: bool)
     requires sizes { (image.old.external ≡ 3) × (image.old.bridges ≡ 1) × (image.old.slots ≡ 30) }

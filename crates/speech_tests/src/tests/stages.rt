@@ -1,7 +1,7 @@
 //! Octets that pass the three stages of a fabric of two lines, by one call each and by halves of them.
 mod halves;
 
-ghost use Rattle.std.specs.Prelude.{◌≡◌, ◌<◌, IfOk};
+ghost use Rattle.std.specs.Prelude.{◌≡◌, ◌<◌, ◌≤◌, IfOk};
 
 use circuit_model::{IDLE, Slot};
 use control_memory::Image;
@@ -9,6 +9,7 @@ use frame_buffer::{Crossed, FrameBuffer, Highway};
 use halves::{Way, carry_by};
 use std::alloc::{AllocError, Global};
 use std::test::Fail;
+use std::thread::Threads;
 use time_stage::carry;
 
 /// One call for each stage, and halves with and without levels, with threads and without.
@@ -78,39 +79,52 @@ fn speaking(out: &FrameBuffer) -> usize {
         .count()
 }
 
+// What the two lines send in their two internal slots, and what they get.
+fn stage_by_stage(
+    rt: &(impl Threads + Sync),
+    alloc: Global,
+    way: Way,
+    levels: u8,
+) -> Result<[[u8; 4]; 2], AllocError>
+    requires levels { levels ≤ 3 }
+{
+    let image = three_paths(alloc)?;
+    let buffer = spoken(alloc)?;
+    let mut highway = Highway::new(alloc, 2, 2)?;
+    let mut crossed = Crossed::new(alloc, 2, 2)?;
+    let mut out = FrameBuffer::new(alloc, 2)?;
+    carry_by(
+        rt,
+        way,
+        levels,
+        &buffer,
+        &image,
+        &mut highway,
+        &mut crossed,
+        &mut out,
+    );
+    let sent = [
+        highway.get(0, 0),
+        highway.get(0, 1),
+        highway.get(1, 0),
+        highway.get(1, 1),
+    ];
+    let got = [
+        crossed.get(0, 0),
+        crossed.get(0, 1),
+        crossed.get(1, 0),
+        crossed.get(1, 1),
+    ];
+    Ok([sent, got])
+}
+
 #[test]
 fn octets_pass_stage_by_stage(rt: HostRuntime) -> Result<(), Fail> {
-    let image = three_paths(rt.alloc())?;
-    let buffer = spoken(rt.alloc())?;
-    let mut highway = Highway::new(rt.alloc(), 2, 2)?;
-    let mut crossed = Crossed::new(rt.alloc(), 2, 2)?;
-    let mut out = FrameBuffer::new(rt.alloc(), 2)?;
     for (way, levels) in WAYS {
         assert!(rt; levels <= 3);
-        carry_by(
-            &rt,
-            way,
-            levels,
-            &buffer,
-            &image,
-            &mut highway,
-            &mut crossed,
-            &mut out,
-        );
-        let sent = [
-            highway.get(0, 0),
-            highway.get(0, 1),
-            highway.get(1, 0),
-            highway.get(1, 1),
-        ];
-        let got = [
-            crossed.get(0, 0),
-            crossed.get(0, 1),
-            crossed.get(1, 0),
-            crossed.get(1, 1),
-        ];
+        let octets = stage_by_stage(&rt, rt.alloc(), way, levels)?;
         assert_eq!(rt;
-            [sent, got],
+            octets,
             [[0x12, 0x11, IDLE, 0x21], [0x12, 0x21, IDLE, 0x11]],
             "{way:?} {levels}"
         );

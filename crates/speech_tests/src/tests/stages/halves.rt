@@ -66,8 +66,8 @@ pub(super) fn carry_by(
     }
 }
 
-// A path from each place to the place after the next one of a line, some of which lose their internal
-// slot to others.
+// A path from each place to the same place of a line, by some internal slot: a layout that is not legal,
+// in which some slots of a line have several paths.
 fn connect_all(image: &mut Image, lines: u8)
     requires few { lines ≤ 34 }
     requires lines { (image.old.external ≡ lines) × (image.old.bridges ≡ 0) }
@@ -139,7 +139,10 @@ fn shared_stages_carry_what_plain_ones_do(rt: HostRuntime) -> Result<(), Fail> {
         for (way, levels) in super::WAYS {
             assert!(rt; levels <= 3);
             let halved = carried(&rt, rt.alloc(), lines, way, levels)?;
-            assert!(rt; alone.as_slice() == halved.as_slice(), "{lines} {way:?} {levels}");
+            assert!(rt;
+                alone.as_slice() == halved.as_slice(),
+                "{lines} {way:?} {levels}"
+            );
         }
     }
     Ok(())
