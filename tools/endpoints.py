@@ -24,7 +24,7 @@ from q931 import (
     SPEECH,
     STATUS_ENQUIRY,
     cause,
-    exclusive,
+    channel_identification,
     number,
     read_message,
     restart_indicator,
@@ -84,14 +84,14 @@ class Endpoints:
 
     # ---- what a user asks for
 
-    def call(self, where, digits, caller=None):
+    def call(self, where, digits, caller=None, exclusive=True):
         line, channel = where if isinstance(where, tuple) else (where, None)
         used = {leg.reference for leg in self.legs if leg.line == line and leg.is_own}
         leg = Leg(line, min(set(range(1, len(used) + 2)) - used), True, CALLS, channel)
         self.legs.append(leg)
         elements = [SPEECH]
         if channel is not None:
-            elements.append(exclusive(channel))
+            elements.append(channel_identification(channel, exclusive))
         if caller is not None:
             elements.append(number(CALLING_PARTY_NUMBER, caller))
         return leg.message(SETUP, *elements, number(CALLED_PARTY_NUMBER, digits))
@@ -125,7 +125,7 @@ class Endpoints:
     def restart(self, where):
         line, channel = where if isinstance(where, tuple) else (where, None)
         self.legs = [leg for leg in self.legs if leg.line != line or channel not in (None, leg.channel)]
-        elements = [] if channel is None else [exclusive(channel)]
+        elements = [] if channel is None else [channel_identification(channel)]
         return written(0, 0, RESTART, *elements, restart_indicator(whole_line=channel is None))
 
     def _advance(self, where, states, state, kind, what):

@@ -8,6 +8,7 @@ from reading import MOST_BYTES, MOST_EVENTS, Refused, reply
 
 TOP = Path(__file__).resolve().parent.parent
 PROGRAM = TOP / "crates" / "tst" / "out" / "tst"
+TEXT = ("utf-8", "surrogateescape")  # how octets of scripts and comments are read and written: none is lost
 
 
 def program_at(path=None):
@@ -63,7 +64,7 @@ class Trace:
         self.header("sync")
 
     def add(self, line):
-        self.bytes += len(line) + 1
+        self.bytes += len(line.encode(*TEXT)) + 1
         if self.bytes > MOST_BYTES:
             raise Refused(f"the trace has more than {MOST_BYTES} bytes")
         self.lines.append(line)
@@ -75,4 +76,4 @@ class Trace:
         return [pair for reply in replies_of(program_at(self.program), trace, first) for pair in reply.sent]
 
     def text(self):
-        return "".join(line + "\n" for line in self.lines).encode("latin-1")
+        return "".join(line + "\n" for line in self.lines).encode(*TEXT)

@@ -229,8 +229,8 @@ def written(flag, reference, kind, *elements):
     return head + b"".join(bytes([code, len(contents)]) + contents for code, contents in elements)
 
 
-def exclusive(channel):
-    return CHANNEL_IDENTIFICATION, bytes([0xA9, 0x83, 0x80 | channel])
+def channel_identification(channel, exclusive=True):
+    return CHANNEL_IDENTIFICATION, bytes([0xA9 if exclusive else 0xA1, 0x83, 0x80 | channel])
 
 
 def number(code, digits):
