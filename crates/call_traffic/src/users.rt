@@ -264,7 +264,7 @@ fn add_setup_element(
         3 if random.once_in(20) => add_shift(octets, random),
         4 => add_calling(octets, random),
         5 => add_compatibility(octets, random),
-        6 if random.once_in(2) => octets.push(SENDING_COMPLETE),
+        6 if random.once_in(2) => octets.extend_from_slice(&[SENDING_COMPLETE]),
         _ => Ok(()),
     }
 }
