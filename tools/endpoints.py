@@ -21,6 +21,7 @@ from q931 import (
     RELEASE_COMPLETE,
     RESTART,
     SETUP,
+    SETUP_ACKNOWLEDGE,
     SPEECH,
     STATUS_ENQUIRY,
     cause,
@@ -151,7 +152,7 @@ class Endpoints:
         return None
 
     def _take(self, leg, message):
-        if message.kind == CALL_PROCEEDING:
+        if message.kind in (CALL_PROCEEDING, SETUP_ACKNOWLEDGE):
             leg.channel = message.channel[0]
         elif message.kind == CONNECT:
             leg.state = TALKS

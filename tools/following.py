@@ -17,11 +17,14 @@ from q931 import (
     RELEASE_COMPLETE,
     RESTART,
     SETUP,
+    SETUP_ACKNOWLEDGE,
     STATUS,
     Message,
     read_message,
 )
 from reading import Arrival, Frame, Free, Nail, Refused, Seat, Slot
+
+BEGINS_LEG = (SETUP, SETUP_ACKNOWLEDGE, CALL_PROCEEDING)  # each names the leg's channel
 
 
 @dataclass(eq=False)
@@ -103,7 +106,7 @@ class Run:
         call = Call(len(self.calls) + 1, row.line, row.message.digits)
         self.calls.append(call)
         for line, message in sent:
-            if message.kind == CALL_PROCEEDING:
+            if message.kind in (CALL_PROCEEDING, SETUP_ACKNOWLEDGE):
                 call.caller = self._begin(call, line, message)
             elif message.kind == SETUP:
                 call.called = self._begin(call, line, message)
@@ -177,7 +180,7 @@ class Run:
 def sent_message(octets, reply):
     """A message of a report, which has a header, and a channel where it begins a leg."""
     message = read_message(octets)
-    if message is None or message.kind in (SETUP, CALL_PROCEEDING) and message.channel is None:
+    if message is None or message.kind in BEGINS_LEG and message.channel is None:
         raise Refused(f"event {reply.event} of the report has a message that the exchange never sends")
     return message
 

@@ -1,7 +1,7 @@
 // Calls: their legs, and what each message does to them.
 
 typedef enum {
-    NULL_STATE = 0, OUTGOING_PROCEEDING = 3, DELIVERED = 4, PRESENT = 6, RECEIVED = 7, INCOMING_PROCEEDING = 9,
+    NULL_STATE = 0, OVERLAP_SENDING = 2, OUTGOING_PROCEEDING = 3, DELIVERED = 4, PRESENT = 6, RECEIVED = 7, INCOMING_PROCEEDING = 9,
     ACTIVE = 10, DISCONNECT_INDICATION = 12, RELEASE_REQUEST = 19,
 } State;
 
@@ -159,11 +159,13 @@ static const uint8_t one_more_than_said[128] = {
     [CALLED_NUMBER] = CALLED_SAID + 1, [LOW_LAYER] = LOW_SAID + 1, [HIGH_LAYER] = HIGH_SAID + 1,
 };
 
-static void read_setup(Message m, Element said[SAID]) {
+// Answers whether nothing more of the number comes.
+static int read_setup(Message m, Element said[SAID]) {
     for (Element e; (e = next_element(&m)).at;) {
         unsigned k = one_more_than_said[e.code];
         if (k && !said[k - 1].at) said[k - 1] = e;
     }
+    return m.complete;
 }
 
 static Cause bearer_fault(Element e) {
@@ -180,30 +182,31 @@ static const Node *look_up(Element e) {
         digits[k - 1] = (e.at[k] & 0x7F) - '0';
         if (digits[k - 1] > 9) return NULL;
     }
-    return look(digits, e.length - 1);
+    return look(digits, e.length ? e.length - 1 : 0);
 }
 
 // The slots that a call takes, and where it goes.
 typedef struct { Slot caller, called; const Node *to; } Route;
 
-// Why the call can't be, or 0.
-static Cause find_route(unsigned line, const Element said[SAID], Route *r) {
+// Why the call can't be, or 0. A number that isn't whole leads nowhere yet.
+static Cause find_route(unsigned line, const Element said[SAID], int complete, Route *r) {
     Cause fault = bearer_fault(said[BEARER_SAID]);
     if (fault) return fault;
     Channel channel = channel_in(said[CHANNEL_SAID]);
     if (channel.kind == INVALID) return INVALID_CONTENTS;
     Element number = said[CALLED_SAID];
-    if (!number.length || number.length > 1 + MOST_DIGITS) return INVALID_NUMBER;
+    if (number.at ? !number.length || number.length > 1 + MOST_DIGITS : complete) return INVALID_NUMBER;
     r->to = look_up(number);
     if (!r->to) return INVALID_NUMBER;
     if (r->to->found == NO_NUMBER) return UNALLOCATED;
-    if (r->to->found == MORE) return INVALID_NUMBER;
+    if (r->to->found == MORE && complete) return INVALID_NUMBER;
 
     uint32_t idle = ALL_SLOTS & ~taken[line];
     int named = channel.kind >= PREFERRED && idle >> channel.place & 1;
     if (channel.kind == EXCLUSIVE && !named) return CHANNEL_NOT_AVAILABLE;
     if (!idle) return NO_CHANNEL;
     r->caller = (Slot){ line, named ? channel.place : __builtin_ctz(idle) };
+    if (r->to->found == MORE) return 0;
     if (r->to->found == TO_ROOM) return has_port() ? 0 : CONGESTION;
     idle = ALL_SLOTS & ~taken[r->to->target];
     if (r->to->target == line) idle &= ~(1u << r->caller.place);
@@ -237,14 +240,23 @@ static void call_room(uint16_t reference, const Route *r) {
     put_to(x, leg(x), CONNECT);
 }
 
+static void wait_for_digits(uint16_t reference, const Route *r) {
+    Slot x = r->caller;
+    add_leg(x, (Leg){ OVERLAP_SENDING, 0, ALONE, reference, x });
+    put_to(x, leg(x), SETUP_ACKNOWLEDGE);
+    put_channel(x.place);
+}
+
 static void set_up(unsigned line, const Message *m) {
     Element said[SAID] = { 0 };
     Route r;
-    read_setup(*m, said);
-    Cause fault = find_route(line, said, &r);
+    int complete = read_setup(*m, said);
+    Cause fault = find_route(line, said, complete, &r);
     if (fault) {
         put_message(line, 1, m->reference, RELEASE_COMPLETE);
         put_cause(fault);
+    } else if (r.to->found == MORE) {
+        wait_for_digits(m->reference, &r);
     } else if (r.to->found == TO_ROOM) {
         call_room(m->reference, &r);
     } else {

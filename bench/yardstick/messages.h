@@ -20,9 +20,9 @@ typedef enum {
     INVALID_CONTENTS = 100, WRONG_STATE = 101,
 } Cause;
 
-// The elements that aren't looked at yet stand from `at` up to `end`.
+// The elements that aren't looked at yet stand from `at` up to `end`; Sending complete may be among the others.
 typedef struct {
-    uint8_t type, flag;
+    uint8_t type, flag, complete;
     uint16_t reference;
     const uint8_t *at, *end;
 } Message;
@@ -34,6 +34,7 @@ static int read_message(Message *m, const uint8_t *octets, unsigned length) {
     m->flag = octets[2] >> 7;
     m->reference = (octets[2] & 0x7F) << 8 | octets[3];
     m->type = octets[4];
+    m->complete = 0;
     m->at = octets + 5;
     m->end = octets + length;
     return 1;
@@ -48,6 +49,7 @@ static Element next_element(Message *m) {
         uint8_t code = *p++;
         if (code & 0x80) {
             if (!hidden && (code & 0xF8) == 0x90) break;
+            m->complete |= !hidden && code == SENDING_COMPLETE;
             hidden = !hidden && (code & 0xF8) == 0x98;
             continue;
         }

@@ -6,16 +6,17 @@ use std::fmt;
 /// How often each course of a message came.
 #[derive(Clone, Copy, Debug)]
 pub struct Counts {
-    counts: [(Course, u32); 28],
+    counts: [(Course, u32); 29],
 }
 
 // Each course, not come yet.
-const NONE: [(Course, u32); 28] = [
+const NONE: [(Course, u32); 29] = [
     (Course::Discarded, 0),
     (Course::Unanswered, 0),
     (Course::NoLeg, 0),
     (Course::RestartedChannel, 0),
     (Course::RestartedLine, 0),
+    (Course::Overlap, 0),
     (Course::Offered, 0),
     (Course::Seated, 0),
     (Course::For(Act::Nothing), 0),
@@ -89,6 +90,7 @@ fn words_for(course: Course) -> &'static str {
         Course::NoLeg => "on no leg",
         Course::RestartedChannel => "channel restarted",
         Course::RestartedLine => "line restarted",
+        Course::Overlap => "waiting for digits",
         Course::Offered => "offered",
         Course::Seated => "seated",
         Course::For(act) => name_of(act),

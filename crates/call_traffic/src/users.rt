@@ -7,8 +7,8 @@ use plain_calls::types::{
     ALERTING, BEARER_CAPABILITY, CALL_PROCEEDING, CALL_STATE, CALLED_PARTY_NUMBER,
     CALLING_PARTY_NUMBER, CAUSE, CHANNEL_IDENTIFICATION, CONNECT, CONNECT_ACKNOWLEDGE, DISCONNECT,
     FACILITY, HIGH_LAYER_COMPATIBILITY, LOW_LAYER_COMPATIBILITY, NAMED_TYPES, NOTIFY, PROGRESS,
-    RELEASE, RELEASE_COMPLETE, RESTART, RESTART_INDICATOR, SETUP, STATUS, STATUS_ENQUIRY,
-    USER_INFORMATION,
+    RELEASE, RELEASE_COMPLETE, RESTART, RESTART_INDICATOR, SENDING_COMPLETE, SETUP, STATUS,
+    STATUS_ENQUIRY, USER_INFORMATION,
 };
 use plain_calls::{Leg, PlainExchange, Side, State};
 use std::alloc::{AllocError, Global};
@@ -23,6 +23,14 @@ fn mostly_sent(state: State) -> &'static [u8] {
             SETUP,
             STATUS,
             DISCONNECT,
+        ],
+        State::Overlap => &[
+            STATUS_ENQUIRY,
+            SETUP,
+            NOTIFY,
+            DISCONNECT,
+            RELEASE,
+            RELEASE_COMPLETE,
         ],
         State::Present => &[
             CALL_PROCEEDING,
@@ -199,7 +207,7 @@ fn add_reply_cause(octets: &mut Vec<u8>, random: &mut Random) -> Result<(), Allo
 }
 
 fn add_call_state(octets: &mut Vec<u8>, random: &mut Random) -> Result<(), AllocError> {
-    let state = random.pick(&[0, 0x40, 0xC0, 3, 4, 6, 7, 9, 10, 12, 19]);
+    let state = random.pick(&[0, 0x40, 0xC0, 2, 3, 4, 6, 7, 9, 10, 12, 19]);
     match random.below(6) {
         0 => octets.extend_from_slice(&[CALL_STATE, 0]),
         1 => octets.extend_from_slice(&[CALL_STATE, 2, state, 0]),
@@ -229,7 +237,7 @@ fn setup(
     let reference = draw_reference(random);
     let mut octets = header(alloc, flag, reference, SETUP)?;
     let mut last = Vec::new(alloc);
-    for element in 0..6 {
+    for element in 0..7 {
         let mut drawn = Vec::new(alloc);
         add_setup_element(&mut drawn, random, exchange, element)?;
         if random.once_in(3) {
@@ -256,6 +264,7 @@ fn add_setup_element(
         3 if random.once_in(20) => add_shift(octets, random),
         4 => add_calling(octets, random),
         5 => add_compatibility(octets, random),
+        6 if random.once_in(2) => octets.extend_from_slice(&[SENDING_COMPLETE]),
         _ => Ok(()),
     }
 }
@@ -309,7 +318,7 @@ fn add_called(
     } else {
         0
     };
-    let cut = if random.once_in(20) { 1 } else { 0 };
+    let cut = if random.once_in(10) { 1 } else { 0 };
     let whole = digits.len().min(24) as u8;
     let length = (whole + extra).saturating_sub(cut);
     octets.extend_from_slice(&[CALLED_PARTY_NUMBER, length + 1, 0x80])?;

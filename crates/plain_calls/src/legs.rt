@@ -5,6 +5,8 @@ use circuit_model::Slot;
 /// The call state of a leg (ITU-T Q.931 (05/98), 2.1.2); the numbers are those of 4.5.7.
 #[derive(Clone, Copy, Debug, PartialEq, Eq)]
 pub enum State {
+    /// Overlap sending.
+    Overlap = 2,
     /// Outgoing call proceeding.
     CallProceeding = 3,
     /// Call delivered.

@@ -12,6 +12,7 @@ use crate::setup::{Asked, Channel, Refusal, read_setup};
 use crate::types::{
     BEARER_CAPABILITY, CALL_PROCEEDING, CALLED_PARTY_NUMBER, CALLING_PARTY_NUMBER, CONNECT,
     HIGH_LAYER_COMPATIBILITY, LOW_LAYER_COMPATIBILITY, RELEASE_COMPLETE, SENDING_COMPLETE, SETUP,
+    SETUP_ACKNOWLEDGE,
 };
 use crate::writing::{add_cause, add_channel, add_element, bare_message};
 use circuit_model::Slot;
@@ -69,20 +70,25 @@ impl PlainExchange {
         let target = self.target_of(asked)?;
         let caller = self.caller_slot(line, asked.channel)?;
         match target {
-            Target::Line(line) => {
+            None => self.wait_for_digits(alloc, setup, caller, sent)?,
+            Some(Target::Line(line)) => {
                 let called = self.called_slot(line, caller)?;
                 self.offer(alloc, setup, asked, caller, called, sent)?;
             }
-            Target::Room(_) if self.ports.is_full() => return Err(Halt::Refused(Refusal::NoPort)),
-            Target::Room(room) => self.answer_by_room(alloc, setup, caller, room, sent)?,
+            Some(Target::Room(_)) if self.ports.is_full() => {
+                return Err(Halt::Refused(Refusal::NoPort));
+            }
+            Some(Target::Room(room)) => self.answer_by_room(alloc, setup, caller, room, sent)?,
         }
         Ok(())
     }
 
-    fn target_of(&self, asked: Asked) -> Result<Target, Refusal> {
+    // Where the number leads, and None where it isn't whole and more comes.
+    fn target_of(&self, asked: Asked) -> Result<Option<Target>, Refusal> {
         match look(self.numbers(), asked.dialled) {
-            Found::Target(target) => Ok(target),
-            Found::More => Err(Refusal::UnfinishedNumber),
+            Found::Target(target) => Ok(Some(target)),
+            Found::More if asked.is_complete => Err(Refusal::UnfinishedNumber),
+            Found::More => Ok(None),
             Found::Nothing => Err(Refusal::UnknownNumber),
         }
     }
@@ -121,6 +127,27 @@ impl PlainExchange {
             .ok_or(Refusal::CalledLineFull)
     }
 
+    // The caller is told its channel, and to send the rest of the number.
+    fn wait_for_digits(
+        &mut self,
+        alloc: Global,
+        setup: &Received,
+        caller: Slot,
+        sent: &mut Sent,
+    ) -> Result<(), AllocError>
+        requires { caller.place < 30 }
+    {
+        self.legs.push(Leg {
+            at: caller,
+            state: State::Overlap,
+            reference: setup.reference,
+            side: Side::Caller,
+            peer: Peer::Alone,
+        })?;
+        sent.course = Course::Overlap;
+        send_with_channel(alloc, setup, SETUP_ACKNOWLEDGE, caller, sent)
+    }
+
     // The caller is told to wait, and the call is offered to the called user.
     fn offer(
         &mut self,
@@ -150,7 +177,7 @@ impl PlainExchange {
             peer: Peer::Leg(caller),
         })?;
         sent.course = Course::Offered;
-        send_proceeding(alloc, setup, caller, sent)?;
+        send_with_channel(alloc, setup, CALL_PROCEEDING, caller, sent)?;
         let octets = offered_setup(alloc, setup, asked, reference, called.place)?;
         sent.send(called.line, octets)
     }
@@ -176,21 +203,22 @@ impl PlainExchange {
         self.legs.push(leg)?;
         sent.course = Course::Seated;
         sent.moved = self.seat(alloc, caller, room)?;
-        send_proceeding(alloc, setup, caller, sent)?;
+        send_with_channel(alloc, setup, CALL_PROCEEDING, caller, sent)?;
         sent.tell(alloc, leg, CONNECT)
     }
 }
 
-// CALL PROCEEDING to the caller, with its channel.
-fn send_proceeding(
+// A message of this type to the caller, with its channel.
+fn send_with_channel(
     alloc: Global,
     setup: &Received,
+    kind: u8,
     caller: Slot,
     sent: &mut Sent,
 ) -> Result<(), AllocError>
     requires { caller.place < 30 }
 {
-    let mut octets = bare_message(alloc, Side::Caller, setup.reference, CALL_PROCEEDING)?;
+    let mut octets = bare_message(alloc, Side::Caller, setup.reference, kind)?;
     add_channel(&mut octets, caller.place)?;
     sent.send(caller.line, octets)
 }

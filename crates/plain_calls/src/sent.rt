@@ -23,6 +23,8 @@ pub enum Course {
     RestartedLine,
     /// It was for a leg.
     For(Act),
+    /// It asked for a call whose number isn't whole yet: the caller is to send more digits.
+    Overlap,
     /// It asked for a call, which was refused.
     Refused(Refusal),
     /// It asked for a call to a line, which is offered to the called user.

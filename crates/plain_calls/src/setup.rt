@@ -3,7 +3,9 @@
 use crate::channels::place_of_channel;
 use crate::elements::Received;
 use crate::numbers::are_digits;
-use crate::types::{BEARER_CAPABILITY, CALLED_PARTY_NUMBER, CHANNEL_IDENTIFICATION};
+use crate::types::{
+    BEARER_CAPABILITY, CALLED_PARTY_NUMBER, CHANNEL_IDENTIFICATION, SENDING_COMPLETE,
+};
 
 /// Why a SETUP is refused; the first of these that holds.
 #[derive(Clone, Copy, Debug, PartialEq, Eq)]
@@ -16,13 +18,13 @@ pub enum Refusal {
     BearerNotCarried,
     /// The channel identification can't be read.
     ChannelInvalid,
-    /// There is no called party number, or one without octets or with more than 21.
+    /// The called party number has no octet or more than 21, or there is none and nothing more comes.
     NoNumber,
     /// The number has something else than digits.
     NoDigits,
     /// The plan doesn't know the number.
     UnknownNumber,
-    /// The number isn't whole.
+    /// The number isn't whole, and nothing more comes.
     UnfinishedNumber,
     /// The only channel that the caller accepts isn't idle.
     ChannelTaken,
@@ -63,24 +65,36 @@ pub(crate) enum Channel {
 pub(crate) struct Asked<'a> {
     pub bearer: &'a [u8],
     pub channel: Channel,
-    pub called: &'a [u8],
     pub dialled: &'a [u8],
+    /// Nothing more of the number comes.
+    pub is_complete: bool,
 }
 
 /// Reads what a SETUP asks for.
 pub(crate) fn read_setup<'a>(setup: &Received<'a>) -> Result<Asked<'a>, Refusal> {
     let bearer = bearer_asked(setup)?;
     let channel = channel_asked(setup)?;
-    let called = setup.find(CALLED_PARTY_NUMBER).unwrap_or(&[]);
+    let is_complete = setup.find(SENDING_COMPLETE).is_some();
+    let dialled = match setup.find(CALLED_PARTY_NUMBER) {
+        Some(called) => digits_of(called)?,
+        None if is_complete => return Err(Refusal::NoNumber),
+        None => &[],
+    };
+    Ok(Asked {
+        bearer,
+        channel,
+        dialled,
+        is_complete,
+    })
+}
+
+// The octets of the digits of a called party number.
+fn digits_of(called: &[u8]) -> Result<&[u8], Refusal> {
     match called {
-        [_, dialled @ ..] if dialled.len() <= 20 && are_digits(dialled) => Ok(Asked {
-            bearer,
-            channel,
-            called,
-            dialled,
-        }),
-        [_, dialled @ ..] if dialled.len() <= 20 => Err(Refusal::NoDigits),
-        _ => Err(Refusal::NoNumber),
+        [_, dialled @ ..] if dialled.len() > 20 => Err(Refusal::NoNumber),
+        [_, dialled @ ..] if are_digits(dialled) => Ok(dialled),
+        [_, ..] => Err(Refusal::NoDigits),
+        [] => Err(Refusal::NoNumber),
     }
 }
 

@@ -39,6 +39,7 @@ struct Row {
 }
 
 const EVERY: &[State] = &[
+    State::Overlap,
     State::CallProceeding,
     State::Delivered,
     State::Present,
@@ -50,6 +51,7 @@ const EVERY: &[State] = &[
 ];
 
 const NOT_RELEASING: &[State] = &[
+    State::Overlap,
     State::CallProceeding,
     State::Delivered,
     State::Present,

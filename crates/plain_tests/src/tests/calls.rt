@@ -231,6 +231,32 @@ fn lenient_reading(rt: HostRuntime) -> Result<(), Fail> {
 }
 
 #[test]
+fn more_digits_awaited(rt: HostRuntime) -> Result<(), Fail> {
+    let steps = [
+        Message(0, "080200010504038090A370028031"),
+        Message(0, "080200020504038090A3"),
+        Message(0, "0802000175"),
+        Message(0, "0802000305A104038090A370028031"),
+        Message(0, "0802000305A104038090A3"),
+        Message(0, "080200030504038090A37000"),
+        Message(0, "080200014508028090"),
+        Message(0, "080200015A"),
+        Message(0, "0802000046790186"),
+    ];
+    let wanted = "1 message 0:080280010D1803A98381\n\
+        2 message 0:080280020D1803A98382\n\
+        3 message 0:080280017D0802829E140102\n\
+        4 message 0:080280035A0802829C\n\
+        5 message 0:080280035A0802829C\n\
+        6 message 0:080280035A0802829C\n\
+        7 message 0:080280014D\n\
+        8 message\n\
+        9 message 0:080280004E790186\n";
+    check(&rt, rt.alloc(), 0, &steps, wanted)?;
+    Ok(())
+}
+
+#[test]
 fn a_call_to_a_room(rt: HostRuntime) -> Result<(), Fail> {
     let setup = Message(0, "080200010504038090A37003803330");
     check(
