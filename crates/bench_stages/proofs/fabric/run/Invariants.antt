@@ -2,7 +2,7 @@ use Rattle.std.proofs.Common.{◌≡◌}
 use Rattle.bench_stages.proofs.fabric.run.Given as goal
 
 abbrev pub invariant-loop : goal.invariant-loop
-invariant-loop l = record {
+invariant-loop g l = record {
   near : l.near.lines ≡ 34;
   far : l.far.lines ≡ 34;
   lines : l.highway.lines ≡ 34;
