@@ -9,8 +9,6 @@
 
 mod gate;
 mod test_gate;
-#[cfg(test)]
-mod tests;
 
 pub use gate::{Gate, OpenGate};
 pub use test_gate::TestGate;

@@ -29,8 +29,8 @@ impl TestGate {
         TestGate::patient(event, frame, LOOKS)
     }
 
-    // A gate whose holds end after so many looks.
-    pub(crate) fn patient(event: u32, frame: u32, looks: u32) -> TestGate {
+    /// A gate whose holds end after so many looks.
+    pub fn patient(event: u32, frame: u32, looks: u32) -> TestGate {
         TestGate {
             event,
             frame,

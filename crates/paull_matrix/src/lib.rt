@@ -17,8 +17,6 @@
 
 mod matrix;
 mod steps;
-#[cfg(test)]
-mod tests;
 
 pub use matrix::PaullMatrix;
 pub use steps::Steps;

@@ -16,8 +16,6 @@
 
 mod moves;
 mod room;
-#[cfg(test)]
-mod tests;
 
 pub use moves::Move;
 pub use room::make_room;

@@ -17,8 +17,6 @@
 
 mod laws;
 mod strict;
-#[cfg(test)]
-mod tests;
 
 pub use laws::nothing_moves;
 pub use strict::{SLOTS, StrictMap};

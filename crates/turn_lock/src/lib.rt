@@ -20,8 +20,6 @@ mod lock;
 pub mod moves;
 mod plays;
 mod stepper;
-#[cfg(test)]
-mod tests;
 
 pub use laws::law_of_waiting;
 pub use lock::{Seat, TurnLock};

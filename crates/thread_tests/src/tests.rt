@@ -1,0 +1,3 @@
+// What no clause says: that the calls come to an end, in threads too.
+mod gates;
+mod lock;

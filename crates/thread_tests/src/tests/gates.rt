@@ -1,0 +1,124 @@
+// What a gate says it saw.
+use gate::{Gate, OpenGate, TestGate};
+use std::test::Fail;
+use std::thread::{Threads, join};
+
+// A call that a thread makes at a gate.
+#[derive(Clone, Copy)]
+enum Call {
+    BeforeTurn(u32),
+    AfterTurn(u32),
+    BeforeCrossing(u32),
+    AfterCrossing(u32),
+}
+
+fn make<G: Gate>(gate: &G, call: Call) {
+    match call {
+        Call::BeforeTurn(event) => gate.before_turn(0, event),
+        Call::AfterTurn(event) => gate.after_turn(0, event),
+        Call::BeforeCrossing(frame) => gate.before_crossing(frame),
+        Call::AfterCrossing(frame) => gate.after_crossing(frame),
+    }
+}
+
+// One thread that makes these calls in order at a gate for event 7 and frame 3. No hold is answered
+// while it waits, so the gate passes only where none had to wait.
+fn passes(calls: &[Call]) -> bool {
+    let gate = TestGate::patient(7, 3, 5);
+    for call in calls {
+        make(&gate, *call);
+    }
+    gate.passed()
+}
+
+#[test]
+fn a_new_gate_has_not_passed(rt: HostRuntime) -> Result<(), Fail> {
+    assert!(rt; !TestGate::new(7, 3).passed());
+    make(&OpenGate, Call::BeforeTurn(7));
+    assert!(rt; !OpenGate.apart() && TestGate::new(7, 3).apart());
+    Ok(())
+}
+
+#[test]
+fn one_thread_alone_passes_only_where_nothing_is_held(rt: HostRuntime) -> Result<(), Fail> {
+    for (calls, wanted) in [
+        // The turn was over when the crossing began, and other events and frames are not held.
+        (
+            [
+                Call::BeforeTurn(6),
+                Call::AfterTurn(7),
+                Call::BeforeCrossing(3),
+            ],
+            true,
+        ),
+        (
+            [
+                Call::BeforeCrossing(2),
+                Call::AfterTurn(7),
+                Call::BeforeCrossing(3),
+            ],
+            true,
+        ),
+        // The turn waits for a crossing that doesn't begin.
+        (
+            [
+                Call::BeforeTurn(7),
+                Call::AfterTurn(7),
+                Call::BeforeCrossing(3),
+            ],
+            false,
+        ),
+        // The crossing waits for a turn that doesn't end.
+        (
+            [
+                Call::BeforeCrossing(3),
+                Call::BeforeTurn(7),
+                Call::AfterTurn(7),
+            ],
+            false,
+        ),
+        // Other events and frames don't count.
+        (
+            [
+                Call::AfterTurn(8),
+                Call::BeforeTurn(8),
+                Call::BeforeCrossing(3),
+            ],
+            false,
+        ),
+        (
+            [
+                Call::AfterTurn(7),
+                Call::BeforeCrossing(2),
+                Call::AfterCrossing(3),
+            ],
+            false,
+        ),
+    ] {
+        assert!(rt; passes(&calls) == wanted);
+    }
+    Ok(())
+}
+
+// Two threads at one gate: a processor takes its turn at event 7 while the frame worker moves the
+// octets of frame 3.
+fn passes_side_by_side<R: Threads + Sync>(rt: &R, gate: &TestGate) -> bool {
+    join(
+        rt,
+        || {
+            gate.before_turn(0, 7);
+            gate.after_turn(0, 7);
+        },
+        || {
+            gate.before_crossing(3);
+            gate.after_crossing(3);
+        },
+    );
+    gate.passed()
+}
+
+#[test]
+fn two_threads_pass_where_they_run_at_once(rt: HostRuntime) -> Result<(), Fail> {
+    assert!(rt; passes_side_by_side(&rt, &TestGate::new(7, 3)));
+    Ok(())
+}

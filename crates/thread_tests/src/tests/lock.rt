@@ -1,0 +1,167 @@
+//! Seats of a lock, and a worked example, whose numbers were found by hand.
+mod crew;
+mod sum;
+
+use crew::{crew, step_all};
+use std::alloc::Global;
+use std::sync::Wait;
+use std::test::Fail;
+use std::thread::Threads;
+use sum::Sum;
+use turn_lock::TurnLock;
+
+/// What came of a run: the place and the sum of each step, what seat 0 has after the joins, and the journal.
+#[derive(Drop)]
+struct Run {
+    answers: Vec<(u32, u64)>,
+    left: u32,
+    baton: bool,
+    journal: Vec<(u32, u32)>,
+}
+
+// Seat 0 gives turns to seat 1, and turns and the baton to seat 2. The steps are made in their order, each a seat's number and an event, and then
+// the others are joined, seat 2 first where `swapped`. None where a step finds no turn or no baton.
+fn three_seats<R: Wait>(
+    rt: &R,
+    alloc: Global,
+    turns: [u32; 3],
+    steps: &[(u32, u32)],
+    swapped: bool,
+) -> Option<Run> {
+    let [kept, first, second] = turns;
+    if kept > 100 || first > 100 || second > 100 {
+        return None;
+    }
+    let budget = kept + first + second;
+    let Ok(sum) = Sum::new(alloc, budget) else {
+        return None;
+    };
+    let Ok((lock, mut zero)) = TurnLock::open(alloc, sum, budget) else {
+        return None;
+    };
+    let mut one = zero.split(&lock, first, false);
+    let mut two = zero.split(&lock, second, true);
+    let answers = step_all(rt, alloc, &lock, &mut zero, &mut one, &mut two, steps)?;
+    if swapped {
+        zero.join(&lock, two);
+        zero.join(&lock, one);
+    } else {
+        zero.join(&lock, one);
+        zero.join(&lock, two);
+    }
+    let (left, baton) = (zero.left(), zero.baton());
+    Some(Run {
+        answers,
+        left,
+        baton,
+        journal: lock.close(zero).into_journal(),
+    })
+}
+
+// The journal of so many seats that step the events 1 to `count`, each in a thread of its own.
+fn in_threads<R: Threads + Wait + Sync>(
+    rt: &R,
+    alloc: Global,
+    seats: u32,
+    count: u32,
+) -> Option<Vec<(u32, u32)>> {
+    if seats == 0 || seats > 100 || count > 100000 {
+        return None;
+    }
+    let budget = seats * count;
+    let Ok(sum) = Sum::new(alloc, budget) else {
+        return None;
+    };
+    let Ok((lock, zero)) = TurnLock::open(alloc, sum, budget) else {
+        return None;
+    };
+    let zero = crew(rt, &lock, zero, seats - 1, count);
+    Some(lock.close(zero).into_journal())
+}
+
+// Each seat's steps stand in the journal in their order, each once, and nothing else does.
+fn has_all(journal: &[(u32, u32)], seats: u32, count: u32) -> bool {
+    for seat in 0..seats {
+        let mut last = 0;
+        for &(by, event) in journal {
+            if by == seat {
+                if Some(event) != u32::checked_add(last, 1) {
+                    return false;
+                }
+                last = event;
+            }
+        }
+        if last != count {
+            return false;
+        }
+    }
+    Some(journal.len()) == (seats as usize).checked_mul(count as usize)
+}
+
+// Whether these steps are answered so, stand in the journal in their order, and leave seat 0 so many turns and the baton. None answered: a step
+// finds no turn or no baton.
+fn comes_out<R: Wait>(
+    rt: &R,
+    alloc: Global,
+    turns: [u32; 3],
+    steps: &[(u32, u32)],
+    swapped: bool,
+    answers: &[(u32, u64)],
+    left: u32,
+) -> bool {
+    let Some(run) = three_seats(rt, alloc, turns, steps, swapped) else {
+        return answers.is_empty();
+    };
+    run.answers.as_slice() == answers
+        && run.journal.as_slice() == steps
+        && run.left == left
+        && run.baton
+}
+
+// Three seats step a sum in every order, and the other two are joined in either order.
+fn in_every_order<R: Wait>(rt: &R, alloc: Global) -> bool {
+    let orders = [
+        [0, 1, 2],
+        [0, 2, 1],
+        [1, 0, 2],
+        [1, 2, 0],
+        [2, 0, 1],
+        [2, 1, 0],
+    ];
+    let answers = [(0, 3), (1, 7), (2, 12)];
+    for [a, b, c] in orders {
+        let steps = [(a, 3), (b, 4), (c, 5)];
+        for swapped in [false, true] {
+            if !comes_out(rt, alloc, [1, 1, 2], &steps, swapped, &answers, 1) {
+                return false;
+            }
+        }
+    }
+    true
+}
+
+#[test]
+fn seats_step_in_turn(rt: HostRuntime) -> Result<(), Fail> {
+    let steps = [(0, 5), (1, 7), (0, 1)];
+    let answers = [(0, 5), (1, 12), (2, 13)];
+    assert!(rt; comes_out(&rt, rt.alloc(), [2, 2, 0], &steps, false, &answers, 1));
+    // The baton is seat 2's, who steps the reserved event; seat 0 may not.
+    assert!(rt; comes_out(&rt, rt.alloc(), [1, 1, 1], &[(2, 0)], false, &[(0, 0)], 2));
+    assert!(rt; comes_out(&rt, rt.alloc(), [1, 1, 1], &[(0, 0)], false, &[], 0));
+    // A second step of one turn.
+    assert!(rt; comes_out(&rt, rt.alloc(), [1, 1, 1], &[(1, 4), (1, 4)], false, &[], 0));
+    assert!(rt; in_every_order(&rt, rt.alloc()));
+    Ok(())
+}
+
+#[test]
+fn threads_step_in_turn(rt: HostRuntime) -> Result<(), Fail> {
+    for (seats, count) in [(1, 10), (2, 100), (9, 20000)] {
+        let journal = in_threads(&rt, rt.alloc(), seats, count).ok_or("no journal")?;
+        assert!(rt;
+            has_all(&journal, seats, count),
+            "{seats} seats with {count} steps each"
+        );
+    }
+    Ok(())
+}

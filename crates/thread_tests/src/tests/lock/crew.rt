@@ -1,0 +1,118 @@
+//! Seats at work, one after the other and in threads of their own.
+ghost use Rattle.std.specs.Prelude.{◌≡◌, ◌<◌, ◌+◌, ◌^◌, length};
+ghost use Rattle.std.specs.Thread.{IsSync};
+ghost use Rattle.turn_lock.specs.Locks.{IsSeatOf};
+
+use super::sum::Sum;
+use std::alloc::Global;
+use std::sync::Wait;
+use std::thread::{Threads, join};
+use turn_lock::{Seat, TurnLock};
+
+/// One step, where the seat has a turn left and may step the event.
+pub fn step_once<R: Wait>(
+    rt: &R,
+    lock: &TurnLock<Sum>,
+    seat: &mut Seat<Sum>,
+    event: u32,
+) -> Option<(u32, u64)>
+    requires of { IsSeatOf lock.now seat.old }
+    ensures of { IsSeatOf lock.now seat.new }
+    ensures number { seat.new.known.number ≡ seat.old.known.number }
+    ensures seats { (seat.new.known.made ≡ seat.old.known.made) × (length seat.new.known.kept ≡ length seat.old.known.kept) }
+{
+    if seat.left() == 0 || (event == 0 && !seat.baton()) {
+        return None;
+    }
+    let mut tool = 0;
+    Some(lock.step(rt, seat, event, &mut tool))
+}
+
+/// Steps of three seats in this order, each a seat's number and an event. None where a step finds no turn or no baton.
+pub fn step_all<R: Wait>(
+    rt: &R,
+    alloc: Global,
+    lock: &TurnLock<Sum>,
+    zero: &mut Seat<Sum>,
+    one: &mut Seat<Sum>,
+    two: &mut Seat<Sum>,
+    steps: &[(u32, u32)],
+) -> Option<Vec<(u32, u64)>>
+    requires zero { IsSeatOf lock.now zero.old }
+    requires one { IsSeatOf lock.now one.old }
+    requires two { IsSeatOf lock.now two.old }
+    ensures zero { IsSeatOf lock.now zero.new }
+    ensures one { IsSeatOf lock.now one.new }
+    ensures two { IsSeatOf lock.now two.new }
+    ensures number { zero.new.known.number ≡ zero.old.known.number }
+    ensures seats { (zero.new.known.made ≡ zero.old.known.made) × (length zero.new.known.kept ≡ length zero.old.known.kept) }
+{
+    let mut answers = Vec::new(alloc);
+    for &(number, event) in steps {
+        let answer = match number {
+            0 => step_once(rt, lock, zero, event),
+            1 => step_once(rt, lock, one, event),
+            _ => step_once(rt, lock, two, event),
+        };
+        answers.push(answer?).ok()?;
+    }
+    Some(answers)
+}
+
+/// Steps the events 1 to `count`.
+pub fn steps<R: Wait>(rt: &R, lock: &TurnLock<Sum>, mut seat: Seat<Sum>, count: u32) -> Seat<Sum>
+    requires of { IsSeatOf lock.now seat }
+    requires few { count < 1000000 }
+    ensures of { IsSeatOf lock.now result }
+    ensures number { result.known.number ≡ seat.known.number }
+    ensures seats { (result.known.made ≡ seat.known.made) × (length result.known.kept ≡ length seat.known.kept) }
+{
+    for i in 0..count {
+        step_once(rt, lock, &mut seat, i + 1);
+    }
+    seat
+}
+
+/// So many seats beside seat 0 step the events 1 to `count`, each in a thread of its own, and are joined.
+pub fn crew<R: Threads + Wait + Sync>(
+    rt: &R,
+    lock: &TurnLock<Sum>,
+    mut seat: Seat<Sum>,
+    more: u32,
+    count: u32,
+) -> Seat<Sum>
+    requires of { IsSeatOf lock.now seat }
+    requires chief { seat.known.number ≡ 0 }
+    requires few { (count < 1000000) × (seat.known.made + more < 2 ^ 32) }
+    ensures of { IsSeatOf lock.now result }
+    ensures chief { result.known.number ≡ 0 }
+    ensures seats { (result.known.made ≡ seat.known.made + more) × (length result.known.kept ≡ length seat.known.kept + more) }
+{
+    if more == 0 {
+        return steps(rt, lock, seat, count);
+    }
+    let share = count.min(seat.left());
+    let other = seat.split(lock, share, false);
+    let next = more - 1;
+    let (other, mut seat) = join(
+        rt,
+        move || -> Seat<Sum>
+            requires of { IsSeatOf lock.now other }
+            requires few { count < 1000000 }
+            ensures { IsSeatOf lock.entry.now result }
+        { steps(rt, lock, other, count) },
+        move || -> Seat<Sum>
+            requires threads { IsSync R.row }
+            requires of { IsSeatOf lock.now seat }
+            requires chief { seat.known.number ≡ 0 }
+            requires few { count < 1000000 }
+            requires seats { seat.known.made + next < 2 ^ 32 }
+            ensures of { IsSeatOf lock.entry.now result }
+            ensures chief { result.known.number ≡ 0 }
+            ensures made { result.known.made ≡ seat.known.made + next }
+            ensures kept { length result.known.kept ≡ length seat.known.kept + next }
+        { crew(rt, lock, seat, next, count) },
+    );
+    seat.join(lock, other);
+    seat
+}
