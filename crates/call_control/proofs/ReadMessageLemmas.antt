@@ -1,5 +1,5 @@
 -- What the code reads of a message's octets is what the definitions read of them.
-use Rattle.std.proofs.Common.{◌≡◌, ℕ, ◌+◌, ◌≤◌, List, length, Option, Some, sym, ◌∙◌, ap, subst, arith}
+use Rattle.std.proofs.Common.{◌≡◌, ℕ, List, length, Option, Some, sym, ◌∙◌, ap, subst, arith}
 use Rattle.std.specs.Prelude.{Result, Ok, IfSome, drop}
 use Rattle.number_plan.specs.declared.plan.Number.{Number}
 use Rattle.q931_elements.specs.Reading.{elements_of}

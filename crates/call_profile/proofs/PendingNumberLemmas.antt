@@ -1,6 +1,6 @@
 -- Every event keeps a number pending exactly where a leg is in overlap sending.
-use Rattle.std.proofs.Common.{◌≡◌, ℕ, zero, suc, ◌*◌, inl, inr, Bool, true, false, List, [], ◌∷◌, Option, Some, None, refl, sym, ◌∙◌, ap, subst, arith, get_or, length-set, get_or-set_same, get_or-set_other, if◌then◌else◌}
-use Rattle.std.specs.Prelude.{length, replicate, slice_set}
+use Rattle.std.proofs.Common.{◌≡◌, ℕ, zero, suc, ◌*◌, inl, inr, Bool, true, false, List, [], ◌∷◌, Option, Some, None, refl, sym, ◌∙◌, subst, arith, get_or, length-set, get_or-set_same, get_or-set_other, if◌then◌else◌}
+use Rattle.std.specs.Prelude.{replicate, slice_set}
 use Rattle.std.proofs.lemmas.List.{length-replicate}
 use Rattle.circuit_model.specs.declared.channel.Slot.{Slot}
 use Rattle.circuit_model.specs.Extent.{IsExternal}
@@ -11,7 +11,6 @@ use Rattle.call_states.specs.Acts.{act_on}
 use Rattle.call_states.specs.declared.leg.Leg.{Leg}
 use Rattle.call_states.specs.declared.pending.Pending.{Pending}
 use Rattle.clearing_rules.specs.UnknownReference.{answer_without_call}
-use Rattle.clearing_rules.specs.declared.scope.Restart.{Restart}
 use Rattle.tone_rules.specs.declared.tones.Tones.{Tones}
 use Rattle.exchange_events.specs.declared.trace.Event.{Event}
 use Rattle.exchange_events.specs.declared.trace.Event.TheVariants.{Nail, Seat, Free, Message, Frame}

@@ -11,7 +11,6 @@ use Rattle.circuit_model.specs.Holding.{Holding, Clear as Clear_slot, after, Val
 use Rattle.circuit_model.proofs.Hearing.{heard_by-stands}
 use Rattle.circuit_model.proofs.Slots.{true_or_false, same_slot-true, same_slot-false}
 use Rattle.circuit_model.proofs.Validity.{valid-clear, heard_by-clear, heard_by-mutual}
-use Rattle.control_memory.specs.Layout.{number_of}
 use Rattle.q931_codec.specs.Causes.{temporary_failure}
 use Rattle.call_states.specs.declared.leg.Leg.{Leg}
 use Rattle.call_states.specs.declared.leg.Peer.{Peer}

@@ -1,6 +1,6 @@
 -- Every event keeps the legs standing.
 use Rattle.std.proofs.Common.{◌≡◌, ℕ, zero, suc, ◌*◌, ◌<◌, List, [], ◌∷◌, Option, Some, None, refl, sym, ◌∙◌, subst, arith, get_or}
-use Rattle.std.specs.Prelude.{All, length, replicate}
+use Rattle.std.specs.Prelude.{All, replicate}
 use Rattle.std.proofs.lemmas.List.{length-replicate}
 use Rattle.circuit_model.specs.declared.channel.Slot.{Slot}
 use Rattle.circuit_model.specs.Holding.{Valid}
@@ -18,7 +18,7 @@ use Rattle.call_profile.specs.Step.{next, world_after_all}
 use Rattle.call_profile.specs.LegStanding.{LegsStand, CallsStand}
 use Rattle.control_memory.specs.Layout.{number_of}
 use Rattle.call_states.specs.declared.leg.Leg.{Leg}
-use Rattle.call_profile.specs.Legs.{Legs, leg_at, no_legs}
+use Rattle.call_profile.specs.Legs.{leg_at, no_legs}
 use Rattle.exchange_events.specs.Sizes.{Setting}
 use Rattle.call_profile.specs.World.{World, start}
 use Rattle.call_profile.proofs.ClearingLemmas.{Kept}

@@ -1,13 +1,12 @@
 -- What holds of a leg in overlap sending.
-use Rattle.std.proofs.Common.{◌≡◌, ℕ, false, Option, Some, None, refl, sym, ◌∙◌, subst, arith}
+use Rattle.std.proofs.Common.{◌≡◌, false, Option, Some, None, refl, sym, ◌∙◌, subst, arith}
 use Rattle.std.specs.Prelude.{◌==◌}
 use Rattle.std.proofs.lemmas.Grind.{common_steps}
 use Rattle.circuit_model.specs.declared.channel.Slot.{Slot}
 use Rattle.circuit_model.specs.declared.circuit.Circuit.{Circuit}
 use Rattle.circuit_model.specs.declared.circuit.Circuit.TheVariants.{Pair, Member, Tone}
 use Rattle.circuit_model.specs.Circuits.{heard_by}
-use Rattle.circuit_model.specs.Extent.{IsExternal}
-use Rattle.q931_codec.specs.CallStates.{overlap_sending, call_delivered, disconnect_indication, active}
+use Rattle.q931_codec.specs.CallStates.{overlap_sending, call_delivered, disconnect_indication}
 use Rattle.call_states.specs.declared.leg.Leg.{Leg}
 use Rattle.call_states.specs.declared.pending.Pending.{Pending}
 use Rattle.tone_rules.specs.declared.tones.Tones.{Tones}

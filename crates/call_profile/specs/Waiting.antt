@@ -47,8 +47,12 @@ pub record Waits (s : Setting) (w : World) (x : Slot) (leg : Leg) : Type 0 where
   pub silent : heard_by w.holding.circuits x ≡ None
 
 abbrev pub EachWaits : Setting → World → Type 0
-EachWaits s w = (x : Slot) (leg : Leg) → IsExternal s.dimensions.external x → leg_at w.legs x ≡ Some leg → leg.state ≡ overlap_sending → Waits s w x leg
+EachWaits s w =
+    (x : Slot) (leg : Leg) → IsExternal s.dimensions.external x → leg_at w.legs x ≡ Some leg → leg.state ≡ overlap_sending
+    → Waits s w x leg
 
 -- in no other state a number is pending
 abbrev pub NoneElsePends : Setting → World → Type 0
-NoneElsePends s w = (x : Slot) (p : Pending) → IsExternal s.dimensions.external x → pending_at w.legs x ≡ Some p → (leg : Leg) × (leg_at w.legs x ≡ Some leg) × (leg.state ≡ overlap_sending)
+NoneElsePends s w =
+    (x : Slot) (p : Pending) → IsExternal s.dimensions.external x → pending_at w.legs x ≡ Some p
+    → (leg : Leg) × (leg_at w.legs x ≡ Some leg) × (leg.state ≡ overlap_sending)

@@ -1,6 +1,6 @@
 -- Worked calls whose number is dialled in parts, on which the definitions are evaluated. Source: this exchange's own; the octets are those of ITU-T
 -- Q.931 (05/98), section 4.
-use Rattle.std.specs.Prelude.{ℕ, List, [], ◌∷◌, Option, Some, None}
+use Rattle.std.specs.Prelude.{ℕ, List, [], ◌∷◌, Option, Some}
 use Rattle.call_states.specs.declared.pending.Pending.{Pending}
 use Rattle.exchange_events.specs.declared.reply.Reply.{Reply}
 use Rattle.exchange_events.specs.declared.trace.Event.{Event}

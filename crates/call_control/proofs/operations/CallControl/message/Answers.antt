@@ -1,6 +1,5 @@
 use Rattle.std.proofs.Common.{◌≡◌, ap, sym, ◌∙◌}
-use Rattle.std.specs.Prelude.{Result, Ok}
-use Rattle.q931_codec.specs.declared.message.Discard.{Discard}
+use Rattle.std.specs.Prelude.{Ok}
 use Rattle.q931_codec.specs.declared.message.Message.{Message}
 use Rattle.call_profile.specs.Calls.{Request, outcome_for}
 use Rattle.call_control.specs.Standing.{Makes}
