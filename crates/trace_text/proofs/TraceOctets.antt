@@ -1,6 +1,6 @@
 -- Hexadecimal digits in pairs.
 use Rattle.std.proofs.Common.{◌≡◌, ◌≢◌, ℕ, zero, suc, ◌+◌, ◌*◌, ◌-◌, ◌/◌, ◌%◌, ◌<◌, ◌≤◌, Bool, true, false, cond, ◌&&◌, ◌||◌, eqb, ltb, bit_or, List, [], ◌∷◌, ◌++◌, length, get_or, set, take, drop, map, replicate, Option, Some, None, is_some, option_map, ok_or, All, leb, Ok, Err, refl, sym, ap, subst, ◌∙◌, arith, ◌⊎◌, inl, inr, append_assoc}
-use Rattle.std.specs.Prelude.{option_and_then, IfSome}
+use Rattle.std.specs.Prelude.{Result, option_and_then, IfSome, IfOk, IfErr}
 use Rattle.std.specs.List.{list_all}
 use Rattle.std.proofs.lemmas.Bool.{eq-eqb, ne_eqb, le-leb, agree_below_at}
 use Rattle.std.proofs.lemmas.List.{append-nil, take-append-drop, take_more, take_more_set, drop_more, drop_all, take_all, length-map, map-append}
@@ -11,7 +11,7 @@ use Rattle.circuit_model.specs.Channels.{between}
 use Rattle.trace_text.specs.declared.fault.Reason.TheVariants.{Hex, Length}
 use Rattle.trace_text.specs.declared.fault.LineFault.{LineFault}
 use Rattle.trace_text.specs.declared.fault.LineFault.TheVariants.{Memory, Refused}
-use Rattle.trace_text.specs.TraceLines.{Fails}
+use Rattle.trace_text.specs.TraceLines.{Fails, Gives}
 use Rattle.trace_text.specs.TraceFields.{digit_value, is_digit, octets_written, thirty, at_most}
 
 -- ---- one digit
@@ -250,6 +250,12 @@ some_few most digits (Some octets) few half = let fits : leb (length octets) mos
 -- few digits write few octets
 pub few_written : (most : ℕ) (digits : List ℕ) → length digits ≤ 2 * most → ok_or (octets_written digits) Hex ≡ at_most most (octets_written digits)
 few_written most digits few = some_few most digits (octets_written digits) few (written_length digits)
+
+-- so what was read of them, or refused, is what reading gives
+pub few_given : (most : ℕ) (digits : List ℕ) (r : Result (List ℕ) LineFault) → length digits ≤ 2 * most → IfOk r (λ octets. octets_written digits ≡ Some octets)
+    → IfErr r (λ e. Fails e (ok_or (octets_written digits) Hex)) → Gives r (at_most most (octets_written digits))
+few_given most digits (Ok octets) few read refused = sym (few_written most digits few) ∙ ap (λ o. ok_or o Hex) read
+few_given most digits (Err e) few read refused = subst (Fails e) (few_written most digits few) refused
 
 some_many : (most : ℕ) (digits : List ℕ) (o : Option (List ℕ)) → is_some o ≡ true → 2 * most < length digits → IfSome o (λ octets. length digits ≡ 2 * length octets) → at_most most o ≡ Err Length
 some_many most digits None some many half = absurd cc

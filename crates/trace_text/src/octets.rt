@@ -8,7 +8,7 @@ ghost use Rattle.trace_text.specs.TraceFields.{digit_value, is_digit, octets_wri
 ghost use Rattle.trace_text.specs.TraceLines.{Fails, Gives};
 
 use crate::fault::{LineFault, Reason};
-use exchange_events::Octets;
+use exchange_events::{FEW_OCTETS, Octets};
 use std::alloc::Global;
 use tone_rules::ToneOctets;
 
@@ -162,10 +162,27 @@ fn octets_up_to(alloc: Global, most: usize, digits: &[u8]) -> Result<Vec<u8>, Li
     }
 }
 
-/// The octets of a message, at most 260, which hexadecimal digits write.
+// The octets that few digits write.
+fn few_octets(digits: &[u8]) -> Result<Octets, LineFault>
+    requires { (length digits.now ≤ 32) × (length digits.now % 2 ≡ 0) }
+    ensures read { IfOk result (λ octets. octets_written digits.now ≡ Some octets) }
+    ensures refused { IfErr result (λ e. Fails e (ok_or (octets_written digits.now) Reason.Hex)) }
+{
+    let text = wide(digits);
+    if !are_digits(&text) {
+        return Err(LineFault::Refused(Reason::Hex));
+    }
+    let read = octets_of(&values_of(&text));
+    Ok(Octets::few(&read[..digits.len() / 2]))
+}
+
+/// The octets of a message, at most 260, which hexadecimal digits write. Few of them take no memory.
 pub(crate) fn message_octets(alloc: Global, digits: &[u8]) -> Result<Octets, LineFault>
     ensures { Gives result (at_most longest_message (octets_written digits.now)) }
 {
+    if digits.len() <= 2 * FEW_OCTETS && digits.len() % 2 == 0 {
+        return few_octets(digits);
+    }
     Ok(Octets::of(octets_up_to(alloc, LONGEST_MESSAGE, digits)?))
 }
 

@@ -3,7 +3,7 @@ use Rattle.std.specs.Option.{is_some}
 use Rattle.std.proofs.lemmas.Bool.Decides.{nat_tests}
 use Rattle.exchange_events.specs.declared.trace.Event.{Event}
 use Rattle.exchange_events.specs.Orders.{event_at}
-use Rattle.exchange_core.proofs.StepLemmas.{number_is}
+use Rattle.exchange_events.proofs.EventNumbers.{number_is}
 use Rattle.shared_tests.proofs.tests.work.event_numbered.Goals as goal
 
 -- what is found one place before a number is the event with that number
