@@ -6,7 +6,7 @@ use crate::numbers::are_digits;
 use crate::types::{BEARER_CAPABILITY, CALLED_PARTY_NUMBER, CHANNEL_IDENTIFICATION};
 
 /// Why a SETUP is refused; the first of these that holds.
-#[derive(Clone, Copy, Debug, PartialEq, Eq)]
+#[derive(Clone, Copy, PartialEq, Eq)]
 pub enum Refusal {
     /// There is no bearer capability.
     NoBearer,
