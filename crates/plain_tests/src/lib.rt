@@ -4,7 +4,7 @@
 //! They stand here and not beside what they test, so that each of those crates is proved once. The
 //! crate promises nothing.
 //!
-//! It stands on `circuit_model`, `plain_model`, `plain_calls` and `call_traffic`, and on the kit's
+//! It stands on `circuit_model`, `plain_model`, `test_exchange` and `test_traffic`, and on the kit's
 //! `hex`.
 #![tactic(auto)]
 

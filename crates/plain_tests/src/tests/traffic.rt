@@ -1,7 +1,7 @@
 //! That pseudo-random traces of calls come to each course of a message.
-use call_traffic::{Counts, Random, draw_traffic};
 use std::alloc::{AllocError, Global};
 use std::test::Fail;
+use test_traffic::{Counts, Random, draw_traffic};
 
 // Draws so many traces, and tells what became of their messages and how many paths were moved.
 fn draw(alloc: Global, traces: u32, events: u32) -> Result<(Counts, u32), AllocError> {
@@ -19,7 +19,6 @@ fn draw(alloc: Global, traces: u32, events: u32) -> Result<(Counts, u32), AllocE
 #[test]
 fn each_course_is_drawn(rt: HostRuntime) -> Result<(), Fail> {
     let (counts, moved) = draw(rt.alloc(), 40, 250)?;
-    assert!(rt; counts.is_whole(), "{counts}");
-    assert!(rt; moved > 0);
+    assert!(rt; counts.is_whole() && moved > 0);
     Ok(())
 }

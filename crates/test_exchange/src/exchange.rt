@@ -20,7 +20,6 @@ use std::alloc::{AllocError, Global};
 #[derive(Drop)]
 pub struct PlainExchange {
     pub(crate) external: u8,
-    bridges: u8,
     pub(crate) circuits: Exchange,
     pub(crate) ports: Ports,
     pub(crate) paths: Paths,
@@ -64,7 +63,6 @@ impl PlainExchange {
     ) -> PlainExchange {
         PlainExchange {
             external,
-            bridges,
             circuits: Exchange::new(alloc),
             ports: Ports::new(alloc, external, bridges),
             paths: Paths::new(alloc, slots),
@@ -79,11 +77,6 @@ impl PlainExchange {
     /// How many external lines there are.
     pub fn external(&self) -> u8 {
         self.external
-    }
-
-    /// How many lines there are, external and bridge lines together.
-    pub fn lines(&self) -> u32 {
-        u32::from(self.external) + u32::from(self.bridges)
     }
 
     /// The legs of the calls.

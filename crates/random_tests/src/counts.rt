@@ -1,8 +1,7 @@
 use crate::draw::Trial;
-use crate::orders::{few_beside, is_file_order, keeps_file_order};
-use call_traffic::{Counts as Courses, Drawn, LONGEST_TONE, Script};
-use plain_calls::Chains;
-use std::alloc::{AllocError, Global};
+use crate::orders::Taken;
+use test_exchange::Chains;
+use test_traffic::{Counts as Courses, Drawn, LONGEST_TONE, Script};
 
 /// How many traces there were, how many of them leave their workers a choice, in how many of those the
 /// threads took another order than the file's, and of how many segments the caller did all events and
@@ -20,17 +19,9 @@ pub struct Orders {
 impl Orders {
     /// Counts a trace whose reports were the wanted ones in the orders that they have: in threads, and as
     /// the program decides. Not where a segment of too few events is out of the order of the file.
-    pub fn add(
-        &mut self,
-        alloc: Global,
-        script: &Script,
-        in_threads: &[u32],
-        decided: &[u32],
-    ) -> Result<(), AllocError> {
-        let posts = script.posts.as_slice();
-        let few = few_beside(alloc, posts)?;
-        if !keeps_file_order(posts, few.as_slice(), decided) {
-            return Ok(());
+    pub fn add(&mut self, script: &Script, in_threads: Taken, decided: Taken) {
+        if !decided.keeps_file_order {
+            return;
         }
         self.traces = self.traces.saturating_add(1);
         let events = u32::try_from(script.events.len()).unwrap_or(u32::MAX);
@@ -38,14 +29,11 @@ impl Orders {
         if script.has_choice() {
             self.choices = self.choices.saturating_add(1);
         }
-        if !is_file_order(in_threads) {
+        if !in_threads.is_file_order {
             self.others = self.others.saturating_add(1);
         }
-        let alone = u32::try_from(few.iter().filter(|few| **few).count()).unwrap_or(u32::MAX);
-        let segments = u32::try_from(few.len()).unwrap_or(u32::MAX);
-        self.alone = self.alone.saturating_add(alone);
-        self.apart = self.apart.saturating_add(segments.saturating_sub(alone));
-        Ok(())
+        self.alone = self.alone.saturating_add(decided.alone);
+        self.apart = self.apart.saturating_add(decided.apart);
     }
 
     /// Whether all of so many traces were counted, threads took another order than the file's in some,
@@ -88,7 +76,7 @@ impl Moves {
             self.traces = self.traces.saturating_add(1);
         }
         self.chains.add(&drawn.chains);
-        if drawn.chains.longest >= drawn.fresh.lines() {
+        if drawn.chains.longest >= drawn.setting.lines() {
             self.beyond = self.beyond.saturating_add(1);
         }
     }
@@ -113,7 +101,8 @@ pub struct Tones {
 
 impl Tones {
     pub fn add(&mut self, drawn: &Drawn) {
-        for length in [drawn.tones.0, drawn.tones.1] {
+        let (ringback, busy) = drawn.setting.lengths();
+        for length in [ringback, busy] {
             match length {
                 1 => self.one = self.one.saturating_add(1),
                 2 => self.two = self.two.saturating_add(1),
@@ -129,5 +118,35 @@ impl Tones {
     pub fn is_whole(&self) -> bool {
         let counts = [self.one, self.two, self.longest, self.ringback, self.busy];
         counts.iter().all(|count| *count > 0)
+    }
+}
+
+/// What the traces of calls come to in file order.
+#[derive(Clone, Copy)]
+pub struct CallCounts {
+    pub courses: Courses,
+    pub tones: Tones,
+    pub moves: Moves,
+}
+
+impl CallCounts {
+    /// Of no trace.
+    pub fn new() -> CallCounts {
+        CallCounts {
+            courses: Courses::new(),
+            tones: Tones::default(),
+            moves: Moves::default(),
+        }
+    }
+
+    pub fn add(&mut self, drawn: &Drawn) {
+        self.courses.add(&drawn.counts);
+        self.tones.add(drawn);
+        self.moves.add(drawn);
+    }
+
+    /// Whether each course, each tone and each chain of moved paths came.
+    pub fn is_whole(&self) -> bool {
+        self.courses.is_whole() && self.tones.is_whole() && self.moves.is_whole()
     }
 }

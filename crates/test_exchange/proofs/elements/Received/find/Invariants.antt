@@ -1,5 +1,5 @@
 use Rattle.std.proofs.Common.{length}
-use Rattle.plain_calls.proofs.elements.Received.find.Given as goal
+use Rattle.test_exchange.proofs.elements.Received.find.Given as goal
 
 -- each step leaves fewer octets
 abbrev pub decreases-loop-piece : goal.decreases-loop-piece

@@ -8,7 +8,7 @@ use crate::types::{
 };
 
 /// Why a SETUP is refused; the first of these that holds.
-#[derive(Clone, Copy, Debug, PartialEq, Eq)]
+#[derive(Clone, Copy, PartialEq, Eq)]
 pub enum Refusal {
     /// There is no bearer capability.
     NoBearer,

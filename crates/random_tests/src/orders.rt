@@ -1,7 +1,35 @@
-use call_traffic::{MOST_WORKERS, Post, of_event};
 use segment_run::FEWEST_BESIDE;
 use std::alloc::{AllocError, Global};
 use std::cmp::{max, min};
+use test_traffic::{MOST_WORKERS, Post, of_event};
+
+/// What is told of the order that a run took its events in.
+#[derive(Clone, Copy)]
+pub struct Taken {
+    /// Whether it is the order of the file.
+    pub is_file_order: bool,
+    /// Whether each segment of too few events for threads has its events in the order of the file.
+    pub keeps_file_order: bool,
+    /// How many such segments there are.
+    pub alone: u32,
+    /// How many others there are.
+    pub apart: u32,
+}
+
+impl Taken {
+    /// What is told of a lawful order of these events.
+    pub fn of(alloc: Global, posts: &[Post], order: &[u32]) -> Result<Taken, AllocError> {
+        let few = few_beside(alloc, posts)?;
+        let alone = u32::try_from(few.iter().filter(|few| **few).count()).unwrap_or(u32::MAX);
+        let segments = u32::try_from(few.len()).unwrap_or(u32::MAX);
+        Ok(Taken {
+            is_file_order: is_file_order(order),
+            keeps_file_order: keeps_file_order(posts, few.as_slice(), order),
+            alone,
+            apart: segments.saturating_sub(alone),
+        })
+    }
+}
 
 /// The numbers of the events whose lines a report has, in its order. None where a line begins with no
 /// number.
@@ -22,8 +50,8 @@ pub fn numbered(line: &str) -> Option<(u32, &str)> {
     Some((number.parse::<u32>().ok()?, words))
 }
 
-/// Of each segment, whether all workers but the busiest have too few events for threads.
-pub fn few_beside(alloc: Global, posts: &[Post]) -> Result<Vec<bool>, AllocError> {
+// Of each segment, whether all workers but the busiest have too few events for threads.
+fn few_beside(alloc: Global, posts: &[Post]) -> Result<Vec<bool>, AllocError> {
     let mut few = Vec::new(alloc);
     let mut loads = [0u32; MOST_WORKERS];
     let mut segment = 0;
@@ -52,8 +80,8 @@ fn beside(loads: &[u32]) -> u32 {
     others
 }
 
-/// Whether a lawful order has the events of each of these segments in the order of the file.
-pub fn keeps_file_order(posts: &[Post], few: &[bool], order: &[u32]) -> bool {
+// Whether a lawful order has the events of each of these segments in the order of the file.
+fn keeps_file_order(posts: &[Post], few: &[bool], order: &[u32]) -> bool {
     order.iter().zip(order.iter().skip(1)).all(|(one, next)| one < next
         || !is_within(posts, few, *one, *next))
 }
@@ -66,8 +94,8 @@ fn is_within(posts: &[Post], few: &[bool], one: u32, next: u32) -> bool {
     one.segment == next.segment && few.get(one.segment as usize).map_or(false, |few| *few)
 }
 
-/// Whether an order is that of the file.
-pub fn is_file_order(order: &[u32]) -> bool {
+// Whether an order is that of the file.
+fn is_file_order(order: &[u32]) -> bool {
     order
         .iter()
         .zip(1..)

@@ -9,7 +9,7 @@ use crate::types::{
 };
 
 /// What the exchange does for a message to a leg.
-#[derive(Clone, Copy, Debug, PartialEq, Eq)]
+#[derive(Clone, Copy, PartialEq, Eq)]
 pub enum Act {
     /// The message is passed over.
     Nothing,

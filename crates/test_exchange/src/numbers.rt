@@ -1,7 +1,7 @@
 //! The number plan, as a list.
 
 /// Where calls to a number go.
-#[derive(Clone, Copy, Debug, PartialEq, Eq)]
+#[derive(Clone, Copy)]
 pub enum Target {
     /// To this line.
     Line(u8),

@@ -3,15 +3,15 @@
 ghost use Rattle.std.specs.Prelude.{◌<◌};
 
 use crate::random::Random;
-use plain_calls::types::{
+use std::alloc::{AllocError, Global};
+use test_exchange::types::{
     ALERTING, BEARER_CAPABILITY, CALL_PROCEEDING, CALL_STATE, CALLED_PARTY_NUMBER,
     CALLING_PARTY_NUMBER, CAUSE, CHANNEL_IDENTIFICATION, CONNECT, CONNECT_ACKNOWLEDGE, DISCONNECT,
     FACILITY, HIGH_LAYER_COMPATIBILITY, LOW_LAYER_COMPATIBILITY, NAMED_TYPES, NOTIFY, PROGRESS,
     RELEASE, RELEASE_COMPLETE, RESTART, RESTART_INDICATOR, SENDING_COMPLETE, SETUP, STATUS,
     STATUS_ENQUIRY, USER_INFORMATION,
 };
-use plain_calls::{Leg, PlainExchange, Side, State};
-use std::alloc::{AllocError, Global};
+use test_exchange::{Leg, PlainExchange, Side, State};
 
 // What a user mostly sends in a state: each type as often as it stands here.
 fn mostly_sent(state: State) -> &'static [u8] {

@@ -1,10 +1,10 @@
 //! How often each course of a message was drawn.
 
-use plain_calls::{Act, Course, Refusal};
 use std::fmt;
+use test_exchange::{Act, Course, Refusal};
 
 /// How often each course of a message came.
-#[derive(Clone, Copy, Debug)]
+#[derive(Clone, Copy)]
 pub struct Counts {
     counts: [(Course, u32); 29],
 }

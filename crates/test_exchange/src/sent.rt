@@ -9,7 +9,7 @@ use circuit_model::Slot;
 use std::alloc::{AllocError, Global};
 
 /// What became of a message.
-#[derive(Clone, Copy, Debug, PartialEq, Eq)]
+#[derive(Clone, Copy, PartialEq, Eq)]
 pub enum Course {
     /// The octets are no message.
     Discarded,
@@ -34,7 +34,7 @@ pub enum Course {
 }
 
 /// A message to the user of a line.
-#[derive(Debug, Drop)]
+#[derive(Drop)]
 pub struct Signal {
     /// The line that it goes to.
     pub line: u8,
@@ -43,7 +43,7 @@ pub struct Signal {
 }
 
 /// Whom a caller called.
-#[derive(Clone, Copy, Debug, PartialEq, Eq)]
+#[derive(Clone, Copy, PartialEq, Eq)]
 pub enum Party {
     /// The user at a slot.
     Line(Slot),
@@ -52,7 +52,7 @@ pub enum Party {
 }
 
 /// What is told of a call whose clearing begins.
-#[derive(Clone, Copy, Debug, PartialEq, Eq)]
+#[derive(Clone, Copy, PartialEq, Eq)]
 pub struct CallRecord {
     /// The caller's slot.
     pub caller: Slot,
@@ -69,7 +69,7 @@ pub struct CallRecord {
 }
 
 /// What is answered to a message.
-#[derive(Debug, Drop)]
+#[derive(Drop)]
 pub struct Sent {
     /// What became of the message.
     pub course: Course,

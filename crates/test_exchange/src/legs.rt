@@ -3,7 +3,7 @@
 use circuit_model::Slot;
 
 /// The call state of a leg (ITU-T Q.931 (05/98), 2.1.2); the numbers are those of 4.5.7.
-#[derive(Clone, Copy, Debug, PartialEq, Eq)]
+#[derive(Clone, Copy, PartialEq, Eq)]
 pub enum State {
     /// Overlap sending.
     Overlap = 2,
@@ -26,7 +26,7 @@ pub enum State {
 }
 
 /// The side of a call that a leg is.
-#[derive(Clone, Copy, Debug, PartialEq, Eq)]
+#[derive(Clone, Copy, PartialEq, Eq)]
 pub enum Side {
     /// The user asked for the call, and chose the call reference.
     Caller,
@@ -35,7 +35,7 @@ pub enum Side {
 }
 
 /// What a leg is in a call with.
-#[derive(Clone, Copy, Debug, PartialEq, Eq)]
+#[derive(Clone, Copy)]
 pub enum Peer {
     /// Nothing: the call is being cleared.
     Alone,
@@ -46,7 +46,7 @@ pub enum Peer {
 }
 
 /// What one user has of a call.
-#[derive(Clone, Copy, Debug, PartialEq, Eq)]
+#[derive(Clone, Copy)]
 pub struct Leg {
     /// The slot that the leg holds.
     pub at: Slot,

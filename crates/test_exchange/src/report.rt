@@ -63,18 +63,6 @@ impl PlainRun {
         self.moved
     }
 
-    /// The report of the whole run.
-    pub fn into_report(self) -> String {
-        let PlainRun {
-            exchange: _,
-            events: _,
-            report,
-            records: _,
-            moved: _,
-        } = self;
-        report
-    }
-
     /// Takes an event and adds its line to the report. What became of a message.
     pub fn step(
         &mut self,

@@ -1,12 +1,12 @@
 //! A trace that is being written, line by line, and who does each event.
 
 use circuit_model::{Slot, channel_of};
-use plain_calls::{PlainEvent, append_octets};
 use std::alloc::{AllocError, Global};
+use test_exchange::{PlainEvent, append_octets};
 
 /// Who does an event, and in which segment; both are counted from 0. The frame worker comes behind
 /// the call processors.
-#[derive(Clone, Copy, Debug)]
+#[derive(Clone, Copy)]
 pub struct Post {
     /// The number of the worker who does it.
     pub worker: u8,

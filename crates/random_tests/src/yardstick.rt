@@ -1,10 +1,10 @@
-use crate::check::Plain;
+use crate::check::{Plain, Setting};
 use circuit_model::{IDLE, PLACES, Slot};
 use frame_buffer::DelayLine;
-use plain_calls::{PlainEvent, append_octets};
 use plain_model::Exchange;
 use std::alloc::{AllocError, Global};
 use std::marker::Model;
+use test_exchange::{PlainEvent, append_octets};
 
 /// Which events a trace has, and what says the octets that are heard in it.
 #[derive(Clone, Copy)]
@@ -13,6 +13,17 @@ pub enum Kind {
     Nails,
     /// Seats too; the definitions' own program.
     Rooms,
+}
+
+/// What a yardstick is set up with.
+#[derive(Clone, Copy)]
+pub struct Lines {
+    /// Which events the trace has.
+    pub kind: Kind,
+    /// How many external lines there are.
+    pub external: u8,
+    /// How many bridge lines there are.
+    pub bridges: u8,
 }
 
 /// Two slots that are connected, and the first frame that they are connected in.
@@ -66,13 +77,13 @@ impl Model for Yardstick {
 }
 
 impl Yardstick {
-    /// Before the first event of an exchange with so many external and bridge lines.
-    pub fn new(
-        alloc: Global,
-        kind: Kind,
-        external: u8,
-        bridges: u8,
-    ) -> Result<Yardstick, AllocError> {
+    /// Before the first event of an exchange with these lines.
+    pub fn new(alloc: Global, lines: Lines) -> Result<Yardstick, AllocError> {
+        let Lines {
+            kind,
+            external,
+            bridges,
+        } = lines;
         Ok(Yardstick {
             kind,
             external,
@@ -240,14 +251,22 @@ impl Yardstick {
     }
 }
 
+impl Setting for Lines {
+    type Program = Yardstick;
+
+    // Its report has no number of moved paths, so that one yardstick is for both fabrics.
+    fn program(&self, alloc: Global, _strict: bool) -> Result<Yardstick, AllocError> {
+        Yardstick::new(alloc, *self)
+    }
+}
+
 impl Plain for Yardstick {
     fn take(&mut self, alloc: Global, event: &PlainEvent) -> Result<(), AllocError> {
         self.step(alloc, event)
     }
 
-    fn into_text(self) -> String {
-        let Yardstick { report, .. } = self;
-        report
+    fn text(&self) -> &str {
+        self.report.as_str()
     }
 
     // No call is drawn with this yardstick.

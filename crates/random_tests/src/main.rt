@@ -1,7 +1,7 @@
 //! The test of the headline: pseudo-random traces through the whole exchange, whose reports are
 //! compared with those of plain programs in the very order that the threads took.
 //!
-//! `random_traces TRACES` draws that many traces of nails, whose octets are compared with those of
+//! `random_tests TRACES` draws that many traces of nails, whose octets are compared with those of
 //! a delay line; that many with seats too, compared with the definitions' own program; and that
 //! many of calls and tones, compared with a plain program of calls. They are for one to eight call
 //! processors, and their segments are of any length. Two meters that keep every call have to say the
@@ -16,8 +16,8 @@
 //! output says in how many traces threads took another order than the file's, and the status is 1
 //! where that is none. It is proved safe; what it compares is tested, not proved.
 //!
-//! It stands on `ex_io`, `circuit_model`, `frame_buffer`, `plain_model`, `plain_calls`,
-//! `call_traffic`, `frame_engine`, `meters`, `gate`, `segment_run` and `exchange_top`.
+//! It stands on `ex_io`, `circuit_model`, `frame_buffer`, `plain_model`, `test_exchange`,
+//! `test_traffic`, `frame_engine`, `meters`, `gate`, `segment_run` and `exchange_top`.
 #![tactic(auto)]
 
 mod check;
@@ -26,17 +26,17 @@ mod draw;
 mod orders;
 mod yardstick;
 
-use call_traffic::{Counts as Courses, LONGEST_TONE, Random, Script, draw_traffic};
-use check::{Apart, Plain, agreed};
-use counts::{Counts, Moves, Orders, Tones};
+use check::{Apart, Setting, agreed};
+use counts::{CallCounts, Counts, Moves, Orders, Tones};
 use draw::drawn;
 use gate::OpenGate;
-use plain_calls::{Chains, PlainRun};
-use std::alloc::Global;
+use std::alloc::{AllocError, Global};
 use std::process::ExitCode;
 use std::sync::Wait;
 use std::thread::Threads;
 use std::{env, io};
+use test_exchange::Chains;
+use test_traffic::{LONGEST_TONE, Random, Script, draw_traffic};
 use yardstick::Kind;
 
 const SEED: u64 = 1976;
@@ -46,26 +46,41 @@ const EVENTS: u32 = 250;
 
 /// Runs a trace in threads in any case, as the program decides, and in threads on a strict fabric, and
 /// counts it where each report is that of the plain program. Whether they are.
-fn run_each_way<P: Plain + Drop, R: Threads + Wait + Sync>(
+///
+/// No run leaves more than what is told of its order, so that there is nothing to drop where memory runs
+/// out in the next.
+fn run_each_way<S: Setting, R: Threads + Wait + Sync>(
     rt: &R,
     alloc: Global,
     script: &Script,
-    fresh: P,
-    again: P,
-    strict: P,
+    setting: &S,
     orders: &mut Orders,
-) -> io::Result<bool> {
-    let Some(in_threads) = agreed(rt, alloc, script, fresh, false, &Apart)? else {
+) -> Result<bool, AllocError> {
+    let Some(in_threads) = agreed(rt, alloc, script, setting, false, &Apart)? else {
         return Ok(false);
     };
-    let Some(decided) = agreed(rt, alloc, script, again, false, &OpenGate)? else {
+    let Some(decided) = agreed(rt, alloc, script, setting, false, &OpenGate)? else {
         return Ok(false);
     };
-    if agreed(rt, alloc, script, strict, true, &Apart)?.is_none() {
+    if agreed(rt, alloc, script, setting, true, &Apart)?.is_none() {
         return Ok(false);
     }
-    orders.add(alloc, script, in_threads.as_slice(), decided.as_slice())?;
+    orders.add(script, in_threads, decided);
     Ok(true)
+}
+
+/// Draws a trace of a kind, counts it and runs it. Whether all reports were the wanted ones.
+fn run_one<R: Threads + Wait + Sync>(
+    rt: &R,
+    alloc: Global,
+    random: &mut Random,
+    kind: Kind,
+    counts: &mut Counts,
+    orders: &mut Orders,
+) -> Result<bool, AllocError> {
+    let trial = drawn(alloc, random, kind)?;
+    counts.add(&trial);
+    run_each_way(rt, alloc, &trial.script, &trial.lines, orders)
 }
 
 /// Runs so many traces of a kind and prints what they came to. Whether all reports were the wanted
@@ -81,13 +96,7 @@ fn run<R: Print + Eprint + Threads + Wait + Sync>(
     let mut orders = Orders::default();
     let mut counts = Counts::default();
     for number in 1..=traces {
-        let trial = drawn(alloc, &mut random, kind)?;
-        counts.add(&trial);
-        let fresh = trial.fresh;
-        let again = trial.again;
-        let strict = trial.strict;
-        let agree = run_each_way(rt, alloc, &trial.script, fresh, again, strict, &mut orders)?;
-        if !agree {
+        if !run_one(rt, alloc, &mut random, kind, &mut counts, &mut orders)? {
             println!(rt; "{name}: trace {number} differs")?;
         }
     }
@@ -103,6 +112,19 @@ fn run<R: Print + Eprint + Threads + Wait + Sync>(
     Ok(orders.is_whole(traces))
 }
 
+/// Draws a trace of calls, counts it and runs it. Whether all reports were those of the plain program.
+fn run_one_of_calls<R: Threads + Wait + Sync>(
+    rt: &R,
+    alloc: Global,
+    random: &mut Random,
+    counts: &mut CallCounts,
+    orders: &mut Orders,
+) -> Result<bool, AllocError> {
+    let drawn = draw_traffic(alloc, random, EVENTS)?;
+    counts.add(&drawn);
+    run_each_way(rt, alloc, &drawn.script, &drawn.setting, orders)
+}
+
 /// Runs so many traces of calls and prints what they came to. Whether all reports were those of the
 /// plain program, and each act, each cause of a refusal, each tone and each chain of moved paths came.
 fn run_calls<R: Print + Eprint + Threads + Wait + Sync>(
@@ -112,28 +134,18 @@ fn run_calls<R: Print + Eprint + Threads + Wait + Sync>(
 ) -> io::Result<bool> {
     let mut random = Random::new(SEED);
     let mut orders = Orders::default();
-    let mut courses = Courses::new();
-    let mut tones = Tones::default();
-    let mut moves = Moves::default();
+    let mut counts = CallCounts::new();
     for number in 1..=traces {
-        let drawn = draw_traffic(alloc, &mut random, EVENTS)?;
-        tones.add(&drawn);
-        courses.add(&drawn.counts);
-        moves.add(&drawn);
-        let fresh = PlainRun::new(alloc, drawn.fresh);
-        let again = PlainRun::new(alloc, drawn.again);
-        let strict = PlainRun::new(alloc, drawn.strict);
-        let agree = run_each_way(rt, alloc, &drawn.script, fresh, again, strict, &mut orders)?;
-        if !agree {
+        if !run_one_of_calls(rt, alloc, &mut random, &mut counts, &mut orders)? {
             println!(rt; "calls: trace {number} differs")?;
         }
     }
     print_orders(rt, "calls", "plain program", orders)?;
+    let courses = counts.courses;
     println!(rt; "calls: in file order {courses}")?;
-    print_moves(rt, moves)?;
-    print_tones(rt, tones)?;
-    let whole = courses.is_whole() && tones.is_whole() && moves.is_whole();
-    Ok(orders.is_whole(traces) && whole)
+    print_moves(rt, counts.moves)?;
+    print_tones(rt, counts.tones)?;
+    Ok(orders.is_whole(traces) && counts.is_whole())
 }
 
 /// Prints how many traces had the wanted reports.

@@ -1,21 +1,29 @@
-use crate::orders::{numbered, order_of};
-use call_traffic::{Script, is_lawful, of_event};
+use crate::orders::{Taken, numbered, order_of};
 use circuit_model::{PLACES, Slot, channel_of};
 use ex_io::{MemSink, MemSource};
 use exchange_top::{Outcome, exchange};
 use frame_engine::Engine;
 use gate::Gate;
 use meters::{CallDetail, Meter, append_summaries};
-use plain_calls::{CallRecord, Party, PlainEvent, PlainRun};
 use std::alloc::{AllocError, Global};
 use std::sync::Wait;
 use std::thread::Threads;
+use test_exchange::{CallRecord, Party, PlainEvent, PlainRun};
+use test_traffic::{Script, Setting as CallSetting, is_lawful, of_event};
 
 // More than a report takes.
 const ROOM: usize = 400_000;
 
 // More than the calls of a trace.
 const CALLS: u32 = 1000;
+
+/// What a plain program is set up with.
+pub trait Setting {
+    type Program: Plain + Drop;
+
+    /// The program before its first event, for a run on a strict fabric or on the other.
+    fn program(&self, alloc: Global, strict: bool) -> Result<Self::Program, AllocError>;
+}
 
 /// A plain program that takes events one by one, and reports them in lines that it numbers as they
 /// come.
@@ -24,10 +32,18 @@ pub trait Plain {
     fn take(&mut self, alloc: Global, event: &PlainEvent) -> Result<(), AllocError>;
 
     /// The report. `_ _` stands in it for two numbers of moved paths that the program doesn't know.
-    fn into_text(self) -> String;
+    fn text(&self) -> &str;
 
     /// Appends a line for each call that ended, in order, as a meter of call details does.
     fn append_calls(&self, calls: &mut String) -> Result<(), AllocError>;
+}
+
+impl Setting for CallSetting {
+    type Program = PlainRun;
+
+    fn program(&self, alloc: Global, strict: bool) -> Result<PlainRun, AllocError> {
+        Ok(PlainRun::new(alloc, self.exchange(alloc, strict)?))
+    }
 }
 
 impl Plain for PlainRun {
@@ -36,8 +52,8 @@ impl Plain for PlainRun {
         Ok(())
     }
 
-    fn into_text(self) -> String {
-        self.into_report()
+    fn text(&self) -> &str {
+        self.report()
     }
 
     fn append_calls(&self, calls: &mut String) -> Result<(), AllocError> {
@@ -76,13 +92,6 @@ fn append_slot(calls: &mut String, slot: Slot) -> Result<(), AllocError> {
     write!(calls, "{line}/{channel} ")
 }
 
-/// What is said of a run: its report, and a line for each call that ended.
-#[derive(Drop)]
-struct Said {
-    report: String,
-    calls: String,
-}
-
 /// What the exchange says of a run: its report, and what two meters say of it that keep every call, one
 /// behind the other.
 #[derive(Drop)]
@@ -104,36 +113,89 @@ impl Gate for Apart {
     fn after_crossing(&self, _frame: u32) {}
 }
 
-/// Runs a trace through the exchange at a gate, on a strict fabric or on the other. The order of its
-/// report, where that has the events in a lawful order, and says of each what the plain program says that
-/// takes them in that order, from nothing, where on a strict fabric each number of moved paths is 0, and
-/// where two meters kept just the calls that ended in that run.
-pub fn agreed<P: Plain + Drop, G: Gate, R: Threads + Wait + Sync>(
+/// Runs a trace through the exchange at a gate, on a strict fabric or on the other. What is told of the
+/// order of its report, where that has the events in a lawful order, and says of each what the plain
+/// program says that takes them in that order, from nothing, where on a strict fabric each number of moved
+/// paths is 0, and where two meters kept just the calls that ended in that run.
+pub fn agreed<S: Setting, G: Gate, R: Threads + Wait + Sync>(
     rt: &R,
     alloc: Global,
     script: &Script,
-    plain: P,
+    setting: &S,
     strict: bool,
     gate: &G,
-) -> Result<Option<Vec<u32>>, AllocError> {
+) -> Result<Option<Taken>, AllocError> {
     let heard = heard_of(rt, alloc, script.text.as_str(), strict, gate)?;
-    let Ok(report) = str::from_utf8(heard.report.as_slice()) else {
-        return Ok(None);
-    };
+    match str::from_utf8(heard.report.as_slice()) {
+        Ok(report) if !strict || report.lines().all(tells_of_no_moves) => {
+            compared(
+                alloc,
+                script,
+                setting,
+                strict,
+                report,
+                heard.calls.as_slice(),
+            )
+        }
+        _ => Ok(None),
+    }
+}
+
+// What is told of the order of a report, where it is lawful, and where the plain program says the same
+// and the same calls.
+fn compared<S: Setting>(
+    alloc: Global,
+    script: &Script,
+    setting: &S,
+    strict: bool,
+    report: &str,
+    calls: &[u8],
+) -> Result<Option<Taken>, AllocError> {
     let Some(order) = order_of(alloc, report)? else {
         return Ok(None);
     };
-    if !is_lawful(script.posts.as_slice(), order.as_slice()) {
+    let (posts, events) = (script.posts.as_slice(), script.events.as_slice());
+    let order = order.as_slice();
+    if !is_lawful(posts, order) {
         return Ok(None);
     }
-    let wanted = wanted_of(alloc, plain, script.events.as_slice(), order.as_slice())?;
-    let is_told = is_twice(heard.calls.as_slice(), wanted.calls.as_bytes());
-    let is_still = !strict || report.lines().all(tells_of_no_moves);
-    Ok(if is_told && is_still && is_wanted(report, wanted.report.as_str()) {
-        Some(order)
-    } else {
-        None
-    })
+    let plain = setting.program(alloc, strict)?;
+    if !is_said_by(alloc, plain, events, order, report, calls)? {
+        return Ok(None);
+    }
+    Ok(Some(Taken::of(alloc, posts, order)?))
+}
+
+// Whether a plain program that takes the events in an order says this report, and these calls once to
+// each of two meters.
+fn is_said_by<P: Plain + Drop>(
+    alloc: Global,
+    plain: P,
+    events: &[PlainEvent],
+    order: &[u32],
+    report: &str,
+    calls: &[u8],
+) -> Result<bool, AllocError> {
+    let mut plain = plain;
+    take_all(alloc, &mut plain, events, order)?;
+    let mut wanted = String::new(alloc);
+    plain.append_calls(&mut wanted)?;
+    Ok(is_twice(calls, wanted.as_bytes()) && is_wanted(report, plain.text()))
+}
+
+// Takes the events in an order.
+fn take_all<P: Plain>(
+    alloc: Global,
+    plain: &mut P,
+    events: &[PlainEvent],
+    order: &[u32],
+) -> Result<(), AllocError> {
+    for number in order {
+        if let Some(event) = of_event(events, *number) {
+            plain.take(alloc, event)?;
+        }
+    }
+    Ok(())
 }
 
 // Whether a text is another, twice.
@@ -150,6 +212,27 @@ fn words_of(alloc: Global, strict: bool) -> Result<Vec<String>, AllocError> {
     Ok(words)
 }
 
+// What a call of the exchange reads and writes.
+#[derive(Drop)]
+struct Ends {
+    words: Vec<String>,
+    source: MemSource,
+    sink: MemSink,
+}
+
+impl Ends {
+    // The words that ask for a run, the trace to read, and room for its report.
+    fn of(alloc: Global, trace: &str, strict: bool) -> Result<Ends, AllocError> {
+        let sink = MemSink::new(alloc, ROOM, 4096, Vec::new(alloc))?;
+        let input = Vec::from_slice(alloc, trace.as_bytes())?;
+        Ok(Ends {
+            words: words_of(alloc, strict)?,
+            source: MemSource::new(input, 4096, Vec::new(alloc)),
+            sink,
+        })
+    }
+}
+
 // What the exchange says of a trace; nothing where it was not run.
 fn heard_of<G: Gate, R: Threads + Wait + Sync>(
     rt: &R,
@@ -158,13 +241,14 @@ fn heard_of<G: Gate, R: Threads + Wait + Sync>(
     strict: bool,
     gate: &G,
 ) -> Result<Heard, AllocError> {
-    let words = words_of(alloc, strict)?;
-    let input = Vec::from_slice(alloc, trace.as_bytes())?;
-    let mut source = MemSource::new(input, 4096, Vec::new(alloc));
-    let mut sink = MemSink::new(alloc, ROOM, 4096, Vec::new(alloc))?;
     let mut meters: Vec<Box<dyn Meter>> = Vec::with_capacity(alloc, 2)?;
     meters.push(Box::new(alloc, CallDetail::new(alloc, CALLS)?)?)?;
     meters.push(Box::new(alloc, CallDetail::new(alloc, CALLS)?)?)?;
+    let Ends {
+        words,
+        mut source,
+        mut sink,
+    } = Ends::of(alloc, trace, strict)?;
     let outcome: Outcome<Engine> = exchange(
         rt,
         alloc,
@@ -194,27 +278,6 @@ fn what_was_heard(
         append_summaries(meters, &mut heard.calls)?;
     }
     Ok(heard)
-}
-
-// What a plain program says of the events in this order.
-fn wanted_of<P: Plain + Drop>(
-    alloc: Global,
-    plain: P,
-    events: &[PlainEvent],
-    order: &[u32],
-) -> Result<Said, AllocError> {
-    let mut plain = plain;
-    for number in order {
-        if let Some(event) = of_event(events, *number) {
-            plain.take(alloc, event)?;
-        }
-    }
-    let mut calls = String::new(alloc);
-    plain.append_calls(&mut calls)?;
-    Ok(Said {
-        report: plain.into_text(),
-        calls,
-    })
 }
 
 // Whether the numbers of moved paths of a line are 0, if it tells some.

@@ -7,30 +7,24 @@ use crate::random::Random;
 use crate::script::Script;
 use crate::users::draw_message;
 use circuit_model::Slot;
-use plain_calls::{
+use std::alloc::{AllocError, Global};
+use test_exchange::{
     Chains, Number, PlainEvent, PlainExchange, PlainRun, PlainTones, Target, append_octets,
 };
-use std::alloc::{AllocError, Global};
 
 /// A trace of calls, and what the plain exchange makes of it in file order.
 #[derive(Drop)]
 pub struct Drawn {
     /// The trace.
     pub script: Script,
-    /// A plain exchange of the trace's lines, numbers and tones, before its first event.
-    pub fresh: PlainExchange,
-    /// The same once more.
-    pub again: PlainExchange,
-    /// The same on a strict fabric.
-    pub strict: PlainExchange,
+    /// What its exchange is set up with.
+    pub setting: Setting,
     /// What became of its messages.
     pub counts: Counts,
     /// How many paths were moved.
     pub moved: u32,
     /// By which chains they were.
     pub chains: Chains,
-    /// How many octets ringing tone and busy tone have; 0 where the tone isn't given.
-    pub tones: (usize, usize),
     /// How often ringing tone and busy tone were put on a slot.
     pub sounded: (u32, u32),
 }
@@ -120,9 +114,9 @@ pub fn draw_pace(random: &mut Random) -> u8
     }
 }
 
-// The lines, numbers and tones of a trace.
+/// The lines, numbers and tones of a trace.
 #[derive(Drop)]
-struct Setting {
+pub struct Setting {
     external: u8,
     bridges: u8,
     numbers: Vec<Number>,
@@ -149,8 +143,13 @@ impl Setting {
         })
     }
 
-    // How many octets the tones have.
-    fn lengths(&self) -> (usize, usize) {
+    /// How many lines there are, external and bridge lines together.
+    pub fn lines(&self) -> u32 {
+        u32::from(self.external) + u32::from(self.bridges)
+    }
+
+    /// How many octets ringing tone and busy tone have; 0 where the tone isn't given.
+    pub fn lengths(&self) -> (usize, usize) {
         (self.tones.ringback.len(), self.tones.busy.len())
     }
 
@@ -164,8 +163,13 @@ impl Setting {
         Ok(text)
     }
 
-    // A plain exchange of this setting with so many internal slots, beside the setting.
-    fn exchange(&self, alloc: Global, slots: u8) -> Result<PlainExchange, AllocError> {
+    /// A plain exchange of this setting before its first event, on a strict fabric or on the other.
+    pub fn exchange(&self, alloc: Global, strict: bool) -> Result<PlainExchange, AllocError> {
+        let slots = if strict {
+            STRICT_SLOTS
+        } else {
+            REARRANGED_SLOTS
+        };
         let numbers = draw_numbers(alloc, self.external)?;
         let tones = PlainTones {
             ringback: Vec::from_slice(alloc, self.tones.ringback.as_slice())?,
@@ -183,15 +187,11 @@ pub fn draw_traffic(alloc: Global, random: &mut Random, events: u32) -> Result<D
     let processors = 1 + random.below(8);
     let pace = draw_pace(random);
     let mut script = Script::new(alloc, setting.header(alloc, processors)?, processors);
-    let mut run = PlainRun::new(alloc, setting.exchange(alloc, REARRANGED_SLOTS)?);
+    let mut run = PlainRun::new(alloc, setting.exchange(alloc, false)?);
     let mut counts = Counts::new();
     let crowd = Crowd::draw(random);
     for number in 0..events {
-        let event = match u8::try_from(number) {
-            Ok(number) if number < crowd.within => nail_in_itself(number),
-            Ok(number) if number < crowd.circuits => draw_circuit(random, run.exchange()),
-            _ => draw_event(alloc, random, run.exchange())?,
-        };
+        let event = draw_next(alloc, random, crowd, number, run.exchange())?;
         if let Some(course) = run.step(alloc, &event)? {
             counts.note(course);
         }
@@ -199,15 +199,29 @@ pub fn draw_traffic(alloc: Global, random: &mut Random, events: u32) -> Result<D
     }
     Ok(Drawn {
         script,
-        fresh: setting.exchange(alloc, REARRANGED_SLOTS)?,
-        again: setting.exchange(alloc, REARRANGED_SLOTS)?,
-        strict: setting.exchange(alloc, STRICT_SLOTS)?,
+        setting,
         counts,
         moved: run.paths_moved(),
         chains: run.exchange().chains(),
-        tones: setting.lengths(),
         sounded: run.exchange().tones_given(),
     })
+}
+
+// The next event, after so many.
+fn draw_next(
+    alloc: Global,
+    random: &mut Random,
+    crowd: Crowd,
+    number: u32,
+    exchange: &PlainExchange,
+) -> Result<PlainEvent, AllocError>
+    requires { crowd.within < 16 }
+{
+    match u8::try_from(number) {
+        Ok(number) if number < crowd.within => Ok(nail_in_itself(number)),
+        Ok(number) if number < crowd.circuits => Ok(draw_circuit(random, exchange)),
+        _ => draw_event(alloc, random, exchange),
+    }
 }
 
 // How many commands a trace begins with: nails that fill the first line, or circuits of any slots.

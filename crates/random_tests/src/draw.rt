@@ -1,20 +1,16 @@
-use crate::yardstick::{Kind, Yardstick};
-use call_traffic::{Random, Script, draw_pace};
+use crate::yardstick::{Kind, Lines, Yardstick};
 use circuit_model::Slot;
-use plain_calls::PlainEvent;
 use std::alloc::{AllocError, Global};
+use test_exchange::PlainEvent;
+use test_traffic::{Random, Script, draw_pace};
 
 /// A trace, and what a plain reading of its events says in file order.
 #[derive(Drop)]
 pub struct Trial {
     /// The trace.
     pub script: Script,
-    /// A yardstick of the trace's lines before its first event.
-    pub fresh: Yardstick,
-    /// The same once more.
-    pub again: Yardstick,
-    /// And once more, for a run on a strict fabric.
-    pub strict: Yardstick,
+    /// What its yardstick is set up with.
+    pub lines: Lines,
     /// How many frames there are.
     pub frames: u32,
     /// How many events are refused.
@@ -32,7 +28,12 @@ pub fn drawn(alloc: Global, random: &mut Random, kind: Kind) -> Result<Trial, Al
     let pace = draw_pace(random);
     let header = format!(in alloc; "exchange 1 {external} {bridges} {processors}\n")?;
     let mut script = Script::new(alloc, header, processors);
-    let mut yardstick = Yardstick::new(alloc, kind, external, bridges)?;
+    let lines = Lines {
+        kind,
+        external,
+        bridges,
+    };
+    let mut yardstick = Yardstick::new(alloc, lines)?;
     for _ in 0..events {
         let event = draw_event(alloc, random, kind, &yardstick)?;
         yardstick.step(alloc, &event)?;
@@ -40,9 +41,7 @@ pub fn drawn(alloc: Global, random: &mut Random, kind: Kind) -> Result<Trial, Al
     }
     Ok(Trial {
         script,
-        fresh: Yardstick::new(alloc, kind, external, bridges)?,
-        again: Yardstick::new(alloc, kind, external, bridges)?,
-        strict: Yardstick::new(alloc, kind, external, bridges)?,
+        lines,
         frames: yardstick.frames(),
         refused: yardstick.refused(),
         octets: yardstick.octets(),

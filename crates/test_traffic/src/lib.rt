@@ -6,7 +6,7 @@
 //! at all. [`Counts`] tells how often each course of a message came, and [`is_lawful`] which orders the
 //! events of a trace may take. It is proved safe; no clause says what is drawn.
 //!
-//! It stands on `circuit_model` and `plain_calls`.
+//! It stands on `circuit_model` and `test_exchange`.
 #![tactic(auto)]
 
 mod counts;
@@ -20,4 +20,4 @@ pub use counts::Counts;
 pub use orders::{MOST_WORKERS, is_lawful, of_event};
 pub use random::Random;
 pub use script::{Post, Script};
-pub use traffic::{Drawn, LONGEST_TONE, draw_pace, draw_traffic};
+pub use traffic::{Drawn, LONGEST_TONE, Setting, draw_pace, draw_traffic};

@@ -30,7 +30,7 @@ pub(crate) struct Paths {
 }
 
 /// How often paths were moved for a new one, by the chain that was taken.
-#[derive(Clone, Copy, Debug, Default, PartialEq, Eq)]
+#[derive(Clone, Copy, Default)]
 pub struct Chains {
     /// That from the incoming line.
     pub incoming: u32,
@@ -100,14 +100,10 @@ impl Paths {
     // The internal slot for a path from one line to another, free on both once the paths of the chain
     // have moved. None where a line has no free slot at all.
     fn make_room(&mut self, alloc: Global, from: u8, to: u8) -> Result<Option<u8>, AllocError> {
-        for internal in 0..self.slots {
-            if self.from_line(from, internal).is_none() && self.to_line(to, internal).is_none() {
-                return Ok(Some(internal));
-            }
+        if let Some(internal) = self.common_free(from, to) {
+            return Ok(Some(internal));
         }
-        let a = (0..self.slots).find(|internal| self.from_line(from, *internal).is_none());
-        let b = (0..self.slots).find(|internal| self.to_line(to, *internal).is_none());
-        let (Some(a), Some(b)) = (a, b) else {
+        let (Some(a), Some(b)) = (self.free_from(from), self.free_to(to)) else {
             return Ok(None);
         };
         let by_outgoing = self.chain(alloc, self.to_line(to, a), a, b)?;
@@ -120,6 +116,26 @@ impl Paths {
             self.exchange(by_outgoing.as_slice(), a, b);
             Ok(Some(a))
         }
+    }
+
+    // The lowest internal slot that is free on both lines.
+    fn common_free(&self, from: u8, to: u8) -> Option<u8> {
+        for internal in 0..self.slots {
+            if self.from_line(from, internal).is_none() && self.to_line(to, internal).is_none() {
+                return Some(internal);
+            }
+        }
+        None
+    }
+
+    // The lowest internal slot in which no path comes from a line.
+    fn free_from(&self, line: u8) -> Option<u8> {
+        (0..self.slots).find(|internal| self.from_line(line, *internal).is_none())
+    }
+
+    // The lowest internal slot in which no path goes to a line.
+    fn free_to(&self, line: u8) -> Option<u8> {
+        (0..self.slots).find(|internal| self.to_line(line, *internal).is_none())
     }
 
     // The places in the list of the paths of the chain that starts with one of them.
