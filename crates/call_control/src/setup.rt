@@ -73,17 +73,17 @@ impl<P: PathMap> CallControl<P> {
         let Some(caller) = self.caller_slot(line, message.channel()) else {
             return;
         };
-        let asked = asked_by(message);
         match target {
             Found::Line(line) => {
                 let Some(called) = self.lowest_idle_beside(caller, line) else {
                     return;
                 };
                 let reference = self.legs.new_reference(line);
+                let asked = asked_by(message);
                 self.call_line(out, message.reference, &asked, caller, called, reference);
             }
             Found::Room(room) => self.call_room(out, message.reference, caller, room),
-            Found::More => self.await_digits(out, message.reference, &asked, caller),
+            Found::More => self.await_digits(out, message.reference, &asked_by(message), caller),
             Found::Nothing => {}
         }
     }

@@ -138,7 +138,7 @@ impl<P: PathMap> CallControl<P> {
         if let Some(cause) = element_cause(message, number.is_readable) {
             return Some(cause);
         }
-        match number_cause(number.target, message.sending_complete()) {
+        match number_cause(number.target, message) {
             Some(cause) => Some(cause),
             None => self.slot_cause(line, message.channel(), number.target),
         }
@@ -200,13 +200,13 @@ fn lacks_number(message: &Message) -> bool
     }
 }
 
-// The cause of the first check of its number that a SETUP fails, given whether nothing more of it comes.
-fn number_cause(target: Found, complete: bool) -> Option<u8>
-    ensures { result ≡ first_cause (number_checks target complete) }
+// The cause of the first check of its number that a SETUP fails, given what the number leads to.
+fn number_cause(target: Found, message: &Message) -> Option<u8>
+    ensures { result ≡ first_cause (number_checks target (complete_in message.now.elements)) }
 {
     match target {
         Found::Nothing => Some(UNALLOCATED_NUMBER),
-        Found::More if complete => Some(INVALID_NUMBER_FORMAT),
+        Found::More if message.sending_complete() => Some(INVALID_NUMBER_FORMAT),
         Found::More | Found::Line(_) | Found::Room(_) => None,
     }
 }

@@ -8,9 +8,9 @@ use Rattle.circuit_model.specs.Extent.{IsExternal}
 use Rattle.circuit_model.specs.Holding.{Valid}
 use Rattle.circuit_model.proofs.Hearing.{heard_by-one}
 use Rattle.circuit_model.proofs.Slots.{same_slot-refl, idle_is_deaf}
-use Rattle.circuit_model.proofs.Validity.{valid-seat}
+use Rattle.circuit_model.proofs.Validity.{valid-seat, deaf_is_idle}
 use Rattle.control_memory.specs.Layout.{number_of}
-use Rattle.q931_codec.specs.declared.message.Message.{Message}
+use Rattle.call_states.specs.declared.pending.Pending.{Pending}
 use Rattle.q931_codec.specs.CallStates.{overlap_sending, outgoing_call_proceeding, active}
 use Rattle.call_states.specs.declared.leg.Leg.{Leg}
 use Rattle.call_states.specs.declared.leg.Peer.TheVariants as peer
@@ -20,11 +20,11 @@ use Rattle.call_profile.specs.IdleSlots.{idle}
 use Rattle.call_profile.specs.LegStanding.{LegStands, LegsStand, MayHear, AreOneCall}
 use Rattle.call_profile.specs.Legs.{Legs, leg_at, leg_named, with_entry}
 use Rattle.call_profile.specs.Operations.{making_at, making_after_all}
-use Rattle.call_profile.specs.Setup.{caller_leg, called_leg, call_asked, call_line, call_room, await_digits}
+use Rattle.call_profile.specs.Setup.{caller_leg, called_leg, call_line, call_room, await_digits}
 use Rattle.exchange_events.specs.Sizes.{Dimensions}
 use Rattle.call_profile.specs.World.{World, is_full}
 use Rattle.call_profile.proofs.BesideLemmas.{entry_here, entry_else, same_or_apart, Beside, each_stands}
-use Rattle.call_profile.proofs.HearingLemmas.{seat_keeps}
+use Rattle.call_profile.proofs.HearingLemmas.{IsStrange, seat_keeps}
 use Rattle.call_profile.proofs.ClearingLemmas.{Kept}
 use Rattle.call_profile.proofs.CommandLemmas.{both_true, is_empty, not_full, strange_to_empty}
 use Rattle.call_profile.proofs.VacantSlotLemmas.{none_named}
@@ -74,14 +74,16 @@ module _ (external : ℕ) (legs : Legs) (x : Slot) (new : Leg) (size : length le
 
 -- ---- a call to a line
 
--- what was seen to before the call was accepted: its caller's slot is idle, and nobody has its reference
-pub record MayCall (d : Dimensions) (tones : Tones) (w : World) (m : Message) (x : Slot) : Type 0 where
+-- what is needed of the caller's slot before a call is accepted: it hears nothing, no leg names it as its peer, and no other leg of its line and
+-- side has the caller's call reference. So it is of an idle slot, and of one whose leg waits for the rest of its number
+pub record MayCall (d : Dimensions) (tones : Tones) (w : World) (own : ℕ) (x : Slot) : Type 0 where
   pub valid : Valid d.bridges w.holding
   pub stand : LegsStand d.external tones w
   pub in_x : IsExternal d.external x
-  pub idle_x : idle w x ≡ true
-  pub own : (1 ≤ m.reference) × (m.reference < 2 ^ 15)
-  pub unused : leg_named w.legs x.line false m.reference ≡ None
+  pub silent : heard_by w.holding.circuits x ≡ None
+  pub strange : (z : Slot) (l : Leg) → IsExternal d.external z → leg_at w.legs z ≡ Some l → IsStrange l x
+  pub small : (1 ≤ own) × (own < 2 ^ 15)
+  pub unused : (z : Slot) (l : Leg) → IsExternal d.external z → (z ≡ x → ⊥) → leg_at w.legs z ≡ Some l → z.line ≡ x.line → l.side ≡ Caller → l.reference ≡ own → ⊥
 
 -- and of the called slot, and the new reference
 pub record MayOffer (d : Dimensions) (w : World) (x y : Slot) (reference : ℕ) : Type 0 where
@@ -98,15 +100,27 @@ module _ (w : World) (x : Slot) (idle_x : idle w x ≡ true) where
   pub empty_slot : leg_at w.legs x ≡ None
   empty_slot = is_empty (leg_at w.legs x) (both_true (is_idle w.holding.circuits x) (is_none (leg_at w.legs x)) idle_x).1
 
-module _ (d : Dimensions) (tones : Tones) (w : World) (m : Message) (x y : Slot) (reference : ℕ) (may : MayCall d tones w m x) (offer : MayOffer d w x y reference) where
+pub idle_may : (d : Dimensions) (tones : Tones) (w : World) (own : ℕ) (x : Slot) → Valid d.bridges w.holding → LegsStand d.external tones w → IsExternal d.external x → idle w x ≡ true
+    → (1 ≤ own) × (own < 2 ^ 15) → leg_named w.legs x.line false own ≡ None → MayCall d tones w own x
+idle_may d tones w own x valid stand in_x idle_x small unused = record {
+  valid = valid;
+  stand = stand;
+  in_x = in_x;
+  silent = silent_slot w x idle_x;
+  strange = strange_to_empty d.external tones w x stand (empty_slot w x idle_x);
+  small = small;
+  unused = λ z l in_z apart at line side same. none_named w.legs x.line false own unused z l (line, in_z.1) at side same;
+}
+
+module _ (d : Dimensions) (tones : Tones) (w : World) (own : ℕ) (asked : Pending) (x y : Slot) (reference : ℕ) (may : MayCall d tones w own x) (offer : MayOffer d w x y reference) where
   abbrev caller : Leg
-  caller = caller_leg outgoing_call_proceeding m.reference (peer.Leg y)
+  caller = caller_leg outgoing_call_proceeding own (peer.Leg y)
 
   abbrev called : Leg
   called = called_leg reference x
 
   abbrev after_call : World
-  after_call = (making_after_all d (making_at w) (call_line m.reference (call_asked m) x y reference)).world
+  after_call = (making_after_all d (making_at w) (call_line own asked x y reference)).world
 
   at_caller : leg_at after_call.legs x ≡ Some caller
   at_caller = both_first d.external w.legs x y (Some caller) (Some called) may.stand.count may.in_x offer.in_y offer.apart
@@ -120,10 +134,10 @@ module _ (d : Dimensions) (tones : Tones) (w : World) (m : Message) (x y : Slot)
   caller_stands : LegStands d.external tones after_call x caller
   caller_stands = record {
     state = refl;
-    reference = may.own;
+    reference = may.small;
     cause = omega arith;
     peer = (offer.in_y, (called, at_called, one_call));
-    hears = subst (MayHear tones caller) (sym (silent_slot w x may.idle_x)) (λ e. absurd cc, refl);
+    hears = subst (MayHear tones caller) (sym may.silent) (λ e. absurd cc, refl);
   }
 
   called_stands : LegStands d.external tones after_call y called
@@ -140,7 +154,7 @@ module _ (d : Dimensions) (tones : Tones) (w : World) (m : Message) (x y : Slot)
     legs = both_else d.external w.legs x y (Some caller) (Some called) may.stand.count may.in_x offer.in_y offer.apart;
     heard = λ z l in_z at_z not_x not_y. refl;
     strange = λ z l p in_z at_z not_x not_y is. (
-      strange_to_empty d.external tones w x may.stand (empty_slot w x may.idle_x) z l in_z at_z p is,
+      may.strange z l in_z at_z p is,
       strange_to_empty d.external tones w y may.stand (empty_slot w y offer.idle_y) z l in_z at_z p is,
     );
   }
@@ -152,7 +166,7 @@ module _ (d : Dimensions) (tones : Tones) (w : World) (m : Message) (x y : Slot)
   at_y l is = let e : Some called ≡ Some l = sym at_called ∙ is in let same : called ≡ l = cc in subst (LegStands d.external tones after_call y) same called_stands
 
   none_caller : HasNone d.external w.legs x caller
-  none_caller z l in_z apart at line side same = none_named w.legs x.line false m.reference may.unused z l (line, in_z.1) at side same
+  none_caller = may.unused
 
   -- the caller's new leg is of the other side
   none_called : HasNone d.external (with_entry w.legs x (Some caller)) y called
@@ -164,7 +178,7 @@ module _ (d : Dimensions) (tones : Tones) (w : World) (m : Message) (x y : Slot)
     | inr other ↦ none_named w.legs y.line true reference offer.free z l (line, in_z.1) (else_is d.external w.legs x caller may.stand.count may.in_x z l in_z other at) side same
   ]
 
-  pub line_call_kept : Kept d tones (making_after_all d (making_at w) (call_line m.reference (call_asked m) x y reference)).world
+  pub line_call_kept : Kept d tones (making_after_all d (making_at w) (call_line own asked x y reference)).world
   line_call_kept = (
     may.valid,
     record {
@@ -177,18 +191,18 @@ module _ (d : Dimensions) (tones : Tones) (w : World) (m : Message) (x y : Slot)
 
 -- ---- a call to a room
 
-module _ (d : Dimensions) (tones : Tones) (w : World) (m : Message) (x : Slot) (room : ℕ) (may : MayCall d tones w m x) (free : is_full d w ≡ false) where
+module _ (d : Dimensions) (tones : Tones) (w : World) (own : ℕ) (x : Slot) (room : ℕ) (may : MayCall d tones w own x) (free : is_full d w ≡ false) where
   abbrev member : Leg
-  member = caller_leg active m.reference (peer.Room room)
+  member = caller_leg active own (peer.Room room)
 
   abbrev after_seat : World
-  after_seat = (making_after_all d (making_at w) (call_room m.reference x room)).world
+  after_seat = (making_after_all d (making_at w) (call_room own x room)).world
 
   at_member : leg_at after_seat.legs x ≡ Some member
   at_member = entry_here d.external w.legs x (Some member) may.stand.count may.in_x
 
   idle_member : is_idle w.holding.circuits x ≡ true
-  idle_member = (both_true (is_idle w.holding.circuits x) (is_none (leg_at w.legs x)) may.idle_x).0
+  idle_member = deaf_is_idle w.holding.circuits x (may.valid.standing x) may.silent
 
   heard_member : heard_by after_seat.holding.circuits x ≡ Some (Member room x w.holding.next)
   heard_member = heard_by-one w.holding.circuits (Member room x w.holding.next) x idle_member ∙ rw (same_slot-refl x) refl
@@ -196,7 +210,7 @@ module _ (d : Dimensions) (tones : Tones) (w : World) (m : Message) (x : Slot) (
   member_stands : LegStands d.external tones after_seat x member
   member_stands = record {
     state = refl;
-    reference = may.own;
+    reference = may.small;
     cause = omega arith;
     peer = (refl, refl);
     hears = subst (MayHear tones member) (sym heard_member) (refl, refl);
@@ -207,7 +221,7 @@ module _ (d : Dimensions) (tones : Tones) (w : World) (m : Message) (x : Slot) (
     legs = λ z in_z not_x same. entry_else d.external w.legs x z (Some member) may.in_x in_z not_x;
     heard = λ z l in_z at_z not_x same. seat_keeps w.holding x z room idle_member not_x;
     strange = λ z l p in_z at_z not_x same is.
-        let strange = strange_to_empty d.external tones w x may.stand (empty_slot w x may.idle_x) z l in_z at_z p is in
+        let strange = may.strange z l in_z at_z p is in
         (strange, strange);
   }
 
@@ -215,9 +229,9 @@ module _ (d : Dimensions) (tones : Tones) (w : World) (m : Message) (x : Slot) (
   seated_leg l is = let e : Some member ≡ Some l = sym at_member ∙ is in let same : member ≡ l = cc in subst (LegStands d.external tones after_seat x) same member_stands
 
   none_member : HasNone d.external w.legs x member
-  none_member z l in_z apart at line side same = none_named w.legs x.line false m.reference may.unused z l (line, in_z.1) at side same
+  none_member = may.unused
 
-  pub room_call_kept : Kept d tones (making_after_all d (making_at w) (call_room m.reference x room)).world
+  pub room_call_kept : Kept d tones (making_after_all d (making_at w) (call_room own x room)).world
   room_call_kept = (
     valid-seat d.bridges w.holding x room may.valid idle_member (not_full d.bridges w.holding may.valid free),
     record {
@@ -229,12 +243,12 @@ module _ (d : Dimensions) (tones : Tones) (w : World) (m : Message) (x : Slot) (
 
 -- ---- a call whose number isn't complete
 
-module _ (d : Dimensions) (tones : Tones) (w : World) (m : Message) (x : Slot) (may : MayCall d tones w m x) where
+module _ (d : Dimensions) (tones : Tones) (w : World) (own : ℕ) (asked : Pending) (x : Slot) (may : MayCall d tones w own x) where
   abbrev waiting : Leg
-  waiting = caller_leg overlap_sending m.reference peer.Alone
+  waiting = caller_leg overlap_sending own peer.Alone
 
   abbrev after_wait : World
-  after_wait = (making_after_all d (making_at w) (await_digits m.reference (call_asked m) x)).world
+  after_wait = (making_after_all d (making_at w) (await_digits own asked x)).world
 
   at_waiting : leg_at after_wait.legs x ≡ Some waiting
   at_waiting = entry_here d.external w.legs x (Some waiting) may.stand.count may.in_x
@@ -242,10 +256,10 @@ module _ (d : Dimensions) (tones : Tones) (w : World) (m : Message) (x : Slot) (
   waiting_stands : LegStands d.external tones after_wait x waiting
   waiting_stands = record {
     state = refl;
-    reference = may.own;
+    reference = may.small;
     cause = omega arith;
     peer = refl;
-    hears = subst (MayHear tones waiting) (sym (silent_slot w x may.idle_x)) (λ e. absurd cc, refl);
+    hears = subst (MayHear tones waiting) (sym may.silent) (λ e. absurd cc, refl);
   }
 
   beside_wait : Beside d.external w after_wait x x
@@ -253,7 +267,7 @@ module _ (d : Dimensions) (tones : Tones) (w : World) (m : Message) (x : Slot) (
     legs = λ z in_z not_x same. entry_else d.external w.legs x z (Some waiting) may.in_x in_z not_x;
     heard = λ z l in_z at_z not_x same. refl;
     strange = λ z l p in_z at_z not_x same is.
-        let strange = strange_to_empty d.external tones w x may.stand (empty_slot w x may.idle_x) z l in_z at_z p is in
+        let strange = may.strange z l in_z at_z p is in
         (strange, strange);
   }
 
@@ -261,9 +275,9 @@ module _ (d : Dimensions) (tones : Tones) (w : World) (m : Message) (x : Slot) (
   waiting_leg l is = let e : Some waiting ≡ Some l = sym at_waiting ∙ is in let same : waiting ≡ l = cc in subst (LegStands d.external tones after_wait x) same waiting_stands
 
   none_waiting : HasNone d.external w.legs x waiting
-  none_waiting z l in_z apart at line side same = none_named w.legs x.line false m.reference may.unused z l (line, in_z.1) at side same
+  none_waiting = may.unused
 
-  pub waiting_kept : Kept d tones (making_after_all d (making_at w) (await_digits m.reference (call_asked m) x)).world
+  pub waiting_kept : Kept d tones (making_after_all d (making_at w) (await_digits own asked x)).world
   waiting_kept = (
     may.valid,
     record {

@@ -27,12 +27,12 @@ use Rattle.exchange_events.specs.Sound.{IsPlanned, is_reached}
 use Rattle.call_profile.specs.Legs.{Legs, leg_named, new_reference}
 use Rattle.call_profile.specs.Operations.{making_at, making_after_all}
 use Rattle.exchange_events.specs.Sizes.{Setting}
-use Rattle.call_profile.specs.Setup.{Check, checks, is_room_full, first_cause, refusal, setup, accept, call, slot_asked, if_idle, caller_slot, called_slot, target_of, course_of_setup}
+use Rattle.call_profile.specs.Setup.{Check, checks, is_room_full, first_cause, refusal, call_asked, setup, accept, call, slot_asked, if_idle, caller_slot, called_slot, target_of, course_of_setup}
 use Rattle.call_profile.specs.World.{World, is_full}
 use Rattle.call_profile.proofs.ClearingLemmas.{Kept}
 use Rattle.call_profile.proofs.CommandLemmas.{both_true}
 use Rattle.call_profile.proofs.NamedLegLemmas.{IsOn, without_leg_by}
-use Rattle.call_profile.proofs.NewCallLemmas.{MayCall, MayOffer, empty_slot, line_call_kept, room_call_kept, waiting_kept}
+use Rattle.call_profile.proofs.NewCallLemmas.{MayCall, MayOffer, empty_slot, idle_may, line_call_kept, room_call_kept, waiting_kept}
 use Rattle.call_profile.proofs.VacantSlotLemmas.{found_on, new_unused}
 
 -- ---- a SETUP that is not refused has passed each check
@@ -139,13 +139,13 @@ reached s m line planned is =
 
 -- ---- what is done
 
-module _ (s : Setting) (w : World) (m : Message) (x : Slot) (planned : IsPlanned s) (may : MayCall s.dimensions s.tones w m x) where
+module _ (s : Setting) (w : World) (m : Message) (x : Slot) (planned : IsPlanned s) (may : MayCall s.dimensions s.tones w m.reference x) where
   call_kept : (t : Found) (called : Option Slot) → target_of s m ≡ t → called_slot w x t ≡ called → ((room : ℕ) → t ≡ Room room → is_full s.dimensions w ≡ false)
       → Kept s.dimensions s.tones (making_after_all s.dimensions (making_at w) (call w m x t called)).world
-  call_kept (Line line) (Some y) is chosen free = line_call_kept s.dimensions s.tones w m x y (new_reference w.legs line) may (offered s w x line y (reached s m line planned is) chosen)
+  call_kept (Line line) (Some y) is chosen free = line_call_kept s.dimensions s.tones w m.reference (call_asked m) x y (new_reference w.legs line) may (offered s w x line y (reached s m line planned is) chosen)
   call_kept (Line line) None is chosen free = (may.valid, may.stand)
-  call_kept (Room room) called is chosen free = room_call_kept s.dimensions s.tones w m x room may (free room refl)
-  call_kept More called is chosen free = waiting_kept s.dimensions s.tones w m x may
+  call_kept (Room room) called is chosen free = room_call_kept s.dimensions s.tones w m.reference x room may (free room refl)
+  call_kept More called is chosen free = waiting_kept s.dimensions s.tones w m.reference (call_asked m) x may
   call_kept Nothing called is chosen free = (may.valid, may.stand)
 
 -- a SETUP with a call reference that nobody has
@@ -162,14 +162,8 @@ module _ (s : Setting) (w : World) (line : ℕ) (m : Message) (new : IsNew s w l
   accept_kept None is accepted = (new.valid, new.stand)
   accept_kept (Some x) is accepted =
       let at = caller_is w line (channel_in m.elements) x is in
-      let may : MayCall s.dimensions s.tones w m x = record {
-        valid = new.valid;
-        stand = new.stand;
-        in_x = (subst (λ n. n < s.dimensions.external) (sym at.1.0) new.below, at.1.1);
-        idle_x = at.0;
-        own = new.own;
-        unused = subst (λ n. leg_named w.legs n false m.reference ≡ None) (sym at.1.0) new.unused;
-      } in
+      let may = idle_may s.dimensions s.tones w m.reference x new.valid new.stand (subst (λ n. n < s.dimensions.external) (sym at.1.0) new.below, at.1.1) at.0 new.own
+          (subst (λ n. leg_named w.legs n false m.reference ≡ None) (sym at.1.0) new.unused) in
       let passed = all_pass (checks s w line m) accepted in
       call_kept s w m x new.planned may (target_of s m) (called_slot w x (target_of s m)) refl refl (λ room is_room. sym (ap (is_room_full s.dimensions w) is_room) ∙ (all_from 11 (checks s w line m) passed).0)
 

@@ -1,11 +1,12 @@
 -- What holds of a leg in overlap sending.
-use Rattle.std.proofs.Common.{◌≡◌, false, Option, Some, None, refl, sym, ◌∙◌, subst, arith}
+use Rattle.std.proofs.Common.{◌≡◌, false, Option, Some, None, refl, sym, ◌∙◌, ap, subst, arith}
 use Rattle.std.specs.Prelude.{◌==◌}
 use Rattle.std.proofs.lemmas.Grind.{common_steps}
 use Rattle.circuit_model.specs.declared.channel.Slot.{Slot}
 use Rattle.circuit_model.specs.declared.circuit.Circuit.{Circuit}
 use Rattle.circuit_model.specs.declared.circuit.Circuit.TheVariants.{Pair, Member, Tone}
 use Rattle.circuit_model.specs.Circuits.{heard_by}
+use Rattle.circuit_model.specs.Extent.{IsExternal}
 use Rattle.q931_codec.specs.CallStates.{overlap_sending, call_delivered, disconnect_indication}
 use Rattle.call_states.specs.declared.leg.Leg.{Leg}
 use Rattle.call_states.specs.declared.pending.Pending.{Pending}
@@ -15,6 +16,10 @@ use Rattle.call_profile.specs.LegStanding.{CallsStand, MayHear}
 use Rattle.call_profile.specs.Legs.{leg_at, pending_at}
 use Rattle.call_profile.specs.Waiting.{MayWait, Waits, EachWaits, NoneElsePends}
 use Rattle.call_profile.specs.World.{World}
+use Rattle.call_states.specs.declared.leg.Peer.TheVariants as peer
+use Rattle.call_profile.proofs.BesideLemmas.{named_back}
+use Rattle.call_profile.proofs.HearingLemmas.{IsStrange}
+use Rattle.call_profile.proofs.NewCallLemmas.{MayCall}
 use Rattle.call_profile.proofs.ToneLemmas.{no_tone}
 
 silent_in_overlap : (tones : Tones) (leg : Leg) (o : Option Circuit) → leg.state ≡ overlap_sending → MayHear tones leg o → o ≡ None
@@ -46,3 +51,27 @@ pub none_else : (s : Setting) (w : World) → CallsStand s w → NoneElsePends s
 none_else s w stands x p in_x at =
     let may = subst (λ (q : Option Pending). MayWait s.plan (leg_at w.legs x) q) at (stands.numbers.each x in_x) in
     holds_by s w x p (leg_at w.legs x) refl may
+
+-- ---- what is needed to accept its call holds of its slot
+
+module _ (s : Setting) (w : World) (x : Slot) (leg : Leg) (stands : CallsStand s w) (in_x : IsExternal s.dimensions.external x) (at : leg_at w.legs x ≡ Some leg) (is : leg.state ≡ overlap_sending) where
+  waits : Waits s w x leg
+  waits = each_waits s w stands x leg in_x at is
+
+  -- nobody names a leg that is alone
+  unnamed : (z : Slot) (l : Leg) → IsExternal s.dimensions.external z → leg_at w.legs z ≡ Some l → IsStrange l x
+  unnamed z l in_z at_z p names same =
+      let back = named_back s.dimensions.external w.legs z p l leg names (stands.legs.each z l in_z at_z).peer (ap (leg_at w.legs) same ∙ at) in
+      let wrong : peer.Alone ≡ peer.Leg z = sym waits.waiting.alone ∙ back in
+      cc
+
+  pub waiting_may : MayCall s.dimensions s.tones w leg.reference x
+  waiting_may = record {
+    valid = stands.circuits;
+    stand = stands.legs;
+    in_x = in_x;
+    silent = waits.silent;
+    strange = unnamed;
+    small = (stands.legs.each x leg in_x at).reference;
+    unused = λ z l in_z apart at_z line side same. apart (stands.legs.one z x l leg in_z in_x at_z at line (side ∙ sym waits.waiting.calls) same);
+  }

@@ -71,15 +71,15 @@ returns-in-More-clause-makes g c s w leads work =
     let m = c.args.message.now in
     let is = ap (caller_slot w c.args.line) (sym c.channel.ensures) ∙ sym (c.caller_slot.ensures.slot s.dimensions w work.holds) ∙ c.in-Some.is in
     let target = leads ∙ c.in-More.is in
-    makes_same s.dimensions c.await_digits.new.self.map c.await_digits.new.self.legs c.await_digits.new.out.sends c.await_digits.new.out.moved (making_at w) (await_digits m.reference (asked_of c.asked_by-asked.result) c.in-Some.caller)
+    makes_same s.dimensions c.await_digits.new.self.map c.await_digits.new.self.legs c.await_digits.new.out.sends c.await_digits.new.out.moved (making_at w) (await_digits m.reference (asked_of c.asked_by.result) c.in-Some.caller)
     (accept s w m (caller_slot w c.args.line (channel_in m.elements)))
-    (ap (accept s w m) is ∙ accepts_more s w m c.in-Some.caller target ∙ (λ i. await_digits m.reference (sym c.asked_by-asked.ensures i) c.in-Some.caller))
+    (ap (accept s w m) is ∙ accepts_more s w m c.in-Some.caller target ∙ (λ i. await_digits m.reference (sym c.asked_by.ensures i) c.in-Some.caller))
     (c.await_digits.ensures.makes s.dimensions (making_at w) (makes_begun s.dimensions c.args.self.now.map c.args.self.now.legs c.args.out.now.sends c.args.out.now.moved w work.holds c.requires.fresh))
 
 pub await_digits-requires-clause-fits : goal.await_digits-requires-clause-fits
 await_digits-requires-clause-fits g c =
     let work = c.requires.work in
-    subst FitsElements (sym c.asked_by-asked.ensures) (asked_fits c.args.message.now (all_pass (checks work.0 work.1 c.args.line c.args.message.now) work.2.passes).1.0)
+    subst FitsElements (sym c.asked_by.ensures) (asked_fits c.args.message.now (all_pass (checks work.0 work.1 c.args.line c.args.message.now) work.2.passes).1.0)
 
 pub returns-in-Nothing-clause-makes : goal.returns-in-Nothing-clause-makes
 returns-in-Nothing-clause-makes g c s w leads work =
