@@ -163,7 +163,7 @@ module _ (s : Setting) (w : World) (line : ℕ) (m : Message) (new : IsNew s w l
   accept_kept (Some x) is accepted =
       let at = caller_is w line (channel_in m.elements) x is in
       let may = idle_may s.dimensions s.tones w m.reference x new.valid new.stand (subst (λ n. n < s.dimensions.external) (sym at.1.0) new.below, at.1.1) at.0 new.own
-          (subst (λ n. leg_named w.legs n false m.reference ≡ None) (sym at.1.0) new.unused) in
+      (subst (λ n. leg_named w.legs n false m.reference ≡ None) (sym at.1.0) new.unused) in
       let passed = all_pass (checks s w line m) accepted in
       call_kept s w m x new.planned may (target_of s m) (called_slot w x (target_of s m)) refl refl (λ room is_room. sym (ap (is_room_full s.dimensions w) is_room) ∙ (all_from 11 (checks s w line m) passed).0)
 
