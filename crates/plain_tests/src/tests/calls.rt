@@ -258,7 +258,7 @@ fn more_digits_awaited(rt: HostRuntime) -> Result<(), Fail> {
         7 message 0:080280014D\n\
         8 message\n\
         9 message 0:080280004E790186\n";
-    check(&rt, rt.alloc(), 0, &steps, wanted)?;
+    assert!(rt; reports(rt.alloc(), 0, &steps, wanted)?);
     Ok(())
 }
 
