@@ -133,7 +133,7 @@ module _ (plays : Plays) (tones : Kind → List ℕ) (board : Board) (front : Li
   rows_of (Frame input) is =
       let p = played input is in
       let lines : kept_rows ≡ lines_sent (octet_of a.octets) board.trace.external = ap (lines_sent (octet_of a.octets)) p.lines in
-      ap (λ (rows : List (List ℕ)). frame_line rows n here.holding.next)
+      ap (λ (rows : List (List ℕ)). frame_line rows n here.holding.next [])
       (lines ∙ sent_played board.trace.external (plays tones (pass here input).inputs (pass here input).held here.holding.next) a.octets p.played)
 
   -- the line of an answer is that of its event, after this history

@@ -9,6 +9,15 @@ use number_plan::Plan;
 use std::alloc::{AllocError, Global};
 use tone_rules::Tones;
 
+// The timers of a trace: nothing in it takes time.
+const TIMERS: Timers = Timers {
+    t302: 1,
+    t303: 1,
+    t305: 1,
+    t308: 1,
+    t310: 1,
+};
+
 fn on(line: u8, place: u8) -> Slot
     ensures { result ≡ record { line = line; place = place } }
 {
@@ -52,7 +61,7 @@ pub fn nails_and_frames(alloc: Global) -> Result<Trace, AllocError>
         processors: 2,
         plan: Plan::new(alloc),
         tones: Tones::none(alloc),
-        timers: Timers::usual(),
+        timers: TIMERS,
         events: Events::of(events),
         segments: Segments::of(ends),
     })
