@@ -8,7 +8,7 @@ infixl 10 ◌>>=◌
 abbrev pub ◌>>=◌ : {A B : Type 0} → Option A → (A → Option B) → Option B
 found >>= step = option_and_then step found
 
--- one to ten decimal digits, of which the first isn't 0 unless it stands alone
+-- one to ten decimal digits, of which the first isn't 0 unless it is alone
 abbrev pub is_numeral : List ℕ → Bool
 is_numeral text = nat_le 1 (length text) && nat_le (length text) 10 && list_all is_ascii_digit text && (length text == 1 || not (slice_index text 0 == 48))
 

@@ -17,7 +17,7 @@ pub enum Command {
     /// `run`, or `run --strict`: to run the trace of the input, with the flag on a fabric where no path
     /// ever moves.
     Run { strict: bool },
-    /// `gen SEED CALLS`: to run the trace of that seed with so many calls, 1 to 2000.
+    /// `gen SEED CALLS`: to run the trace of that seed with n calls, 1 to 2000.
     Generate { seed: u32, calls: u32 },
 }
 
@@ -40,8 +40,8 @@ pub enum WordsFault {
 ///
 /// # Errors
 ///
-/// [`WordsFault::NoCommand`] where the words are no command, and [`WordsFault::Memory`] for want of
-/// memory.
+/// [`WordsFault::NoCommand`] where the words are no command, and [`WordsFault::Memory`] where
+/// memory runs out.
 pub fn read_command(alloc: Global, words: &[String]) -> Result<Command, WordsFault>
     ensures command { IfOk result (λ c. command_of (map string_bytes words.now) ≡ Some c) }
     ensures calls { IfOk result IsInRange }
@@ -118,7 +118,7 @@ fn generation_in(matches: &ArgMatches) -> Option<Command>
     Some(Command::Generate { seed, calls })
 }
 
-// Want of memory says nothing of the words; any other kind says that they are no command.
+// Running out of memory says nothing of the words; any other kind says that they are no command.
 fn fault_of(error: &Error) -> WordsFault
     ensures { result ≡ WordsFault.NoCommand → kind_of error.now ≢ ErrorKind.OutOfMemory }
 {

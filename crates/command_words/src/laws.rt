@@ -4,7 +4,7 @@ ghost use Rattle.command_words.specs.Numerals.{numeral};
 ghost use Rattle.command_words.specs.Words.{begins_with_hyphen, command_of, generation};
 ghost use Rattle.command_words.specs.declared.command.Command.TheVariants.{Generate, Run};
 
-/// Two texts behind `gen`, neither of which begins with a hyphen, are taken as they stand: they are a
+/// Two texts behind `gen`, neither of which begins with a hyphen, are taken as they are: they are a
 /// command exactly where they are the numerals of a seed and of a number of calls.
 pub fn law_of_plain_texts()
     ensures { (seed calls : List ℕ) → begins_with_hyphen seed ≡ false → begins_with_hyphen calls ≡ false

@@ -20,7 +20,7 @@ pub trait Source {
     /// How many reads have failed. Where it is kept as a `u64`, it stops at that type's last value.
     ghost faults: { Self → ℕ };
 
-    /// Puts the next bytes at the front of `buf` and answers how many, at least one of them unless
+    /// Puts the next bytes at the beginning of `buf` and answers how many, at least one of them unless
     /// the source is at its end. `buf` must have room for a byte.
     ///
     /// # Errors
@@ -49,7 +49,7 @@ pub trait Sink {
     /// How many writes have failed. Where it is kept as a `u64`, it stops at that type's last value.
     ghost faults: { Self → ℕ };
 
-    /// Appends a front of `bytes` and answers its length: at least 1, unless there are no bytes.
+    /// Appends a prefix of `bytes` and answers its length: at least 1, unless there are no bytes.
     ///
     /// # Errors
     ///

@@ -2,15 +2,15 @@
 //!
 //! - [`Source`]'s `read` returns the next bytes (`next`), and none exactly at the end (`end`,
 //!   `no_more`).
-//! - [`Sink`]'s `write` appends a front of what it is given (`appended`), of one byte at least
+//! - [`Sink`]'s `write` appends a prefix of what it is given (`appended`), of one byte at least
 //!   (`some`).
 //! - Both count their faults: a call fails only where that count rose (`cause`), and then nothing
 //!   moved (`kept`); a call that succeeds leaves it as it was (`steady`).
 //!
-//! [`MemSource`] and [`MemSink`] are ends in memory that fail at the calls they are told to;
+//! [`MemSource`] and [`MemSink`] are ends in memory that fail at given calls;
 //! [`StdSource`] and [`StdSink`] are standard input and output, which tell no bytes.
 //!
-//! It stands on no crate of this repository, and on the kit's `thiserror`.
+//! It uses the kit's `thiserror` alone.
 #![tactic(auto)]
 
 mod ends;

@@ -1,4 +1,4 @@
-// Ends in memory, which fail at the calls that they are told to.
+// Ends in memory, which fail at given calls.
 ghost use Rattle.std.specs.Prelude.{◌≡◌, ◌↔◌, ◌<◌, ◌≤◌, [], ◌++◌, length, take, drop, Some, IsTrue, IfOk, OnErr, IsErr, Contains, vec_len};
 ghost use Rattle.std.specs.Vec.{vec_capacity};
 ghost use Rattle.std.specs.Io.KnownBytes.{Appends, Consumes, IsAtEnd, Keeps};
@@ -219,7 +219,7 @@ impl Sink for MemSink {
     }
 }
 
-// Copies the first `count` bytes of `from` over the front of `to`.
+// Copies the first `count` bytes of `from` over the beginning of `to`.
 fn copy_front(to: &mut [u8], from: &[u8], count: usize)
     requires { (count ≤ length to.old) × (count ≤ length from.now) }
     ensures { to.new ≡ take count from.now ++ drop count to.old }

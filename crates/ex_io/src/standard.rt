@@ -10,7 +10,7 @@ use crate::faults::Faults;
 use std::io::{Read, Stdin, Stdout, Write};
 use std::marker::Model;
 
-/// Bytes from a reader, as they come from standard input. Of these nothing is told; over a reader
+/// Bytes from a reader, as they come from standard input. Nothing is said of these; over a reader
 /// that tells its bytes, the source tells them.
 ///
 /// Each read is one read of the reader, with no buffer between. Each error of it counts as a fault,
@@ -67,7 +67,7 @@ impl<R: Read> Source for StdSource<R> {
     }
 }
 
-/// Bytes to a writer, as they go to standard output. Of these nothing is told; over a writer that
+/// Bytes to a writer, as they go to standard output. Nothing is said of these; over a writer that
 /// tells its bytes, the sink tells them.
 ///
 /// Each write is one write of the writer, with no buffer between, so nothing is left to flush. Each
