@@ -1,4 +1,4 @@
--- A circuit that stands in a frame since an earlier one stood in the frame before.
+-- A circuit that exists in a frame since an earlier one existed in the frame before.
 use Rattle.std.proofs.Common.{◌≡◌, ℕ, zero, suc, ◌+◌, ◌-◌, ◌<◌, ◌⊎◌, Bool, true, false, cond, not, List, [], ◌∷◌, ◌++◌, refl, ap, inl, inr, ⊎_elim, arith, sub-one}
 use Rattle.std.specs.List.{Contains, filter}
 use Rattle.std.proofs.lemmas.List.Elements.{Contains-append_cases}
@@ -39,7 +39,7 @@ older_than_one h new c made inside older =
     (λ (last : Contains (new ∷ []) c). ⊎_elim (λ (e : new ≡ c). absurd (same_age new c h.next made e older)) (λ (no : Contains [] c). absurd (none_in_nil c no)) (cons_cases new [] c last))
     (Contains-append_cases h.circuits (new ∷ []) c inside)
 
--- what stands after a command and is older than it stood before
+-- what exists after a command and is older than it existed before
 pub older_stood : (h : Holding) (command : Command) (c : Circuit) → Contains (after h command).circuits c → since_of c < h.next → Contains h.circuits c
 older_stood h (Connect x y) c inside older =
     ⊎_elim (λ (old : Contains h.circuits c). old)
@@ -54,7 +54,7 @@ older_stood h (Clear x) c inside older = within_filtered (λ c. not (names x c))
 older_stood h Frame c inside older = inside
 
 -- ---- whole lists of commands
--- the first frame's circuits that are older than the next frame stood at the beginning
+-- the first frame's circuits that are older than the next frame existed at the beginning
 pub first_frame : (h : Holding) (cs : List Command) (c : Circuit) → Contains (circuits_of (frames h cs) 0) c → since_of c < h.next → Contains h.circuits c
 first_frame h [] c inside older = absurd (none_in_nil c inside)
 first_frame h (Connect x y ∷ cs) c inside older = older_stood h (Connect x y) c (first_frame (after h (Connect x y)) cs c inside older) older
@@ -63,7 +63,7 @@ first_frame h (Give_tone x kind ∷ cs) c inside older = older_stood h (Give_ton
 first_frame h (Clear x ∷ cs) c inside older = older_stood h (Clear x) c (first_frame (after h (Clear x)) cs c inside older) older
 first_frame h (Frame ∷ cs) c inside older = inside
 
--- each later frame's circuits that are older than it stood in the frame before it
+-- each later frame's circuits that are older than it existed in the frame before it
 pub later_frame : (h : Holding) (cs : List Command) (k : ℕ) (c : Circuit) → Contains (circuits_of (frames h cs) (suc k)) c → since_of c < h.next + suc k → Contains (circuits_of (frames h cs) k) c
 later_frame h [] k c inside older = absurd (none_in_nil c inside)
 later_frame h (Connect x y ∷ cs) k c inside older = later_frame (after h (Connect x y)) cs k c inside older

@@ -15,7 +15,7 @@ frames-append h (Give_tone x kind ∷ cs) ds = frames-append (after h (Give_tone
 frames-append h (Clear x ∷ cs) ds = frames-append (after h (Clear x)) cs ds
 frames-append h (Frame ∷ cs) ds = ap (λ held. h.circuits ∷ held) (frames-append (after h Frame) cs ds)
 
--- a boundary records the circuits that stand
+-- a boundary records the circuits that exist
 pub frames-boundary : (h : Holding) (cs : List Command) → frames h (cs ++ Frame ∷ []) ≡ frames h cs ++ (after_all h cs).circuits ∷ []
 frames-boundary h cs = frames-append h cs (Frame ∷ [])
 

@@ -11,7 +11,7 @@ use Rattle.circuit_model.specs.Circuits.{same_slot, listener, is_idle, heard_by}
 use Rattle.circuit_model.proofs.Age.{at_head, in_tail}
 use Rattle.circuit_model.proofs.Slots.{true_or_false, same_slot-refl, same_slot-true, same_slot_cases, idle_is_deaf}
 
--- a slot hears the first of what stood and of what came, in that order
+-- a slot hears the first of what was there and of what came, in that order
 pub heard_by-append : (circuits new : List Circuit) (z : Slot) → heard_by (circuits ++ new) z ≡ option_or (heard_by circuits z) (heard_by new z)
 heard_by-append circuits new z = find-append (λ c. same_slot z (listener c)) circuits new
 
@@ -46,7 +46,7 @@ heard_by-two circuits x y z n idle_x idle_y =
       ]
     ]
 
--- what a slot hears by stands, and is for it
+-- what a slot hears by exists, and is for it
 pub heard_by-stands : (circuits : List Circuit) (x : Slot) (c : Circuit) → heard_by circuits x ≡ Some c → Contains circuits c × (same_slot x (listener c) ≡ true)
 heard_by-stands [] x c hears = absurd (grind (arith, common_steps))
 heard_by-stands (d ∷ ds) x c hears =

@@ -1,4 +1,4 @@
--- Members and their ports: the ports of a frame have the members that stand in it, each once, and a member keeps its port.
+-- Members and their ports: the ports of a frame have the members that exist in it, each once, and a member keeps its port.
 use Rattle.std.proofs.Common.{◌≡◌, ℕ, zero, suc, ◌+◌, ◌-◌, ◌*◌, ◌<◌, ◌≤◌, Bool, true, false, not, ◌⊎◌, List, [], ◌∷◌, ◌++◌, length, replicate, Option, Some, None, ℤ, pos, ◌+ℤ◌, refl, sym, ◌∙◌, ap, subst, inl, inr, ⊎_elim, arith, sub-one, if◌then◌else◌}
 use Rattle.std.specs.List.{Contains, filter, count_by}
 use Rattle.std.proofs.lemmas.Int.{ints}
@@ -243,7 +243,7 @@ one_port x (port ∷ ports) (suc j) (suc k) few a b =
     let fewer : count_by (port_is (same_slot x)) ports ≤ 1 = grind (arith, common_steps) in
     ap suc (one_port x ports j k fewer a b)
 
--- a slot that stands in one way is seated once at the most
+-- a slot that is in one state is seated once at the most
 names_seated : (x : Slot) (c : Circuit) → seat_is (same_slot x) c ≡ true → names x c ≡ true
 names_seated x (Pair from to since) h = absurd (cc)
 names_seated x (Member room at since) h = h

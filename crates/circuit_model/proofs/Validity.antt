@@ -44,8 +44,8 @@ both_name_second x y n = let same = same_slot-refl y in grind (arith, common_ste
 none_name_other : (x y z : Slot) (n : ℕ) → same_slot z x ≡ false → same_slot z y ≡ false → circuits_naming (Pair x y n ∷ Pair y x n ∷ []) z ≡ []
 none_name_other x y z n off_x off_y = grind (arith, common_steps)
 
--- ---- how a slot stands
--- what names a slot says how it stands
+-- ---- the state of a slot
+-- what names a slot says its state
 stands_alike : (cs ds : List Circuit) (z : Slot) → circuits_naming ds z ≡ circuits_naming cs z → Stands cs z → Stands ds z
 stands_alike cs ds z same (Has_no_circuit e) = Has_no_circuit (same ∙ e)
 stands_alike cs ds z same (Has_tone kind since e) = Has_tone kind since (same ∙ e)
@@ -206,14 +206,14 @@ heard_alone circuits x c (Is_connected y since apart (inr e)) inside for_x =
     let other = same_slot-false x y (λ f. apart (sym f)) in
     elim (one_of_two _ _ c (rw e at inside)) [ inl same ↦ rw e (grind (arith, common_steps)) | inr same ↦ absurd (grind (arith, common_steps)) ]
 
--- a circuit that stands is the one that its slot hears by
+-- a circuit that exists is the one that its slot hears by
 pub heard_by-listener : (circuits : List Circuit) (c : Circuit) → Stands circuits (listener c) → Contains circuits c → heard_by circuits (listener c) ≡ Some c
 heard_by-listener circuits c s inside =
     let x : Slot = listener c in
     let for_x = same_slot-refl x in
     sym (heard_by-naming circuits x) ∙ heard_alone circuits x c s (in_filter (names x) circuits c inside (listener_is_named x c for_x)) for_x
 
--- where x hears y, the other direction stands too
+-- where x hears y, the other direction exists too
 other_way : (circuits : List Circuit) (x y : Slot) (since : ℕ) → Stands circuits x → heard_by (circuits_naming circuits x) x ≡ Some (Pair y x since) → Contains (circuits_naming circuits x) (Pair x y since)
 other_way circuits x y since (Has_no_circuit e) hears = let no : None ≡ Some (Pair y x since) = rw e at hears in absurd cc
 other_way circuits x y since (Has_tone kind s e) hears = let same = same_slot-refl x in let no = rw e at hears in absurd (grind (arith, common_steps))

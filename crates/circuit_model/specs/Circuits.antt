@@ -14,7 +14,7 @@ listener (Pair from to since) = to
 listener (Member room at since) = at
 listener (Tone kind to since) = to
 
--- the first frame that the circuit stands in
+-- the first frame that the circuit exists in
 abbrev pub since_of : Circuit → ℕ
 since_of (Pair from to since) = since
 since_of (Member room at since) = since
@@ -44,7 +44,7 @@ abbrev pub unless_naming : Slot → Option Circuit → Option Circuit
 unless_naming x None = None
 unless_naming x (Some c) = if names x c then None else Some c
 
--- by what z hears once a new circuit stands, and once x and y are connected, where it heard by `before`
+-- by what z hears once a new circuit exists, and once x and y are connected, where it heard by `before`
 abbrev pub with_circuit : Circuit → Option Circuit → Slot → Option Circuit
 with_circuit c before z = if same_slot z (listener c) then Some c else before
 

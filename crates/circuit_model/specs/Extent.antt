@@ -5,7 +5,7 @@ use Rattle.circuit_model.specs.declared.circuit.Circuit.{Circuit}
 use Rattle.circuit_model.specs.declared.circuit.Circuit.TheVariants.{Pair, Member, Tone}
 use Rattle.circuit_model.specs.Holding.{Command, Connect, Seat, Give_tone, Clear, Frame}
 
--- a slot of so many external lines
+-- a slot of n external lines
 abbrev pub IsExternal : ℕ → Slot → Type 0
 IsExternal lines x = (x.line < lines) × (x.place < 30)
 

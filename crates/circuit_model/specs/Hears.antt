@@ -9,7 +9,7 @@ use Rattle.circuit_model.specs.ALaw.{expand, compress}
 use Rattle.circuit_model.specs.Circuits.{same_slot, listener, heard_by}
 use Rattle.circuit_model.specs.Holding.{circuits_of}
 
--- a circuit that stands since `since` is two frames old in frame f
+-- a circuit that has existed since `since` is two frames old in frame f
 abbrev pub is_through : ℕ → ℕ → Bool
 is_through since f = nat_le (since + 2) f
 
@@ -31,7 +31,7 @@ octets_of inputs f (c ∷ cs) = arrives inputs f (listener c) ∷ octets_of inpu
 abbrev pub mix : List Input → List Circuit → ℕ → Slot → ℕ → ℕ
 mix inputs circuits room y g = compress (sum_of_values (octets_of inputs (g - 2) (filter (is_other room y g) circuits)))
 
--- the octet of a tone that has sounded for so many frames
+-- the octet of a tone that has sounded for n frames
 abbrev pub tone_octet : List ℕ → ℕ → ℕ
 tone_octet table frames = slice_index_or table (frames % length table) idle_octet
 

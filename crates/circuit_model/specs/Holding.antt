@@ -1,4 +1,4 @@
--- The circuits that stand, and what the commands make of them. Source: this exchange's own; the terms connection, room member and tone
+-- The circuits that exist, and what the commands make of them. Source: this exchange's own; the terms connection, room member and tone
 -- are those of circuit switching (ITU-T Q.9).
 use Rattle.std.specs.Prelude.{◌≡◌, ℕ, ◌+◌, ◌*◌, ◌≤◌, ◌<◌, ◌⊎◌, IsTrue, not, List, [], ◌∷◌, ◌++◌, filter, All, count_by, slice_index_or, Option, Some}
 use Rattle.circuit_model.specs.declared.channel.Slot.{Slot}
@@ -7,12 +7,12 @@ use Rattle.circuit_model.specs.declared.circuit.Circuit.{Circuit}
 use Rattle.circuit_model.specs.declared.circuit.Circuit.TheVariants.{Pair, Member, Tone}
 use Rattle.circuit_model.specs.Circuits.{names, is_idle, is_member, since_of, heard_by}
 
--- the circuits that stand, a list that is read as a set, and the number of the next frame
+-- the circuits that exist, a list that is read as a set, and the number of the next frame
 pub record Holding : Type 0 where
   pub circuits : List Circuit
   pub next : ℕ
 
--- nothing stands before the first frame
+-- nothing exists before the first frame
 abbrev pub empty : Holding
 empty = record { circuits = []; next = 0 }
 
@@ -23,7 +23,7 @@ pub data Command : Type 0 where
   Clear : (x : Slot) → Command
   Frame : Command
 
--- what a command makes of a holding. A circuit stands since the next frame; a frame's boundary changes the number alone
+-- what a command makes of a holding. A circuit exists from the next frame on; a frame's boundary changes the number alone
 abbrev pub after : Holding → Command → Holding
 after h (Connect x y) = record h { circuits = h.circuits ++ Pair x y h.next ∷ Pair y x h.next ∷ [] }
 after h (Seat x room) = record h { circuits = h.circuits ++ Member room x h.next ∷ [] }
@@ -35,7 +35,7 @@ abbrev pub after_all : Holding → List Command → Holding
 after_all h [] = h
 after_all h (c ∷ cs) = after_all (after h c) cs
 
--- the circuits of each frame: those that stood at its boundary
+-- the circuits of each frame: those that existed at its boundary
 abbrev pub frames : Holding → List Command → List (List Circuit)
 frames h [] = []
 frames h (Connect x y ∷ cs) = frames (after h (Connect x y)) cs
@@ -48,7 +48,7 @@ frames h (Frame ∷ cs) = h.circuits ∷ frames (after h Frame) cs
 abbrev pub circuits_of : List (List Circuit) → ℕ → List Circuit
 circuits_of held f = slice_index_or held f []
 
--- the circuits that stood in frame f of these commands, and the holding that they make at its boundary
+-- the circuits that existed in frame f of these commands, and the holding that they make at its boundary
 abbrev pub circuits_in_frame : List Command → ℕ → List Circuit
 circuits_in_frame cs f = circuits_of (frames empty cs) f
 
@@ -85,14 +85,14 @@ IsNoMember h x = (room since : ℕ) → ¬ (hears_by h x ≡ Some (Member room x
 abbrev pub circuits_naming : List Circuit → Slot → List Circuit
 circuits_naming circuits x = filter (names x) circuits
 
--- a slot stands in one way: idle, with one tone, as one room's member, or in a connection with one other slot, both ways
+-- a slot is in one state: idle, with one tone, as one room's member, or in a connection with one other slot, both ways
 pub data Stands (circuits : List Circuit) (x : Slot) : Type 0 where
   Has_no_circuit : circuits_naming circuits x ≡ [] → Stands circuits x
   Has_tone : (kind : Kind) (since : ℕ) → circuits_naming circuits x ≡ Tone kind x since ∷ [] → Stands circuits x
   Is_seated : (room since : ℕ) → circuits_naming circuits x ≡ Member room x since ∷ [] → Stands circuits x
   Is_connected : (y : Slot) (since : ℕ) → ¬ (y ≡ x) → (circuits_naming circuits x ≡ Pair x y since ∷ Pair y x since ∷ []) ⊎ (circuits_naming circuits x ≡ Pair y x since ∷ Pair x y since ∷ []) → Stands circuits x
 
--- a holding of an exchange with so many bridge lines: no circuit is younger than the next frame, each member finds a port, and each slot stands in one way
+-- a holding of an exchange with n bridge lines: no circuit is younger than the next frame, each member finds a port, and each slot is in one state
 pub record Valid (bridges : ℕ) (h : Holding) : Type 0 where
   pub young : All (λ c. since_of c ≤ h.next) h.circuits
   pub seated : count_by is_member h.circuits ≤ 30 * bridges

@@ -65,7 +65,7 @@ owner_of ports k = slice_index_or ports k None
 abbrev pub ports_in : ℕ → List Command → ℕ → Ports
 ports_in bridges cs f = ports_of (port_frames (free_ports bridges) cs) f
 
--- a member has one of the ports of so many bridge lines; no two ports have the same member; a member's port is still its own
+-- a member has one of the ports of n bridge lines; no two ports have the same member; a member's port is still its own
 abbrev pub HasPort : ℕ → Ports → Slot → Type 0
 HasPort bridges ports x = (k : ℕ) × (k < 30 * bridges) × (owner_of ports k ≡ Some x)
 

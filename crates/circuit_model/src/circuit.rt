@@ -18,7 +18,7 @@ pub enum Kind {
 
 /// What the exchange connects: one direction of a connection, a conference member, or a tone.
 ///
-/// `since` is the number of the first frame that the circuit stands in.
+/// `since` is the number of the first frame that the circuit exists in.
 #[derive(Clone, Copy, Debug, PartialEq, Eq)]
 pub enum Circuit {
     /// `to` hears `from`. A two-way connection is two of these.

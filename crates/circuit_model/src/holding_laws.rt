@@ -18,7 +18,7 @@ pub fn law_of_validity()
     ensures recorded { (b : ℕ) (cs : List Command) (f : ℕ) → AreAllowed b empty cs → f < length (frames empty cs) → Valid b (held_in cs f) }
 {}
 
-/// What a valid holding rules out: a slot connected to itself, a connection that stands one way or
+/// What a valid holding rules out: a slot connected to itself, a connection in one direction or
 /// whose directions differ in age, a slot that is busy in two ways or seated twice, a circuit that
 /// is younger than the next frame, and a member without a port.
 pub fn worked_holdings()
@@ -38,7 +38,7 @@ pub fn law_of_idle_slots()
     ensures deaf { (bridges : ℕ) (h : Holding) (x : Slot) → Valid bridges h → IsIdle h x ↔ (hears_by h x ≡ None) }
 {}
 
-/// What a slot hears by stands and is for it. In a valid holding a slot hears by one circuit at
+/// What a slot hears by exists and is for it. In a valid holding a slot hears by one circuit at
 /// most, whatever the order in which they are listed, and where a slot hears another one, that one
 /// hears it, since the same frame.
 pub fn law_of_one_circuit()
@@ -56,7 +56,7 @@ pub fn law_of_commands()
     ensures clear { (b : ℕ) (h : Holding) (x : Slot) → Valid b h → HearsAfter h (Clear x) (λ before z. unless_naming x before) }
 {}
 
-/// Commands one after another: a frame's boundary records the circuits that stand, any other
+/// Commands one after another: a frame's boundary records the circuits that exist, any other
 /// command records nothing, and a holding counts the boundaries that it passed.
 pub fn law_of_frames()
     ensures state { (h : Holding) (cs ds : List Command) → after_all h (cs ++ ds) ≡ after_all (after_all h cs) ds }

@@ -8,8 +8,8 @@ ghost use Rattle.circuit_model.specs.ALaw.{decision_values, expand, compress};
 ghost use Rattle.circuit_model.specs.Hears.{hears};
 ghost use Rattle.circuit_model.specs.Examples.{first, heard_in_frames, a_connection, two_lines, a_reused_slot, three_lines, a_room, loud_lines, alone, a_pair_of_members, soft_lines, a_tone, a_late_connection, a_renewed_connection, quiet_lines, a_changing_room, counting_lines, two_rooms, a_full_room, loud_and_low, two_tones};
 
-/// The law of age: after any commands, a circuit that stands in frame `f` since an earlier frame
-/// stood in frame `f - 1` too.
+/// The law of age: after any commands, a circuit that exists in frame `f` since an earlier frame
+/// existed in frame `f - 1` too.
 ///
 /// So an octet that crossed in the frame before, by a circuit that is heard now, was sent by it.
 pub fn law_of_age()
@@ -18,7 +18,7 @@ pub fn law_of_age()
 
 /// The definitions of what a slot hears, evaluated on small exchanges: octets pass after exactly
 /// two frames, a slot taken anew lets nothing of the old connection through, a room is summed
-/// without the listener and coded once, and a tone begins with the frame that it stands since.
+/// without the listener and coded once, and a tone begins with the first frame that it exists in.
 pub fn worked_frames()
     ensures delay { heard_in_frames two_lines a_connection 1 (0 ∷ 1 ∷ 2 ∷ 3 ∷ 4 ∷ []) ≡ 0xD5 ∷ 0xD5 ∷ 0x01 ∷ 0x02 ∷ 0x03 ∷ [] }
     ensures other_way { heard_in_frames two_lines a_connection 0 (0 ∷ 1 ∷ 2 ∷ 3 ∷ 4 ∷ []) ≡ 0xD5 ∷ 0xD5 ∷ 0x81 ∷ 0x82 ∷ 0x83 ∷ [] }

@@ -3,13 +3,13 @@
 //! The types here are plain data. Which octet a slot hears in a frame is defined in `specs/`, and
 //! the crates above cite those definitions in their contracts.
 //!
-//! - What stands in a frame since an earlier one stood in the frame before ([`law_of_age`]).
+//! - What exists in a frame since an earlier one existed in the frame before ([`law_of_age`]).
 //! - Holdings stay valid under allowed commands ([`law_of_validity`]), each slot hears by one
 //!   circuit at most ([`law_of_one_circuit`]), and [`law_of_commands`] says whom it hears after
 //!   each command.
 //! - Each member of a room has a port of its own ([`law_of_ports`]).
 //!
-//! It stands on no other crate.
+//! It uses no other crate.
 #![tactic(auto)]
 
 mod channel;

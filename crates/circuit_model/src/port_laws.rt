@@ -7,8 +7,8 @@ ghost use Rattle.circuit_model.specs.Extent.{AreWithin, NamesWithin};
 ghost use Rattle.circuit_model.specs.Holding.{Command, circuits_in_frame};
 ghost use Rattle.circuit_model.specs.Ports.{InEachFrame, owner_of, HasPort, HaveOneEach, KeepsItsPort, HasSeat, HasSeatBefore, sum_of_owners, sum_of_members};
 
-/// The law of ports, over the frames of allowed commands: each member that stands in a frame has a
-/// port of a bridge line then, each port that is taken has a member that stands, no two ports have
+/// The law of ports, over the frames of allowed commands: each member that exists in a frame has a
+/// port of a bridge line then, each port that is taken has a member that exists, no two ports have
 /// the same one, and a member keeps its port for as long as it sits. So whatever is added up over
 /// the ports of a frame is added up over its members.
 pub fn law_of_ports()

@@ -9,7 +9,7 @@ pub struct JoinedSeat {
     pub own: [(u32, u32); 0],
 }
 
-/// A seat between two calls: a right to do so many events, each an entry of one history.
+/// A seat between two calls: a right to do n events, each an entry of one history.
 pub struct Known {
     /// 0 for the first seat.
     pub number: u64,

@@ -7,7 +7,7 @@
 //!
 //! - The seat that a history begins with is settled ([`law_of_first_seat`]).
 //!
-//! It stands on no other crate.
+//! It uses no other crate.
 #![tactic(auto)]
 
 mod known;
