@@ -10,7 +10,7 @@
 //!   one look into a table that is made once.
 //! - Coding the value of an octet gives that octet back ([`law_of_round_trip`]).
 //!
-//! It stands on `circuit_model`.
+//! It uses `circuit_model`.
 #![tactic(auto)]
 
 ghost use Rattle.std.specs.Prelude.{◌≡◌, ℕ, ◌<◌, ◌≤◌, nat_abs};

@@ -11,7 +11,7 @@
 //! - The order of the places does not matter ([`law_of_order`]); a member alone hears the idle
 //!   octet, and one of two hears what the other sends ([`law_of_small_rooms`]).
 //!
-//! It stands on `alaw_codec` and `circuit_model`.
+//! It uses `alaw_codec` and `circuit_model`.
 #![tactic(auto)]
 
 ghost use Rattle.std.specs.Prelude.{◌≡◌, ℕ, ◌*◌, ◌≤◌, length, slice_index, map, All, EachIndex, nat_abs};

@@ -52,7 +52,7 @@ impl Model for Mixer {
 }
 
 impl Mixer {
-    /// A bridge of so many ports, each of them free.
+    /// A bridge of n ports, each of them free.
     pub fn new(ports: usize) -> Mixer
         requires { ports ≤ most_members }
         ensures { result ≡ replicate ports None }

@@ -10,7 +10,7 @@ use borrow.Rule.Slice.PartMut.{put_mid}
 pub other_place : (octets : List ℕ) (slots line slot l s octet : ℕ) → slot < slots → s < slots → (l ≡ line → s ≡ slot → ⊥) → get_or (set octets (line * slots + slot) octet) (l * slots + s) 0 ≡ get_or octets (l * slots + s) 0
 other_place octets slots line slot l s octet a b apart = get_or-set_other octets (line * slots + slot) (l * slots + s) octet 0 (λ e. let p = same_from_place l s line slot slots b a e in apart p.0 p.1)
 
--- and so it does behind a row that stands before all others
+-- and so it does behind a row before all others
 pub other_place_behind : (octets : List ℕ) (slots line slot l s octet : ℕ) → slot < slots → s < slots → (l ≡ line → s ≡ slot → ⊥) → get_or (drop slots (set octets ((line + 1) * slots + slot) octet)) (l * slots + s) 0 ≡ get_or (drop slots octets) (l * slots + s) 0
 other_place_behind octets slots line slot l s octet a b apart =
     let at : slots + (l * slots + s) ≡ (l + 1) * slots + s = grind arith in

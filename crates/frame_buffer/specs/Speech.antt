@@ -14,7 +14,7 @@ pub record Speech : Type 0 where
 abbrev pub octet_in_half : List ℕ → Slot → ℕ
 octet_in_half octets at = slice_index octets (at.line * 30 + at.place)
 
--- each slot of so many lines holds the idle octet
+-- each slot of n lines holds the idle octet
 abbrev pub AllIdle : ℕ → List ℕ → Type 0
 AllIdle lines octets = (at : Slot) → at.line < lines → at.place < 30 → octet_in_half octets at ≡ idle_octet
 

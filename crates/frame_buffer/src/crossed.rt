@@ -31,7 +31,7 @@ impl Model for Crossed {
 }
 
 impl Crossed {
-    /// Outgoing highways for so many lines and internal slots, with the idle octet everywhere.
+    /// Outgoing highways for n lines and m internal slots, with the idle octet everywhere.
     pub fn new(alloc: Global, lines: u8, slots: u8) -> Result<Crossed, AllocError>
         ensures lines { IfOk result (λ h. h.lines ≡ lines) }
         ensures slots { IfOk result (λ h. h.slots ≡ slots) }

@@ -34,7 +34,7 @@ impl Model for DelayLine {
 }
 
 impl DelayLine {
-    /// A line for so many external lines, on which nothing has arrived yet: every slot is idle.
+    /// A line for n external lines, on which nothing has arrived yet: every slot is idle.
     pub fn new(alloc: Global, external: u8) -> Result<DelayLine, AllocError>
         ensures external { IfOk result (λ d. d.external ≡ external) }
         ensures empty { IfOk result (λ d. Carries d []) }

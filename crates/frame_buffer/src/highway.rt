@@ -13,7 +13,7 @@ use std::marker::Model;
 /// What the incoming time stage puts on the highways: for each incoming line an octet in every
 /// internal slot of the frame.
 ///
-/// Before the rows of the lines stands an idle one: what crosses where a control table names no
+/// Before the rows of the lines is an idle one: what crosses where a control table names no
 /// line.
 #[derive(Drop)]
 pub struct Highway {
@@ -35,7 +35,7 @@ impl Model for Highway {
 }
 
 impl Highway {
-    /// Highways for so many lines and internal slots, with the idle octet everywhere.
+    /// Highways for n lines and m internal slots, with the idle octet everywhere.
     pub fn new(alloc: Global, lines: u8, slots: u8) -> Result<Highway, AllocError>
         ensures lines { IfOk result (λ h. h.lines ≡ lines) }
         ensures slots { IfOk result (λ h. h.slots ≡ slots) }

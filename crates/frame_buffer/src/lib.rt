@@ -1,14 +1,14 @@
-//! Where the octets of a frame stand between two steps: speech memories, highways, a delay line.
+//! Where the octets of a frame are between two steps: speech memories, highways, a delay line.
 //!
 //! - [`FrameBuffer`] has two halves: `get` reads the one that was filled before `swap`, and
 //!   `put_line` fills the other (`filled`) and leaves the first (`readable`).
 //! - [`Highway`] and [`Crossed`] hold an octet for each line and internal slot: a write changes
 //!   that one alone (`here`, `others`).
-//! - `parts` and `filled` lend the rows of all lines to be written, whole or in parts (`writes_back`).
+//! - `parts` and `filled` hand out the rows of all lines to be written, whole or in parts (`writes_back`).
 //!   [`LEAST_HALF`] tells where halves of them are worth threads.
 //! - [`DelayLine`]'s `back_two` returns the octet of two frames before, idle where there is none.
 //!
-//! It stands on `circuit_model`.
+//! It uses `circuit_model`.
 #![tactic(auto)]
 
 mod crossed;

@@ -30,7 +30,7 @@ impl Model for FrameBuffer {
 }
 
 impl FrameBuffer {
-    /// A speech memory for so many lines, with the idle octet in every slot of both halves.
+    /// A speech memory for n lines, with the idle octet in every slot of both halves.
     pub fn new(alloc: Global, lines: u8) -> Result<FrameBuffer, AllocError>
         ensures lines { IfOk result (λ b. b.lines ≡ lines) }
         ensures filled { IfOk result (λ b. AllIdle lines b.filled) }
