@@ -18,7 +18,7 @@ numbered_number at within =
     λ i. record { line = line i; place = place i }
 
 -- ---- finding among the paths
--- what stands in the layout at a path's number
+-- what is in the layout at a path's number
 pub record IsListed (n : ℕ) (hops : Layout) (p : Path) : Type 0 where
   pub k : ℕ
   pub inside : k < length hops
@@ -86,7 +86,7 @@ both false b e = absurd (cc)
 and_true : (a b : Bool) → a ≡ true → b ≡ true → (a && b) ≡ true
 and_true a b x y = ap (λ c. c && b) x ∙ y
 
--- a path that a lookup found stands in the layout, at a slot of its lines
+-- a path that a lookup found is in the layout, at a slot of its lines
 pub record IsPathOf (lines : ℕ) (layout : Layout) (p : Path) : Type 0 where
   pub inlet : IsSlot lines p.from
   pub path : HasPath layout p.from p.to p.slot
@@ -139,7 +139,7 @@ path_in_is lines slots layout from to slot legal inside has =
     let there = subst (λ s. HasPath layout q.0.from q.0.to s) f.2 f.0.path in
     q.1 ∙ ap (λ r. Some r) (same_path layout q.0 p f.0.path has (legal.one_sent q.0.from from q.0.to to slot f.0.inlet inside there has f.1))
 
--- the same of an outgoing line
+-- the same for an outgoing line
 pub path_out_found : (lines : ℕ) (layout : Layout) (line slot : ℕ) (p : Path) → length layout ≡ 30 * lines → path_out layout line slot ≡ Some p → IsPathOf lines layout p × (p.to.line ≡ line) × (p.slot ≡ slot)
 path_out_found lines layout line slot p size e =
     let f = found_path (λ q. (q.to.line == line) && (q.slot == slot)) lines layout p size e in
@@ -154,7 +154,7 @@ path_out_is lines slots layout from to slot legal inside has =
     let there = subst (λ s. HasPath layout q.0.from q.0.to s) f.2 f.0.path in
     q.1 ∙ ap (λ r. Some r) (same_path layout q.0 p f.0.path has (legal.one_received q.0.from from q.0.to to slot f.0.inlet inside there has f.1))
 
--- the same of an outlet
+-- the same for an outlet
 pub path_to_found : (lines : ℕ) (layout : Layout) (at : Slot) (p : Path) → length layout ≡ 30 * lines → path_to layout at ≡ Some p → IsPathOf lines layout p × (p.to ≡ at)
 path_to_found lines layout at p size e =
     let f = found_path (λ q. same_slot at q.to) lines layout p size e in

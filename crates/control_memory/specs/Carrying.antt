@@ -23,15 +23,15 @@ crossing layout octet line slot = from_inlet (path_out layout line slot) octet
 abbrev pub carried : Layout → (Slot → ℕ) → Slot → ℕ
 carried layout octet at = from_inlet (path_to layout at) octet
 
--- so many lines send in so many internal slots what their table names of the octets in their places
+-- n lines send in m internal slots what their table names of the octets in their places
 abbrev pub SendsBy : ℕ → ℕ → (ℕ → ℕ → Option ℕ) → (Slot → ℕ) → (ℕ → ℕ → ℕ) → Type 0
 SendsBy lines slots places octet highway = (line slot : ℕ) → line < lines → slot < slots → highway line slot ≡ fetched (places line slot) (λ place. octet (record { line = line; place = place }))
 
--- so many lines hold in so many internal slots what the layout brings them
+-- n lines hold in m internal slots what the layout brings them
 abbrev pub HoldsCrossing : ℕ → ℕ → Layout → (Slot → ℕ) → (ℕ → ℕ → ℕ) → Type 0
 HoldsCrossing lines slots layout octet crossed = (line slot : ℕ) → line < lines → slot < slots → crossed line slot ≡ crossing layout octet line slot
 
--- a legal layout on so many lines and internal slots, and the three tables that carry it out
+-- a legal layout on n lines and m internal slots, and the three tables that carry it out
 pub record Wiring : Type 0 where
   pub lines : ℕ
   pub slots : ℕ

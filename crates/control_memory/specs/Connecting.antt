@@ -28,7 +28,7 @@ is_unsent layout line slot = is_none (path_in layout line slot)
 abbrev pub is_unreceived : Layout → ℕ → ℕ → Bool
 is_unreceived layout line slot = is_none (path_out layout line slot)
 
--- the lowest of so many slots that passes
+-- the lowest of n slots that passes
 abbrev pub lowest : (ℕ → Bool) → ℕ → Option ℕ
 lowest test slots = find test (range_with_len 0 slots)
 
@@ -96,11 +96,11 @@ connect_in lines slots layout from to None =
 abbrev pub common_slot : ℕ → Layout → ℕ → ℕ → Option ℕ
 common_slot slots layout i j = lowest (λ s. is_unsent layout i s && is_unreceived layout j s) slots
 
--- the layout with a new path, on so many lines and internal slots
+-- the layout with a new path, on n lines and m internal slots
 abbrev pub connect : ℕ → ℕ → Layout → Slot → Slot → Layout
 connect lines slots layout from to = connect_in lines slots layout from to (common_slot slots layout from.line to.line)
 
--- how many paths stand in both layouts in different slots
+-- how many paths are in both layouts, in different slots
 abbrev pub is_moved : Option Hop → Option Hop → ℕ
 is_moved None other = 0
 is_moved (Some hop) None = 0

@@ -12,7 +12,7 @@ heard_in number =
     else if nat_lt number 12884901888 then Tone Busy (number - 8589934592)
     else Silent
 
--- a path that stands since before a frame
+-- a path that has existed since before a frame
 abbrev pub is_path_before : ℕ → Heard → Bool
 is_path_before frame Silent = false
 is_path_before frame (Path since) = nat_lt since frame

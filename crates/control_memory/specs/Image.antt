@@ -46,7 +46,7 @@ IsCleared m = HasNoPaths (lines_of m) m.slots (sent m) (received m) (read m)
 abbrev pub heard_at : Control → Slot → Heard
 heard_at m at = slice_index_or m.heard (number_of at) Silent
 
--- the number of a conference port among all ports: bridge lines stand behind the external ones, and have thirty ports each
+-- the number of a conference port among all ports: bridge lines come behind the external ones, and have thirty ports each
 abbrev pub port_number : ℕ → Slot → ℕ
 port_number external port = 30 * (port.line - external) + port.place
 
@@ -76,7 +76,7 @@ pub record SameTables (a b : Control) : Type 0 where
   pub space : b.space ≡ a.space
   pub outgoing : b.outgoing ≡ a.outgoing
 
--- what is said of each slot of so many lines
+-- what is said of each slot of n lines
 abbrev pub EachSlot : ℕ → (Slot → Type 0) → Type 0
 EachSlot lines Says = (at : Slot) → at.line < lines → at.place < 30 → Says at
 

@@ -1,5 +1,5 @@
 -- Paths through a time-space-time fabric, and when they are legal. Source: C. Clos, "A study of non-blocking switching networks" (1953),
--- for the three stages; M. C. Paull, "Reswitching of connection networks" (1962), for legality: in Paull's matrix no symbol stands
+-- for the three stages; M. C. Paull, "Reswitching of connection networks" (1962), for legality: in Paull's matrix no symbol is
 -- twice in a row or in a column.
 use Rattle.std.specs.Prelude.{◌≡◌, ℕ, ◌+◌, ◌*◌, ◌/◌, ◌%◌, ◌<◌, ◌&&◌, ◌==◌, List, [], ◌∷◌, length, Option, Some, None, option_map, slice_index_or, find}
 use Rattle.circuit_model.specs.declared.channel.Slot.{Slot}
@@ -48,7 +48,7 @@ path_out layout line slot = find (λ p. (p.to.line == line) && (p.slot == slot))
 abbrev pub path_to : Layout → Slot → Option Path
 path_to layout to = find (λ p. same_slot to p.to) (paths layout)
 
--- a slot of so many lines
+-- a slot of n lines
 abbrev pub IsSlot : ℕ → Slot → Type 0
 IsSlot lines at = (at.line < lines) × (at.place < 30)
 
@@ -60,7 +60,7 @@ HasPath layout from to slot = hop_of layout from ≡ Some (record { to = to; slo
 abbrev pub Joins : Layout → Slot → Slot → Type 0
 Joins layout from to = (slot : ℕ) × HasPath layout from to slot
 
--- a legal layout on so many lines and internal slots: each outlet ends at most one path, and no two paths of an incoming line, and no two
+-- a legal layout on n lines and m internal slots: each outlet ends at most one path, and no two paths of an incoming line, and no two
 -- of an outgoing line, share an internal slot. That an inlet begins at most one path is in the form of a layout
 pub record Legal (lines slots : ℕ) (layout : Layout) : Type 0 where
   pub inlets : length layout ≡ 30 * lines

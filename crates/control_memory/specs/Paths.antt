@@ -4,7 +4,7 @@ use Rattle.control_memory.specs.declared.ends.Ends.{Ends}
 use Rattle.control_memory.specs.Layout.{Path, Layout, Legal}
 use Rattle.control_memory.specs.Tables.{Table, HasSize, HasTables, entry}
 
--- a layout on so many lines and internal slots
+-- a layout on n lines and m internal slots
 pub record Fabric : Type 0 where
   pub lines : ℕ
   pub slots : ℕ

@@ -11,7 +11,7 @@ pub record Table : Type 0 where
   pub limit : ℕ
   pub entries : List (Option ℕ)
 
--- an entry of a table whose rows have so many columns
+-- an entry of a table whose rows have n columns
 abbrev pub entry_in : ℕ → List (Option ℕ) → ℕ → ℕ → Option ℕ
 entry_in columns entries row column = slice_index_or entries (row * columns + column) None
 
@@ -26,7 +26,7 @@ pub record HasSize (t : Table) (height width below : ℕ) : Type 0 where
 abbrev pub SameSize : Table → Table → Type 0
 SameSize a b = HasSize b a.rows a.columns a.limit
 
--- two lookups agree on so many rows and columns
+-- two lookups agree on n rows and m columns
 abbrev pub Agree : ℕ → ℕ → (ℕ → ℕ → Option ℕ) → (ℕ → ℕ → Option ℕ) → Type 0
 Agree rows columns a b = (row column : ℕ) → row < rows → column < columns → a row column ≡ b row column
 
@@ -38,7 +38,7 @@ written row column value old r c = if (r == row) && (c == column) then value els
 abbrev pub nothing : ℕ → ℕ → Option ℕ
 nothing row column = None
 
--- three tables are those of a layout on so many lines and internal slots, and hold nothing else
+-- three tables are those of a layout on n lines and m internal slots, and hold nothing else
 pub record HasTables (lines slots : ℕ) (layout : Layout) (places crossed read : ℕ → ℕ → Option ℕ) : Type 0 where
   pub incoming : Agree lines slots places (place_sent layout)
   pub space : Agree lines slots crossed (line_received layout)
@@ -54,14 +54,14 @@ pub record HasNoPaths (lines slots : ℕ) (places crossed read : ℕ → ℕ →
 abbrev pub number_in : ℕ → Option ℕ
 number_in byte = if byte == 255 then None else Some byte
 
--- the bytes of a table with so many rows and columns: one for each entry, and each number is below the limit; and a word of marks, a bit for each
+-- the bytes of a table with n rows and m columns: one for each entry, and each number is below the limit; and a word of marks, a bit for each
 -- row by its number modulo 64, without which the row has no number
 pub record AreBytesOf (rows columns limit : ℕ) (bytes : List ℕ) (marks : ℕ) : Type 0 where
   pub size : length bytes ≡ rows * columns
   pub below : (i : ℕ) → i < length bytes → slice_index bytes i ≢ 255 → slice_index bytes i < limit
   pub bare : (row column : ℕ) → row < rows → column < columns → bit_at marks (row % 64) ≡ 0 → slice_index bytes (row * columns + column) ≡ 255
 
--- the bytes of one row of so many columns: each is the number that the table has there, below the limit, or 255 where it has none
+-- the bytes of one row of n columns: each is the number that the table has there, below the limit, or 255 where it has none
 pub record IsRow (columns limit : ℕ) (numbers : ℕ → Option ℕ) (bytes : List ℕ) : Type 0 where
   pub width : length bytes ≡ columns
   pub entries : (column : ℕ) → column < columns → number_in (slice_index bytes column) ≡ numbers column

@@ -10,7 +10,7 @@ const NONE: u8 = 0xFF;
 
 /// A control table of a switching stage: rows of numbers below a limit, some of them missing.
 ///
-/// A row is one piece of memory, one byte for each entry. Beside the rows stands a word of marks
+/// A row is one piece of memory, one byte for each entry. Beside the rows is a word of marks
 /// of the rows that may have a number.
 #[derive(Drop)]
 pub struct ControlTable {
@@ -35,7 +35,7 @@ impl Model for ControlTable {
 }
 
 impl ControlTable {
-    /// A table of so many rows and columns for numbers below `limit`, without any.
+    /// A table of n rows and m columns for numbers below `limit`, without any.
     pub fn new(alloc: Global, rows: u8, columns: u8, limit: u8) -> Result<ControlTable, AllocError>
         ensures size { IfOk result (λ t. HasSize t rows columns limit) }
         ensures empty { IfOk result (λ t. Agree rows columns (entry t) nothing) }

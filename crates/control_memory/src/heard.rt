@@ -6,7 +6,7 @@ use circuit_model::Kind;
 pub enum Heard {
     /// Nothing: the idle octet.
     Silent,
-    /// The octets of a path through the network. `since` is the first frame that it stands in.
+    /// The octets of a path through the network. `since` is the first frame that it exists in.
     Path { since: u32 },
     /// A tone. `since` is the first frame that it sounds in.
     Tone { kind: Kind, since: u32 },

@@ -13,7 +13,7 @@ use std::marker::Model;
 /// What each slot of some lines hears: a row of thirty words for each line. Contracts see the list of it,
 /// by the slot's number.
 ///
-/// Beside the rows stands a word of marks of the lines that may hear something, so that a line that
+/// Beside the rows is a word of marks of the lines that may hear something, so that a line that
 /// hears nothing costs nothing.
 #[derive(Drop)]
 pub struct HeardTable {
@@ -37,7 +37,7 @@ impl Model for HeardTable {
 }
 
 impl HeardTable {
-    /// Nothing is heard on so many lines.
+    /// Nothing is heard on n lines.
     pub fn new(alloc: Global, lines: u8) -> Result<HeardTable, AllocError>
         ensures { IfOk result (λ t. t ≡ replicate (30 * lines) Heard.Silent) }
     {

@@ -7,7 +7,7 @@ use circuit_model::Kind;
 use std::alloc::AllocError;
 use std::marker::Model;
 
-// The words of paths stand below this one, and those of ringing tones begin with it.
+// The words of paths are below this one, and those of ringing tones begin with it.
 const RINGBACK: u64 = 1 << 32;
 
 // The first word of busy tones.
@@ -94,7 +94,7 @@ impl HeardWord {
         }
     }
 
-    /// Whether it is a path that stands since before a frame.
+    /// Whether it is a path that has existed since before a frame.
     pub fn is_path_before(&self, frame: u32) -> bool
         ensures { result ≡ is_path_before frame self.now }
     {

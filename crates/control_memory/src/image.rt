@@ -54,7 +54,7 @@ impl Model for Image {
 }
 
 impl Image {
-    /// The control memory of frame 0 for so many external lines, bridge lines and internal slots:
+    /// The control memory of frame 0 for the given numbers of external lines, bridge lines and internal slots:
     /// no path, every slot silent, and every port free.
     pub fn new(alloc: Global, external: u8, bridges: u8, slots: u8) -> Result<Image, AllocError>
         requires lines { 1 ≤ external + bridges × (external + bridges ≤ 34) }
@@ -95,7 +95,7 @@ impl Image {
         self.external
     }
 
-    /// How many bridge lines it has, which stand behind the external ones.
+    /// How many bridge lines it has, which come behind the external ones.
     pub fn bridges(&self) -> u8
         ensures { result ≡ self.now.bridges }
     {
@@ -358,7 +358,7 @@ impl Image {
 }
 
 /// The number of a conference port among all ports: thirty to a bridge line, and the bridge lines
-/// stand behind so many external ones. A table with an entry for each port has it there.
+/// come behind n external ones. A table with an entry for each port has it there.
 pub fn port_index(external: u8, port: Slot) -> usize
     requires { external ≤ port.line }
     ensures { result ≡ port_number external port }

@@ -10,7 +10,7 @@
 //! - [`PathTable`] keeps a layout with its tables, for any such map.
 //! - The tables of a legal layout carry its octets ([`tables_carry_their_layout`]).
 //!
-//! It stands on `circuit_model`.
+//! It uses `circuit_model`.
 #![tactic(auto)]
 
 mod control_table;

@@ -39,7 +39,7 @@ pub trait PathMap {
     /// Connects a free inlet to a free outlet: in the lowest internal slot that is free in both
     /// lines, or after live paths were moved along the alternating chain of two slots.
     ///
-    /// Answers how many of the paths that stood before have another internal slot now.
+    /// Answers how many of the earlier paths have another internal slot now.
     fn connect(&mut self, from: Slot, to: Slot) -> u32
         requires from { IsSlot (width self.old) from }
         requires to { IsSlot (width self.old) to }

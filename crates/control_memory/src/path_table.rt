@@ -38,7 +38,7 @@ impl Model for PathTable {
 }
 
 impl PathTable {
-    /// No path on so many lines and internal slots.
+    /// No path on n lines and m internal slots.
     pub fn new(alloc: Global, lines: u8, slots: u8) -> Result<PathTable, AllocError>
         requires lines { lines ≤ 34 }
         ensures lines { IfOk result (λ t. t.lines ≡ lines) }

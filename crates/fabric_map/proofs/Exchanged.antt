@@ -16,7 +16,7 @@ use Rattle.path_memory.proofs.Added.{same_hop, not_moved, moved_set}
 use Rattle.fabric_map.proofs.Rearranged.{AllSlots, Apart}
 use Rattle.fabric_map.proofs.Chained.{other, moved_by, found_at}
 
--- ---- the paths of a chain stand in the layout
+-- ---- the paths of a chain are in the layout
 abbrev pub AllStand : ℕ → Layout → List Path → Type 0
 AllStand lines layout [] = ⊤
 AllStand lines layout (p ∷ ps) = IsPathOf lines layout p × AllStand lines layout ps

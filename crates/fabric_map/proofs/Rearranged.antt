@@ -26,7 +26,7 @@ by_hop : (o : Option Hop) → ((h : Hop) → o ≡ Some (record { to = h.to; slo
 by_hop None nothing = refl
 by_hop (Some h) nothing = absurd (nothing h refl)
 
--- the ends are slots of so many lines
+-- the ends are slots of n lines
 abbrev pub AllSlots : ℕ → List Ends → Type 0
 AllSlots lines [] = ⊤
 AllSlots lines (e ∷ es) = (IsSlot lines e.from × IsSlot lines e.to) × AllSlots lines es
@@ -34,7 +34,7 @@ AllSlots lines (e ∷ es) = (IsSlot lines e.from × IsSlot lines e.to) × AllSlo
 size_without : (layout : Layout) (from : Slot) → length (without_path layout from) ≡ length layout
 size_without layout from = length-set layout (number_of from) None
 
--- paths that are left by lifting stood before
+-- paths that are left by lifting were there before
 pub stood : (lines : ℕ) (es : List Ends) (layout : Layout) → length layout ≡ 30 * lines → AllSlots lines es → (x y : Slot) (s : ℕ) → IsSlot lines x → HasPath (without_all layout es) x y s → HasPath layout x y s
 stood lines [] layout size slots x y s inside has = has
 stood lines (e ∷ es) layout size slots x y s inside has =

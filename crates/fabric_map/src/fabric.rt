@@ -43,7 +43,7 @@ impl Model for FabricMap {
 }
 
 impl FabricMap {
-    /// A map without paths, for so many lines, external and bridge lines together.
+    /// A map without paths, for n lines, external and bridge lines together.
     pub fn new(alloc: Global, lines: u8) -> Result<FabricMap, AllocError>
         requires { (0 < lines) × (lines ≤ 34) }
         ensures lines { IfOk result (λ m. m.lines ≡ lines) }
@@ -56,7 +56,7 @@ impl FabricMap {
     }
 }
 
-// Connects by the rule where paths may have to move for it. It stands apart, so that the lists of
+// Connects by the rule where paths may have to move for it. It is apart, so that the lists of
 // moves are made only where no slot is free in both lines.
 fn connect_by_moves<L: Ledger>(memory: &mut PathMemory, from: Slot, to: Slot, blank: Blank) -> u32
     requires ledger { (blank.name ≡ L.name) × (blank.parts ≡ L.parts) × (0 < L.parts) }

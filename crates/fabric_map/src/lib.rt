@@ -9,8 +9,8 @@
 //! - `write_tables` writes the tables of the layout (`tables`). After each call the layout is legal
 //!   (`legal`).
 //!
-//! It stands on `circuit_model`, `control_memory`, `paull_matrix`, `path_memory` and
-//! `rearrange_chain`, and on the kit's `arrayvec`.
+//! It uses `circuit_model`, `control_memory`, `paull_matrix`, `path_memory` and
+//! `rearrange_chain`, and the kit's `arrayvec`.
 #![tactic(auto)]
 
 mod fabric;

@@ -67,7 +67,7 @@ added_in_common f from to slot size inside free common = record {
   none_moved = new_unmoved f.lines f.layout f.layout from to slot size size inside free ∙ moved_same f.layout;
 }
 
--- the same, of a call that added it: what it was called on, and what it left
+-- the same for a call that added it: what it was called on, and what it left
 pub added_by : (f now after : Fabric) → f ≡ now → (from to : Slot) (slot : ℕ) → IsSlot now.lines from → hop_of now.layout from ≡ None → Some slot ≡ common_slot f.slots f.layout from.line to.line
     → after.layout ≡ with_path f.layout from to slot → after.lines ≡ f.lines → length after.layout ≡ 30 * after.lines → AddedInCommon now after.layout from to
 added_by f now after is from to slot inside free common layout lines size =

@@ -7,7 +7,7 @@ use Rattle.control_memory.proofs.Lookups.{IsPathOf, path_in_found, path_out_foun
 use Rattle.paull_matrix.proofs.Pigeonhole.{pigeonhole, closed_up, closed_below, closed_apart}
 use Rattle.path_memory.proofs.MatrixOfLayout.{mapped_some}
 
--- a line of n + 1 places, one of them free, has its paths in some of so many slots: the place of the path in each slot
+-- a line of n + 1 places, one of them free, has its paths in some of n slots: the place of the path in each slot
 pub record Occupies (n free slots : ℕ) (place : ℕ → Option ℕ) : Type 0 where
   pub inside : free < n + 1
   pub within : (s p : ℕ) → s < slots → place s ≡ Some p → p < n + 1

@@ -10,7 +10,7 @@
 //!   (`unchanged`).
 //! - `disconnect` takes a path out (`layout`). After each call the layout is legal (`legal`).
 //!
-//! It stands on `circuit_model`, `control_memory` and `paull_matrix`.
+//! It uses `circuit_model`, `control_memory` and `paull_matrix`.
 #![tactic(auto)]
 
 mod memory;

@@ -40,8 +40,8 @@ impl Model for PathMemory {
 }
 
 impl PathMemory {
-    /// No path on so many lines, external and bridge lines together, and so many internal slots. The
-    /// only error is want of memory.
+    /// No path on n lines, external and bridge lines together, and n internal slots. The
+    /// only error is running out of memory.
     pub fn new(alloc: Global, lines: u8, slots: u8) -> Result<PathMemory, AllocError>
         requires lines { (0 < lines) × (lines ≤ 34) }
         requires slots { (0 < slots) × (slots ≤ 59) }

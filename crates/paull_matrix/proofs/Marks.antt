@@ -68,7 +68,7 @@ marks_none lines slots look none = record {
   each_slot = λ line s below within. ap (λ n. bit_at n s) (get_or-replicate lines line 0 0 below) ∙ bit_at-zero s ∙ ap mark (sym (none line s));
 }
 
--- a clear bit says that nothing stands there
+-- a clear bit says that nothing is there
 lacks_none : (word s : ℕ) (o : Option ℕ) → bit_at word s ≡ mark o → lacks word s ≡ is_none o
 lacks_none word s None e = eq-eqb (bit_at word s) 0 e
 lacks_none word s (Some x) e = false_unless _ (λ clear. let zero = exact_unsigned_eq (bit_at word s) 0 clear in omega arith)

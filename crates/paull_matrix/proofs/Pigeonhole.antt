@@ -11,7 +11,7 @@ use Rattle.std.proofs.lemmas.List.FromFn.{length-map-range_with_len, get_or-map-
 use mathlib.Core.Logic.{inl, inr}
 use Rattle.paull_matrix.proofs.Bools.{false_unless, or_cases}
 
--- so many numbers below a bound, no two of them equal, are not more than the bound
+-- n numbers below a bound, no two of them equal, are not more than the bound
 in_range : (f : ℕ → ℕ) (n : ℕ) (a len q : ℕ) → ((k : ℕ) → a ≤ k → k < a + len → f k < n) → list_any (nat_eq q) (map f (range_with_len a len)) ≡ true → q < n
 in_range f n a zero q below h = absurd (cc)
 in_range f n a (suc len) q below h = elim (or_cases (nat_eq q (f a)) _ h) [

@@ -1,5 +1,5 @@
 -- Paull's matrix as a value (M. C. Paull, "Reswitching of connection networks", Bell System Technical Journal 41, 1962).
--- A row stands for a switch of the first stage, here an incoming line, and a column for a switch of the third, here an
+-- A row is for a switch of the first stage, here an incoming line, and a column for a switch of the third, here an
 -- outgoing line. The entries in the cell of a row and a column are the switches of the middle stage over which paths lead
 -- from the one to the other. A middle switch is an internal time slot here.
 use Rattle.std.specs.Prelude.{◌≡◌, refl, ℕ, ◌<◌, ◌≤◌, Bool, false, ◌&&◌, Option, Some, None, is_some, is_none, nat_eq}
@@ -37,7 +37,7 @@ abbrev pub names : Option ℕ → ℕ → Bool
 names None j = false
 names (Some k) j = nat_eq k j
 
--- whether a path of row i and column j stands in slot s
+-- whether a path of row i and column j is in slot s
 abbrev pub has_path : Matrix → ℕ → ℕ → ℕ → Bool
 has_path m i j s = names (row_slot m i s) j
 

@@ -24,11 +24,11 @@ unfoldable pub rows_below : List (Option ℕ) → ℕ → ℕ → FinMap by_row_
 rows_below table slots zero = empty
 rows_below table slots (suc i) = with_row table slots i slots (rows_below table slots i)
 
--- what a table of columns by row and slot stands for
+-- what a table of columns by row and slot represents
 abbrev pub tabled : ℕ → ℕ → List (Option ℕ) → Matrix
 tabled lines slots columns = record { lines = lines; slots = slots; columns = rows_below columns slots lines }
 
--- What holds of the tables and the words: the second table has for a column and a slot the row whose path stands there,
+-- What holds of the tables and the words: the second table has for a column and a slot the row whose path is there,
 -- and the words have a bit for each slot in which a row has a path, or a column
 pub record IsKept (lines slots : ℕ) (columns rows : List (Option ℕ)) (row_words column_words : List ℕ) : Type 0 where
   pub legal : IsLegal (tabled lines slots columns)

@@ -27,7 +27,7 @@ use std::sync::ledger::Ledger;
 /// The paths of a three-stage switch: each has a row (its incoming line), a column (its outgoing
 /// line) and an internal slot. There are as many rows as columns, 1 to 34, and 1 to 59 slots.
 ///
-/// No slot stands twice in a row or in a column. No call but `new` takes memory. Contracts see the
+/// No slot is in a row or in a column twice. No call but `new` takes memory. Contracts see the
 /// matrix as its sizes and the map from a row and a slot to the column.
 #[derive(Drop)]
 pub struct PaullMatrix {
@@ -54,7 +54,7 @@ impl Model for PaullMatrix {
 
 impl PaullMatrix {
     /// An empty matrix of `lines` rows and columns and `slots` slots. It reserves the room for all
-    /// the paths that it can hold. The only error is want of memory.
+    /// the paths that it can hold. The only error is running out of memory.
     pub fn new(alloc: Global, lines: u8, slots: u8) -> Result<PaullMatrix, AllocError>
         requires lines { (0 < lines) × (lines ≤ 34) }
         requires slots { (0 < slots) × (slots ≤ 59) }
@@ -97,7 +97,7 @@ impl PaullMatrix {
     }
 
     /// The lowest slot that is missing both in row `i` and in column `j`, `None` exactly where every
-    /// slot stands in one of them.
+    /// slot is in one of them.
     pub fn common_free<L: Ledger>(&self, i: u8, j: u8, steps: &mut Steps<L>) -> Option<u8>
         requires row { i < self.now.lines }
         requires column { j < self.now.lines }
@@ -158,7 +158,7 @@ impl PaullMatrix {
         mark(&mut self.column_words, j, s);
     }
 
-    /// Takes out the path of row `i` and column `j` that stands in slot `s`.
+    /// Takes out the path of row `i` and column `j` that is in slot `s`.
     pub fn lift(&mut self, i: u8, j: u8, s: u8)
         requires stands { row_slot_of self.old i s ≡ Some j }
         ensures lifted { self.new ≡ without_path self.old i s }

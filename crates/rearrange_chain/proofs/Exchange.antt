@@ -1,4 +1,4 @@
--- What a list of moves makes of a matrix: which paths stand without the moved ones, and which with them in their new slots.
+-- What a list of moves makes of a matrix: which paths are left without the moved ones, and which are there with them in their new slots.
 use Rattle.std.proofs.Common.{◌≡◌, ◌⊎◌, ℕ, zero, suc, ◌+◌, ◌<◌, Bool, Option, Some, None, List, [], ◌∷◌, arith, refl, sym, ap, subst, ◌∙◌}
 use Rattle.std.proofs.lemmas.List.Sums.{sum_by-cons}
 use Rattle.std.specs.Prelude.{slice_get, cond, nat_eq, ◌&&◌, count_by, if◌then◌else◌}
@@ -29,7 +29,7 @@ pub lifted_none : (moves : List Move) (m : Matrix) (i s : ℕ) → row_slot m i 
 lifted_none [] m i s none = none
 lifted_none (v ∷ moves) m i s none = lifted_none moves (without_path m v.row v.old) i s (none_stays m v.row v.old i s none)
 
--- a path that stands without the moved ones stood before
+-- a path that is left without the moved ones was there before
 pub lifted_from : (moves : List Move) (m : Matrix) (i s j : ℕ) → row_slot (lifted m moves) i s ≡ Some j → row_slot m i s ≡ Some j
 lifted_from [] m i s j e = e
 lifted_from (v ∷ moves) m i s j e = stood_before m v.row v.old i s j (lifted_from moves (without_path m v.row v.old) i s j e)
@@ -56,7 +56,7 @@ placed_keeps (v ∷ moves) m i s none =
     placed_keeps moves (with_path m v.row v.column v.new) i s (λ k u h. none (suc k) u h)
     ∙ with_path_other m v.row v.column v.new i s (λ row slot. none zero v refl (sym row) (sym slot))
 
--- a path stands where it was moved to, or where it stood
+-- a path is where it was moved to, or where it was
 pub placed_from : (moves : List Move) (m : Matrix) (i s j : ℕ) → row_slot (placed m moves) i s ≡ Some j
     → (row_slot m i s ≡ Some j) ⊎ ((k : ℕ) × (v : Move) × (slice_get moves k ≡ Some v) × (v.row ≡ i) × (v.new ≡ s) × (v.column ≡ j))
 placed_from [] m i s j e = inl e
@@ -68,7 +68,7 @@ placed_from (v ∷ moves) m i s j e = elim (placed_from moves (with_path m v.row
   | inr later ↦ inr (suc later.0, later.1, later.2, later.3, later.4, later.5)
 ]
 
--- Moves that make one exchange: each path stands and gets another slot, no two leave one row's slot or take one row's or one column's, and where the row or the
+-- Moves that make one exchange: each path exists and gets another slot, no two leave one row's slot or take one row's or one column's, and where the row or the
 -- column of a path has another in the slot that it takes, that other moves too
 pub record IsExchange (m : Matrix) (moves : List Move) : Type 0 where
   pub stands : (k : ℕ) (v : Move) → slice_get moves k ≡ Some v → row_slot m v.row v.old ≡ Some v.column
@@ -80,7 +80,7 @@ pub record IsExchange (m : Matrix) (moves : List Move) : Type 0 where
   pub row_moves : (k : ℕ) (v : Move) (j : ℕ) → slice_get moves k ≡ Some v → row_slot m v.row v.new ≡ Some j → (n : ℕ) × (u : Move) × (slice_get moves n ≡ Some u) × (u.row ≡ v.row) × (u.old ≡ v.new)
   pub column_moves : (k : ℕ) (v : Move) (i : ℕ) → slice_get moves k ≡ Some v → row_slot m i v.new ≡ Some v.column → (n : ℕ) × (u : Move) × (slice_get moves n ≡ Some u) × (u.row ≡ i) × (u.old ≡ v.new)
 
--- paths that stand, no two in one row's slot, can be lifted one after the other
+-- paths that exist, no two in one row's slot, can be lifted one after the other
 can_lift : (moves : List Move) (m : Matrix)
     → ((k : ℕ) (v : Move) → slice_get moves k ≡ Some v → row_slot m v.row v.old ≡ Some v.column)
     → ((k n : ℕ) (u v : Move) → slice_get moves k ≡ Some u → slice_get moves n ≡ Some v → u.row ≡ v.row → u.old ≡ v.old → k ≡ n)

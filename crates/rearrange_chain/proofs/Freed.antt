@@ -225,7 +225,7 @@ shorter_room m i j a b w = by (is_shorter (from_row m i a b) (from_column m j a 
       bound = let both = bounds m i j a b w in let fewer : length (from_column m j a b) ≤ length (from_row m i a b) = grind (arith, nat_tests, more) in omega (arith, both, fewer);
     }
 
--- what stands after moves that make room
+-- what is there after moves that make room
 pub record Rearranged (m after : Matrix) (i j a : ℕ) (moves : List Move) : Type 0 where
   pub changes : ChangesBy m after moves
   pub cells : (k l : ℕ) → paths_of_cell after k l ≡ paths_of_cell m k l
@@ -236,7 +236,7 @@ pub record Rearranged (m after : Matrix) (i j a : ℕ) (moves : List Move) : Typ
   pub legal : IsLegal after
   pub sizes : SameSizes m after
 
--- what stands after the moves of the shorter chain
+-- what is there after the moves of the shorter chain
 pub rearranges_shorter : (m : Matrix) (i j a b s : ℕ) (moves : List Move) → Ways m i j a b → moves ≡ shorter (from_row m i a b) (from_column m j a b) → s ≡ (if is_shorter (from_row m i a b) (from_column m j a b) then b else a) → Rearranged m (exchanged m moves) i j s moves
 rearranges_shorter m i j a b s moves w are is =
     subst (λ ms. Rearranged m (exchanged m ms) i j s ms) (sym are) (subst (λ t. Rearranged m (exchanged m (shorter (from_row m i a b) (from_column m j a b))) i j t (shorter (from_row m i a b) (from_column m j a b))) (sym is)

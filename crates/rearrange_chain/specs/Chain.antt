@@ -1,4 +1,4 @@
--- How room is made in Paull's matrix for one path more, by moving paths that stand along the shorter of two alternating chains.
+-- How room is made in Paull's matrix for one path more, by moving live paths along the shorter of two alternating chains.
 -- The rule and its chains are those of M. C. Paull, "Reswitching of connection networks", Bell System Technical Journal 41 (1962); in terms
 -- of graphs the chains are Kempe's. That the chain from a column never comes to the row that room is made in is what proves the
 -- Slepian-Duguid theorem: as many slots are enough as a line has places. That the shorter is taken is this exchange's own.
@@ -27,7 +27,7 @@ move_of (Row i) line old new = record { row = i; column = line; old = old; new =
 move_of (Column j) line old new = record { row = line; column = j; old = old; new = new }
 
 -- The alternating chain from a row or a column: its path in slot a, then the path in b at that path's other end, then one in a again, and
--- so on, for at most n paths. Each path of the chain takes the other slot. What stands at the other end of a path is looked up.
+-- so on, for at most n paths. Each path of the chain takes the other slot. What is at the other end of a path is looked up.
 abbrev pub chain : (End → ℕ → Option ℕ) → ℕ → End → ℕ → ℕ → List Move
 chain look zero end a b = []
 chain look (suc n) end a b = elim (look end a) [ None ↦ [] | Some line ↦ move_of end line a b ∷ chain look n (far_end end line) b a ]
@@ -86,8 +86,8 @@ slot_for m i j = slot_by m i j (lowest_in_both m i j)
 abbrev pub moves_for : Matrix → ℕ → ℕ → List Move
 moves_for m i j = moves_by m i j (lowest_in_both m i j)
 
--- The moves are what differs between two matrices: no path moves twice, each stands in its old slot before and in its new one after, a path
--- that does not move stays, and nothing else stands after
+-- The moves are what differs between two matrices: no path moves twice, each is in its old slot before and in its new one after, a path
+-- that does not move stays, and nothing else is there after
 pub record ChangesBy (before after : Matrix) (moves : List Move) : Type 0 where
   pub once : AllPairs (λ u v. ¬ ((u.row ≡ v.row) × (u.old ≡ v.old))) moves
   pub turned : All (λ v. v.old ≢ v.new) moves

@@ -3,7 +3,7 @@ use Rattle.std.specs.Prelude.{◌≡◌, ◌<◌, ⊤, Some, None, List, [], ◌
 use Rattle.paull_matrix.specs.Matrix.{Matrix, row_slot, column_slot, with_path, without_path}
 use Rattle.rearrange_chain.specs.declared.moves.Move.{Move}
 
--- each path to be moved stands when its turn comes
+-- each path to be moved is there when its turn comes
 abbrev pub CanLift : Matrix → List Move → Type 0
 CanLift m [] = ⊤
 CanLift m (v ∷ moves) = (row_slot m v.row v.old ≡ Some v.column) × CanLift (without_path m v.row v.old) moves

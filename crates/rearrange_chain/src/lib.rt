@@ -1,5 +1,5 @@
 //! Room for one path more in Paull's matrix: where no slot is free in a row and a column both,
-//! paths that stand are moved along an alternating chain of two slots, the shorter of the row's and
+//! live paths are moved along an alternating chain of two slots, the shorter of the row's and
 //! the column's.
 //!
 //! [`make_room`] returns a slot that is free in both afterwards (`row_free`, `column_free`). It
@@ -11,7 +11,7 @@
 //! Source: M. C. Paull, "Reswitching of connection networks", Bell System Technical Journal 41
 //! (1962); that room is always found is the Slepian-Duguid theorem.
 //!
-//! It stands on `paull_matrix`, and on the kit's `arrayvec`.
+//! It uses `paull_matrix`, and the kit's `arrayvec`.
 #![tactic(auto)]
 
 mod moves;

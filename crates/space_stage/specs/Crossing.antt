@@ -13,7 +13,7 @@ gets control from line slot = fetched (received control line slot) (λ l. octet_
 abbrev pub IsCrossedPart : Control → Highways → ℕ → List ℕ → Type 0
 IsCrossedPart control from first part = RowsHold control.slots (gets control from) first part
 
--- so has each of them that has its row in so many octets
+-- so has each of them that has its row in n octets
 abbrev pub AreCrossed : Control → Highways → ℕ → ℕ → List ℕ → Type 0
 AreCrossed control from first octets part = AreFilled control.slots (gets control from) first octets part
 

@@ -36,7 +36,7 @@ pub fn cross_shared<R: Threads + Sync>(
     }
 }
 
-/// Crosses one frame as `cross_shared` does, where a half is worth a thread of its own from so many
+/// Crosses one frame as `cross_shared` does, where a half is worth a thread of its own from n
 /// octets on: with none, each half has one. For tests and measures.
 pub fn cross_by_halves<R: Threads + Sync>(
     rt: &R,
@@ -59,7 +59,7 @@ pub fn cross_by_halves<R: Threads + Sync>(
     cross_halves(rt, highway, image, slots, 0, end, part, levels, least);
 }
 
-// Crosses to the lines from `first` up to `end`, by halves where they have at least so many octets.
+// Crosses to the lines from `first` up to `end`, by halves where they have at least n octets.
 fn cross_halves<R: Threads + Sync>(
     rt: &R,
     highway: &Highway,

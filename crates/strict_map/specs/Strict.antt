@@ -6,7 +6,7 @@ use Rattle.control_memory.specs.Layout.{Legal}
 use Rattle.control_memory.specs.Connecting.{connect, with_path, moved}
 use Rattle.control_memory.specs.Paths.{Fabric}
 
--- how many live paths a new path moves at the most, on so many lines
+-- how many live paths a new path moves at the most, on n lines
 abbrev pub most_moves : ℕ → ℕ
 most_moves lines = 0
 

@@ -11,7 +11,7 @@
 //! Source: C. Clos, "A study of non-blocking switching networks", Bell System Technical Journal 32
 //! (1953): with n places on each of two lines, 2n-1 slots are enough.
 //!
-//! It stands on `circuit_model`, `control_memory` and `path_memory`, and its proofs on
+//! It uses `circuit_model`, `control_memory` and `path_memory`, and its proofs on
 //! `paull_matrix`.
 #![tactic(auto)]
 

@@ -31,8 +31,8 @@ impl Model for StrictMap {
 }
 
 impl StrictMap {
-    /// A map without paths, for so many lines, external and bridge lines together. The only error is
-    /// want of memory.
+    /// A map without paths, for n lines, external and bridge lines together. The only error is running
+    /// out of memory.
     pub fn new(alloc: Global, lines: u8) -> Result<StrictMap, AllocError>
         requires { (0 < lines) × (lines ≤ 34) }
         ensures lines { IfOk result (λ m. m.lines ≡ lines) }

@@ -16,11 +16,11 @@ sends control speech line slot = fetched (sent control line slot) (λ place. oct
 abbrev pub reads : Control → Highways → ℕ → ℕ → ℕ
 reads control crossed line place = fetched (read control line place) (octet_on crossed line)
 
--- so many octets have in their rows, of so many each, what the lines from `first` on send
+-- n octets have in their rows, of n each, what the lines from `first` on send
 abbrev pub AreSent : ℕ → Control → Speech → ℕ → ℕ → List ℕ → Type 0
 AreSent slots control speech first octets part = AreFilled slots (sends control speech) first octets part
 
--- so many octets have in their rows of thirty what the lines from `first` on read
+-- n octets have in their rows of thirty what the lines from `first` on read
 abbrev pub AreRead : Control → Highways → ℕ → ℕ → List ℕ → Type 0
 AreRead control crossed first octets part = AreFilled 30 (reads control crossed) first octets part
 

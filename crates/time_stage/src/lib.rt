@@ -5,12 +5,12 @@
 //!   [`outgoing`] each place with that of its internal slot, and both with the idle octet where
 //!   none is named (`octets`). [`incoming_shared`] and [`outgoing_shared`] do so by halves of the lines,
 //!   in threads of their own where that pays, [`incoming_by_halves`] and [`outgoing_by_halves`] where the
-//!   halves have so many octets as the caller says, all with the same clauses. None says that the halves
+//!   halves have n octets as the caller says, all with the same clauses. None says that the halves
 //!   ran at once.
 //! - [`carry`] is all three stages in a row: under any legal layout each path's outlet gets the
 //!   octet of its inlet, and every other place the idle octet (`octets`).
 //!
-//! It stands on `circuit_model`, `frame_buffer`, `control_memory` and `space_stage`.
+//! It uses `circuit_model`, `frame_buffer`, `control_memory` and `space_stage`.
 #![tactic(auto)]
 
 mod fabric;

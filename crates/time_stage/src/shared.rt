@@ -38,7 +38,7 @@ pub fn incoming_shared<R: Threads + Sync>(
 }
 
 /// The incoming time stage of one frame as `incoming_shared` does it, where a half is worth a thread of
-/// its own from so many octets on: with none, each half has one. For tests and measures.
+/// its own from n octets on: with none, each half has one. For tests and measures.
 pub fn incoming_by_halves<R: Threads + Sync>(
     rt: &R,
     buffer: &FrameBuffer,
@@ -60,7 +60,7 @@ pub fn incoming_by_halves<R: Threads + Sync>(
     send_halves(rt, buffer, image, slots, 0, end, part, levels, least);
 }
 
-// What the lines from `first` up to `end` send, by halves where they have at least so many octets.
+// What the lines from `first` up to `end` send, by halves where they have at least n octets.
 fn send_halves<R: Threads + Sync>(
     rt: &R,
     buffer: &FrameBuffer,
@@ -133,7 +133,7 @@ pub fn outgoing_shared<R: Threads + Sync>(
 }
 
 /// The outgoing time stage of one frame as `outgoing_shared` does it, where a half is worth a thread of
-/// its own from so many octets on: with none, each half has one. For tests and measures.
+/// its own from n octets on: with none, each half has one. For tests and measures.
 pub fn outgoing_by_halves<R: Threads + Sync>(
     rt: &R,
     crossed: &Crossed,
@@ -154,7 +154,7 @@ pub fn outgoing_by_halves<R: Threads + Sync>(
     read_halves(rt, crossed, table, 0, end, out.filled(), levels, least);
 }
 
-// What the lines from `first` up to `end` read, by halves where they have at least so many octets.
+// What the lines from `first` up to `end` read, by halves where they have at least n octets.
 fn read_halves<R: Threads + Sync>(
     rt: &R,
     crossed: &Crossed,

@@ -66,7 +66,7 @@ place_all-requires g c =
           rw (c.lift_all.ensures.lifted, once, again) (exchange_places c.args.matrix.now _ c.free_in_row-a.ensures.legal room.exchange);
     }
 
--- what stands in the end
+-- what is there in the end
 after : (g : Over) (c : After-place_all g) → Rearranged c.args.matrix.now c.place_all.new.matrix c.args.i c.args.j c.take_shorter-slot.result c.take_shorter-slot.new.moves.items
 after g c =
     let done = rearranges_shorter c.args.matrix.now c.args.i c.args.j c.free_in_row-a.result c.free_in_column-b.result c.take_shorter-slot.result c.take_shorter-slot.new.moves.items (ways c.args.matrix.now c.args.i c.args.j c.free_in_row-a.result c.free_in_column-b.result c.free_in_row-a.ensures.legal c.requires.row c.requires.column (search rules) c.free_in_row-a.ensures.lowest c.free_in_column-b.ensures.lowest) ((taken c.args.matrix.now c.args.i c.args.j c.free_in_row-a.result c.free_in_column-b.result _ _ _ _ c.requires.empty c.walk.ensures.chain c.walk_from_row.ensures.chain c.take_shorter-slot.ensures.moves)) (slot_taken c.args.matrix.now c.args.i c.args.j c.free_in_row-a.result c.free_in_column-b.result _ _ _ _ c.requires.empty c.walk.ensures.chain c.walk_from_row.ensures.chain c.take_shorter-slot.ensures.slot) in
