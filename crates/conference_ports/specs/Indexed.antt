@@ -5,7 +5,7 @@ use Rattle.circuit_model.specs.Ports.{has}
 use Rattle.conference_ports.specs.Owners.{members}
 use Rattle.conference_ports.specs.declared.owner.Owner.{Owner}
 
--- where an external slot's port stands in the index
+-- where an external slot's port is in the index
 abbrev pub index_of : Slot → ℕ
 index_of at = 30 * at.line + at.place
 

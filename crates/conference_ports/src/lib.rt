@@ -5,7 +5,7 @@
 //! - Each member has one port and each port one member: the members are a map from ports, as
 //!   `circuit_model/specs/Ports.antt` has it.
 //!
-//! It stands on `circuit_model`.
+//! It uses `circuit_model`.
 #![tactic(auto)]
 
 mod owner;

@@ -36,7 +36,7 @@ impl Model for Ports {
 }
 
 impl Ports {
-    /// All ports free: thirty on each of so many bridge lines, which are numbered from
+    /// All ports free: thirty on each of n bridge lines, which are numbered from
     /// `first_line` on, behind the external lines.
     pub fn new(alloc: Global, first_line: u8, lines: u8) -> Result<Ports, AllocError>
         requires { first_line + lines ≤ 34 }
