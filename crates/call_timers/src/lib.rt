@@ -8,7 +8,7 @@
 //!
 //! Nothing here allocates.
 //!
-//! It stands on the call state values of `q931_codec`.
+//! It uses the call state values of `q931_codec`.
 #![tactic(auto)]
 
 mod expiry;

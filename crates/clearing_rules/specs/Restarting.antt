@@ -13,7 +13,7 @@ use Rattle.q931_codec.specs.RestartClasses.{indicated_channels, single_interface
 use Rattle.clearing_rules.specs.declared.scope.Restart.{Restart}
 use Rattle.clearing_rules.specs.declared.scope.Restart.TheVariants.{Channel, Interface}
 
--- the call reference that stands for all calls of an interface (4.3)
+-- the call reference that means all calls of an interface (4.3)
 abbrev pub global_call_reference : ℕ
 global_call_reference = 0
 
@@ -36,7 +36,7 @@ restart_of_class m class =
     if class == indicated_channels then option_map Channel (place_named m)
     else (if class == single_interface || class == all_interfaces then Some (Interface class) else None)
 
--- a RESTART stands on the global call reference, and comes from the side that chose it (5.5.1)
+-- a RESTART has the global call reference, and comes from the side that chose it (5.5.1)
 abbrev pub is_restart : MessageKind → Bool
 is_restart kind.Restart = true
 is_restart _ = false

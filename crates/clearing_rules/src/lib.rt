@@ -9,7 +9,7 @@
 //!
 //! Nothing here allocates.
 //!
-//! It stands on `circuit_model`, `q931_elements` and `q931_codec`.
+//! It uses `circuit_model`, `q931_elements` and `q931_codec`.
 #![tactic(auto)]
 
 mod cause;

@@ -9,7 +9,7 @@ use circuit_model::{channel_of, slot_of_channel};
 use q931_codec::restart_classes::{ALL_INTERFACES, INDICATED_CHANNELS, SINGLE_INTERFACE};
 use q931_codec::{ChannelIdentification, Message, MessageKind, Outgoing};
 
-/// The call reference value that stands for all calls of an interface (Q.931, 4.3).
+/// The call reference value that means all calls of an interface (Q.931, 4.3).
 pub const GLOBAL_CALL_REFERENCE: u16 = 0;
 
 /// What a message asks to be restarted (Q.931, 5.5). `None` for every message that is not a RESTART on the

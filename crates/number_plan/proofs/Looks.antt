@@ -49,7 +49,7 @@ passed n ns d isnt un =
     cond-false (begins n.digits d) (found_at n.target) (cond (begins d n.digits) answer.More (found_for ns d)) isnt
     ∙ cond-false (begins d n.digits) answer.More (found_for ns d) un
 
--- of two numbers beside the digits of which one stands before the other, both begin with the digits
+-- if of two numbers beside the digits one comes before the other, both begin with the digits
 first_not : (n m : Number) (d : List ℕ) → side_by_side n.digits m.digits ≡ Less → side_by_side m.digits d ≡ Equal → begins n.digits d ≡ false
 first_not n m d before e = false_from_ne_true _ (λ b. not_both (side_by_side n.digits m.digits) before (elim (cases_lt (length d) (length m.digits)) [
   | inl lt ↦ begins_equal n.digits m.digits (begins_begins n.digits d m.digits b (equal_begun m.digits d e (omega arith)))
@@ -62,7 +62,7 @@ second_not n m d before e = false_from_ne_true _ (λ b. not_both (side_by_side n
   | inr le ↦ both_begin n.digits m.digits d (equal_begins n.digits d e le) b
 ]))
 
--- what stands before a number beside the digits changes nothing
+-- what comes before a number beside the digits changes nothing
 later : (n : Number) (ns : List Number) (m : Number) (d : List ℕ) → side_by_side n.digits m.digits ≡ Less → side_by_side m.digits d ≡ Equal → found_for ns d ≡ outcome m d → (o : Ordering) → side_by_side n.digits d ≡ o → found_for (n ∷ ns) d ≡ outcome m d
 later n ns m d before e rest Less is = passed n ns d (not_begins n.digits d is) (not_begun n.digits d is) ∙ rest
 later n ns m d before e rest Equal is = says_more n ns d (first_not n m d before e) is ∙ sym (more_is m d (second_not n m d before is) e)

@@ -83,7 +83,7 @@ equal_begins (x ∷ m) (z ∷ d) e short =
     not_equal : (o : Ordering) → o ≡ Greater → o ≡ Equal → ⊥
     not_equal o p q = cc
 
--- of two that stand equal, the one that isn't longer begins the other
+-- of two equal ones, the one that isn't longer begins the other
 pub equal_begun : (m d : List ℕ) → side_by_side m d ≡ Equal → length d ≤ length m → begins d m ≡ true
 equal_begun m d e short = equal_begins d m (reversed m d ∙ ap ordering_reverse e) short
 
@@ -96,7 +96,7 @@ begins_begins (x ∷ a) (y ∷ b) (z ∷ c) p q =
     let r = and_parts (eqb y z) (begins b c) q in
     and_from (eqb x z) (begins a c) (eq-eqb x z (eqb-true x y l.0 ∙ eqb-true y z r.0)) (begins_begins a b c l.1 r.1)
 
--- two that begin the same digits stand equal
+-- two that begin the same digits are equal
 pub both_begin : (a b c : List ℕ) → begins a c ≡ true → begins b c ≡ true → side_by_side a b ≡ Equal
 both_begin [] b c p q = refl
 both_begin (x ∷ a) [] c p q = refl
@@ -120,7 +120,7 @@ not_begins m d e = false_from_ne_true _ (λ b. not_both (side_by_side m d) e (be
 pub not_begun : (m d : List ℕ) → side_by_side m d ≡ Less → begins d m ≡ false
 not_begun m d e = false_from_ne_true _ (λ b. not_both (side_by_side m d) e (begun_equal m d b))
 
--- of two that stand equal one begins the other
+-- of two equal ones one begins the other
 pub one_begins : (m d : List ℕ) → begins m d ≡ false → begins d m ≡ false → side_by_side m d ≡ Equal → ⊥
 one_begins m d p q e =
     elim (cases_lt (length d) (length m)) [
@@ -147,7 +147,7 @@ at_least o p e = subst (λ w. ordering_index o ≤ ordering_index w) (sym e) (in
 between : (o p s t : Ordering) → o ≡ s → p ≡ t → ordering_index s ≤ ordering_index t → ordering_index o ≤ ordering_index p
 between o p s t e f le = subst (λ w. ordering_index w ≤ ordering_index p) (sym e) (subst (λ w. ordering_index s ≤ ordering_index w) (sym f) le)
 
--- what stands before another stands before it beside any digits
+-- what comes before another comes before it beside any digits
 pub rising : (m n d : List ℕ) → side_by_side m n ≡ Less → ordering_index (side_by_side m d) ≤ ordering_index (side_by_side n d)
 rising [] n d e = absurd cc
 rising (x ∷ m) [] d e = absurd cc

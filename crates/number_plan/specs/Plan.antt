@@ -17,7 +17,7 @@ use Rattle.number_plan.specs.declared.target.Found.TheVariants as answer
 abbrev pub is_number : List ℕ → Bool
 is_number digits = nat_le 1 (length digits) && nat_le (length digits) 20 && list_all is_ascii_digit digits
 
--- the digits begin with the front, or are the front
+-- the second digits begin with the first, or equal them
 abbrev pub begins : List ℕ → List ℕ → Bool
 begins [] digits = true
 begins (d ∷ front) [] = false
@@ -34,7 +34,7 @@ side_by_side (d ∷ digits) (e ∷ others) = ordering_then (nat_cmp d e) (side_b
 abbrev pub precedes : Number → Number → Bool
 precedes m n = is_lt (side_by_side m.digits n.digits)
 
--- each number stands before all those that follow
+-- each number comes before all those that follow
 abbrev pub in_order : List Number → Bool
 in_order [] = true
 in_order (n ∷ ns) = list_all (precedes n) ns && in_order ns
@@ -63,7 +63,7 @@ abbrev pub found_for : List Number → List ℕ → Found
 found_for [] digits = answer.Nothing
 found_for (n ∷ ns) digits = if begins n.digits digits then found_at n.target else if begins digits n.digits then answer.More else found_for ns digits
 
--- a number of the plan begins the digits, and it stands for this target
+-- a number of the plan begins the digits, and it leads to this target
 pub record LeadsTo (plan : List Number) (digits : List ℕ) (goal : Target) : Type 0 where
   pub place : ℕ
   pub number : Number

@@ -1,4 +1,4 @@
-//! The digits of a number, and how two numbers stand side by side.
+//! The digits of a number, and how two numbers compare side by side.
 
 use arrayvec::ArrayVec;
 use std::cmp::Ordering;
@@ -62,7 +62,7 @@ fn are_decimal(digits: &[u8]) -> bool
     digits.iter().all(|digit| digit.is_ascii_digit())
 }
 
-// How two strings of digits stand side by side: by the first place in which they differ, and `Equal`
+// How two strings of digits compare: by the first place in which they differ, and `Equal`
 // where one begins the other.
 pub(crate) fn side_by_side(one: &[u8], other: &[u8]) -> Ordering
     ensures { result ≡ side_by_side one.now other.now }

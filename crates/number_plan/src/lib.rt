@@ -9,7 +9,7 @@
 //! - `look` returns the line or the room to which the digits lead (`line`, `room`), `More` exactly
 //!   where they begin a held number (`more`), and else `Nothing` (`nothing`).
 //!
-//! It stands on no crate of this repository, and on the kit's `arrayvec` and `thiserror`.
+//! It uses the kit's `arrayvec` and `thiserror` alone.
 #![tactic(auto)]
 
 mod digits;

@@ -10,12 +10,12 @@ use thiserror::Error;
 /// The most numbers of a plan. Source: this exchange's own.
 pub const MOST_NUMBERS: usize = 256;
 
-/// A number and what it stands for.
+/// A number and where it leads.
 #[derive(Debug, Drop)]
 pub struct Number {
     /// The digits.
     pub digits: Digits,
-    /// What the number stands for.
+    /// Where the number leads.
     pub target: Target,
 }
 
@@ -28,7 +28,7 @@ pub enum PlanFault {
     /// 256 numbers are held.
     #[error("the plan is full")]
     TooMany = 2,
-    /// Want of memory.
+    /// Memory ran out.
     #[error("out of memory")]
     Memory = 3,
 }
@@ -82,7 +82,7 @@ impl Plan {
     ///
     /// - [`PlanFault::Prefix`] exactly where the number equals, begins or continues one that is held.
     /// - [`PlanFault::TooMany`] exactly where it doesn't, and 256 numbers are held.
-    /// - [`PlanFault::Memory`] for want of memory.
+    /// - [`PlanFault::Memory`] where memory runs out.
     ///
     /// The plan stays as it was then.
     pub fn add(&mut self, digits: &[u8], target: Target) -> Result<(), PlanFault>

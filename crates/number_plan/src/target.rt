@@ -1,6 +1,6 @@
-//! What a number stands for, and what a look for digits finds.
+//! Where a number leads, and what a look for digits finds.
 
-/// What a number stands for.
+/// Where a number leads.
 #[derive(Clone, Copy, Debug, PartialEq, Eq)]
 pub enum Target {
     /// This line.
@@ -12,9 +12,9 @@ pub enum Target {
 /// What a plan answers for digits.
 #[derive(Clone, Copy, Debug, PartialEq, Eq)]
 pub enum Found {
-    /// A number of the plan begins the digits, and stands for this line.
+    /// A number of the plan begins the digits, and leads to this line.
     Line(u8),
-    /// A number of the plan begins the digits, and stands for this conference room.
+    /// A number of the plan begins the digits, and leads to this conference room.
     Room(u8),
     /// The digits are the beginning of a number of the plan, and not the whole of it.
     More,

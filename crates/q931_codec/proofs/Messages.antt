@@ -1,4 +1,4 @@
--- The reading from the front is the grammar's one reading.
+-- The reading from the beginning is the grammar's one reading.
 use Rattle.std.proofs.Common.{◌≡◌, ℕ, ◌+◌, ◌*◌, ◌/◌, ◌%◌, ◌^◌, ◌<◌, Bool, true, false, cond, eqb, leb, List, [], ◌∷◌, ◌++◌, get_or, Result, Ok, Err, refl, sym, ap, subst, ◌∙◌, arith, inl, inr}
 use Rattle.std.proofs.lemmas.Bool.{eqb-true, cases_lt, le-leb, lt-leb}
 use Rattle.q931_elements.specs.InformationElement.{InformationElement}
@@ -26,7 +26,7 @@ value_back : (flag : Bool) (value : ℕ) → value < 2 ^ 15 → (cond flag 0x80 
 value_back true value small = omega arith
 value_back false value small = omega arith
 
--- what the grammar reads is what the front tells
+-- what the grammar reads is what the beginning says
 pub message_read : (octets : List ℕ) (m : Message) → IsMessage octets m → reading octets ≡ Ok m
 message_read octets m is =
     ap reading is.octets_are
@@ -85,7 +85,7 @@ from_length (second ∷ octets) m fits is =
     let second-is : second ≡ 2 = eqb-true second 2 parts.0 in
     subst (λ s. IsMessage (8 ∷ s ∷ octets) m) (sym second-is) (from_reference octets m (subst (λ s. IsOctets (8 ∷ s ∷ octets)) second-is fits) parts.1)
 
--- what the front tells is in the grammar
+-- what the beginning says is in the grammar
 pub read_message : (octets : List ℕ) (m : Message) → IsOctets octets → reading octets ≡ Ok m → IsMessage octets m
 read_message [] m fits is = absurd cc
 read_message (first ∷ octets) m fits is =

@@ -11,7 +11,7 @@ use Rattle.q931_codec.specs.declared.contents.ChannelIdentification.TheVariants.
 
 -- ---- cause (4.5.12)
 
--- the low seven bits of the octet that the cause value stands in
+-- the low seven bits of the octet that has the cause value
 abbrev pub cause_value : List ℕ → Option ℕ
 cause_value [] = None
 cause_value (octet ∷ rest) = Some (octet % 0x80)
@@ -113,7 +113,7 @@ dialled_digits contents = decimal_digits (drop 1 contents)
 
 -- ---- what is passed on from the calling to the called user as it was received
 
--- contents of at most so many octets; else nothing
+-- contents of at most n octets; else nothing
 abbrev pub contents_passed_on : ℕ → List ℕ → List ℕ
 contents_passed_on most contents = if nat_le (length contents) most then contents else []
 

@@ -105,7 +105,7 @@ abbrev pub item_of_complete : Bool → List Item
 item_of_complete true = SingleOctet identifier.sending_complete ∷ []
 item_of_complete false = []
 
--- empty contents stand for no element
+-- empty contents mean no element
 abbrev pub item_of_row : ℕ × List ℕ → List Item
 item_of_row (code, []) = []
 item_of_row (code, octet ∷ octets) = VariableLength code (octet ∷ octets) ∷ []

@@ -22,7 +22,7 @@ impl<'a> Message<'a> {
     ghost use Rattle.q931_codec.specs.Contents.{cause_in, call_state_in, channel_in, restart_in};
 
     /// The cause value (Q.931, 4.5.12) of the first cause, `None` where there is none or its value
-    /// isn't there. Octet 3 has the location, octet 3a stands only where the extension bit of octet 3
+    /// isn't there. Octet 3 has the location, octet 3a is there only where the extension bit of octet 3
     /// is 0, and octet 4 has the value in its low seven bits.
     pub fn cause(&self) -> Option<u8>
         ensures { result ≡ cause_in self.now.elements }

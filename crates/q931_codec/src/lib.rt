@@ -10,7 +10,7 @@
 //!
 //! Nothing here allocates.
 //!
-//! It stands on `q931_elements`, and on the kit's `arrayvec` and `thiserror`.
+//! It uses `q931_elements`, and the kit's `arrayvec` and `thiserror`.
 #![tactic(auto)]
 
 mod bearer;

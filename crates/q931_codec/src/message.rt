@@ -50,7 +50,7 @@ pub fn read(octets: &[u8]) -> Result<Message<'_>, Discard>
     ensures found { IfOk result (λ m. IsMessage octets.now m) }
     ensures only { (m : Message) → IsMessage octets.now m → result ≡ Ok m }
 
-    // Each reason comes exactly where it stands.
+    // Each reason comes exactly where it holds.
     ensures discriminator { IsErrOf result Discard.Discriminator ↔ HasOtherDiscriminator octets.now }
     ensures short { IsErrOf result Discard.Short ↔ IsShort octets.now }
     ensures reference_length { IsErrOf result Discard.ReferenceLength ↔ HasOtherReferenceLength octets.now }

@@ -7,10 +7,10 @@ pub const NULL: u8 = 0;
 /// Overlap sending: the caller has yet to send the rest of the number.
 pub const OVERLAP_SENDING: u8 = 2;
 
-/// Outgoing call proceeding: the caller was told that nothing more is needed to set up the call.
+/// Outgoing call proceeding: the caller was informed that nothing more is needed to set up the call.
 pub const OUTGOING_CALL_PROCEEDING: u8 = 3;
 
-/// Call delivered: the caller was told that the called user is being alerted.
+/// Call delivered: the caller was informed that the called user is being alerted.
 pub const CALL_DELIVERED: u8 = 4;
 
 /// Call present: the called user was sent a SETUP, and has not answered it.

@@ -8,7 +8,7 @@ use Rattle.q931_elements.specs.Grammar.{Item, SingleOctet, VariableLength, IsIte
 use Rattle.q931_elements.specs.Reading.{Whole, LockingShift, NonLockingShift, Unfinished, front_in, variable_front, after_item, elements_of}
 use Rattle.q931_elements.proofs.Steps.{elements_step, elements_from}
 
--- ---- one octet at the front
+-- ---- one octet at the beginning
 
 variable_at : (octet : ℕ) (rest : List ℕ) → octet < 0x80 → front_in (octet ∷ rest) ≡ variable_front octet rest
 variable_at octet rest low = rw (lt-ltb octet 0x80 low) refl
@@ -23,7 +23,7 @@ locking_at octet rest (from, to) = rw (le-ltb octet 0x80 (omega arith), le-ltb o
 non_locking_at : (octet : ℕ) (rest : List ℕ) → IsNonLockingShift octet → front_in (octet ∷ rest) ≡ NonLockingShift rest
 non_locking_at octet rest (from, to) = rw (le-ltb octet 0x80 (omega arith), le-ltb octet 0x90 (omega arith), le-ltb octet 0x98 from, lt-ltb octet 0xA0 to) refl
 
--- ---- a piece or a tail at the front
+-- ---- a piece or a tail at the beginning
 
 front_present : (item : Item) (rest : List ℕ) → IsPiece (Present item) → front_in (octets_of item ++ rest) ≡ Whole (element_of item) rest
 front_present (SingleOctet octet) rest is = single_at octet rest is.0 is.1

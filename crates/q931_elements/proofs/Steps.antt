@@ -1,4 +1,4 @@
--- The elements, by what stands at the front: the bound on the pieces doesn't matter.
+-- The elements, by what is at the beginning: the bound on the pieces doesn't matter.
 use Rattle.std.proofs.Common.{◌≡◌, ℕ, zero, suc, ◌≤◌, List, [], ◌∷◌, length, Bool, true, false, cond, ltb, refl, sym, ap, ◌∙◌, arith, length-drop}
 use Rattle.q931_elements.specs.InformationElement.{InformationElement}
 use Rattle.q931_elements.specs.Reading.{Front, Whole, LockingShift, NonLockingShift, Unfinished, front_in, variable_front, after_contents, after_item, elements_at, elements_within, elements_of}
@@ -56,7 +56,7 @@ elements_step [] = refl
 elements_step (x ∷ xs) =
     same_at (elements_within (length xs)) elements_of (length xs) (λ octets le. same_bound (length xs) (length octets) octets le (omega arith)) (front_in (x ∷ xs)) (front_within x xs)
 
--- the same, where what stands at the front is known
+-- the same, where what is at the beginning is known
 pub elements_from : (octets : List ℕ) (at : Front) → at ≡ front_in octets → elements_of octets ≡ elements_at elements_of at
 elements_from octets at is = elements_step octets ∙ ap (elements_at elements_of) (sym is)
 

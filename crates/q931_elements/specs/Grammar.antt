@@ -5,7 +5,7 @@ use Rattle.std.specs.List.{AllByRecursion, flat_map}
 use Rattle.q931_elements.specs.InformationElement.{InformationElement}
 
 -- The two formats: a single octet, whose top bit is 1, and an identifier, whose top bit is 0, with a
--- length and so many octets of contents (4.5.1).
+-- length and n octets of contents (4.5.1).
 pub data Item : Type 0 where
   SingleOctet : ℕ → Item
   VariableLength : ℕ → List ℕ → Item
@@ -57,7 +57,7 @@ IsUnfinishedElement [] = Unit {0}
 IsUnfinishedElement (code ∷ []) = code < 0x80
 IsUnfinishedElement (code ∷ len ∷ rest) = (code < 0x80) × (length rest < len)
 
--- a locking shift and all that follows, or something unfinished, which a non-locking shift may stand before
+-- a locking shift and all that follows, or something unfinished, which a non-locking shift may precede
 abbrev pub IsTail : List ℕ → Type 0
 IsTail [] = Unit {0}
 IsTail (octet ∷ rest) = IsLockingShift octet ⊎ ((IsNonLockingShift octet × IsUnfinishedElement rest) ⊎ IsUnfinishedElement (octet ∷ rest))
@@ -71,7 +71,7 @@ pub record IsElementList (octets : List ℕ) (elements : List InformationElement
   pub octets_are : octets ≡ octets_of_pieces pieces ++ tail
   pub elements_are : elements ≡ present_elements pieces
 
--- ---- written elements: these are pieces too, and no shift stands among them
+-- ---- written elements: these are pieces too, and no shift is among them
 
 abbrev pub IsPresent : Item → Type 0
 IsPresent item = IsPiece (Present item)

@@ -1,8 +1,8 @@
--- The elements as they are found from the front. A law says that this is the grammar's one reading.
+-- The elements as they are found from the beginning. A law says that this is the grammar's one reading.
 use Rattle.std.specs.Prelude.{ℕ, zero, suc, List, [], ◌∷◌, length, take, drop, nat_lt, if◌then◌else◌}
 use Rattle.q931_elements.specs.InformationElement.{InformationElement}
 
--- what stands at the front
+-- what is at the beginning
 pub data Front : Type 0 where
   Whole : InformationElement → List ℕ → Front
   LockingShift : Front
@@ -39,7 +39,7 @@ elements_at others LockingShift = []
 elements_at others (NonLockingShift rest) = others (after_item rest)
 elements_at others Unfinished = []
 
--- the elements, of at most so many pieces
+-- the elements, of at most n pieces
 unfoldable pub elements_within : ℕ → List ℕ → List InformationElement
 elements_within zero octets = []
 elements_within (suc n) octets = elements_at (elements_within n) (front_in octets)

@@ -1,4 +1,4 @@
-//! What stands at the front of the octets behind a header.
+//! What is at the beginning of the octets behind a header.
 
 ghost use Rattle.std.specs.Prelude.{◌≡◌, []};
 ghost use Rattle.q931_elements.specs.Reading.{front_in, variable_front, after_item, Whole};
@@ -15,7 +15,7 @@ pub struct Element<'a> {
     pub contents: &'a [u8],
 }
 
-// What stands at the front of the octets that are left.
+// What is at the beginning of the octets that are left.
 #[derive(Clone, Copy)]
 pub(crate) enum Front<'a> {
     Whole(Element<'a>, &'a [u8]),

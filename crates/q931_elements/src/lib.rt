@@ -8,7 +8,7 @@
 //!
 //! Nothing here allocates, and reading copies nothing.
 //!
-//! It stands on no crate of this repository, and on the kit's `arrayvec`.
+//! It uses the kit's `arrayvec` alone.
 #![tactic(auto)]
 
 mod front;
