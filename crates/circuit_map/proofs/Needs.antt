@@ -1,4 +1,4 @@
--- Which inlets and outlets are to be joined, told by whom each slot hears.
+-- Which inlets and outlets are to be joined, by whom each slot hears.
 use Rattle.std.proofs.Common.{◌≡◌, ℕ, ◌⊎◌, List, [], ◌∷◌, Option, Some, None, refl, sym, ◌∙◌, ap, subst, inl, inr, arith}
 use Rattle.std.specs.Prelude.{◌↔◌}
 use Rattle.std.specs.List.{Contains}
@@ -20,7 +20,7 @@ pub data Needs (external : ℕ) (ports : Ports) (hears : Slot → Option Circuit
   To_port : (room since : ℕ) → hears a ≡ Some (Member room a since) → port_of external ports a ≡ Some b → Needs external ports hears a b
   From_port : (room since : ℕ) → hears b ≡ Some (Member room b since) → port_of external ports b ≡ Some a → Needs external ports hears a b
 
--- a circuit is heard by its listener, and what is heard stands
+-- a circuit is heard by its listener, and what is heard exists
 pub heard_stands : (circuits : List Circuit) (x : Slot) (c : Circuit) → heard_by circuits x ≡ Some c → Contains circuits c × (listener c ≡ x)
 heard_stands [] x c e = absurd (cc)
 heard_stands (d ∷ ds) x c e = elim (true_or_false (same_slot x (listener d))) [

@@ -1,4 +1,4 @@
--- What a map of circuits keeps, and the holding that it stands for. Source: this exchange's own.
+-- What a map of circuits keeps, and the holding that it represents. Source: this exchange's own.
 use Rattle.std.specs.Prelude.{◌≡◌, ℕ, ◌+◌, ◌*◌, ◌<◌, ◌≤◌, ◌&&◌, nat_lt, Bool, true, false, List, length, count_by, Option, Some, None, is_some, slice_index_or, option_and_then, if◌then◌else◌}
 use Rattle.circuit_model.specs.declared.channel.Slot.{Slot}
 use Rattle.circuit_model.specs.declared.circuit.Circuit.{Circuit}
@@ -53,7 +53,7 @@ hears_in external heard x = if nat_lt x.line external && nat_lt x.place 30 then 
 abbrev pub hears_at : Connections → Slot → Option Circuit
 hears_at m x = hears_in m.external m.heard x
 
--- the circuit by which a slot hears after a command, told by those before it: who is given a circuit hears by that one, and nobody hears any
+-- the circuit by which a slot hears after a command, from those before it: who is given a circuit hears by that one, and nobody hears any
 -- more by a circuit that names a cleared slot
 abbrev pub hears_after : Connections → Command → Slot → Option Circuit
 hears_after m (Connect x y) z = if same_slot z x then Some (Pair y x m.next) else if same_slot z y then Some (Pair x y m.next) else hears_at m z

@@ -20,7 +20,7 @@ use std::marker::Model;
 #[derive(Clone, Copy, Debug, PartialEq, Eq)]
 pub struct NoPort;
 
-/// The circuits that stand, and the paths and conference ports that carry them.
+/// The circuits that exist, and the paths and conference ports that carry them.
 ///
 /// Contracts see the circuit by which each external slot hears, the member of each port and the
 /// layout of the paths; `Represents` says of which holding these are. No call but `new` takes memory.
@@ -52,7 +52,7 @@ impl<P: PathMap> Model for CircuitMap<P> {
 }
 
 impl<P: PathMap + Drop> CircuitMap<P> {
-    /// No circuit over a map of paths that has none yet, for so many external and bridge lines.
+    /// No circuit over a map of paths that has none yet, for the given numbers of external and bridge lines.
     /// `AllocError` where memory is lacking.
     pub fn new(
         alloc: Global,

@@ -1,4 +1,4 @@
-//! The circuits that stand, the paths and conference ports that carry them, and the control memory
+//! The circuits that exist, the paths and conference ports that carry them, and the control memory
 //! that shows them at a frame's boundary, over any live map of paths (`PathMap`).
 //!
 //! - [`CircuitMap`]'s `pair`, `seat`, `tone` and `clear` make of the holding what the definitions
@@ -7,7 +7,7 @@
 //!   refused exactly where every port is taken (`full`), and then nothing changes (`refused`).
 //! - `boundary` writes a control memory that shows the circuits, by a legal layout (`shows`).
 //!
-//! It stands on `circuit_model`, `control_memory` and `conference_ports`.
+//! It uses `circuit_model`, `control_memory` and `conference_ports`.
 #![tactic(auto)]
 
 mod circuit_map;

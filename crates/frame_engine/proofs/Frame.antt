@@ -102,7 +102,7 @@ module _ (e : Stages) (m : Control) (out : List ℕ) (is : IsAt e m out) (inputs
   named_within : (c : Circuit) → Contains circuits c → NamesWithin e.external c
   named_within c inside = frames_within e.external empty cs n (λ d nothing. absurd (none_in_nil d nothing)) come.within c (subst (λ (ds : List Circuit). Contains ds c) circuits_now inside)
 
-  -- a circuit older than a frame stood in the frame before
+  -- a circuit older than a frame existed in the frame before
   stood : (f : ℕ) (c : Circuit) → Contains (circuits_of (frames empty cs) f) c → since_of c < f → Contains (circuits_of (frames empty cs) (f - 1)) c
   stood f c inside older = age cs f c inside older
 
@@ -173,7 +173,7 @@ module _ (e : Stages) (m : Control) (out : List ℕ) (is : IsAt e m out) (inputs
   port_slot : (k : ℕ) → k < 30 * e.bridges → IsSlot lines (port_numbered e.external k)
   port_slot k low = (omega (arith, low), omega arith)
 
-  -- the port of a member is joined to it while the member stands
+  -- the port of a member is joined to it while the member exists
   joined : (f k room since : ℕ) (y : Slot) → owner_of (ports_at f) k ≡ Some y → port_of e.external (ports_at f) y ≡ Some (port_numbered e.external k)
   joined f k room since y owned = port_of-owner e.external (ports_at f) k y owned (λ j other. alone_in e.bridges cs f j k y (recorded e.bridges cs f come.allowed) other owned)
 

@@ -30,7 +30,7 @@ pub record AreCounted (n : ℕ) (inputs : List Input) (held : List (List Circuit
   pub held_counted : length held ≡ n
   pub ports_counted : length ports ≡ n
 
--- the boundary of a frame: what arrived in each of the frames before it, their circuits and ports, and the circuits and ports that stand at it
+-- the boundary of a frame: what arrived in each of the frames before it, their circuits and ports, and the circuits and ports that exist at it
 pub record Boundary : Type 0 where
   pub inputs : List Input
   pub held : List (List Circuit)
@@ -48,7 +48,7 @@ held_with b = b.held ++ b.circuits ∷ []
 abbrev pub ports_with : Boundary → List Ports
 ports_with b = b.ports ++ b.seats ∷ []
 
--- the frame of the control memory begins there: the frames before are carried, the control memory shows what stands, and one list of commands made it all
+-- the frame of the control memory begins there: the frames before are carried, the control memory shows what exists, and one list of commands made it all
 pub record IsNext (carried : List Input → List (List Circuit) → List Ports → Type 0) (m : Control) (b : Boundary) : Type 0 where
   pub carries : carried b.inputs b.held b.ports
   pub shows : Shows m b.circuits b.seats m.frame

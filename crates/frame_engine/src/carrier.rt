@@ -32,7 +32,7 @@ pub trait Carrier: Sized + Send + Drop {
     /// input and circuits.
     ghost plays: { (Kind → List ℕ) → List Input → List (List Circuit) → ℕ → Slot → ℕ };
 
-    /// An engine for so many external lines, bridge lines and internal slots, which has carried no
+    /// An engine for the given numbers of external lines, bridge lines and internal slots, which has carried no
     /// frame.
     fn new(alloc: Global, external: u8, bridges: u8, slots: u8) -> Result<Self, AllocError>
         requires external { 1 ≤ external × (external ≤ 32) }

@@ -34,7 +34,7 @@ const LEVELS: u8 = 3;
 /// after it came, whether or not its path moved in between, and one that is mixed passes the stages
 /// twice. The order is this exchange's own.
 ///
-/// Only `new` takes memory. A frame's work is the same whatever stands: it takes no lock, and waits for
+/// Only `new` takes memory. A frame's work is the same for all circuits: it takes no lock, and waits for
 /// nothing but the halves of its own stages, which return.
 #[derive(Drop)]
 pub struct Engine {

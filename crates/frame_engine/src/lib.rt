@@ -9,7 +9,7 @@
 //!   from hand to hand as one word.
 //! - [`Marker`] plays the number of the frame on every slot, for tests.
 //!
-//! It stands on `circuit_model`, `frame_buffer`, `control_memory`, `time_stage`, `space_stage`,
+//! It uses `circuit_model`, `frame_buffer`, `control_memory`, `time_stage`, `space_stage`,
 //! `alaw_codec`, `conference_mix` and `tone_rules`.
 #![tactic(auto)]
 

@@ -7,7 +7,7 @@
 //!
 //! Nothing here allocates.
 //!
-//! It stands on `circuit_model` and `q931_codec`.
+//! It uses `circuit_model` and `q931_codec`.
 #![tactic(auto)]
 
 mod call_tones;

@@ -1,4 +1,4 @@
-//! The octet of a tone after so many frames.
+//! The octet of a tone after n frames.
 
 ghost use Rattle.std.specs.Prelude.{◌≡◌};
 ghost use Rattle.tone_rules.specs.Tables.{table_of, IsGiven};
@@ -7,7 +7,7 @@ ghost use Rattle.circuit_model.specs.Hears.{tone_octet};
 use crate::tones::Tones;
 use circuit_model::Kind;
 
-/// The octet of a given tone after it has sounded for so many frames: the table is played over and
+/// The octet of a given tone after it has sounded for n frames: the table is played over and
 /// over, from its first octet on.
 pub fn tone_octet(tones: &Tones, kind: Kind, frames: u32) -> u8
     requires { IsGiven tones.now kind }

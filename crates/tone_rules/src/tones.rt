@@ -37,7 +37,7 @@ impl ToneOctets {
         self.octets.as_slice()
     }
 
-    /// The octet of the tone after it has sounded for so many frames.
+    /// The octet of the tone after it has sounded for n frames.
     pub fn octet(&self, frames: u32) -> u8
         requires { 0 < length self.now }
         ensures { result ≡ tone_octet self.now frames }

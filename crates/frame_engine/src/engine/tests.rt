@@ -209,7 +209,7 @@ fn hears_as_reported(
     out == reported(trace, frame)
 }
 
-// The first frame of a trace that an engine with so many levels does not play as the report has it. (A
+// The first frame of a trace that an engine with n levels does not play as the report has it. (A
 // bridge line in which nobody sits gives nothing.)
 fn first_wrong(
     rt: &(impl Threads + Sync),
