@@ -1,4 +1,4 @@
--- What a step answers, told by a short response and the outbox that it was lent. Source: this exchange's own.
+-- What a step answers, by a short response and the outbox that it got. Source: this exchange's own.
 use Rattle.exchange_events.specs.declared.outbox.Outbox.{Outbox}
 use Rattle.exchange_events.specs.declared.outbox.Response.{Response}
 use Rattle.exchange_events.specs.declared.outbox.Response.TheVariants as response

@@ -17,7 +17,7 @@ pub record IsNail (external : ℕ) (x y : Slot) : Type 0 where
   pub second : IsExternal external y
   pub distinct : x ≢ y
 
--- an event of an exchange with so many external lines
+-- an event of an exchange with n external lines
 abbrev pub Fits : ℕ → Event → Type 0
 Fits external (Nail x y) = IsNail external x y
 Fits external (Seat x room) = IsExternal external x
@@ -25,12 +25,12 @@ Fits external (Free x) = IsExternal external x
 Fits external (Message line octets) = (line < external) × All (λ octet. octet < 256) octets
 Fits external (Frame input) = length input ≡ external
 
--- a number's line is one of so many
+-- a number's line is one of n
 abbrev pub is_reached : ℕ → Target → Bool
 is_reached external (target.Line line) = nat_lt line external
 is_reached external (target.Room room) = true
 
--- the lines that the numbers of a plan stand for exist
+-- the lines to which the numbers of a plan lead exist
 abbrev pub IsPlanned : Setting → Type 0
 IsPlanned s = IsTrue (all_targets (is_reached s.dimensions.external) s.plan)
 
@@ -40,13 +40,13 @@ last_of [] = 0
 last_of (n ∷ []) = n
 last_of (n ∷ m ∷ ns) = last_of (m ∷ ns)
 
--- where the segments of so many events end: the numbers of their last events rise, and the last of them is that of the last event
+-- where the segments of n events end: the numbers of their last events rise, and the last of them is that of the last event
 pub record AreSegments (events : ℕ) (ends : List ℕ) : Type 0 where
   pub some : All (λ n. 1 ≤ n) ends
   pub rising : AllPairs (λ m n. m < n) ends
   pub whole : last_of ends ≡ events
 
--- what an exchange over a fabric of so many internal slots is built with, by a trace
+-- what an exchange over a fabric of n internal slots is built with, by a trace
 abbrev pub setting_of : ℕ → Trace → Setting
 setting_of slots trace = record {
   dimensions = record { external = trace.external; bridges = trace.bridges; slots = slots };

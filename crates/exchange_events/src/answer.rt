@@ -66,7 +66,7 @@ impl Answer {
     ///
     /// # Errors
     ///
-    /// [`AllocError`] for want of memory.
+    /// [`AllocError`] where memory runs out.
     pub fn keep(
         alloc: Global,
         event: u32,
@@ -86,7 +86,7 @@ impl Answer {
     ///
     /// # Errors
     ///
-    /// [`AllocError`] for want of memory.
+    /// [`AllocError`] where memory runs out.
     pub fn keep_response(
         alloc: Global,
         event: u32,

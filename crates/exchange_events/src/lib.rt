@@ -5,13 +5,13 @@
 //!   sound one (`IsSound`).
 //! - A [`Reply`] is what the exchange answers to one event: what was connected, the messages that were
 //!   sent ([`Signal`]), the records of the calls that ended ([`CallRecord`]). A step puts the lists
-//!   into an [`Outbox`] that it is lent, and returns a small [`Response`]; `reply_of` says which reply
+//!   into an [`Outbox`] that it gets, and returns a small [`Response`]; `reply_of` says which reply
 //!   the two are.
 //! - [`Answer::keep`] and [`Answer::keep_response`] keep exactly what they are given (`event`, `reply`,
 //!   `octets`).
 //! - The order of the file is a lawful one ([`file_order_is_lawful`]).
 //!
-//! It stands on `circuit_model`, `number_plan`, `tone_rules` and `q931_elements`, and on the kit's
+//! It uses `circuit_model`, `number_plan`, `tone_rules` and `q931_elements`, and the kit's
 //! `arrayvec`.
 #![tactic(auto)]
 

@@ -1,4 +1,4 @@
-//! What is sent and told in a step, and the small answer beside it.
+//! What is sent and recorded in a step, and the small answer beside it.
 ghost use Rattle.std.specs.Prelude.{◌≡◌, [], None};
 ghost use Rattle.exchange_events.specs.Responses.{reply_of};
 
@@ -6,7 +6,7 @@ use crate::record::Records;
 use crate::reply::Reply;
 use crate::signal::Signals;
 
-/// What a step sends, moves and records. It is lent to each step anew, so that no step pays for its room.
+/// What a step sends, moves and records. Each step gets it anew, so that no step pays for its room.
 #[derive(Drop)]
 pub struct Outbox {
     /// The messages that were sent, in order.
@@ -43,7 +43,7 @@ impl Outbox {
     }
 }
 
-/// A [`Reply`] without its lists, which are in the outbox that the step was lent. Each variant is the reply
+/// A [`Reply`] without its lists, which are in the outbox that the step got. Each variant is the reply
 /// of that name.
 #[derive(Clone, Copy, Debug, PartialEq, Eq)]
 pub enum Response {
