@@ -1,4 +1,4 @@
--- Registers that are told of one more call, and what they say of some more.
+-- Registers that note one more call, and what they say of some more.
 use Rattle.std.proofs.Common.{◌≡◌, ◌+◌, ◌-◌, ◌^◌, ◌≤◌, max, if◌then◌else◌, List, [], ◌∷◌, ◌++◌, length, length-append, ap, ◌∙◌, arith}
 use Rattle.std.proofs.lemmas.List.Sums.{sum_by-append}
 use Rattle.exchange_events.specs.declared.record.CallRecord.{CallRecord}
@@ -9,7 +9,7 @@ pub longest-append : (calls more : List CallRecord) → longest_held (calls ++ m
 longest-append [] more = omega arith
 longest-append (call ∷ calls) more = let e = longest-append calls more in omega (arith, e)
 
--- a holding time that is told of one more call
+-- a holding time that notes one more call
 pub held_more : (calls : List CallRecord) (call : CallRecord) (old now : Held) → now.total ≡ register_value (old.total + frames_held call) → now.longest ≡ max old.longest (frames_held call) → frames_held call ≤ 2 ^ 64 - 1
     → IsHeldBy calls old → IsHeldBy (calls ++ call ∷ []) now
 held_more calls call old now total longest small held =

@@ -1,11 +1,11 @@
--- The last of a list, at most so many.
+-- The last of a list, at most n.
 use Rattle.std.proofs.Common.{◌≡◌, ℕ, zero, suc, ◌+◌, ◌-◌, ◌≤◌, List, [], ◌∷◌, ◌++◌, length, length-append, drop, subst, ap, refl, sym, ◌∙◌, arith}
 use Rattle.std.proofs.lemmas.List.{append_assoc, drop-append-le, drop-drop, length-drop}
 use Rattle.exchange_events.specs.declared.record.CallRecord.{CallRecord}
 use Rattle.meters.specs.Details.{Ring, IsRingOf, last_of, call_lines, detail_text, detail_text_with}
 
 module _ {A : Type 0} where
-  -- what is dropped from the front anyhow may be dropped before
+  -- what is dropped from the beginning anyhow may be dropped before
   pub last-drop : (keep j : ℕ) (xs : List A) → j + keep ≤ length xs → last_of keep (drop j xs) ≡ last_of keep xs
   last-drop keep j xs within =
       let long = length-drop j xs in
@@ -39,6 +39,6 @@ detail_law ring calls more is =
     let same : last_of ring.keep (last_of ring.keep calls ++ more) ≡ last_of ring.keep (calls ++ more) = subst (λ n. last_of ring.keep (last_of n calls ++ more) ≡ last_of ring.keep (calls ++ more)) all (last-append ring.keep 0 calls more (omega arith)) in
     ap (λ kept. detail_text ring.keep (kept ++ more)) is ∙ ap call_lines same
 
--- a ring that was told of one more call says as much of others as before of all of them
+-- a ring that noted one more call says as much of others as before of all of them
 pub detail_more : (keep : ℕ) (old now more : List CallRecord) (call : CallRecord) → now ≡ last_of (keep - 1) old ++ call ∷ [] → detail_text keep (now ++ more) ≡ detail_text keep (old ++ call ∷ more)
 detail_more keep old now more call is = ap (λ kept. detail_text keep (kept ++ more)) is ∙ ap call_lines (last_more keep old more call)

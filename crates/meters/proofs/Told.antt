@@ -1,10 +1,10 @@
--- Meters that are told of calls, one list after the other.
+-- Meters that note calls, one list after the other.
 use Rattle.std.proofs.Common.{◌≡◌, ℕ, List, [], ◌++◌, refl, sym, ap, ◌∙◌, subst}
 use Rattle.std.proofs.lemmas.List.{append_assoc, append-nil}
 use Rattle.exchange_events.specs.declared.record.CallRecord.{CallRecord}
 use Rattle.meters.specs.Telling.{IsTold, IsToldFront}
 
--- a meter that nothing happens to is told of no call
+-- a meter that nothing happens to notes no call
 pub told-same : (stood : List CallRecord → Type 0) (said : List CallRecord → List ℕ) → IsTold [] stood stood said said
 told-same stood said = record {
   stands_for_all = λ before it. subst stood (sym (append-nil before)) it;
@@ -31,13 +31,13 @@ module _ {stood stands : List CallRecord → Type 0} {said says : List CallRecor
   told_front-append more told = (told.0, told.1 ++ more, ap (λ calls. calls ++ more) told.2 ∙ append_assoc told.0 told.1 more, told.3)
 
   module _ {stands_then : List CallRecord → Type 0} {says_then : List CallRecord → List ℕ} where
-    -- told of some calls, and then of more
+    -- some calls noted, and then more
     pub told-then : {calls more : List CallRecord} → IsTold calls stood stands said says → IsTold more stands stands_then says says_then → IsTold (calls ++ more) stood stands_then said says_then
     told-then {calls} {more} first second = record {
       stands_for_all = λ before it. subst stands_then (append_assoc before calls more) (second.stands_for_all (before ++ calls) (first.stands_for_all before it));
       says_of_all = λ others. second.says_of_all others ∙ first.says_of_all (more ++ others) ∙ ap said (sym (append_assoc calls more others));
     }
 
-    -- told of some calls, and then of the first few of more
+    -- some calls noted, and then the first few of more
     pub told-then_front : {calls more : List CallRecord} → IsTold calls stood stands said says → IsToldFront more stands stands_then says says_then → IsToldFront (calls ++ more) stood stands_then said says_then
     told-then_front {calls} first second = (calls ++ second.0, second.1, ap (λ more. calls ++ more) second.2 ∙ sym (append_assoc calls second.0 second.1), told-then first second.3)

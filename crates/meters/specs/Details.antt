@@ -7,7 +7,7 @@ use Rattle.exchange_events.specs.declared.record.Party.{Party}
 use Rattle.exchange_events.specs.declared.record.Party.TheVariants.{Line, Room}
 use Rattle.exchange_events.specs.declared.record.CallRecord.{CallRecord}
 
--- the last of a list, at most so many
+-- the last of a list, at most n
 abbrev pub last_of : {A : Type 0} → ℕ → List A → List A
 last_of most xs = drop (length xs - most) xs
 
@@ -33,7 +33,7 @@ abbrev pub call_lines : List CallRecord → List ℕ
 call_lines [] = []
 call_lines (call ∷ calls) = call_line call ++ call_lines calls
 
--- the detail of a list of calls: a line for each of the last so many
+-- the detail of a list of calls: a line for each of the last n
 abbrev pub detail_text : ℕ → List CallRecord → List ℕ
 detail_text keep calls = call_lines (last_of keep calls)
 
@@ -42,10 +42,10 @@ pub record Ring : Type 0 where
   pub keep : ℕ
   pub calls : List CallRecord
 
--- it stands for a list of calls
+-- it represents a list of calls
 abbrev pub IsRingOf : List CallRecord → Ring → Type 0
 IsRingOf calls ring = ring.calls ≡ last_of ring.keep calls
 
--- the text of a ring once it is told these calls too
+-- the text of a ring once it has noted these calls too
 abbrev pub detail_text_with : Ring → List CallRecord → List ℕ
 detail_text_with ring more = detail_text ring.keep (ring.calls ++ more)

@@ -1,4 +1,4 @@
--- Three calls, told one after the other, and what the meters say of them. Source: worked out by hand.
+-- Three calls, noted one after the other, and what the meters say of them. Source: worked out by hand.
 use Rattle.std.specs.Prelude.{ℕ, Bool, true, false, List, [], ◌∷◌}
 use Rattle.circuit_model.specs.declared.channel.Slot.{Slot}
 use Rattle.exchange_events.specs.declared.record.Party.{Party}

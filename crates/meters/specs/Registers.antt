@@ -1,5 +1,5 @@
 -- What the registers of a peg count and of a holding time hold and say. The holding time is that of ITU-T E.600 (how long a seizure lasts),
--- told in frames; a peg count is a plain count of events. The texts are this exchange's own.
+-- given in frames; a peg count is a plain count of events. The texts are this exchange's own.
 use Rattle.std.specs.Prelude.{◌≡◌, ℕ, ◌+◌, ◌-◌, ◌^◌, min, max, List, [], ◌∷◌, ◌++◌, length, codes, decimal}
 use Rattle.std.specs.List.{count_by, sum_by}
 use Rattle.exchange_events.specs.declared.record.CallRecord.{CallRecord}
@@ -46,12 +46,12 @@ pub record Pegs : Type 0 where
   pub calls : ℕ
   pub answered : ℕ
 
--- they stand for a list of calls
+-- they represent a list of calls
 pub record ArePegsOf (calls : List CallRecord) (pegs : Pegs) : Type 0 where
   pub calls_are : pegs.calls ≡ register_value (length calls)
   pub answered_are : pegs.answered ≡ register_value (answered_calls calls)
 
--- the text of a peg count once it is told these calls too
+-- the text of a peg count once it has noted these calls too
 abbrev pub peg_text_with : Pegs → List CallRecord → List ℕ
 peg_text_with pegs more = peg_line (register_value (pegs.calls + length more)) (register_value (pegs.answered + answered_calls more))
 
@@ -60,11 +60,11 @@ pub record Held : Type 0 where
   pub total : ℕ
   pub longest : ℕ
 
--- they stand for a list of calls
+-- they represent a list of calls
 pub record IsHeldBy (calls : List CallRecord) (held : Held) : Type 0 where
   pub total_is : held.total ≡ register_value (total_held calls)
   pub longest_is : held.longest ≡ register_value (longest_held calls)
 
--- the text of a holding time once it is told these calls too
+-- the text of a holding time once it has noted these calls too
 abbrev pub holding_text_with : Held → List CallRecord → List ℕ
 holding_text_with held more = holding_line (register_value (held.total + total_held more)) (register_value (max held.longest (longest_held more)))

@@ -11,7 +11,7 @@ use std::alloc::{AllocError, Global};
 use std::collections::VecDeque;
 use std::marker::Model;
 
-/// Keeps the records of the last calls, so many as it is made for.
+/// Keeps the records of the last calls, n as it is made for.
 ///
 /// Its text has a line for each of them, the oldest first: `call CALLER CALLED FROM TO CAUSE`, where
 /// a slot is `L/C`, its line and its channel's number, and a room is `room R`.
@@ -34,12 +34,12 @@ impl Model for CallDetail {
 }
 
 impl CallDetail {
-    /// A ring that keeps the last `keep` records, 1 to 65,535, and was told of no call. It has room
+    /// A ring that keeps the last `keep` records, 1 to 65,535, and has noted no call. It has room
     /// for all of them from the start.
     ///
     /// # Errors
     ///
-    /// [`AllocError`] for want of memory.
+    /// [`AllocError`] where memory runs out.
     pub fn new(alloc: Global, keep: u32) -> Result<CallDetail, AllocError>
         requires { (1 ≤ keep) × (keep ≤ 65535) }
         ensures keep { IfOk result (λ ring. ring.keep ≡ keep) }
@@ -69,7 +69,7 @@ impl Meter for CallDetail {
         Ok(())
     }
 
-    /// Appends the text of the calls that the meter stands for.
+    /// Appends the text of the calls that the meter represents.
     fn summary(&self, out: &mut Vec<u8>) -> Result<(), AllocError>
         ensures text { OnOk result (out.new.items ≡ out.old.items ++ detail_text_with self.now []) }
         ensures calls { OnOk result ((told : _) → IsRingOf told self.now → out.new.items ≡ out.old.items ++ detail_text self.now.keep told) }
@@ -96,7 +96,7 @@ fn make_room(calls: &mut VecDeque<CallRecord>, keep: u32)
     }
 }
 
-// The lines of a ring's records. A refusal leaves a front of them.
+// The lines of a ring's records. A refusal leaves a prefix of them.
 fn put_ring(out: &mut Vec<u8>, calls: &VecDeque<CallRecord>) -> Result<(), AllocError>
     ensures lines { OnOk result (out.new.items ≡ out.old.items ++ call_lines calls.now.items) }
     ensures front { take (length out.old.items) out.new.items ≡ out.old.items }
@@ -106,7 +106,7 @@ fn put_ring(out: &mut Vec<u8>, calls: &VecDeque<CallRecord>) -> Result<(), Alloc
     put_calls(out, newer)
 }
 
-// The lines of some records in a row. A refusal leaves a front of them.
+// The lines of some records in a row. A refusal leaves a prefix of them.
 fn put_calls(out: &mut Vec<u8>, calls: &[CallRecord]) -> Result<(), AllocError>
     ensures lines { OnOk result (out.new.items ≡ out.old.items ++ call_lines calls.now) }
     ensures front { take (length out.old.items) out.new.items ≡ out.old.items }

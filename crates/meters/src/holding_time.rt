@@ -11,7 +11,7 @@ use std::marker::Model;
 
 /// Adds up how long calls held their circuits, and keeps the longest such time, in frames.
 ///
-/// Its text is the line `holding TOTAL LONGEST`. Both times stand at 18,446,744,073,709,551,615.
+/// Its text is the line `holding TOTAL LONGEST`. Both times stay at 18,446,744,073,709,551,615.
 #[derive(Drop)]
 pub struct HoldingTime {
     total: u64,
@@ -27,7 +27,7 @@ impl Model for HoldingTime {
 }
 
 impl HoldingTime {
-    /// A holding time that was told of no call. It takes no memory.
+    /// A holding time that has noted no call. It takes no memory.
     pub fn new() -> HoldingTime
         ensures stands { IsHeldBy [] result }
         ensures text { (calls : List CallRecord) → holding_text_with result calls ≡ holding_text calls }
@@ -56,7 +56,7 @@ impl Meter for HoldingTime {
         Ok(())
     }
 
-    /// Appends the text of the calls that the meter stands for.
+    /// Appends the text of the calls that the meter represents.
     fn summary(&self, out: &mut Vec<u8>) -> Result<(), AllocError>
         ensures text { OnOk result (out.new.items ≡ out.old.items ++ holding_text_with self.now []) }
         ensures calls { OnOk result ((calls : List CallRecord) → IsHeldBy calls self.now → out.new.items ≡ out.old.items ++ holding_text calls) }

@@ -4,8 +4,8 @@ ghost use Rattle.meters.specs.Details.{Ring, IsRingOf, detail_text, detail_text_
 ghost use Rattle.meters.specs.Examples.{three_calls};
 ghost use Rattle.meters.specs.Registers.{Pegs, Held, register_value, ArePegsOf, IsHeldBy, peg_text, peg_text_with, holding_text, holding_text_with};
 
-/// The law of texts: what a meter that stands for some calls would say once it is told some more is
-/// the text over them all. So what it says now is the text over the calls that it stands for.
+/// The law of texts: what a meter that represents some calls would say once it has noted more is
+/// the text over them all. So what it says now is the text over the calls that it represents.
 pub fn law_of_texts()
     ensures detail { (ring : Ring) (calls more : _) → IsRingOf calls ring → detail_text_with ring more ≡ detail_text ring.keep (calls ++ more) }
     ensures pegs { (pegs : Pegs) (calls more : _) → ArePegsOf calls pegs → peg_text_with pegs more ≡ peg_text (calls ++ more) }

@@ -1,6 +1,6 @@
-//! Meters: what is told of the calls of a run, and what they say of them afterwards.
+//! Meters: what notes the calls of a run, and what it says of them afterwards.
 //!
-//! - A [`Meter`] is told one record after the other: it stands for its list with that record added
+//! - A [`Meter`] notes one record after the other: it represents its list with that record added
 //!   (`stands`, `text`), or memory ran out and it is as it was (`kept`). `summary` appends its
 //!   text.
 //! - [`CallDetail`], [`PegCount`] and [`HoldingTime`] say what `specs/` defines of the list
@@ -11,7 +11,7 @@
 //! A program may hand in meters of its own, in boxes beside these: `calls_to_line` and `keeper` of
 //! `text_tests` are two.
 //!
-//! It stands on `circuit_model` and `exchange_events`, and on the kit's `itoa`.
+//! It uses `circuit_model` and `exchange_events`, and the kit's `itoa`.
 #![tactic(auto)]
 
 mod call_detail;

@@ -5,22 +5,22 @@ ghost use Rattle.exchange_events.specs.declared.record.CallRecord.{CallRecord};
 use exchange_events::CallRecord;
 use std::alloc::AllocError;
 
-/// Something that is told of calls and says a summary of them.
+/// Something that notes calls and says a summary of them.
 ///
-/// Which lists of calls a meter stands for, and what it would say once it is told some more, is its
+/// Which lists of calls a meter represents, and what it would say once it has noted more, is its
 /// own; what it may say now is what it says with no more of them.
 pub trait Meter: Drop {
-    /// It stands for this list of calls: they are what it was told, in order.
+    /// It represents this list of calls: they are what it noted, in order.
     ghost stands: { Self → List CallRecord → Type 0 };
 
-    /// Its text once it is told these calls too.
+    /// Its text once it has noted these calls too.
     ghost text: { Self → List CallRecord → List ℕ };
 
     /// Tells the meter of one more call.
     ///
     /// # Errors
     ///
-    /// [`AllocError`] for want of memory, and then the meter is as it was.
+    /// [`AllocError`] where memory runs out, and then the meter is as it was.
     fn note(&mut self, told: &CallRecord) -> Result<(), AllocError>
         ensures stands { OnOk result ((calls : List CallRecord) → stands self.old calls → stands self.new (calls ++ told.now ∷ [])) }
         ensures text { OnOk result ((calls : List CallRecord) → text self.new calls ≡ text self.old (told.now ∷ calls)) }
@@ -30,7 +30,7 @@ pub trait Meter: Drop {
     ///
     /// # Errors
     ///
-    /// [`AllocError`] for want of memory, and then `out` is as it was.
+    /// [`AllocError`] where memory runs out, and then `out` is as it was.
     fn summary(&self, out: &mut Vec<u8>) -> Result<(), AllocError>
         ensures text { OnOk result (out.new.items ≡ out.old.items ++ text self.now []) }
         ensures kept { OnErr result (out.new.items ≡ out.old.items) };

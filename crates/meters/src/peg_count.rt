@@ -11,7 +11,7 @@ use std::marker::Model;
 
 /// Counts calls, and those among them that were answered.
 ///
-/// Its text is the line `peg CALLS ANSWERED`. Both counts stand at 18,446,744,073,709,551,615.
+/// Its text is the line `peg CALLS ANSWERED`. Both counts stay at 18,446,744,073,709,551,615.
 #[derive(Drop)]
 pub struct PegCount {
     calls: u64,
@@ -27,7 +27,7 @@ impl Model for PegCount {
 }
 
 impl PegCount {
-    /// A peg count that was told of no call. It takes no memory.
+    /// A peg count that has noted no call. It takes no memory.
     pub fn new() -> PegCount
         ensures stands { ArePegsOf [] result }
         ensures text { (calls : List CallRecord) → peg_text_with result calls ≡ peg_text calls }
@@ -57,7 +57,7 @@ impl Meter for PegCount {
         Ok(())
     }
 
-    /// Appends the text of the calls that the meter stands for.
+    /// Appends the text of the calls that the meter represents.
     fn summary(&self, out: &mut Vec<u8>) -> Result<(), AllocError>
         ensures text { OnOk result (out.new.items ≡ out.old.items ++ peg_text_with self.now []) }
         ensures calls { OnOk result ((calls : List CallRecord) → ArePegsOf calls self.now → out.new.items ≡ out.old.items ++ peg_text calls) }

@@ -1,4 +1,4 @@
-// The pieces of the meters' texts. Each leaves a front of what it appends where memory is wanting.
+// The pieces of the meters' texts. Each leaves a prefix of what it appends where memory is wanting.
 ghost use Rattle.std.specs.Prelude.{◌≡◌, ◌++◌, length, take, codes, decimal, OnOk, OnErr};
 ghost use Rattle.circuit_model.specs.Channels.{channel_at};
 ghost use Rattle.meters.specs.Details.{slot_text, party_text, figure, call_line};

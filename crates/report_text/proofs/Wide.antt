@@ -25,7 +25,7 @@ unfolding encode_with
 encode-append t [] ys = refl
 encode-append t (x ∷ xs) ys = rw (encode-append t xs ys) refl
 
--- the digits of octets stand before those of more octets
+-- the digits of octets come before those of more octets
 pub encode_front : (t xs ys : List ℕ) → take (2 * length xs) (encode_with t (xs ++ ys)) ≡ encode_with t xs
 encode_front t xs ys =
     let len = length-encode_with t xs in
@@ -33,7 +33,7 @@ encode_front t xs ys =
     ∙ take-append-le (2 * length xs) (encode_with t xs) (encode_with t ys) (omega (arith, len))
     ∙ take_all (2 * length xs) (encode_with t xs) (omega (arith, len))
 
--- one octet more is written, behind so many others
+-- one octet more is written, behind n others
 pub encode_step_at : (front input text : List ℕ) (o i x y : ℕ) → i < length input → o + 2 * i + 1 < length text
     → x ≡ slice_index upper_digits (slice_index input i / 16) → y ≡ slice_index upper_digits (slice_index input i % 16)
     → take (o + 2 * i) text ++ encode_upper (drop i input) ≡ front ++ encode_upper input

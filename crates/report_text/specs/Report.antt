@@ -18,7 +18,7 @@ use Rattle.exchange_events.specs.Responses.{reply_of}
 unfoldable pub line_octets : (Slot → ℕ) → ℕ → List ℕ
 line_octets octet line = map (λ place. octet (record { line = line; place = place })) (range_with_len 0 30)
 
--- the octets that each of so many lines sends, given what each slot sends
+-- the octets that each of n lines sends, given what each slot sends
 abbrev pub lines_sent : (Slot → ℕ) → ℕ → List (List ℕ)
 lines_sent octet lines = map (line_octets octet) (range_with_len 0 lines)
 
@@ -62,7 +62,7 @@ frame_messages (sent ∷ rest) = codes " send" ++ on_line sent.line sent.octets 
 abbrev pub frame_line : List (List ℕ) → ℕ → ℕ → List Signal → List ℕ
 frame_line octets n k sends = decimal n ++ codes " frame " ++ decimal k ++ frame_messages sends ++ parts 0 octets ++ codes "\n"
 
--- the line of a report for event number n, given what each line sends where it is the event of a frame; the records of calls are told nowhere
+-- the line of a report for event number n, given what each line sends where it is the event of a frame; the records of calls are nowhere
 abbrev pub report_line : List (List ℕ) → ℕ → Kept → List ℕ
 report_line octets n (Granted a b) = decimal n ++ codes " granted " ++ decimal a ++ codes " " ++ decimal b ++ codes "\n"
 report_line octets n Busy = decimal n ++ codes " busy\n"

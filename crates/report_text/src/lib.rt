@@ -4,7 +4,7 @@
 //! it, and [`append_line`] does so from the response and the outbox of a step. Where memory runs out,
 //! the text stays as it was (`kept`).
 //!
-//! It stands on `circuit_model` and `exchange_events`, and on the kit's `hex` and `itoa`.
+//! It uses `circuit_model` and `exchange_events`, and the kit's `hex` and `itoa`.
 #![tactic(auto)]
 
 mod digits;

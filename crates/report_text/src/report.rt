@@ -10,7 +10,7 @@ use crate::text::{put_before, put_line_before, put_number_before};
 use exchange_events::{Answer, Kept, Outbox, Response, Signal};
 use std::alloc::AllocError;
 
-// Room for the words and numbers of a line: three numbers of ten digits, and what stands between them.
+// Room for the words and numbers of a line: three numbers of ten digits, and what is between them.
 const ROOM: usize = 48;
 
 /// Appends a report's line for one event: its number and what it was answered, for a message what
@@ -19,7 +19,7 @@ const ROOM: usize = 48;
 ///
 /// # Errors
 ///
-/// [`AllocError`] for want of memory, and then `out` is as it was.
+/// [`AllocError`] where memory runs out, and then `out` is as it was.
 pub fn append_answer(out: &mut Vec<u8>, answer: &Answer) -> Result<(), AllocError>
     ensures line { OnOk result (out.new.items ≡ out.old.items ++ answer_line answer.now) }
     ensures kept { OnErr result (out.new.items ≡ out.old.items) }
@@ -39,7 +39,7 @@ pub fn append_answer(out: &mut Vec<u8>, answer: &Answer) -> Result<(), AllocErro
 ///
 /// # Errors
 ///
-/// [`AllocError`] for want of memory, and then `out` is as it was.
+/// [`AllocError`] where memory runs out, and then `out` is as it was.
 pub fn append_line(
     out: &mut Vec<u8>,
     event: u32,
@@ -116,7 +116,7 @@ fn append_parts(
     done
 }
 
-// The same, and a refusal leaves a front of the line.
+// The same, and a refusal leaves a prefix of the line.
 fn put_parts_line(
     out: &mut Vec<u8>,
     event: u32,

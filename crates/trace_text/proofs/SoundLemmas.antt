@@ -214,7 +214,7 @@ message_fits external words e h =
     let is : Message line.0 octets.0 ≡ e = grind (arith, octets.2) in
     rw (← is) (inside, small)
 
--- the steps by which two words name what a number stands for
+-- the steps by which two words name where a number leads
 abbrev line_target : ℕ → Result Target Reason
 line_target line = Ok (goal.Line line)
 
@@ -433,7 +433,7 @@ says_fine s line said h =
     let same = joins_same s first.0 said first.2 in
     (subst (λ v. IsFine s v) same.0 (reads_fine s line first.0 first.1), subst (λ v. IsCounted s v) same.0 same.1)
 
--- what some lines say is sound, in an exchange with so many external lines
+-- what some lines say is sound, in an exchange with n external lines
 pub record IsSoundFront (external : ℕ) (told : List Said) : Type 0 where
   pub count : length (events_in told) ≤ 65535
   pub events : All (Fits external) (events_in told)

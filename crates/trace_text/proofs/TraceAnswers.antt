@@ -1,4 +1,4 @@
--- The one answer that a row of bytes can have, but for want of memory.
+-- The one answer that a row of bytes can have, but where memory runs out.
 use Rattle.std.proofs.Common.{◌≡◌, ℕ, ◌⊎◌, inl, inr, List, Result, Ok, Err, refl, ap}
 use Rattle.std.specs.Prelude.{IfOk, IfErr}
 use Rattle.trace_text.specs.declared.fault.Reason.{Reason}

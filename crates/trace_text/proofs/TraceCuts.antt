@@ -1,4 +1,4 @@
--- Lines and words, cut off at the front of a row of octets.
+-- Lines and words, cut off at the beginning of a row of octets.
 use Rattle.std.proofs.Common.{◌≡◌, ◌≢◌, ℕ, zero, suc, ◌+◌, ◌<◌, Bool, true, false, eqb, List, [], ◌∷◌, length, get_or, take, drop, Option, Some, None, unwrap_or, option_map, refl, sym, ap, arith}
 use Rattle.std.specs.Prelude.{position}
 use Rattle.std.specs.List.{slice_split}
@@ -7,13 +7,13 @@ use Rattle.std.proofs.lemmas.List.{take_all, drop_all}
 use Rattle.memchr.specs.Find.{IsFirstByte, is_byte}
 use Rattle.trace_text.specs.TraceWords.{lines, words, cut_at, is_octet}
 
--- the mark stands at place k, and at no place before
+-- the mark is at place k, and at no place before
 pub record IsFirstMark (mark : ℕ) (octets : List ℕ) (k : ℕ) : Type 0 where
   pub within : k < length octets
   pub here : is_octet mark (get_or octets k 0) ≡ true
   pub before : (j : ℕ) → j < k → is_octet mark (get_or octets j 0) ≡ false
 
--- the mark stands nowhere
+-- the mark is nowhere
 abbrev pub NoMark : ℕ → List ℕ → Type 0
 NoMark mark octets = (j : ℕ) → j < length octets → is_octet mark (get_or octets j 0) ≡ false
 

@@ -241,7 +241,7 @@ pub octets_end : (octets rest : List ℕ) (written : Option (List ℕ)) → leng
 octets_end octets [] written empty so_far = sym so_far ∙ ap (λ (l : List ℕ). Some l) (append-nil octets)
 octets_end octets (x ∷ rest) written empty so_far = absurd (omega arith)
 
--- ---- at most so many octets
+-- ---- at most n octets
 
 some_few : (most : ℕ) (digits : List ℕ) (o : Option (List ℕ)) → length digits ≤ 2 * most → IfSome o (λ octets. length digits ≡ 2 * length octets) → ok_or o Hex ≡ at_most most o
 some_few most digits None few half = refl
@@ -379,7 +379,7 @@ value_found digits k all within =
       | inr lost ↦ let none = list_all_at is_digit digits k 0 within lost.0 in absurd cc
     ]
 
--- so many digits, and more behind them up to sixty-four
+-- n digits, and more behind them up to sixty-four
 abbrev pub widened : List ℕ → List ℕ
 widened digits = digits ++ replicate (64 - length digits) 48
 

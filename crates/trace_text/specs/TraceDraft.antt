@@ -49,12 +49,12 @@ pub record Holds (d : Draft) (told : List Said) : Type 0 where
   pub events : d.events.items ≡ events_in told
   pub ends : (more : List Said) → segment_ends (told ++ more) ≡ d.ends.items ++ ends_after d.begun (length d.events.items) more
 
--- at the end of so many lines a fault is want of memory, or no header was among them
+-- at the end of n lines a fault is memory that ran out, or no header was among them
 abbrev pub FailsAtEnd : Option Sizes → ℕ → TraceFault → Type 0
 FailsAtEnd sizes count trace_fault.Memory = Unit {0}
 FailsAtEnd sizes count (trace_fault.Line number why) = (sizes ≡ None) × (number ≡ count + 1) × (why ≡ reason.Header)
 
--- what is answered in place of a trace: want of memory, or the first fault of the bytes
+-- what is answered in place of a trace: memory ran out, or the first fault of the bytes
 abbrev pub IsFault : List ℕ → TraceFault → Type 0
 IsFault bytes trace_fault.Memory = Unit {0}
 IsFault bytes (trace_fault.Line number why) = IsRefused bytes number why

@@ -70,7 +70,7 @@ abbrev pub thirty : Option (List ℕ) → Result (List ℕ) Reason
 thirty None = Err Hex
 thirty (Some octets) = if length octets == 30 then Ok octets else Err Length
 
--- at most so many octets: 260 of a message
+-- at most n octets: 260 of a message
 abbrev pub at_most : ℕ → Option (List ℕ) → Result (List ℕ) Reason
 at_most most None = Err Hex
 at_most most (Some octets) = if nat_le (length octets) most then Ok octets else Err Length

@@ -99,7 +99,7 @@ so_far told = record { sizes = sizes_in told; events = length (events_in told); 
 abbrev pub open_segment_end : ℕ → ℕ → List ℕ
 open_segment_end begun count = if begun == count then [] else count ∷ []
 
--- the numbers of the last events of the segments that have any. So many events came before, and so many before the segment that is open
+-- the numbers of the last events of the segments that have any. n events came before, and n before the segment that is open
 abbrev pub ends_after : ℕ → ℕ → List Said → List ℕ
 ends_after begun count [] = open_segment_end begun count
 ends_after begun count (Nothing ∷ others) = ends_after begun count others
@@ -113,7 +113,7 @@ ends_after begun count (Sync ∷ others) = open_segment_end begun count ++ ends_
 abbrev pub segment_ends : List Said → List ℕ
 segment_ends told = ends_after 0 0 told
 
--- each line, after those before it, meets all of its checks and says what stands at its place
+-- each line, after those before it, meets all of its checks and says what is at its place
 abbrev pub EachSays : List Said → List (List ℕ) → List Said → Type 0
 EachSays before [] [] = Unit {0}
 EachSays before [] (said ∷ told) = ⊥

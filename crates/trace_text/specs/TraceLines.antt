@@ -95,7 +95,7 @@ message external others = do
 abbrev pub happens : Result Event Reason → Result Said Reason
 happens reading = reading >>= λ event. Ok (said.Happens event)
 
--- what a number stands for: `line` and an external line, or `room` and a conference room
+-- where a number leads: `line` and an external line, or `room` and a conference room
 abbrev pub target : ℕ → List ℕ → List ℕ → Result Target Reason
 target external name word =
     if bytes_eq name (codes "line") then (do
@@ -106,7 +106,7 @@ target external name word =
       Ok (goal.Room number))
     else Err reason.Word
 
--- a number: 1 to 20 digits and what they stand for
+-- a number: 1 to 20 digits and where they lead
 abbrev pub number : ℕ → List (List ℕ) → Result Number Reason
 number external others = do
   parts ← ok_or (three others) reason.Word
@@ -187,11 +187,11 @@ pub record SoFar : Type 0 where
   pub tones : Tones
   pub timers : GivenTimers
 
--- a line that stands before the first event, or nowhere
+-- a line that comes before the first event, or nowhere
 abbrev pub before_events : SoFar → Result Said Reason → Result Said Reason
 before_events so_far reading = if so_far.events == 0 then reading else Err reason.Word
 
--- a line of a kind, whose further words are given, in an exchange with so many external lines
+-- a line of a kind, whose further words are given, in an exchange with n external lines
 abbrev pub by_kind : SoFar → ℕ → Kind → List (List ℕ) → Result Said Reason
 by_kind so_far external kind.Frame others = happens (frame external others)
 by_kind so_far external kind.Message others = happens (message external others)

@@ -14,14 +14,14 @@ use Rattle.circuit_model.specs.declared.channel.Slot.{Slot}
 abbrev pub ends_word : List ℕ → Bool
 ends_word octets = slice_index_or octets 0 32 == 32
 
--- a numeral stands before other octets
+-- a numeral comes before other octets
 pub record NumberAt (octets : List ℕ) (n : ℕ) (others : List ℕ) : Type 0 where
   pub front : List ℕ
   pub digits : list_all is_ascii_digit front ≡ true
   pub number : numeral front ≡ Some n
   pub parts : octets ≡ front ++ others
 
--- a space, the numeral of a line, `:` and sixty octets stand before other octets, among them the end of the word
+-- a space, the numeral of a line, `:` and sixty octets come before other octets, among them the end of the word
 pub record PartAt (rest : List ℕ) (line : ℕ) (sixty others : List ℕ) : Type 0 where
   pub front : List ℕ
   pub digits : list_all is_ascii_digit front ≡ true
@@ -43,7 +43,7 @@ pub record GivesPlainly (reading : Result Event Reason) (line : List ℕ) (event
   pub reads : reading ≡ Ok event
   pub text : list_all is_printable line ≡ true
 
--- a slot stands before other octets
+-- a slot comes before other octets
 pub record SlotAt (external : ℕ) (octets : List ℕ) (at : Slot) (others : List ℕ) : Type 0 where
   pub word : List ℕ
   pub some : 0 < length word

@@ -37,7 +37,7 @@ abbrev pub three : List (List ℕ) → Option (List ℕ × List ℕ × List ℕ)
 three (one ∷ other ∷ last ∷ []) = Some (one, other, last)
 three others = None
 
--- what stands before and after the first octet of a word that is the mark, where it has one
+-- what is before and after the first octet of a word that is the mark, where it has one
 abbrev pub cut_at : ℕ → List ℕ → Option (List ℕ × List ℕ)
 cut_at mark word = option_map (λ at. (take at word, drop (at + 1) word)) (position (is_octet mark) word)
 
@@ -54,7 +54,7 @@ is_blank line = is_empty (words line)
 abbrev pub is_printable : ℕ → Bool
 is_printable octet = between 0x20 0x7E octet
 
--- one to nine decimal digits, of which the first isn't 0 unless it stands alone
+-- one to nine decimal digits, of which the first isn't 0 unless it is alone
 abbrev pub is_numeral : List ℕ → Bool
 is_numeral word = between 1 9 (length word) && list_all is_ascii_digit word && (length word == 1 || not (slice_index word 0 == 48))
 

@@ -23,7 +23,7 @@ pub(crate) fn first_line(bytes: &[u8]) -> (&[u8], &[u8])
     }
 }
 
-// What is left of a line behind the spaces at its front.
+// What is left of a line behind the spaces at its beginning.
 fn behind_spaces(line: &[u8]) -> &[u8]
     ensures same { words result.now ≡ words line.now }
     ensures shorter { length result.now ≤ length line.now }
@@ -89,7 +89,7 @@ pub(crate) fn three_words(line: &[u8]) -> Option<(&[u8], &[u8], &[u8])>
     Some((one, other, last))
 }
 
-/// What stands before and after the first octet of a word that is the mark, where one is.
+/// What is before and after the first octet of a word that is the mark, where one is.
 pub(crate) fn halves_at(mark: u8, word: &[u8]) -> Option<(&[u8], &[u8])>
     ensures { option_map (λ halves. (halves.0.now, halves.1.now)) result ≡ cut_at mark word.now }
 {

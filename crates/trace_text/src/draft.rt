@@ -225,7 +225,7 @@ impl Draft {
         Ok(())
     }
 
-    /// The trace of so many lines.
+    /// The trace of n lines.
     pub fn finish(mut self, lines: u32) -> Result<Trace, TraceFault>
         requires { lines < 4294967295 }
         ensures read { IfOk result (λ t. (told : List Said) → Holds self told → IsWhatLinesSay t told) }

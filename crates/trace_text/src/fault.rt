@@ -13,7 +13,7 @@ pub enum Reason {
     /// The first line that is neither blank nor a comment is no header, or there is none.
     Header,
     /// An octet that isn't printable, an unknown first word, a number, a tone or a timer behind an event,
-    /// a wrong count of words, a number that stands for neither a line nor a room, or a tone or a timer
+    /// a wrong count of words, a number that leads to neither a line nor a room, or a tone or a timer
     /// that is none or was given before.
     Word,
     /// A word that writes no line or no slot of the exchange, a line given twice in one frame, or a

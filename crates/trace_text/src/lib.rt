@@ -8,8 +8,8 @@
 //! - Every trace that is read is sound: its lines exist, and its sizes are those of an exchange
 //!   ([`traces_are_sound`]).
 //!
-//! It stands on `circuit_model`, `number_plan`, `tone_rules`, `call_timers` and `exchange_events`, and
-//! on the kit's `memchr`.
+//! It uses `circuit_model`, `number_plan`, `tone_rules`, `call_timers` and `exchange_events`, and
+//! the kit's `memchr`.
 #![tactic(auto)]
 
 mod cut;

@@ -91,7 +91,7 @@ pub(crate) fn message_of(alloc: Global, external: u8, line: &[u8]) -> Result<Eve
     Ok(Event::Message(line, octets))
 }
 
-// What the last two words of a number's line say that the number stands for.
+// What the last two words of a number's line say that the number leads to.
 fn target_of(external: u8, name: &[u8], word: &[u8]) -> Result<Target, Reason>
     ensures { result ≡ target external name.now word.now }
 {

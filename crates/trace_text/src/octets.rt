@@ -147,7 +147,7 @@ fn octets_read(alloc: Global, digits: &[u8]) -> Result<Vec<u8>, LineFault>
     Ok(octets)
 }
 
-// The octets, at most so many, which hexadecimal digits write.
+// The octets, at most n, which hexadecimal digits write.
 fn octets_up_to(alloc: Global, most: usize, digits: &[u8]) -> Result<Vec<u8>, LineFault>
     requires { most < 2 ^ 32 }
     ensures read { IfOk result (λ octets. at_most most (octets_written digits.now) ≡ Ok octets.items) }

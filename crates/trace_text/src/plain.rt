@@ -42,7 +42,7 @@ fn number_at(octets: &[u8]) -> Option<(u8, &[u8])>
     }
 }
 
-// The number of a line and the sixty octets behind it at the front of what is left of a frame's line.
+// The number of a line and the sixty octets behind it at the beginning of what is left of a frame's line.
 fn part_at(rest: &[u8]) -> Option<(u8, &[u8; 60], &[u8])>
     ensures { IfSome result (λ found. PartAt rest.now found.0 found.1.now found.2.now) }
 {
