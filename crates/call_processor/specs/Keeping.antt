@@ -53,8 +53,8 @@ pub record HandsBelow (below : ℕ) (answers others from to : List Placed) : Typ
 
 -- ---- one event, and a part of a segment
 
--- The event was done by the seat and kept: behind all that was kept before stands its answer, at the place of the seat's last entry. Of its octets
--- holds what is said.
+-- The event was done by the seat and kept: its answer comes behind all that was kept before, at the place of the seat's last entry. What is
+-- said of its octets holds.
 pub record HasKept {K : Type 0} (holds : K → List Placed → Type 0) (board : Board) (seat : Known) (event : ℕ) (octets : Placed → Type 0) (before after : K) : Type 0 where
   pub answer : Placed
   pub place : length seat.seen ≡ answer.place + 1
@@ -67,7 +67,7 @@ pub record HasKept {K : Type 0} (holds : K → List Placed → Type 0) (board : 
 abbrev pub has_no_octets : Placed → Type 0
 has_no_octets p = p.answer.octets ≡ []
 
--- From v to w the first events of the part were done, as `Works` says, and their answers are what is kept; of the octets of each holds what is said,
+-- From v to w the first events of the part were done, as `Works` says, and their answers are what is kept; what is said of octets holds for those of each,
 -- given what the seat knows at last.
 pub record KeepsWork {K : Type 0} (holds : K → List Placed → Type 0) (board : Board) (octets : Known → Placed → Type 0) (part : List ℕ) (v : Known) (keeper : K) (whole : Bool) (w : Known) : Type 0 where
   pub answers : List Placed

@@ -11,7 +11,7 @@ is_worker (Processor a) Frame_worker = false
 is_worker Frame_worker (Processor b) = false
 is_worker Frame_worker Frame_worker = true
 
--- among so many processors, the worker does the event, if there is one
+-- among n processors, the worker does the event, if there is one
 abbrev pub does : ℕ → Worker → Option Event → Bool
 does processors worker None = false
 does processors worker (Some e) = is_worker (worker_of processors e) worker

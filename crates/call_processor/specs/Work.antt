@@ -44,7 +44,7 @@ pub record DidEvent (v : Known) (event : ℕ) (w : Known) : Type 0 where
   pub turn : 0 < v.left
   pub exact : w.own ≡ entries_of w.number w.seen
 
--- the answer stands at the place of the seat's entry for its event, and keeps the exchange's reply at the history before that entry
+-- the answer has the place of the seat's entry for its event, and keeps the exchange's reply at the history before that entry
 pub record IsAnswer (board : Board) (seat : Known) (p : Placed) : Type 0 where
   pub reply : Reply
   pub entry : slice_get seat.seen p.place ≡ Some (seat.number, p.answer.event)
@@ -56,7 +56,7 @@ pub record IsAnswer (board : Board) (seat : Known) (p : Placed) : Type 0 where
 abbrev pub answered_events : List Placed → List ℕ
 answered_events answers = map (λ (p : Placed). p.answer.event) answers
 
--- from v to w the first events of the part were done, and all of them where the work is whole; but for the last one, if it isn't, all were
+-- from v to w the first events of the part were done, and all of them where the work is whole; except maybe the last one, if it isn't, all were
 -- answered, each behind the one before it in the history
 pub record Works (board : Board) (part : List ℕ) (v : Known) (answers : List Placed) (whole : Bool) (w : Known) : Type 0 where
   pub done : List ℕ

@@ -90,11 +90,11 @@ fn do_next<B: Switchboard, G: Gate, C: Carrier, K: Keeper, R: Threads + Wait + S
 /// Does all events of one segment of a board's trace by one caller, in the order of the file, boundaries
 /// and octets of frames among them; segments are counted from 0. The caller is seat 0, which has joined
 /// all others, so that nobody does an event between. At the gate each event is done in the name of the
-/// worker that has it. A keeper is told of the answers, behind what it keeps.
+/// worker that has it. A keeper gets the answers, behind what it keeps.
 ///
 /// # Errors
 ///
-/// [`AllocError`] for want of memory: the work ends there, and only the last event done may lack its
+/// [`AllocError`] where memory runs out: the work ends there, and only the last event done may lack its
 /// answer.
 pub fn run_alone<B: Switchboard, G: Gate, C: Carrier, K: Keeper, R: Threads + Wait + Sync>(
     rt: &R,

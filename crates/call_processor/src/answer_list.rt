@@ -12,7 +12,7 @@ use std::collections::VecDeque;
 /// A keeper of whole answers.
 #[derive(Drop)]
 pub struct AnswerList {
-    /// The answers, in the order in which it was told of them.
+    /// The answers, in the order in which it got them.
     pub items: VecDeque<Placed>,
 }
 

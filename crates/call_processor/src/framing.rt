@@ -74,7 +74,7 @@ pub(crate) fn do_frame<B: Switchboard, G: Gate, C: Carrier, K: Keeper, R: Thread
     keeper.keep(alloc, place, event, response, &desk.out, octets.as_slice())
 }
 
-// Makes room for what so many lines send, unless there is.
+// Makes room for what n lines send, unless there is.
 pub(crate) fn grow(
     alloc: Global,
     octets: &mut Vec<[u8; 30]>,
@@ -203,7 +203,7 @@ pub fn run_frames<B: Switchboard, G: Gate, C: Carrier, R: Threads + Wait + Sync>
     }
 }
 
-/// Does the frames of one segment as [`run_frames`] does, at a workplace that the frame worker is lent
+/// Does the frames of one segment as [`run_frames`] does, at a workplace that the frame worker gets
 /// and hands back. It begins with an empty keeper. Where another worker ran out of memory, the work ends
 /// before the next frame.
 pub fn run_frames_at<B: Switchboard, G: Gate, C: Carrier, K: Keeper, R: Threads + Wait + Sync>(

@@ -7,7 +7,7 @@ use crate::worked::Placed;
 use exchange_events::{Outbox, Response};
 use std::alloc::{AllocError, Global};
 
-/// What a worker has for the events that it did: it is told of each, and keeps of it what is wanted.
+/// What a worker has for the events that it did: it gets each, and keeps of it what is wanted.
 /// Events that several workers did are put together by their places in the history.
 pub trait Keeper: Sized + Send + Drop {
     /// What it keeps is of these answers, each with its place, in order.
@@ -26,7 +26,7 @@ pub trait Keeper: Sized + Send + Drop {
     ///
     /// # Errors
     ///
-    /// [`AllocError`] for want of memory, and then it keeps what it kept.
+    /// [`AllocError`] where memory runs out, and then it keeps what it kept.
     fn keep(
         &mut self,
         alloc: Global,
@@ -43,7 +43,7 @@ pub trait Keeper: Sized + Send + Drop {
     fn count(&self) -> usize
         ensures { (answers : List Placed) → holds self.now answers → result ≡ length answers };
 
-    /// Keeps only the first so many.
+    /// Keeps only the first n.
     fn cut(&mut self, count: usize)
         ensures { (answers more : List Placed) → holds self.old (answers ++ more) → length answers ≡ count → holds self.new answers };
 
@@ -56,7 +56,7 @@ pub trait Keeper: Sized + Send + Drop {
     ///
     /// # Errors
     ///
-    /// [`AllocError`] for want of memory. The other then keeps what it kept, and maybe more behind it.
+    /// [`AllocError`] where memory runs out. The other then keeps what it kept, and maybe more behind it.
     fn hand_on(&mut self, to: &mut Self, below: u32) -> Result<(), AllocError>
         ensures handed { OnOk result ((answers others : List Placed) → holds self.old answers → holds to.old others
             → HandsOn (λ k. holds k) below answers others self.new to.new) }

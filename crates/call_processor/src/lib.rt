@@ -6,12 +6,12 @@
 //!   the exchange's at the whole history before it (`works`).
 //! - An answer to a frame has the octets that the engine plays (`octets` of [`run_frames`]), and
 //!   the engine comes back carrying the frames of the history (`ready`).
-//! - [`process_at`] and [`run_frames_at`] do the same at a workplace that they are lent, over any
-//!   [`Keeper`], which is told of each event that was done (`works`). [`AnswerList`] keeps whole answers.
+//! - [`process_at`] and [`run_frames_at`] do the same at a workplace that they get, over any
+//!   [`Keeper`], which gets each event that was done (`works`). [`AnswerList`] keeps whole answers.
 //! - [`run_alone`] does all events of a segment by one caller, in the order of the file (`in_order`).
-//! - [`Shortage`] tells the others of want of memory; [`processor_of`] and [`numbers_of`] part the events.
+//! - [`Shortage`] tells the others that memory ran out; [`processor_of`] and [`numbers_of`] part the events.
 //!
-//! It stands on `circuit_model`, `seat_history`, `control_memory`, `tone_rules`, `frame_engine`,
+//! It uses `circuit_model`, `seat_history`, `control_memory`, `tone_rules`, `frame_engine`,
 //! `exchange_core`, `gate`, `exchange_events` and `call_profile`.
 #![tactic(auto)]
 

@@ -135,8 +135,8 @@ pub fn process<B: Switchboard, G: Gate, R: Wait>(
     }
 }
 
-/// Does the events of one call processor in one segment as [`process`] does, at a workplace that it is
-/// lent and hands back. It begins with an empty keeper. Where another worker ran out of memory, the work
+/// Does the events of one call processor in one segment as [`process`] does, at a workplace that it
+/// gets and hands back. It begins with an empty keeper. Where another worker ran out of memory, the work
 /// ends before the next event.
 pub fn process_at<B: Switchboard, G: Gate, K: Keeper, R: Wait>(
     rt: &R,

@@ -26,7 +26,7 @@ pub fn numbers_of(trace: &Trace, segment: u32) -> (u32, u32)
     (ends[segment as usize - 1] + 1, last + 1)
 }
 
-/// The call processor that does an event, among so many. `None` for a frame, which the frame worker
+/// The call processor that does an event, among n. `None` for a frame, which the frame worker
 /// does.
 pub fn processor_of(processors: u8, event: &Event) -> Option<u32>
     requires some { 0 < processors }

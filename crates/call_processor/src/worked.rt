@@ -19,7 +19,7 @@ pub struct Worked<T> {
     pub seat: T,
     /// The answers, in the order of the worker's part.
     pub answers: Vec<Placed>,
-    /// Whether all of the part was done and answered. False only for want of memory.
+    /// Whether all of the part was done and answered. False only where memory runs out.
     pub whole: bool,
 }
 
@@ -34,7 +34,7 @@ pub struct Framed<T, C> {
     pub tool: Tool,
 }
 
-/// What a worker is lent for its part of a segment, and may be lent again for another. What an earlier
+/// What a worker gets for its part of a segment, and may get again for another. What an earlier
 /// worker left there is of no matter. `K` is the type of its keeper.
 #[derive(Drop)]
 pub struct Workplace<K> {
@@ -53,7 +53,7 @@ pub struct Finished<T, K> {
     pub seat: T,
     /// The workplace. Its keeper keeps the worker's events, in the order of its part.
     pub workplace: Workplace<K>,
-    /// Whether all of the part was done and kept. False only for want of memory, be it another
+    /// Whether all of the part was done and kept. False only where memory runs out, be it another
     /// worker's.
     pub whole: bool,
 }

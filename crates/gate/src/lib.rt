@@ -4,7 +4,7 @@
 //! holds nobody. A [`TestGate`] holds two threads against each other, so that a test sees that they
 //! ran at once. A gate promises nothing but that each call ends, so that no reply can rest on one.
 //!
-//! It stands on no other crate.
+//! It uses no other crate.
 #![tactic(auto)]
 
 mod gate;

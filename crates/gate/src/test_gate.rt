@@ -29,7 +29,7 @@ impl TestGate {
         TestGate::patient(event, frame, LOOKS)
     }
 
-    /// A gate whose holds end after so many looks.
+    /// A gate whose holds end after n looks.
     pub fn patient(event: u32, frame: u32, looks: u32) -> TestGate {
         TestGate {
             event,
@@ -46,7 +46,7 @@ impl TestGate {
         is_set(&self.crossing) && is_set(&self.turned) && !is_set(&self.gave_up)
     }
 
-    // Waits for a flag, for so many looks at most.
+    // Waits for a flag, for n looks at most.
     fn hold_until(&self, flag: &AtomicU64) {
         for _ in 0..self.looks {
             if is_set(flag) {

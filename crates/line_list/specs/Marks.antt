@@ -1,4 +1,4 @@
--- Lines that stand in one text, by what is known of each. Source: this exchange's own.
+-- Lines in one text, by what is known of each. Source: this exchange's own.
 use Rattle.std.specs.Prelude.{◌≡◌, ℕ, ◌+◌, ◌<◌, ◌≤◌, List, [], ◌∷◌, length, take, drop, All}
 use Rattle.exchange_events.specs.declared.record.CallRecord.{CallRecord}
 use Rattle.line_list.specs.declared.lines.Mark.{Mark}

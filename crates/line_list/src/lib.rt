@@ -10,7 +10,7 @@
 //! [`NoLines`] no line is made. [`LineList::text`] is the text of its lines, and [`LineList::records`]
 //! are their records (`text`, `records`).
 //!
-//! It stands on `exchange_events`, `report_text`, `call_processor` and `call_profile`.
+//! It uses `exchange_events`, `report_text`, `call_processor` and `call_profile`.
 #![tactic(auto)]
 
 mod lines;

@@ -1,4 +1,4 @@
-//! Lines that stand in one text, one behind another.
+//! Lines in one text, one behind another.
 ghost use Rattle.std.specs.Prelude.{◌≡◌, ◌+◌, ◌-◌, ◌<◌, ◌≤◌, ◌++◌, ◌∷◌, ◌^◌, [], All, OnOk, OnErr, length, take, drop};
 ghost use Rattle.exchange_events.specs.Kept.{kept_of};
 ghost use Rattle.exchange_events.specs.Responses.{reply_of};
@@ -100,7 +100,7 @@ impl Lines {
     ///
     /// # Errors
     ///
-    /// [`AllocError`] for want of memory, and then the lines are as they were.
+    /// [`AllocError`] where memory runs out, and then the lines are as they were.
     pub fn push(
         &mut self,
         listing: Listing,
@@ -133,7 +133,7 @@ impl Lines {
         self.marks.len() - self.handed.lines
     }
 
-    /// Keeps only the first so many.
+    /// Keeps only the first n.
     pub fn truncate(&mut self, count: usize)
         ensures { self.new ≡ take count self.old }
     {
@@ -161,7 +161,7 @@ impl Lines {
     ///
     /// # Errors
     ///
-    /// [`AllocError`] for want of memory, and then the others are as they were.
+    /// [`AllocError`] where memory runs out, and then the others are as they were.
     pub fn hand_on(&mut self, to: &mut Lines, below: u32) -> Result<(), AllocError>
         ensures handed { OnOk result (HandsLines below self.old to.old self.new to.new) }
         ensures refused { OnErr result (to.new ≡ to.old) }
@@ -246,7 +246,7 @@ fn append_event(
     done
 }
 
-// Appends lines that stand in another text. A refusal leaves all as it was.
+// Appends lines of another text. A refusal leaves all as it was.
 fn append_run(
     text: &mut Vec<u8>,
     records: &mut Vec<CallRecord>,

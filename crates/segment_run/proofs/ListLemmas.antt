@@ -132,7 +132,7 @@ module _ {X : Type 0} where
   got_read (y ∷ ys) zero x h e = ap Some (sym e)
   got_read (y ∷ ys) (suc i) x h e = got_read ys i x (omega (arith, h)) e
 
-  -- what stands in a list once one place was written
+  -- what is in a list once one place was written
   pub got_set : (xs : List X) (i j : ℕ) (x y : X) → slice_get (slice_set xs i x) j ≡ Some y → ((i ≡ j) × (x ≡ y)) ⊎ (slice_get xs j ≡ Some y)
   got_set [] i j x y e = inr e
   got_set (z ∷ xs) zero zero x y e = inl (refl, cc e)

@@ -24,7 +24,7 @@ use Rattle.segment_run.proofs.DoerLemmas.{is_itself, numbered_frames, numbered_p
 abbrev one_if : Bool → ℕ
 one_if b = cond b 1 0
 
--- how many of the first so many workers do the event
+-- how many of the first n workers do the event
 abbrev count_doers : Trace → ℕ → ℕ → ℕ
 count_doers trace x zero = 0
 count_doers trace x (suc n) = count_doers trace x n + one_if (is_its trace (worker_numbered trace.processors n) x)
@@ -66,7 +66,7 @@ doing_one trace some_one x event =
     let w = worker_is trace some_one e.0 in
     doing_after trace x w.0 w.1 (λ worker. ap (does trace.processors worker) e.1 ∙ ap (λ (u : Worker). is_worker u worker) (sym w.2)) (trace.processors + 1) (let h = w.1 in omega (arith, h)) (omega arith)
 
--- how many of these events the first so many workers do
+-- how many of these events the first n workers do
 abbrev sums : Trace → List ℕ → ℕ → ℕ
 sums trace xs zero = 0
 sums trace xs (suc n) = sums trace xs n + length (filter (is_its trace (worker_numbered trace.processors n)) xs)

@@ -41,7 +41,7 @@ rises_front xs ys r i j d below within =
     let lt = r i j d below (omega (arith, within, long)) in
     omega (arith, low, high, lt)
 
--- what stands before a number is smaller, and what stands behind it is not
+-- what comes before a number is smaller, and what comes behind it is not
 smaller_before : (xs ys : List ℕ) (m n : ℕ) → Rises (xs ++ n ∷ ys) → Contains xs m → m < n
 smaller_before [] ys m n r at = absurd (let within = at.1 in omega (arith, within))
 smaller_before (x ∷ xs) ys m n r (zero, within, is) =
@@ -120,7 +120,7 @@ in_file count n low high =
     let same : 1 + (n - 1) ≡ n = omega (arith, low) in
     (n - 1, omega (arith, length-range_with_len 1 count, low, high), get_or-range_with_len 1 count (n - 1) n (omega (arith, low, high)) ∙ same)
 
--- the events of a segment stand in the parts of their workers
+-- the events of a segment are in the parts of their workers
 in_part : (trace : Trace) (k n : ℕ) (worker : Worker) → IsOfSegment trace k n → is_its trace worker n ≡ true → Contains (part_of trace k worker) n
 in_part trace k n worker is does_it =
     let here : nat_eq (segment_of trace.segments n) k ≡ true = let e = is.1 in grind (arith, nat_tests, e) in
@@ -277,7 +277,7 @@ all_done trace order sound below = record {
 
 -- ---- how many events were done
 
--- numbers that differ and stand in a list are not more than the list has
+-- numbers that differ and are in a list are not more than the list has
 few_of : (xs ys : List ℕ) → AllPairs (λ (m n : ℕ). m ≢ n) xs → All (Contains ys) xs → length xs ≤ length ys
 few_of [] ys apart within = omega arith
 few_of (x ∷ xs) ys apart within =

@@ -4,7 +4,7 @@ use Rattle.call_processor.specs.declared.worked.Placed.{Placed}
 use Rattle.call_processor.specs.declared.worked.Workplace.{Workplace}
 use Rattle.call_processor.specs.Keeping.{first_place}
 
--- each answer stands behind the one before it in the history
+-- each answer comes behind the one before it in the history
 abbrev pub IsRising : List Placed → Type 0
 IsRising answers = AllPairs (λ (p q : Placed). p.place < q.place) answers
 

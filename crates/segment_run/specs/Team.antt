@@ -18,12 +18,12 @@ part_numbered trace segment i = part_of trace segment (worker_numbered trace.pro
 abbrev pub load : Trace → ℕ → ℕ → ℕ
 load trace segment i = length (part_numbered trace segment i)
 
--- how many events the first so many workers have to do
+-- how many events the first n workers have to do
 unfoldable pub loads_below : Trace → ℕ → ℕ → ℕ
 loads_below trace segment zero = 0
 loads_below trace segment (suc n) = loads_below trace segment n + load trace segment n
 
--- a seat that seat 0 made when it knew v: with this number and so many turns, the history that v has seen, and no entry of its own
+-- a seat that seat 0 made when it knew v: with this number and n turns, the history that v has seen, and no entry of its own
 pub record IsNew (v : Known) (number turns : ℕ) (w : Known) : Type 0 where
   pub number_is : w.number ≡ number
   pub turns_are : w.left ≡ turns
@@ -46,7 +46,7 @@ abbrev pub any_baton : List (ℕ × Known) → Bool
 any_baton [] = false
 any_baton (j ∷ js) = j.1.baton || any_baton js
 
--- seat 0 after it made so many seats, before which it knew v: but for the turns, the baton and the count it is as it was
+-- seat 0 after it made n seats, before which it knew v: except for the turns, the baton and the count it is as it was
 pub record HasDealt (v : Known) (seats : ℕ) (w : Known) : Type 0 where
   pub number : w.number ≡ v.number
   pub seen : w.seen ≡ v.seen

@@ -21,7 +21,7 @@ use std::thread::Threads;
 ///
 /// # Errors
 ///
-/// [`AllocError`] for want of memory. What was done by then is in the history, the workroom is gone, and
+/// [`AllocError`] where memory runs out. What was done by then is in the history, the workroom is gone, and
 /// the keeper keeps what it kept before.
 pub fn run_by_caller<B: Switchboard, G: Gate, C: Carrier, K: Keeper, R: Threads + Wait + Sync>(
     rt: &R,

@@ -38,7 +38,7 @@ pub fn loads_of(trace: &Trace, segment: u32) -> [u32; 9]
     loads
 }
 
-/// Splits a seat off for each worker that has events, with a turn for each of them, and lends it a
+/// Splits a seat off for each worker that has events, with a turn for each of them, and hands it a
 /// workplace. The frame worker's seat gets the baton.
 pub fn deal<B: Switchboard, K: Keeper>(
     board: &B,

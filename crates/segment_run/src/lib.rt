@@ -2,7 +2,7 @@
 //! in the order of the history.
 //!
 //! Where threads pay, or the gate asks for them, `run_segment_with` starts one for each worker that has
-//! events, but for one, which is the caller; else the caller does all events in the order of the file
+//! events, except one, which is the caller; else the caller does all events in the order of the file
 //! (`FEWEST_BESIDE`). Its clauses, both ways: the history grows by the segment's events alone (`ran`), by
 //! each worker's whole part where it is answered (`whole`); a keeper has their answers behind what it had,
 //! each the exchange's at its place of the history, with the octets that the engine plays (`answered`);
@@ -10,7 +10,7 @@
 //! workers from one segment to the next; `run_segment` is the same for one segment, with whole answers.
 //! Segments that are run one after another make a lawful order (`segments_make_lawful_orders`).
 //!
-//! It stands on `circuit_model`, `seat_history`, `tone_rules`, `frame_engine`, `exchange_core`,
+//! It uses `circuit_model`, `seat_history`, `tone_rules`, `frame_engine`, `exchange_core`,
 //! `gate`, `call_processor`, `exchange_events` and `call_profile`.
 #![tactic(auto)]
 

@@ -41,12 +41,12 @@ fn earlier(found: Option<(usize, u32, u32)>, i: usize, place: u32) -> (usize, u3
     }
 }
 
-/// Puts what all these keepers keep behind what one keeps, by their places, run by run. There are so many
+/// Puts what all these keepers keep behind what one keeps, by their places, run by run. There are n
 /// events.
 ///
 /// # Errors
 ///
-/// [`AllocError`] for want of memory. Then what the one kept may have more behind it.
+/// [`AllocError`] where memory runs out. Then what the one kept may have more behind it.
 pub fn merge<K: Keeper>(
     into: &mut K,
     used: &mut Vec<Workplace<K>>,

@@ -34,7 +34,7 @@ use std::thread::Threads;
 ///
 /// # Errors
 ///
-/// [`AllocError`] for want of memory. What was done by then is in the history.
+/// [`AllocError`] where memory runs out. What was done by then is in the history.
 pub fn run_segment<B: Switchboard, G: Gate, C: Carrier, R: Threads + Wait + Sync>(
     rt: &R,
     alloc: Global,
@@ -127,7 +127,7 @@ fn answers_of(alloc: Global, placed: &mut VecDeque<Placed>) -> Result<Vec<Answer
 ///
 /// # Errors
 ///
-/// [`AllocError`] for want of memory. What was done by then is in the history, the workroom is gone, and
+/// [`AllocError`] where memory runs out. What was done by then is in the history, the workroom is gone, and
 /// the keeper keeps what it kept before.
 pub fn run_segment_with<B: Switchboard, G: Gate, C: Carrier, K: Keeper, R: Threads + Wait + Sync>(
     rt: &R,

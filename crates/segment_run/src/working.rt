@@ -33,7 +33,7 @@ pub struct Gathered<T, C, K> {
     pub engine: C,
     /// The control memory for the next frame.
     pub tool: Tool,
-    /// Whether all parts were done and answered. False only for want of memory.
+    /// Whether all parts were done and answered. False only where memory runs out.
     pub whole: bool,
 }
 

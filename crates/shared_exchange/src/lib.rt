@@ -1,6 +1,6 @@
 //! The exchange without its octets, shared by many callers.
 //!
-//! A core does the events of a trace one after the other. Here it stands in a turn lock, so that
+//! A core does the events of a trace one after the other. Here it is in a turn lock, so that
 //! call processors and the frame worker can each do their events in threads of their own. Whoever's
 //! turn it is does one event; the others wait.
 //!
@@ -11,7 +11,7 @@
 //!   (`settled`, `alone`).
 //! - `close` gives the core back, with the whole history as its journal (`journal`).
 //!
-//! That a waiting caller is ever served is not promised. It stands on `seat_history`,
+//! That a waiting caller is ever served is not promised. It uses `seat_history`,
 //! `control_memory`, `exchange_core`, `turn_lock`, `exchange_events` and `call_profile`.
 #![tactic(auto)]
 

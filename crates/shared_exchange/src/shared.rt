@@ -32,7 +32,7 @@ impl<'t, P: PathMap> Model for SharedExchange<'t, P> {
     ghost invariant = { λ x. IsBoard x.lock };
 }
 
-/// A seat at a shared exchange: the right to do so many events. Contracts see what its lock's seat knows.
+/// A seat at a shared exchange: the right to do n events. Contracts see what its lock's seat knows.
 #[derive(Drop)]
 pub struct Seat<'t, P: PathMap> {
     turns: turn_lock::Seat<Exchange<'t, P>>,

@@ -27,7 +27,7 @@ impl Model for Setting {
     ghost view = { λ s. record { trace = s.trace; slots = s.slots; bound = s.bound } };
 }
 
-/// The core, each of whose steps is a turn of the lock. It stands in a box, so that a turn moves one
+/// The core, each of whose steps is a turn of the lock. It is in a box, so that a turn moves one
 /// word out of the lock and home again.
 #[derive(Drop)]
 pub struct Exchange<'t, P: PathMap> {

@@ -311,7 +311,7 @@ module _ {S C : Type 0} (setting : S → C) (journal : S → List Entry) (room :
         plain = o.plain;
       }
 
-  -- the same of the seat itself
+  -- the same for the seat itself
   own_seat : (log : List Entry) (made : ℕ) (me : V) → me.known.seen ≡ log → Ok log made me → Ok (log ++ (me.known.number, me.event) ∷ []) made (view_after_pass me)
   own_seat log made me whole o =
       let e : Entry = (me.known.number, me.event) in

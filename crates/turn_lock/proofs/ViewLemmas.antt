@@ -93,7 +93,7 @@ module _ {C : Type 0} (vs : List (View C)) where
   pub sits_else : (id : ℕ) (w : View C) (j : ℕ) (v : View C) → j ≢ id → Sits vs j v → Sits (set vs id w) j v
   sits_else id w j v other s = (set_else vs id j w other ∙ s.0, s.1)
 
-  -- the same of each two
+  -- the same for each two
   pub pairs_at : (R : ℕ → View C → ℕ → View C → Type 0) (id : ℕ) (w : View C) → ((i j : ℕ) (u v : View C) → Sits vs i u → Sits vs j v → i ≢ j → R i u j v) → ((j : ℕ) (v : View C) → j ≢ id → Sits vs j v → R j v id w × R id w j v)
       → (i j : ℕ) (u v : View C) → Sits (set vs id w) i u → Sits (set vs id w) j v → i ≢ j → R i u j v
   pairs_at R id w pairs mine i j u v a b other = ⊎_elim

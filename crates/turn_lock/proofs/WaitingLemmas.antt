@@ -29,7 +29,7 @@ many_with base (Some c) (Served t) l = omega arith
 of_first : (q t base : ℕ) (l : List ℕ) → list_any (eqb q) ((t - base) ∷ l) ≡ true → (t - base ≡ q) ⊎ (list_any (eqb q) l ≡ true)
 of_first q t base l any = dite (ℕ_discrete q (t - base)) (λ same. inl (sym same)) (λ other. inr (ap (λ (b : Bool). b || list_any (eqb q) l) (sym (ne_eqb q (t - base) other)) ∙ any))
 
--- a ticket that stands in front is the seat's
+-- a ticket that is in front is the seat's
 is_with : {C : Type 0} (q base : ℕ) (o : Option C) (st : Stage) (l : List ℕ) → list_any (eqb q) (with_ticket base o st l) ≡ true
     → (IsLive o × ((t : ℕ) × HoldsTicket st t × (t - base ≡ q))) ⊎ (list_any (eqb q) l ≡ true)
 is_with q base None st l any = inr any

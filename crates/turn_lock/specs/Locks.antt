@@ -10,7 +10,7 @@ pub record Lock (C : Type 0) : Type 0 where
   pub setting : C
   pub budget : ℕ
 
--- a seat between two calls: of which lock it is and with which setting and budget, and what it knows
+-- a seat between two calls: its lock, with setting and budget, and what it knows
 pub record SeatAt (C : Type 0) : Type 0 where
   pub lock : TableId
   pub setting : Option C
@@ -24,6 +24,6 @@ module _ {C : Type 0} where
     pub setting_is : seat.setting ≡ Some lock.setting
     pub budget_is : seat.budget ≡ lock.budget
 
-  -- a seat with this view, but for what only a call in progress needs
+  -- a seat with this view, except for what only a call in progress needs
   abbrev pub seat_with : TableId → View C → SeatAt C
   seat_with lock v = record { lock = lock; setting = v.setting; budget = v.budget; known = v.known }

@@ -41,7 +41,7 @@ weigh None n = 0
 weigh (Some c) n = n
 
 module _ {C : Type 0} where
-  -- a live view stands at this place
+  -- a live view is at this place
   abbrev pub Sits : List (View C) → ℕ → View C → Type 0
   Sits views j v = (get_elem? views j ≡ some v) × IsLive v.setting
 

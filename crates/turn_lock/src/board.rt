@@ -8,7 +8,7 @@ use seat_history::Known;
 use std::marker::{Brand, PhantomData};
 use std::snapshot::Snapshot;
 
-/// Where a seat stands in a call.
+/// Where a seat is in a call.
 pub enum Stage {
     Idle,
     /// It holds this ticket.

@@ -10,7 +10,7 @@
 //! - Somebody can always go, in the order of the tickets ([`law_of_waiting`]); that anybody ever goes
 //!   is not promised.
 //!
-//! It stands on `seat_history`, and on the kit's `atomic_table`. The moves of each call are told in
+//! It uses `seat_history`, and the kit's `atomic_table`. The moves of each call are in
 //! `moves.rt`, and the rule that holds between any two in `specs/Rule.antt`.
 #![tactic(auto)]
 

@@ -249,7 +249,7 @@ impl<S: Stepper> Board<S> {
     }
 }
 
-// Passes some time between two looks, where so many turns come before the seat's. The next one spins, since a
+// Passes some time between two looks, where n turns come before the seat's. The next one spins, since a
 // turn is shorter than a call of the system; it has spun so often already. The others let threads run.
 fn pause(ahead: u64, spins: u32) -> u32 {
     if ahead == 1 && spins < MOST_SPINS {

@@ -4,7 +4,7 @@ ghost use Rattle.seat_history.specs.Histories.{Entry};
 
 /// A state that is stepped by one event at a time, and keeps a journal of its steps.
 pub trait Stepper {
-    /// What a step works with beside the state. The caller lends it.
+    /// What a step works with beside the state. The caller hands it in.
     type Tool;
 
     type Reply;

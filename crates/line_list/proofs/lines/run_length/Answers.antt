@@ -4,7 +4,7 @@ use Rattle.line_list.proofs.LineLemmas.{before_more}
 use Rattle.line_list.proofs.lines.run_length.Goals as goal
 use Rattle.line_list.proofs.lines.run_length.Goals.{else-count-gt0-via-then-count-gt0+else-mark-below, else-count-gt0-via-else-count-gt0}
 
--- what stands nowhere
+-- what is nowhere
 abbrev none : Mark
 none = record { place = 0; octets = 0; records = 0 }
 
