@@ -17,7 +17,7 @@ use Rattle.trace_text.proofs.TraceOctets.{behind, pair_then}
 use Rattle.generated_trace.specs.Told.{slot_at}
 use Rattle.generated_trace.proofs.Cutting.{IsWord, is_solid}
 
--- a number that stands in for none is another one than the number found
+-- a number in place of none is another one than the number found
 found_by : (o : Option ℕ) (other n : ℕ) → eqb (unwrap_or o other) n ≡ true → n < other → o ≡ Some n
 found_by None other n same below = absurd (let e = eqb-true other n same in omega arith)
 found_by (Some m) other n same below = ap (λ (k : ℕ). Some k) (eqb-true m n same)

@@ -148,7 +148,7 @@ header_is =
 abbrev first_lines : List Line
 first_lines = Header 8 1 4 ∷ number_lines
 
--- what the first lines say, so many of them
+-- what the first lines say, n of them
 abbrev told_by : ℕ → List Said
 told_by count = map said_by (take count first_lines)
 

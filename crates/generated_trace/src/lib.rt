@@ -5,8 +5,8 @@
 //!   what the lines say that were drawn (`told`); and its exchange and its number of events are those
 //!   of the definition (`sizes`, `events`).
 //!
-//! It stands on `circuit_model`, `number_plan`, `exchange_events`, `traffic_gen` and `trace_text`, and
-//! on the kit's `hex`.
+//! It uses `circuit_model`, `number_plan`, `exchange_events`, `traffic_gen` and `trace_text`, and
+//! the kit's `hex`.
 #![tactic(auto)]
 
 mod laws;

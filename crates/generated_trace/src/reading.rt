@@ -9,13 +9,13 @@ use std::alloc::{AllocError, Global};
 use trace_text::{TraceFault, read_trace};
 use traffic_gen::generate;
 
-/// The trace of a seed with so many calls, 1 to 2000.
+/// The trace of a seed with n calls, 1 to 2000.
 ///
 /// It is read from the octets that are generated, and these are never refused.
 ///
 /// # Errors
 ///
-/// [`AllocError`] for want of memory.
+/// [`AllocError`] where memory runs out.
 pub fn generated(alloc: Global, seed: u64, calls: u32) -> Result<Trace, AllocError>
     requires some { 1 ≤ calls }
     requires most { calls ≤ 2000 }

@@ -64,7 +64,7 @@ abbrev pub state_after_frame : Option ℕ → ℕ → ℕ
 state_after_frame None state = state_after 30 state
 state_after_frame (Some far) state = state_after 30 (state_after 30 state)
 
--- so many frames of a call
+-- n frames of a call
 abbrev pub frames_drawn : ℕ → Option ℕ → ℕ → ℕ → List Line
 frames_drawn caller far zero state = []
 frames_drawn caller far (suc count) state =
@@ -90,7 +90,7 @@ call_lines call state =
 abbrev pub state_after_call : Call → ℕ → ℕ
 state_after_call call state = state_after_frames (far_line call.caller call.callee) call.frames state
 
--- so many calls, one after the other
+-- n calls, one after the other
 abbrev pub calls_drawn : ℕ → ℕ → List Line
 calls_drawn zero state = []
 calls_drawn (suc count) state =

@@ -17,12 +17,12 @@ next_state state = (state * multiplier + increment) % 2 ^ 64
 unfoldable pub drawn : ℕ → ℕ → ℕ
 drawn bound state = state / 2 ^ 33 % bound
 
--- the state after so many draws
+-- the state after n draws
 unfoldable pub state_after : ℕ → ℕ → ℕ
 state_after zero state = state
 state_after (suc draws) state = state_after draws (next_state state)
 
--- so many octets, a draw below 256 each
+-- n octets, a draw below 256 each
 unfoldable pub octets_drawn : ℕ → ℕ → List ℕ
 octets_drawn zero state = []
 octets_drawn (suc count) state = drawn 256 (next_state state) ∷ octets_drawn count (next_state state)

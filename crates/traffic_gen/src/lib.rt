@@ -5,7 +5,7 @@
 //! - Every line fits the exchange that the header describes (`fits` of [`laws::law_of_lines`]), and
 //!   the lengths are bounded ([`laws::law_of_lengths`]).
 //!
-//! It stands on no crate of this repository, and on the kit's `hex` and `itoa`.
+//! It uses the kit's `hex` and `itoa` alone.
 #![tactic(auto)]
 
 mod call;

@@ -15,7 +15,7 @@ const ROOM_BEFORE: usize = 1500;
 
 const ROOM_OF_A_CALL: usize = 520;
 
-/// The trace of a seed with so many calls, 1 to 2000, as octets: lines, each ended by a line feed.
+/// The trace of a seed with n calls, 1 to 2000, as octets: lines, each ended by a line feed.
 ///
 /// The exchange has eight external lines, one bridge line and four call processors. Twenty places of
 /// the lines 0 to 3 are nailed to the lines 4 to 7; then each call is set up, lasts one to three
@@ -23,7 +23,7 @@ const ROOM_OF_A_CALL: usize = 520;
 ///
 /// # Errors
 ///
-/// [`AllocError`] for want of memory.
+/// [`AllocError`] where memory runs out.
 pub fn generate(alloc: Global, seed: u64, calls: u32) -> Result<Vec<u8>, AllocError>
     requires some { 1 ≤ calls }
     requires most { calls ≤ 2000 }
