@@ -46,14 +46,14 @@ pub lines_append : (xs ys : List Answer) → answer_lines (xs ++ ys) ≡ answer_
 lines_append [] ys = refl
 lines_append (a ∷ xs) ys = ap (λ (l : List ℕ). answer_line a ++ l) (lines_append xs ys) ∙ sym (append_assoc (answer_line a) (answer_lines xs) (answer_lines ys))
 
--- one answer more is told
+-- one answer more is noted
 pub lines_more : (answers : List Answer) (i : ℕ) (a : Answer) → slice_get answers i ≡ Some a → answer_lines (take (i + 1) answers) ≡ answer_lines (take i answers) ++ answer_line a
 lines_more answers i a found =
     ap (λ (n : ℕ). answer_lines (take n answers)) (add-one i)
     ∙ (ap answer_lines (take_snoc answers i a found)
     ∙ (lines_append (take i answers) (a ∷ []) ∙ ap (λ (l : List ℕ). answer_lines (take i answers) ++ l) (append-nil (answer_line a))))
 
--- what is told so far, and the rest
+-- what is noted so far, and the rest
 pub lines_split : (answers : List Answer) (i : ℕ) → answer_lines answers ≡ answer_lines (take i answers) ++ answer_lines (drop i answers)
 lines_split answers i = ap answer_lines (sym (take-append-drop i answers)) ∙ lines_append (take i answers) (drop i answers)
 
@@ -81,7 +81,7 @@ run-append s w (e ∷ es) fs = ap (λ (l : List Reply). reply s w e ∷ l) (run-
 events_append : (trace : Trace) (order more : List ℕ) → events_of trace.events (order ++ more) ≡ events_of trace.events order ++ events_of trace.events more
 events_append trace order more = filter_map-append (event_at trace.events) order more
 
--- the report of a longer order begins with that of its front
+-- the report of a longer order begins with that of its beginning
 pub report_append : (played : Played) (slots : ℕ) (trace : Trace) (order more : List ℕ) → All (IsEvent trace) order → report_with played slots trace (order ++ more)
     ≡ report_with played slots trace order ++ event_lines played (setting_of slots trace) (world_after slots trace order) more (events_of trace.events more)
 report_append played slots trace order more known =
@@ -217,7 +217,7 @@ module _ (plays : Plays) (tones : Kind → List ℕ) (board : Board) (v w : Know
         ∙ (report_append (plays tones) board.slots board.trace (order_of v.seen) (new_events v w) before_known
         ∙ ap (λ (l : List ℕ). report_with (plays tones) board.slots board.trace (order_of v.seen) ++ l) (sym lines_told))
 
-    -- what was told of the answers so far is a front of the report
+    -- what was noted of the answers so far is a prefix of the report
     pub report_front : (i : ℕ) → report_with (plays tones) board.slots board.trace (order_of w.seen)
         ≡ (report_with (plays tones) board.slots board.trace (order_of v.seen) ++ answer_lines (take i answers)) ++ answer_lines (drop i answers)
     report_front i =
@@ -254,7 +254,7 @@ calls_append : (xs ys : List Reply) → calls_ended (xs ++ ys) ≡ calls_ended x
 calls_append [] ys = refl
 calls_append (r ∷ xs) ys = ap (λ l. calls_kept (kept_of r) ++ l) (calls_append xs ys) ∙ sym (append_assoc (calls_kept (kept_of r)) (calls_ended xs) (calls_ended ys))
 
--- the calls told grow by those that ended in these events
+-- the calls noted grow by those that ended in these events
 pub calls_grown : (board : Board) (v w : Known) → StartsWith w.seen v.seen
     → calls_told board.slots board.trace (order_of w.seen) ≡ calls_told board.slots board.trace (order_of v.seen) ++ grown_calls board v w
 calls_grown board v w begins =

@@ -76,7 +76,7 @@ added plays l board trace segment v w before after same ran are adds =
     }
 
 module _ (plays : Plays) (l : Listing) (board : Board) (v w : Known) (before after : List Line) (a : IsAdded plays l board v w before after) (told : ℕ) (count : told ≡ length (calls_of before)) where
-  -- the records behind those that were told before are those of the calls that ended since
+  -- the records behind those that were noted before are those of the calls that ended since
   pub told_behind : drop told (calls_of after) ≡ grown_calls board v w
   told_behind = ap (drop told) a.calls ∙ drop_at (calls_of before) (grown_calls board v w) told (sym count)
 

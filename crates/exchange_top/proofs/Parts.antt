@@ -9,7 +9,7 @@ use Rattle.exchange_top.specs.Telling.{calls_answered}
 pub take_snoc : {X : Type 0} (xs : List X) (i : ℕ) (x : X) → slice_get xs i ≡ Some x → take i xs ++ x ∷ [] ≡ take (i + 1) xs
 take_snoc xs i x found = sym (snoc xs i x found) ∙ ap (λ n. take n xs) (sym (add-one i))
 
--- what was told, and one more
+-- what was noted, and one more
 pub take_read : {X : Type 0} (xs : List X) (i : ℕ) (d : X) → i < length xs → take i xs ++ get_or xs i d ∷ [] ≡ take (i + 1) xs
 take_read xs i d within = go xs i within ∙ ap (λ n. take n xs) (sym (add-one i))
   where

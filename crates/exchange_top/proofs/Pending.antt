@@ -31,7 +31,7 @@ ok_both (Ok x) p q both = both p q
 ok_both (Err e) p q both = tt
 
 module _ (ends : List ℕ → Type 0) where
-  -- a front of what was pending is written
+  -- a prefix of what was pending is written
   pub front_pending : (old mid new : Option (List ℕ)) (pending text : List ℕ) → IsPending ends old mid pending text → AppendsFront mid new pending → AppendsFront old new text
   front_pending old mid new pending text p front =
       let n = front.0 in

@@ -22,7 +22,7 @@ keeps (Some bytes) = search rules
 pub moved : (P : Board → List ℕ → Type 0) (board wanted : Board) (order seen : List ℕ) → board ≡ wanted → order ≡ seen → P board seen → P wanted order
 moved P board wanted order seen same is holds = subst (λ b. P b order) same (subst (λ o. P board o) (sym is) holds)
 
--- what was written of nothing, and then a front of a text
+-- what was written of nothing, and then a prefix of a text
 front_then : (old mid new : Option (List ℕ)) (text : List ℕ) → Appends old mid [] → AppendsFront mid new text → AppendsFront old new text
 front_then old mid new text none front = (front.0, front.1, Appends-trans old mid new [] _ none front.2)
 

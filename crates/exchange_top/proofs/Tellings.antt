@@ -1,4 +1,4 @@
--- Meters that are told of calls, and then of more.
+-- Meters that note calls, and then more.
 use Rattle.std.proofs.Common.{ℕ, List, [], ◌++◌, refl}
 use Rattle.exchange_events.specs.declared.record.CallRecord.{CallRecord}
 use Rattle.meters.proofs.Zips.{zip-same, zip-then}

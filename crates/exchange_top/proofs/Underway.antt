@@ -122,7 +122,7 @@ module _ (plays : Plays) (l : Listing) (board : Board) where
       few = so_far.few;
     }
 
-    -- memory ran out in the segment that came next, or when its lines were made, or its calls told
+    -- memory ran out in the segment that came next, or when its lines were made, or its calls noted
     pub begun_segment : (told_beyond : List CallRecord → Telling) (w : Known) → Ran board.trace k v w → told_beyond (calls_told board.slots board.trace (order_of v.seen)) (grown_calls board v w)
         → IsInterrupted plays l board.slots told_beyond board.trace (order_of w.seen) old now
     begun_segment told_beyond w ran calls = record {

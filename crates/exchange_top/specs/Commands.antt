@@ -38,7 +38,7 @@ IsRunOn words strict = command_of words ≡ Some (Run strict)
 abbrev pub IsRun : List (List ℕ) → Type 0
 IsRun words = (strict : Bool) × IsRunOn words strict
 
--- they ask for a run of the trace generated of this seed with so many calls
+-- they ask for a run of the trace generated of this seed with n calls
 abbrev pub IsGeneration : List (List ℕ) → ℕ → ℕ → Type 0
 IsGeneration words seed calls = command_of words ≡ Some (Generate seed calls)
 
@@ -63,7 +63,7 @@ reason_name reason.Number = codes "number"
 reason_name reason.Prefix = codes "prefix"
 reason_name reason.Limit = codes "limit"
 
--- the line that refuses what is no trace, at its first line that fails
+-- the line that refuses any other input, at its first line that fails
 abbrev pub refusal : ℕ → Reason → List ℕ
 refusal number why = codes "refused " ++ decimal number ++ codes " " ++ reason_name why ++ codes "\n"
 
@@ -73,7 +73,7 @@ words_refusal = codes "refused words\n"
 
 -- ---- what is read
 
--- so many bytes of an input are read at the most: as many as a trace may have, and one piece of 65,536 more
+-- n bytes of an input are read at the most: as many as a trace may have, and one piece of 65,536 more
 abbrev pub most_read : ℕ
 most_read = most_bytes + 65536
 
@@ -104,8 +104,8 @@ fabric_of false trace = record { slots = 30; most_moves = most_moves (trace.exte
 abbrev pub Handing : Type 1
 Handing = Dimensions → World → Type 0
 
--- what a call is given and what becomes of its parties: what its engine plays, what is said of the engine that is handed out, what its meters were
--- told, of all calls or of some and the first few of more, and what they say in the end
+-- what a call is given and what becomes of its parties: what its engine plays, what is said of the engine that is handed out, what its meters
+-- noted, all calls or some and the first few of more, and what they say in the end
 pub record Parties : Type 1 where
   pub plays : Plays
   pub handed : Handing
@@ -113,7 +113,7 @@ pub record Parties : Type 1 where
   pub told_beyond : List CallRecord → Telling
   pub said : List ℕ
 
--- those of a call: an engine plays so, has these dimensions and carries frames so, and may be handed out; meters stand for calls and say a text,
+-- those of a call: an engine plays so, has these dimensions and carries frames so, and may be handed out; meters represent calls and say a text,
 -- before and after
 abbrev pub parties : {M E : Type 0} → Plays → (E → Dimensions) → Carrying E → Option E → (M → List CallRecord → Type 0) → (M → List CallRecord → List ℕ) → List M → List M → Parties
 parties plays sizes carries engine stands text old new = record {
@@ -136,7 +136,7 @@ pub record IsDone (x : Parties) (strict : Bool) (bytes order : List ℕ) (old ne
   pub text : Appends old new (report x.plays (fabric_of strict trace).slots trace order)
   pub engine : IsHandedOut x.handed (fabric_of strict trace) trace order
 
--- the trace generated of this seed with so many calls was run, on thirty internal slots, and its summary was written, whole: it ends with what the
+-- the trace generated of this seed with n calls was run, on thirty internal slots, and its summary was written, whole: it ends with what the
 -- meters say
 pub record IsSummed (x : Parties) (seed calls : ℕ) (order : List ℕ) (old new : Option (List ℕ)) : Type 0 where
   pub trace : Trace
@@ -163,11 +163,11 @@ pub record IsTurnedDown (bytes order : List ℕ) (old new : Option (List ℕ)) :
   pub none : order ≡ []
   pub text : Appends old new (refusal number why)
 
--- the input was read and answered by the refusal of a line, and no meter was told of a call
+-- the input was read and answered by the refusal of a line, and no meter noted a call
 abbrev pub RefusesInput : Telling → (left_old left_new : Option (List ℕ)) → List ℕ → (old new : Option (List ℕ)) → Type 0
 RefusesInput told left_old left_new order old new = (bytes : List ℕ) × IsInput left_old left_new bytes × IsTurnedDown bytes order old new × told []
 
--- a run of a trace on so many internal slots, of which this is listed, was cut short: a write failed, or memory ran out
+-- a run of a trace on n internal slots, with this listing, was cut short: a write failed, or memory ran out
 pub data IsBegun (x : Parties) (slots : ℕ) (l : Listing) (trace : Trace) (status : ℕ) (order : List ℕ) (old new : Option (List ℕ)) : Type 0 where
   By_write : status ≡ 4 → IsUnwritten x.plays l slots x.told trace order old new → IsBegun x slots l trace status order old new
   By_memory : status ≡ 5 → IsInterrupted x.plays l slots x.told_beyond trace order old new → IsBegun x slots l trace status order old new
@@ -180,7 +180,7 @@ pub data IsCutShort (x : Parties) (strict : Bool) (status : ℕ) (bytes order : 
   In_report : (trace : Trace) → IsTrace bytes trace → IsBegun x (fabric_of strict trace).slots listing.Report trace status order old new
       → IsCutShort x strict status bytes order old new
 
--- a run of a generated trace was cut short: before it began, in the run, or once all of it was run, with a front of its summary or none of it
+-- a run of a generated trace was cut short: before it began, in the run, or once all of it was run, with a prefix of its summary or none of it
 pub data IsSumCutShort (x : Parties) (status seed calls : ℕ) (order : List ℕ) (old new : Option (List ℕ)) : Type 0 where
   Not_begun : status ≡ 5 → order ≡ [] → Keeps old new → x.told [] → IsSumCutShort x status seed calls order old new
   In_run : (trace : Trace) → IsTrafficOf seed calls trace → IsBegun x (fabric_of false trace).slots listing.Nothing trace status order old new
@@ -214,7 +214,7 @@ pub data Answers (x : Parties) (strict : Bool) (bytes : List ℕ) (status : ℕ)
   Unwritten : status ≡ 4 → Rose before after → IsCutShort x strict status bytes order old new → Answers x strict bytes status order old new before after
   No_memory : status ≡ 5 → IsCutShort x strict status bytes order old new → Answers x strict bytes status order old new before after
 
--- how a run of a trace on this fabric ends, of which this is listed
+-- how a run of a trace on this fabric ends, with this listing
 pub data Runs (x : Parties) (f : Fabric) (l : Listing) (t : Trace) (status : ℕ) (order : List ℕ) (old new : Option (List ℕ)) (before after : ℕ) : Type 0 where
   Whole : status ≡ 0 → IsRunWhole f x.told t order → Appends old new (listed l (report x.plays f.slots t order)) → IsHandedOut x.handed f t order
       → Runs x f l t status order old new before after

@@ -1,4 +1,4 @@
--- How far a run came, what was written of it, and what its meters were told. Source: this exchange's own.
+-- How far a run came, what was written of it, and what its meters noted. Source: this exchange's own.
 use Rattle.std.specs.Prelude.{◌≡◌, ◌⊎◌, ⊤, ℕ, List, [], ◌++◌, All, IfSome}
 use Rattle.std.specs.Io.KnownBytes.{Appends}
 use Rattle.std.specs.declared.option.Option.{Option}
@@ -29,7 +29,7 @@ pub record Fabric : Type 0 where
 abbrev pub fabric : {M : Type 0} → (M → ℕ) → (M → ℕ) → M → Fabric
 fabric depth bound paths = record { slots = depth paths; most_moves = bound paths }
 
--- no path that joined in a run of these events moved more than so many others
+-- no path that joined in a run of these events moved more than n others
 abbrev pub MovesFew : Fabric → Trace → List ℕ → Type 0
 MovesFew fabric trace order = let s = setting_of fabric.slots trace in All (MovesAtMost fabric.most_moves) (run s (start s.dimensions) (events_of trace.events order))
 
@@ -48,7 +48,7 @@ TellsNoMoves (Frame_reply k sends records) = ⊤
 abbrev pub MovesNone : Fabric → Trace → List ℕ → Type 0
 MovesNone fabric trace order = let s = setting_of fabric.slots trace in All TellsNoMoves (run s (start s.dimensions) (events_of trace.events order))
 
--- every event of the trace was done, in a lawful order; no path that joined moved more others than the fabric allows; and the meters were told of
+-- every event of the trace was done, in a lawful order; no path that joined moved more others than the fabric allows; and the meters noted
 -- the calls that ended
 pub record IsRunWhole (fabric : Fabric) (told : Telling) (trace : Trace) (order : List ℕ) : Type 0 where
   pub lawful : IsLawful trace order
@@ -64,8 +64,8 @@ pub record EndsWithSegment (plays : Plays) (l : Listing) (slots : ℕ) (trace : 
   pub done : IsDoneBelow trace segments first
   pub text_is : text ≡ listed l (report plays slots trace first)
 
--- A write failed behind the first segments: the order is that of all their events, a front of what is written of them was written, and the meters
--- were told of all calls that ended in them.
+-- A write failed behind the first segments: the order is that of all their events, a prefix of what is written of them was written, and the meters
+-- noted all calls that ended in them.
 pub record IsUnwritten (plays : Plays) (l : Listing) (slots : ℕ) (told : Telling) (trace : Trace) (order : List ℕ) (old new : Option (List ℕ)) : Type 0 where
   pub segments : ℕ
   pub done : IsDoneBelow trace segments order
@@ -73,8 +73,8 @@ pub record IsUnwritten (plays : Plays) (l : Listing) (slots : ℕ) (told : Telli
   pub calls : told (calls_told slots trace order)
 
 -- Memory ran out behind the first segments: the order is that of all their events, and maybe of some of the next one, lawful as far as it goes.
--- What was written is all that is written of the first few of these segments, and the meters were told of all calls that ended in the first
--- segments, and of the first few that ended in the next one.
+-- What was written is all that is written of the first few of these segments, and the meters noted all calls that ended in the first
+-- segments, and the first few that ended in the next one.
 pub record IsInterrupted (plays : Plays) (l : Listing) (slots : ℕ) (told_beyond : List CallRecord → Telling) (trace : Trace) (order : List ℕ) (old new : Option (List ℕ)) : Type 0 where
   pub lawful : IsLawfulPrefix trace order
   pub segments : ℕ

@@ -16,7 +16,7 @@ use Rattle.exchange_top.specs.Report.{event_lines}
 use Rattle.exchange_top.specs.Telling.{Telling}
 use Rattle.call_profile.specs.CallsTold.{calls_ended}
 
--- a map of paths that an exchange with so many lines can begin with: it has as many, 1 to 59 internal slots, and no path yet
+-- a map of paths that an exchange with n lines can begin with: it has as many, 1 to 59 internal slots, and no path yet
 pub record IsUnused (lines width depth : ℕ) (layout : Layout) : Type 0 where
   pub wide : width ≡ lines
   pub some : 1 ≤ depth
@@ -38,7 +38,7 @@ GrewFew board v w = All (MovesAtMost board.bound) (run (setting_at board) (world
 abbrev pub grown_calls : Board → Known → Known → List CallRecord
 grown_calls board v w = calls_ended (run (setting_at board) (world_at board v.seen) (events_of board.trace.events (new_events v w)))
 
--- meters were told so of the calls that ended in them
+-- meters noted the calls that ended in them
 abbrev pub GrowthIsTold : Telling → Board → Known → Known → Type 0
 GrowthIsTold told board v w = told (grown_calls board v w)
 

@@ -42,7 +42,7 @@ pub struct Outcome<C: Carrier> {
     pub status: u8,
     /// The numbers of the events that were done, in the order in which they happened.
     pub order: Vec<u32>,
-    /// The engine that carried the octets, of the trace's sizes, where the status is 0.
+    /// The engine that carried the octets, with the trace's sizes, where the status is 0.
     pub engine: Option<C>,
 }
 
@@ -75,7 +75,7 @@ fn name_of(reason: Reason) -> &'static [u8]
     }
 }
 
-// The line that refuses what is no trace.
+// The line that refuses any other input.
 fn refusal(alloc: Global, number: u32, reason: Reason) -> Result<Vec<u8>, AllocError>
     ensures { IfOk result (λ line. line.items ≡ refusal number reason) }
 {
@@ -258,7 +258,7 @@ fn sum_up<K: Sink, C: Carrier>(
     }
 }
 
-// Runs the trace generated of a seed with so many calls, on thirty internal slots, and writes its
+// Runs the trace generated of a seed with n calls, on thirty internal slots, and writes its
 // summary.
 fn run_generated<K: Sink, G: Gate, C: Carrier, R: Threads + Wait + Sync>(
     rt: &R,
@@ -345,15 +345,15 @@ fn answer_words<S: Source, K: Sink, G: Gate, C: Carrier, R: Threads + Wait + Syn
 /// Runs a trace and writes its report, or runs a generated trace and writes its summary.
 ///
 /// The command `run` reads a trace: its input to the end, or until more bytes are held than a trace may
-/// have. `gen SEED CALLS` reads nothing and takes the trace that is generated of the seed with so many
+/// have. `gen SEED CALLS` reads nothing and takes the trace that is generated of the seed with n
 /// calls. The fabric has thirty internal slots, and for `run --strict` fifty-nine, where no path ever
 /// moves. Then the trace is run, one segment after the other: the call processors and the frame worker
 /// of a segment take turns at one switching map, each in a thread of its own, and are held up at the
 /// gate, where a test may look on. Where all but the busiest of them have few events together, and the
 /// gate doesn't ask for threads, the segment is done by the caller, in the order of the trace. The order
 /// in which the events took their turns is `order`; the report has a line for each in that order, and a
-/// summary has a line that counts them and then what the meters say (`docs/FORMATS.md`). The meters are
-/// told of the calls that end, segment by segment, in that order. The causes of another end are met in
+/// summary has a line that counts them and then what the meters say (`docs/FORMATS.md`). The meters
+/// note the calls that end, segment by segment, in that order. The causes of another end are met in
 /// this order: the words, reading, the trace, the run, writing.
 ///
 /// The octets of a frame are what the engine of type `C` plays. It is handed out where the status is
@@ -361,7 +361,7 @@ fn answer_words<S: Source, K: Sink, G: Gate, C: Carrier, R: Threads + Wait + Syn
 /// `order`.
 ///
 /// A read or write that fails ends the call, and then the source's or the sink's count of faults
-/// rises; neither rises otherwise. Want of memory may end the call too, at any trace.
+/// rises; neither rises otherwise. Memory may run out too, at any trace.
 pub fn exchange<S: Source, K: Sink, G: Gate, C: Carrier, R: Threads + Wait + Sync>(
     rt: &R,
     alloc: Global,
@@ -372,13 +372,13 @@ pub fn exchange<S: Source, K: Sink, G: Gate, C: Carrier, R: Threads + Wait + Syn
     meters: &mut Vec<Box<dyn Meter>>,
 ) -> Outcome<C>
     // 0 for `run`: all of the input was read, it is a trace, its events were done in an order that is
-    // lawful for it, their report was written, with what the engine plays in each frame, each meter was
-    // told of the calls that ended, and the engine has the trace's sizes and carries their frames. With
+    // lawful for it, their report was written, with what the engine plays in each frame, each meter
+    // noted the calls that ended, and the engine has the trace's sizes and carries their frames. With
     // the flag the fabric is a strict one, and each number of moved paths in the report is 0.
     ensures done { result.status ≡ 0 → ReportsRun (parties C.plays C.sizes C.carries result.engine
         (λ m. stands m) (λ m. text m) meters.old.items meters.new.items)
         (texts words.now) (S.left source.old) (S.left source.new) result.order.items (K.written sink.old) (K.written sink.new) }
-    // 0 for `gen`: the same of the generated trace, whose summary was written.
+    // 0 for `gen`: the same for the generated trace, whose summary was written.
     ensures summed { (seed calls : ℕ) → result.status ≡ 0 → IsGeneration (texts words.now) seed calls
         → IsSummed (parties C.plays C.sizes C.carries result.engine
         (λ m. stands m) (λ m. text m) meters.old.items meters.new.items)
@@ -393,11 +393,11 @@ pub fn exchange<S: Source, K: Sink, G: Gate, C: Carrier, R: Threads + Wait + Syn
         × (result.order.items ≡ [])
         × Appends (K.written sink.old) (K.written sink.new) words_refusal
         × AreTold (λ m. stands m) (λ m. text m) meters.old.items meters.new.items [] }
-    // 3: a read failed, nothing was written, and no meter was told of a call.
+    // 3: a read failed, nothing was written, and no meter noted a call.
     ensures read_failed { result.status ≡ 3 → Rose (S.faults source.old) (S.faults source.new) }
     ensures silent { result.status ≡ 3 → (result.order.items ≡ []) × Keeps (K.written sink.old) (K.written sink.new)
         × AreTold (λ m. stands m) (λ m. text m) meters.old.items meters.new.items [] }
-    // 4: a write failed; whole segments were run and told to the meters, and a front of their text was
+    // 4: a write failed; whole segments were run and noted by the meters, and a prefix of their text was
     // written. 5: there was no memory; behind whole segments maybe one was begun, and what was written
     // ends with a segment.
     ensures write_failed { result.status ≡ 4 → Rose (K.faults sink.old) (K.faults sink.new) }
@@ -410,10 +410,10 @@ pub fn exchange<S: Source, K: Sink, G: Gate, C: Carrier, R: Threads + Wait + Syn
     ensures statuses { result.status ≤ 5 }
     ensures reads { (result.status ≡ 3) ⊎ (S.faults source.new ≡ S.faults source.old) }
     ensures writes { (result.status ≡ 4) ⊎ (K.faults sink.new ≡ K.faults sink.old) }
-    // Of the input no more is read than the longest trace and one piece; but for `run`, nothing.
+    // No more of the input is read than the longest trace and one piece; only `run` reads any.
     ensures stops { ConsumesAtMost most_read (S.left source.old) (S.left source.new) }
     ensures unread { ¬ IsRun (texts words.now) → source.new ≡ source.old }
-    // The words and the input decide, but for a fault and for want of memory.
+    // The words and the input decide, unless a fault comes or memory runs out.
     ensures other_words { IsNoCommand (texts words.now) → (result.status ≡ 2) ⊎ (result.status ≡ 4) ⊎ (result.status ≡ 5) }
     ensures command { IsRun (texts words.now) → (result.status ≡ 0) ⊎ (result.status ≡ 1) ⊎ IsUnfinished result.status }
     ensures generation { (seed calls : ℕ) → IsGeneration (texts words.now) seed calls

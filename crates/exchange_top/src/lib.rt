@@ -3,20 +3,20 @@
 //!
 //! The headline, in the contract of [`exchange`]: where the status is 0 for `run`, the input was a
 //! trace, its events were done in an order that is lawful for it, and the output got exactly the report
-//! of a run in that order; each meter was told of the calls that ended in it (`done`). With `Engine`
-//! each octet in it is what the definitions say its slot hears. For `gen` it is the same of a generated
+//! of a run in that order; each meter noted the calls that ended in it (`done`). With `Engine`
+//! each octet in it is what the definitions say its slot hears. For `gen` it is the same for a generated
 //! trace, whose summary is written (`summed`). For `run --strict` no path ever moves, so each number of
-//! moved paths in the report is 0 ([`strict_runs_move_nothing`]). What is no trace is refused at its
+//! moved paths in the report is 0 ([`strict_runs_move_nothing`]). Any other input is refused at its
 //! first line that fails (`turned_down`).
 //!
 //! Statuses 3 and 4 come only where a fault was counted (`read_failed`, `write_failed`), and no other
-//! status hides one (`reads`, `writes`). With 4 a front of the text was written, and with 5 a front
+//! status hides one (`reads`, `writes`). With 4 a prefix of the text was written, and with 5 a prefix
 //! that ends with a segment (`cut_short`).
 //!
-//! It stands on `ex_io`, `circuit_model`, `seat_history`, `control_memory`, `tone_rules`, `fabric_map`,
+//! It uses `ex_io`, `circuit_model`, `seat_history`, `control_memory`, `tone_rules`, `fabric_map`,
 //! `strict_map`, `frame_engine`, `exchange_core`, `shared_exchange`, `gate`, `call_processor`, `line_list`,
 //! `segment_run`, `trace_text`, `report_text`, `generated_trace`, `command_words`, `meters`,
-//! `exchange_events` and `call_profile`, and on the kit's `itoa`.
+//! `exchange_events` and `call_profile`, and the kit's `itoa`.
 #![tactic(auto)]
 
 mod call;

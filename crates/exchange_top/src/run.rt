@@ -61,8 +61,8 @@ impl From<Failed> for RunFault {
 /// # Errors
 ///
 /// [`RunFault::Write`] where a write failed and the sink's count of faults rose, and
-/// [`RunFault::Memory`] for want of memory, where no write failed. By then a front of the report of the
-/// segments that were done was written, which for want of memory ends with a segment.
+/// [`RunFault::Memory`] where memory runs out, where no write failed. By then a prefix of the report of the
+/// segments that were done was written, which where memory runs out ends with a segment.
 pub fn run<
     P: PathMap + Drop + Send,
     K: Sink,

@@ -34,7 +34,7 @@ use std::alloc::{AllocError, Global};
 use std::sync::Wait;
 use std::thread::Threads;
 
-// So many bytes of a report are gathered before they are written, the lines of a segment together.
+// n bytes of a report are gathered before they are written, the lines of a segment together.
 const PIECE: usize = 65_536;
 
 /// What goes from one segment to the next: the engine, the control memory of its next frame, and the
@@ -51,7 +51,7 @@ pub struct Carried<T, C, L> {
 
 /// Runs the segments of a board's trace one after the other, writes of them what is listed, and tells
 /// the meters of the calls that end. The lines of a segment are written once all of its events are
-/// answered and told; until then they are kept in `lines`.
+/// answered and noted; until then they are kept in `lines`.
 pub fn report_segments<
     B: Switchboard,
     K: Sink,
@@ -165,7 +165,7 @@ fn report_segment<
     })
 }
 
-// The records of the calls that ended, behind the first so many.
+// The records of the calls that ended, behind the first n.
 fn records_behind<L>(lines: &LineList<L>, told: usize) -> &[CallRecord]
     requires { told ≤ length (calls_of lines.now) }
     ensures { result.now ≡ drop told (calls_of lines.now) }

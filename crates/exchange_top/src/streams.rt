@@ -41,7 +41,7 @@ impl From<Failed> for ReadFault {
 /// # Errors
 ///
 /// [`ReadFault::Read`] where a read failed and the source's count of faults rose, and
-/// [`ReadFault::Memory`] for want of memory, where no read failed. The bytes read until then are lost.
+/// [`ReadFault::Memory`] where memory runs out, where no read failed. The bytes read until then are lost.
 pub fn read_all<S: Source>(
     alloc: Global,
     source: &mut S,
@@ -72,7 +72,7 @@ pub fn read_all<S: Source>(
 ///
 /// # Errors
 ///
-/// [`Failed`] where a write failed and the sink's count of faults rose. A front of the bytes, maybe
+/// [`Failed`] where a write failed and the sink's count of faults rose. A prefix of the bytes, maybe
 /// none of them, was written by then.
 pub fn write_all<K: Sink>(sink: &mut K, bytes: &[u8]) -> Result<(), Failed>
     ensures whole { OnOk result (Appends (K.written sink.old) (K.written sink.new) bytes.now) }

@@ -1,4 +1,4 @@
-//! The calls that ended, told to meters.
+//! The calls that ended, noted by meters.
 ghost use Rattle.std.specs.Prelude.{[], ◌∷◌, OnOk, OnErr};
 ghost use Rattle.meters.specs.Telling.{IsTold};
 ghost use Rattle.exchange_top.specs.Telling.{AreTold, AreToldFront};
@@ -11,7 +11,7 @@ use std::alloc::AllocError;
 ///
 /// # Errors
 ///
-/// [`AllocError`] for want of memory. Then each meter was told of the first few of the calls.
+/// [`AllocError`] where memory runs out. Then each meter noted the first few of the calls.
 pub fn tell(meters: &mut Vec<Box<dyn Meter>>, calls: &[CallRecord]) -> Result<(), AllocError>
     ensures told { OnOk result (AreTold (λ m. stands m) (λ m. text m) meters.old.items meters.new.items calls.now) }
     ensures front { OnErr result (AreToldFront (λ m. stands m) (λ m. text m) meters.old.items meters.new.items calls.now) }
@@ -19,7 +19,7 @@ pub fn tell(meters: &mut Vec<Box<dyn Meter>>, calls: &[CallRecord]) -> Result<()
     tell_calls(meters.as_mut_slice(), calls)
 }
 
-// The same, of meters that stand in a row.
+// The same for meters in a row.
 fn tell_calls(meters: &mut [Box<dyn Meter>], calls: &[CallRecord]) -> Result<(), AllocError>
     ensures told { OnOk result (AreTold (λ m. stands m) (λ m. text m) meters.old meters.new calls.now) }
     ensures front { OnErr result (AreToldFront (λ m. stands m) (λ m. text m) meters.old meters.new calls.now) }

@@ -3,7 +3,7 @@ use Rattle.std.proofs.lemmas.List.{take_rest}
 use Rattle.std.proofs.KnownBytes.{Appends-trans}
 use Rattle.exchange_top.proofs.streams.write_all.Goals as goal
 
--- what was written before, and then a front of the rest
+-- what was written before, and then a prefix of the rest
 pub loop-done-preserved : goal.loop-done-preserved
 loop-done-preserved g c =
     let inv = c.loop-done.invariant in
