@@ -7,7 +7,7 @@
 //! standard input and output nothing can be proved, so the tests here run whole traces over ends in
 //! memory.
 //!
-//! It stands on `ex_io`, `frame_engine`, `gate`, `meters` and `exchange_top`; its tests on
+//! It uses `ex_io`, `frame_engine`, `gate`, `meters` and `exchange_top`; its tests on
 //! `traffic_gen` too.
 #![tactic(auto)]
 
@@ -63,7 +63,7 @@ fn status_of<S: Source, K: Sink, R: Threads + Wait + Sync>(
 }
 
 fn main(rt: HostRuntime) -> ExitCode {
-    // What is left is want of memory.
+    // What is left is that memory ran out.
     let Ok(words) = words_of(&rt) else {
         return ExitCode::from(5);
     };

@@ -12,7 +12,7 @@ use std::test::Fail;
 use std::thread::Threads;
 use traffic_gen::generate;
 
-// A text in which `+` stands for twenty-nine idle octets.
+// A text in which `+` means twenty-nine idle octets.
 fn spelled(alloc: Global, text: &str) -> Result<Vec<u8>, AllocError> {
     let mut bytes = Vec::new(alloc);
     for byte in text.bytes() {
@@ -496,7 +496,7 @@ fn each_event_is_called_at_the_gate_by_its_worker(rt: HostRuntime) -> Result<(),
     Ok(())
 }
 
-/// Holds each worker's turn up until so many workers came.
+/// Holds each worker's turn up until n workers came.
 #[derive(Drop)]
 struct Meeting {
     workers: u64,
@@ -539,7 +539,7 @@ fn nine_workers_meet(rt: HostRuntime) -> Result<(), Fail> {
     Ok(())
 }
 
-// A generated trace is run and summed up; the meters of a run are told of its calls and say so.
+// A generated trace is run and summed up; the meters of a run note its calls and say so.
 #[test]
 fn meters_are_told_of_the_calls(rt: HostRuntime) -> Result<(), Fail> {
     let alloc = rt.alloc();
@@ -591,7 +591,7 @@ fn meters_are_told_of_the_calls(rt: HostRuntime) -> Result<(), Fail> {
     Ok(())
 }
 
-// What three meters were told by one call of the exchange, in text.
+// What three meters noted in one call of the exchange, in text.
 fn told(
     rt: &(impl Threads + Wait + Sync),
     alloc: Global,
