@@ -5,7 +5,7 @@
 //! uses what the one before gave, so none can be left out. It is proved safe; no clause says what
 //! it prints.
 //!
-//! It stands on `alaw_codec` and `conference_mix`.
+//! It uses `alaw_codec` and `conference_mix`.
 #![tactic(auto)]
 
 use alaw_codec::CodeTable;
@@ -23,7 +23,7 @@ fn mix(codes: &CodeTable, octets: &[Option<u8>; MAX_MEMBERS], out: &mut [u8; MAX
     mixer.mix(codes, out);
 }
 
-/// What place 0 hears in each of so many rounds, folded into a number.
+/// What place 0 hears in each of n rounds, folded into a number.
 ///
 /// Each round one member repeats what it heard, so no round can be left out.
 fn sum_heard(codes: &CodeTable, rounds: u32) -> u32 {

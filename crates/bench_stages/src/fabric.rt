@@ -34,7 +34,7 @@ pub enum Way {
     Joins,
 }
 
-/// Carries so many pairs of frames to and fro between two buffers, over a fabric in which every
+/// Carries n pairs of frames to and fro between two buffers, over a fabric in which every
 /// slot has a path, and answers a sum over the octets of the last one.
 pub fn run(
     rt: &(impl Threads + Sync),

@@ -6,7 +6,7 @@
 //! times where that pays, and `bench_stages PAIRS joins` with a thread for each half, seven joins a stage.
 //! It is proved safe; no clause says what it prints.
 //!
-//! It stands on `circuit_model`, `frame_buffer`, `control_memory`, `space_stage` and `time_stage`, and on
+//! It uses `circuit_model`, `frame_buffer`, `control_memory`, `space_stage` and `time_stage`, and
 //! the kit's `anyhow`.
 #![tactic(auto)]
 

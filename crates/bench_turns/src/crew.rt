@@ -24,7 +24,7 @@ fn steps<R: Wait>(rt: &R, lock: &TurnLock<Sum>, mut seat: Seat<Sum>, count: u32)
     seat
 }
 
-// So many seats beside seat 0 step the events 1 to `count`, each in a thread of its own, and are joined.
+// n seats beside seat 0 step the events 1 to `count`, each in a thread of its own, and are joined.
 fn crew<R: Threads + Wait + Sync>(
     rt: &R,
     lock: &TurnLock<Sum>,
@@ -70,7 +70,7 @@ fn crew<R: Threads + Wait + Sync>(
     seat
 }
 
-/// So many seats step the events 1 to `count` each. The sum, and how many entries the journal has; None where memory is short, or the numbers are
+/// n seats step the events 1 to `count` each. The sum, and how many entries the journal has; None where memory is short, or the numbers are
 /// out of bounds.
 pub fn run<R: Threads + Wait + Sync>(
     rt: &R,

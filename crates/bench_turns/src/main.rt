@@ -4,7 +4,7 @@
 //! `bench_turns SEATS STEPS` has each seat step the events 1 to STEPS, and prints the sum and how
 //! many entries the journal has. It is proved safe; no clause says what it prints.
 //!
-//! It stands on `turn_lock`, and on the kit's `anyhow`.
+//! It uses `turn_lock`, and the kit's `anyhow`.
 #![tactic(auto)]
 
 mod crew;

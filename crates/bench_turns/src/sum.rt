@@ -14,7 +14,7 @@ pub struct Sum {
 }
 
 impl Sum {
-    /// No sum yet, and room for so many entries.
+    /// No sum yet, and room for n entries.
     pub fn new(alloc: Global, most: u32) -> Result<Sum, AllocError>
         ensures { IfOk result (λ s. (s.journal.items ≡ []) × (s.most ≡ most)) }
     {

@@ -1,10 +1,10 @@
 //! Worked examples of the map of circuits over the fabric of thirty internal slots, and one over that
 //! of fifty-nine: tables of steps, with what a slot hears after each.
 //!
-//! They stand here and not beside the map, so that the map need not be proved again where the
+//! They are here and not beside the map, so that the map need not be proved again where the
 //! fabric changes. The crate promises nothing.
 //!
-//! It stands on `circuit_model`, `control_memory`, `circuit_map`, `fabric_map` and
+//! It uses `circuit_model`, `control_memory`, `circuit_map`, `fabric_map` and
 //! `strict_map`.
 #![tactic(auto)]
 

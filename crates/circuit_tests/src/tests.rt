@@ -38,7 +38,7 @@ enum Told {
     Done,
     Busy,
     Full,
-    /// So many live paths moved, there and back.
+    /// n live paths moved, there and back.
     Moved(u32, u32),
     Number(u32),
     Heard(Heard),

@@ -1,11 +1,11 @@
 //! Worked examples of the fabric's crates: the matrix, chains of moves, both maps of paths, and the
 //! control memory that they write.
 //!
-//! They stand here and not beside what they test, so that each of those crates is proved once. The
+//! They are here and not beside what they test, so that each of those crates is proved once. The
 //! crate promises nothing.
 //!
-//! It stands on `circuit_model`, `control_memory`, `paull_matrix`, `rearrange_chain`, `fabric_map`
-//! and `strict_map`, and on the kit's `arrayvec`.
+//! It uses `circuit_model`, `control_memory`, `paull_matrix`, `rearrange_chain`, `fabric_map`
+//! and `strict_map`, and the kit's `arrayvec`.
 #![tactic(auto)]
 
 #[cfg(test)]

@@ -7,7 +7,7 @@ use Rattle.circuit_model.specs.FrameInput.{Input}
 use Rattle.circuit_model.specs.Hears.{hears}
 use Rattle.circuit_model.specs.Holding.{Holding, empty, Command, Frame, after, after_all, frames}
 
--- the circuits that stand, and of each frame what arrived in it and which circuits stood at its boundary
+-- the circuits that exist, and for each frame what arrived in it and which circuits existed at its boundary
 pub record Story : Type 0 where
   pub holding : Holding
   pub inputs : List Input

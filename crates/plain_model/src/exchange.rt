@@ -7,7 +7,7 @@ use circuit_model::{Circuit, Kind, Slot};
 use std::alloc::{AllocError, Global};
 use std::marker::Model;
 
-/// An exchange that keeps everything that ever arrived and stood in it, and looks up what is heard.
+/// An exchange that keeps everything that ever arrived and existed in it, and looks up what is heard.
 ///
 /// It asks nothing of its commands: that slots are idle, and that there is a port for each member,
 /// is for the caller to see to.
@@ -34,7 +34,7 @@ impl Exchange {
     ghost use Rattle.plain_model.specs.Tones.{tones_of};
     ghost use Rattle.plain_model.specs.Story.{start, after_command, after_frame};
 
-    /// An exchange before its first frame, in which nothing stands.
+    /// An exchange before its first frame, in which nothing exists.
     pub fn new(alloc: Global) -> Exchange
         ensures { result ≡ start }
     {
@@ -53,7 +53,7 @@ impl Exchange {
         self.next
     }
 
-    /// The circuits that stand, in the order in which they were made.
+    /// The circuits that exist, in the order in which they were made.
     pub fn circuits(&self) -> &[Circuit]
         ensures { result.now ≡ self.now.holding.circuits }
     {
@@ -113,7 +113,7 @@ impl Exchange {
         remove_naming(&mut self.circuits, x);
     }
 
-    /// Passes a frame's boundary: what arrives in the frame and what stands in it is kept. Where
+    /// Passes a frame's boundary: what arrives in the frame and what exists in it is kept. Where
     /// memory runs out nothing changes.
     pub fn frame(&mut self, alloc: Global, input: &[Option<[u8; 30]>]) -> Result<(), AllocError>
         requires { self.old.holding.next + 1 < 2 ^ 32 }

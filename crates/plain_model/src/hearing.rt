@@ -57,7 +57,7 @@ fn octet_of_place(octets: Option<[u8; 30]>, place: u8) -> u8
 }
 
 /// The octet that slot `y` hears in frame `f`, given the octets of the two tones and, for each frame,
-/// what arrived in it and which circuits stood in it.
+/// what arrived in it and which circuits existed in it.
 pub fn octet_heard(
     ringback: &[u8],
     busy: &[u8],
@@ -131,14 +131,14 @@ fn is_other(wanted: u8, y: Slot, g: u32, circuit: Circuit) -> bool
     }
 }
 
-/// Whether a circuit that stands since `since` is two frames old in frame `f`.
+/// Whether a circuit that has existed since `since` is two frames old in frame `f`.
 fn is_through(since: u32, f: u32) -> bool
     ensures { result ≡ is_through since f }
 {
     f >= 2 && since <= f - 2
 }
 
-/// The octet of a tone that has sounded for so many frames.
+/// The octet of a tone that has sounded for n frames.
 fn tone_octet(table: &[u8], frames: u32) -> u8
     ensures { result ≡ tone_octet table.now frames }
 {

@@ -6,7 +6,7 @@
 //! definitions say of them ([`law_of_stories`]). Nothing here knows a switching stage, a control
 //! memory or a port.
 //!
-//! It stands on `circuit_model`.
+//! It uses `circuit_model`.
 #![tactic(auto)]
 
 mod alaw;

@@ -3,7 +3,7 @@
 use std::alloc::{AllocError, Global};
 use std::marker::Model;
 
-/// A list for each frame, of what arrived in it or of the circuits that stood at its boundary.
+/// A list for each frame, of what arrived in it or of the circuits that existed at its boundary.
 /// Contracts see the list of these lists.
 #[derive(Drop)]
 pub struct Rows<T> {

@@ -1,10 +1,10 @@
 //! The tests of the plain programs: worked exchanges and calls, whose octets were found by hand, and
 //! that each course of a call is drawn, and which orders of events are lawful.
 //!
-//! They stand here and not beside what they test, so that each of those crates is proved once. The
+//! They are here and not beside what they test, so that each of those crates is proved once. The
 //! crate promises nothing.
 //!
-//! It stands on `circuit_model`, `plain_model`, `test_exchange` and `test_traffic`, and on the kit's
+//! It uses `circuit_model`, `plain_model`, `test_exchange` and `test_traffic`, and the kit's
 //! `hex`.
 #![tactic(auto)]
 

@@ -20,7 +20,7 @@ pub record LineCount : Type 0 where
   pub line : ℕ
   pub calls : ℕ
 
--- it stands for a list of calls
+-- it represents a list of calls
 abbrev pub IsCountOf : List CallRecord → LineCount → Type 0
 IsCountOf calls count = count.calls ≡ register_value (calls_to count.line calls)
 
@@ -28,6 +28,6 @@ IsCountOf calls count = count.calls ≡ register_value (calls_to count.line call
 abbrev pub to_line : ℕ → ℕ → List ℕ
 to_line line calls = codes "to " ++ decimal line ++ codes ": " ++ decimal calls ++ codes "\n"
 
--- the text of a count once it is told these calls too
+-- the text of a count once it has noted these calls too
 abbrev pub to_text_with : LineCount → List CallRecord → List ℕ
 to_text_with count more = to_line count.line (register_value (count.calls + calls_to count.line more))

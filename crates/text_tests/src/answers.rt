@@ -6,7 +6,7 @@ use report_text::append_answer;
 use std::alloc::{AllocError, Global};
 use std::test::Fail;
 
-// The record of a call, of which no line tells.
+// The record of a call, which no line shows.
 const TOLD: CallRecord = CallRecord {
     caller: Slot { line: 0, place: 7 },
     called: Party::Line(Slot { line: 1, place: 8 }),
@@ -16,7 +16,7 @@ const TOLD: CallRecord = CallRecord {
     cause: 16,
 };
 
-// A text in which `+` stands for twenty-eight idle octets.
+// A text in which `+` means twenty-eight idle octets.
 fn spelled(alloc: Global, text: &str) -> Result<Vec<u8>, AllocError> {
     let mut bytes = Vec::new(alloc);
     for byte in text.bytes() {
@@ -43,7 +43,7 @@ fn signals(sends: &[(u8, &[u8])]) -> Result<Signals, Fail> {
     Ok(Signals::of(signals))
 }
 
-// What is sent for a message: these octets to these lines. A call is told of as well.
+// What is sent for a message: these octets to these lines. A call is recorded as well.
 fn sent(moved: Option<(u32, u32)>, sends: &[(u8, &[u8])]) -> Result<Reply, Fail> {
     let mut records = Records::new();
     records.push(TOLD);

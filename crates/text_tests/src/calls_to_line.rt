@@ -9,7 +9,7 @@ use meters::Meter;
 use std::alloc::{AllocError, Global};
 use std::marker::Model;
 
-/// Counts the calls to one line. Its text is the line `to L: N`, where N stands at
+/// Counts the calls to one line. Its text is the line `to L: N`, where N stays at
 /// 18,446,744,073,709,551,615.
 #[derive(Drop)]
 pub(crate) struct CallsToLine {
@@ -26,7 +26,7 @@ impl Model for CallsToLine {
 }
 
 impl CallsToLine {
-    /// A count of the calls to this line that was told of no call. It takes no memory.
+    /// A count of the calls to this line that has noted no call. It takes no memory.
     pub(crate) fn new(line: u8) -> CallsToLine
         ensures stands { IsCountOf [] result }
         ensures text { (calls : List CallRecord) → to_text_with result calls ≡ to_line line (register_value (calls_to line calls)) }
@@ -52,7 +52,7 @@ impl Meter for CallsToLine {
         Ok(())
     }
 
-    /// Appends the text of the calls that the meter stands for.
+    /// Appends the text of the calls that the meter represents.
     fn summary(&self, out: &mut Vec<u8>) -> Result<(), AllocError>
         ensures text { OnOk result (out.new.items ≡ out.old.items ++ to_text_with self.now []) }
         ensures calls { OnOk result ((calls : List CallRecord) → IsCountOf calls self.now

@@ -1,4 +1,4 @@
-// A meter of a program's own: it keeps all that it is told, and takes memory to do so.
+// A meter of a program's own: it keeps all that it notes, and takes memory to do so.
 ghost use Rattle.std.specs.Prelude.{◌≡◌, ◌++◌, List, length, map, take, if◌then◌else◌, OnOk};
 ghost use Rattle.exchange_events.specs.declared.record.CallRecord.{CallRecord};
 
@@ -50,7 +50,7 @@ impl Meter for Keeper {
     }
 }
 
-// A letter for each call. A refusal leaves a front of them.
+// A letter for each call. A refusal leaves a prefix of them.
 fn put_letters(out: &mut Vec<u8>, calls: &[CallRecord]) -> Result<(), AllocError>
     ensures letters { OnOk result (out.new.items ≡ out.old.items ++ map (λ call. if call.answered then 65 else 78) calls.now) }
     ensures front { take (length out.old.items) out.new.items ≡ out.old.items }

@@ -72,7 +72,7 @@ fn record(cause: u8, answered: bool) -> CallRecord {
     }
 }
 
-// Whether a meter is told of a call, at once or at the second time.
+// Whether a meter notes a call, at once or at the second time.
 fn notes<M: Meter>(meter: &mut M, call: &CallRecord) -> bool {
     meter.note(call).is_ok() || meter.note(call).is_ok()
 }

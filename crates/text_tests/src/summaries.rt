@@ -8,7 +8,7 @@ use std::alloc::AllocError;
 use std::test::Fail;
 
 // An answered call between slots, one to a room that lasted longer, and one that wasn't answered
-// and is told with its frames the wrong way round.
+// and is noted with its frames the wrong way round.
 const CALLS: [CallRecord; 3] = [
     CallRecord {
         caller: Slot { line: 0, place: 0 },

@@ -1,11 +1,11 @@
-// What traces say. What is no trace stands in the tables of examples/.
+// What traces say. Other inputs are in the tables of examples/.
 use circuit_model::Slot;
 use exchange_events::{Event, Trace};
 use number_plan::Found;
 use std::test::Fail;
 use trace_text::read_trace;
 
-// What stands before a case, so that the case is line 2 of an exchange of one line.
+// What comes before a case, so that the case is line 2 of an exchange of one line.
 const HEADER: &str = "exchange 1 1 0 1\n";
 
 // Thirty octets, with digits of both cases.

@@ -1,9 +1,9 @@
 //! Worked examples of the turn lock and of the gates, on one thread and on several.
 //!
-//! They stand here and not beside what they test, so that the lock is proved once. The crate promises
+//! They are here and not beside what they test, so that the lock is proved once. The crate promises
 //! nothing.
 //!
-//! It stands on `seat_history`, `turn_lock` and `gate`.
+//! It uses `seat_history`, `turn_lock` and `gate`.
 #![tactic(auto)]
 
 #[cfg(test)]

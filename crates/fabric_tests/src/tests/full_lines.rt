@@ -27,7 +27,7 @@ fn gets(map: &mut StrictMap, from: Slot, to: Slot, slot: u8) -> bool
         && map.slot_of(from) == Some(slot)
 }
 
-// The same of a path that is taken out again.
+// The same for a path that is taken out again.
 fn gets_for_a_while(map: &mut StrictMap, from: Slot, to: Slot, slot: u8) -> bool
     requires from { IsSlot map.old.lines from }
     requires to { IsSlot map.old.lines to }
@@ -71,7 +71,7 @@ fn fill_column(map: &mut StrictMap) -> bool
     true
 }
 
-// Twenty-eight paths of incoming line 0 in the slots 0 to 28 but for 3, which outgoing line 30 has
+// Twenty-eight paths of incoming line 0 in the slots 0 to 28 except 3, which outgoing line 30 has
 // from another line.
 fn fill_row(map: &mut StrictMap) -> bool
     requires lines { map.old.lines ≡ 34 }

@@ -101,7 +101,7 @@ struct Came {
     tones: (u32, u32),
 }
 
-// Takes the steps on so many bridge lines, with tones or without, and compares the report's last lines
+// Takes the steps on n bridge lines, with tones or without, and compares the report's last lines
 // with these.
 fn came_of(
     alloc: Global,

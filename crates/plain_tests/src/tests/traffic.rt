@@ -3,7 +3,7 @@ use std::alloc::{AllocError, Global};
 use std::test::Fail;
 use test_traffic::{Counts, Random, draw_traffic};
 
-// Draws so many traces, and tells what became of their messages and how many paths were moved.
+// Draws n traces, and tells what became of their messages and how many paths were moved.
 fn draw(alloc: Global, traces: u32, events: u32) -> Result<(Counts, u32), AllocError> {
     let mut random = Random::new(1976);
     let mut counts = Counts::new();

@@ -129,7 +129,7 @@ pub fn do_all<B: Switchboard, R: Wait>(
     Some(answers)
 }
 
-/// Every second event from `first` on is done, so many. How many were granted.
+/// Every second event from `first` on is done, n. How many were granted.
 pub fn every_second<B: Switchboard, R: Wait>(
     rt: &R,
     board: &B,

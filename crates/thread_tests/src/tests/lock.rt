@@ -58,7 +58,7 @@ fn three_seats<R: Wait>(
     })
 }
 
-// The journal of so many seats that step the events 1 to `count`, each in a thread of its own.
+// The journal of n seats that step the events 1 to `count`, each in a thread of its own.
 fn in_threads<R: Threads + Wait + Sync>(
     rt: &R,
     alloc: Global,
@@ -79,7 +79,7 @@ fn in_threads<R: Threads + Wait + Sync>(
     Some(lock.close(zero).into_journal())
 }
 
-// Each seat's steps stand in the journal in their order, each once, and nothing else does.
+// Each seat's steps are in the journal in their order, each once, and nothing else does.
 fn has_all(journal: &[(u32, u32)], seats: u32, count: u32) -> bool {
     for seat in 0..seats {
         let mut last = 0;
@@ -98,7 +98,7 @@ fn has_all(journal: &[(u32, u32)], seats: u32, count: u32) -> bool {
     Some(journal.len()) == (seats as usize).checked_mul(count as usize)
 }
 
-// Whether these steps are answered so, stand in the journal in their order, and leave seat 0 so many turns and the baton. None answered: a step
+// Whether these steps are answered so, are in the journal in their order, and leave seat 0 n turns and the baton. None answered: a step
 // finds no turn or no baton.
 fn comes_out<R: Wait>(
     rt: &R,

@@ -73,7 +73,7 @@ pub fn steps<R: Wait>(rt: &R, lock: &TurnLock<Sum>, mut seat: Seat<Sum>, count: 
     seat
 }
 
-/// So many seats beside seat 0 step the events 1 to `count`, each in a thread of its own, and are joined.
+/// n seats beside seat 0 step the events 1 to `count`, each in a thread of its own, and are joined.
 pub fn crew<R: Threads + Wait + Sync>(
     rt: &R,
     lock: &TurnLock<Sum>,
