@@ -37,8 +37,8 @@ use trace_text::{MOST_BYTES, Reason, TraceFault, read_trace};
 #[derive(Drop)]
 pub struct Outcome<C: Carrier> {
     /// 0 where the trace was run and its report or its summary was written, 1 where the input is no
-    /// trace, 2 where the words are no command, 3 where a read failed, 4 where a write failed, 5 for want
-    /// of memory.
+    /// trace, 2 where the words are no command, 3 where a read failed, 4 where a write failed, 5 where
+    /// memory ran out.
     pub status: u8,
     /// The numbers of the events that were done, in the order in which they happened.
     pub order: Vec<u32>,

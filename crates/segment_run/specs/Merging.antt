@@ -42,7 +42,7 @@ pub record AddsMerged {K : Type 0} (holds : K → List Placed → Type 0) (kept 
   pub merged : IsMerged parts answers
   pub held : holds k (kept ++ answers)
 
--- Of the first n workplaces the one with number k has the first event of all, at the place `first`; the others' come behind it, and none before the
+-- The one of the first n workplaces with number k has the first event of all, at the place `first`; the others' come behind it, and none before the
 -- place `below`. Where there is none, nothing is kept.
 abbrev pub IsNextRun : {K : Type 0} → (K → List Placed → Type 0) → List (Workplace K) → ℕ → Option (ℕ × ℕ × ℕ) → Type 0
 IsNextRun holds used n None = (j : ℕ) (w : Workplace _) (ps : List Placed) → j < n → slice_get used j ≡ Some w → holds w.keeper ps → first_place ps ≡ None

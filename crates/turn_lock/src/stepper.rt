@@ -26,7 +26,7 @@ pub trait Stepper {
     /// What a step asks of its event and of its tool.
     ghost ready: { Self.Setting → ℕ → Self.Tool → Type 0 };
 
-    /// Of the journal before a step, the seat's number and the event: what the step replies, and the tool afterwards.
+    /// What the step replies, and the tool afterwards, from the journal before a step, the seat's number and the event.
     ghost answers: { Self.Setting → List Entry → ℕ → ℕ → Self.Reply → Self.Tool → Type 0 };
 
     /// Steps the event of the seat with the number `by`, and puts its entry behind the journal.
