@@ -30,7 +30,7 @@ naming-new circuits new z idle = filter-append (names z) circuits new ∙ ap (λ
 naming-kept : (circuits new : List Circuit) (z : Slot) → circuits_naming new z ≡ [] → circuits_naming (circuits ++ new) z ≡ circuits_naming circuits z
 naming-kept circuits new z none = filter-append (names z) circuits new ∙ ap (λ cs. circuits_naming circuits z ++ cs) none ∙ append-nil (circuits_naming circuits z)
 
--- of what names a slot, that goes which names the cleared one
+-- what names the cleared slot goes from what names a slot
 naming-clear : (circuits : List Circuit) (x z : Slot) → circuits_naming (filter (λ c. not (names x c)) circuits) z ≡ filter (λ c. not (names x c)) (circuits_naming circuits z)
 naming-clear circuits x z = filter_filter (names z) (λ c. not (names x c)) circuits
 
@@ -194,7 +194,7 @@ only_one d c inside = ⊎_elim (λ (e : d ≡ c). e) (λ (no : Contains [] c). a
 one_of_two : (d e c : Circuit) → Contains (d ∷ e ∷ []) c → (d ≡ c) ⊎ (e ≡ c)
 one_of_two d e c inside = ⊎_elim (λ (first : d ≡ c). inl first) (λ (rest : Contains (e ∷ []) c). inr (only_one e c rest)) (cons_cases d (e ∷ []) c inside)
 
--- of what names the slot, only what it hears by is for it
+-- among what names the slot, only what it hears by is for it
 heard_alone : (circuits : List Circuit) (x : Slot) (c : Circuit) → Stands circuits x → Contains (circuits_naming circuits x) c → same_slot x (listener c) ≡ true → heard_by (circuits_naming circuits x) x ≡ Some c
 heard_alone circuits x c (Has_no_circuit e) inside for_x = absurd (none_in_nil c (rw e at inside))
 heard_alone circuits x c (Has_tone kind since e) inside for_x = let same = only_one _ c (rw e at inside) in rw e (grind (arith, common_steps))

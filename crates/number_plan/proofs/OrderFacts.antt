@@ -72,7 +72,7 @@ all_with p (n ∷ ns) y all one =
       | inr after ↦ ap (list_all p) (cond-false (precedes y n) (y ∷ n ∷ ns) (n ∷ with_number ns y) after) ∙ and_from (p n) (list_all p (with_number ns y)) parts.0 (all_with p ns y parts.1 one)
     ]
 
--- of two of which none begins the other, the one that doesn't come after comes before
+-- where neither of two begins the other, the one that doesn't come after comes before
 before_unless : (m d : List ℕ) → begins m d ≡ false → begins d m ≡ false → is_lt (side_by_side d m) ≡ false → side_by_side m d ≡ Less
 before_unless m d p q after = by_order (side_by_side m d) refl
   where

@@ -83,7 +83,7 @@ equal_begins (x ∷ m) (z ∷ d) e short =
     not_equal : (o : Ordering) → o ≡ Greater → o ≡ Equal → ⊥
     not_equal o p q = cc
 
--- of two equal ones, the one that isn't longer begins the other
+-- the one of two equal ones that isn't longer begins the other
 pub equal_begun : (m d : List ℕ) → side_by_side m d ≡ Equal → length d ≤ length m → begins d m ≡ true
 equal_begun m d e short = equal_begins d m (reversed m d ∙ ap ordering_reverse e) short
 
@@ -106,7 +106,7 @@ both_begin (x ∷ a) (y ∷ b) (z ∷ c) p q =
     let r = and_parts (eqb y z) (begins b c) q in
     first_same x y a b (eqb-true x z l.0 ∙ sym (eqb-true y z r.0)) ∙ both_begin a b c l.1 r.1
 
--- of two that begin the same digits one begins the other
+-- one of two that begin the same digits begins the other
 pub begins_one : (a b d : List ℕ) → begins a d ≡ true → begins b d ≡ true → (begins a b ≡ true) ⊎ (begins b a ≡ true)
 begins_one a b d p q =
     elim (cases_lt (length b) (length a)) [
@@ -120,7 +120,7 @@ not_begins m d e = false_from_ne_true _ (λ b. not_both (side_by_side m d) e (be
 pub not_begun : (m d : List ℕ) → side_by_side m d ≡ Less → begins d m ≡ false
 not_begun m d e = false_from_ne_true _ (λ b. not_both (side_by_side m d) e (begun_equal m d b))
 
--- of two equal ones one begins the other
+-- one of two equal ones begins the other
 pub one_begins : (m d : List ℕ) → begins m d ≡ false → begins d m ≡ false → side_by_side m d ≡ Equal → ⊥
 one_begins m d p q e =
     elim (cases_lt (length d) (length m)) [

@@ -50,7 +50,7 @@ starts_same a = ([], sym (append-nil a))
 pub entries_front : (n : ℕ) (seen rest : List Entry) → Every (λ (e : Entry). e.0 ≢ n) rest → entries_of n (seen ++ rest) ≡ entries_of n seen
 entries_front n seen rest none = filter-append (λ (e : Entry). eqb e.0 n) seen rest ∙ (ap (λ (l : List Entry). entries_of n seen ++ l) (entries_none n rest none) ∙ append-nil (entries_of n seen))
 
--- of two beginnings of one list the shorter begins the longer
+-- the shorter of two beginnings of one list begins the longer
 pub shorter : (log a b ra rb : List Entry) → length a ≤ length b → log ≡ a ++ ra → log ≡ b ++ rb → (x : List Entry) × (b ≡ a ++ x) × (ra ≡ x ++ rb)
 shorter log [] b ra rb l p q = (b, refl, sym p ∙ q)
 shorter log (x ∷ a) [] ra rb l p q = absurd (omega arith)

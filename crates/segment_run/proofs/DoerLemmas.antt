@@ -261,7 +261,7 @@ module _ (turns : ℕ) (trace : Trace) (segment : ℕ) (v k : Known) (rest : Lis
         },
       )
 
-  -- of the growth a doer did what it did
+  -- a doer did its part of the growth
   pub of_doer : (t : Doer) → In t ts → filter (is_its trace (worker_numbered trace.processors t.worker)) (order_of rest) ≡ t.done
   of_doer t i =
       let worker = worker_numbered trace.processors t.worker in

@@ -135,7 +135,7 @@ abbrev Fronts : Trace → ℕ → List ℕ → Type 0
 Fronts trace k more = (worker : Worker) → (rest : List ℕ) × (part_of trace k worker ≡ of_worker trace worker more ++ rest)
 
 module _ (trace : Trace) (k : ℕ) (order more : List ℕ) (below : IsDoneBelow trace k order) (only : All (IsOfSegment trace k) more) (fronts : Fronts trace k more) where
-  -- of two that one worker does, the one with the lower number was done first
+  -- the one with the lower number of two that one worker does was done first
   rises_own : (worker : Worker) → Rises (of_worker trace worker more)
   rises_own worker = let f = fronts worker in rises_front (of_worker trace worker more) f.0 (subst Rises f.1 (rises_part trace k worker))
 
