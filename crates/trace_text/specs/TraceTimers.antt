@@ -7,7 +7,6 @@ use Rattle.trace_text.specs.declared.timing.GivenTimer.{GivenTimer}
 use Rattle.trace_text.specs.declared.timing.GivenTimers.{GivenTimers}
 use Rattle.trace_text.specs.declared.timing.TimerName.{TimerName}
 use Rattle.trace_text.specs.declared.timing.TimerName.TheVariants.{T302, T303, T305, T308, T310}
-use Rattle.trace_text.specs.TraceWords.{numeral}
 
 -- the timer that a word names
 abbrev pub timer_named : List ℕ → Option TimerName

@@ -1,4 +1,4 @@
-use Rattle.std.proofs.Common.{◌-◌, decimal, arith}
+use Rattle.std.proofs.Common.{decimal, arith}
 use Rattle.std.proofs.lemmas.Fmt.{length-decimal-le}
 use Rattle.std.proofs.lemmas.List.{length-set}
 use Rattle.report_text.proofs.Texts.{line_before}
