@@ -1,5 +1,5 @@
 -- A segment's run as a whole: from what was dealt, done and joined to what the run promises.
-use Rattle.std.proofs.Common.{◌≡◌, ◌≢◌, ℕ, suc, ◌+◌, ◌-◌, ◌<◌, ◌≤◌, ◌⊎◌, inl, inr, Bool, true, false, IsTrue, List, [], ◌∷◌, ◌++◌, map, length, drop, filter, refl, sym, ap, ◌∙◌, subst, arith, append-nil, append_assoc, length-append}
+use Rattle.std.proofs.Common.{◌≡◌, ◌≢◌, ℕ, suc, ◌+◌, ◌<◌, ◌≤◌, ◌⊎◌, inl, inr, Bool, true, false, IsTrue, List, [], ◌∷◌, ◌++◌, map, length, drop, filter, refl, sym, ap, ◌∙◌, subst, arith, append-nil, append_assoc, length-append}
 use Rattle.std.specs.Prelude.{◌||◌, nat_eq}
 use Rattle.std.specs.List.{All, AllZip}
 use Rattle.std.proofs.lemmas.Bool.{cases_lt}
@@ -13,13 +13,13 @@ use Rattle.seat_history.specs.declared.known.Known.{Known}
 use Rattle.seat_history.specs.declared.known.JoinedSeat.{JoinedSeat}
 use Rattle.seat_history.specs.Histories.{StartsWith, entries_of, unseen}
 use Rattle.seat_history.specs.Seats.{Settled, joined_seat}
-use Rattle.exchange_core.specs.Boards.{Board, IsFrame, NoFrames, turns_of, world_at}
+use Rattle.exchange_core.specs.Boards.{Board, IsFrame, NoFrames, turns_of}
 use Rattle.exchange_events.specs.Sound.{IsSound}
 use Rattle.exchange_core.specs.Working.{Entry, order_of}
 use Rattle.exchange_events.specs.Sizes.{Dimensions}
 use Rattle.call_processor.specs.declared.worked.Placed.{Placed}
 use Rattle.call_processor.specs.Frames.{Carrying, Plays, IsReady}
-use Rattle.call_processor.specs.Parts.{does, events_of_segment, is_its, is_worker, part_of}
+use Rattle.call_processor.specs.Parts.{events_of_segment, is_its, is_worker, part_of}
 use Rattle.call_processor.specs.Work.{Works, answered_events}
 use Rattle.call_processor.proofs.FrameLemmas.{frame_its, still_ready}
 use Rattle.segment_run.specs.Merging.{AreApart}

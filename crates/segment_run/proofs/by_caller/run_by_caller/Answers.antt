@@ -1,4 +1,4 @@
-use Rattle.std.proofs.Common.{rules, ◌≡◌, IsTrue, is_ok, sym}
+use Rattle.std.proofs.Common.{rules, IsTrue, is_ok, sym}
 use Rattle.exchange_core.specs.Boards.{turns_of}
 use Rattle.tone_rules.specs.Tables.{table_of}
 use Rattle.segment_run.proofs.AloneLemmas.{alone_answers, alone_chief, alone_long, alone_ran, alone_whole}

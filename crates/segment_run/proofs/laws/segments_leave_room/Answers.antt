@@ -1,4 +1,4 @@
-use Rattle.std.proofs.Common.{◌≤◌, refl, arith}
+use Rattle.std.proofs.Common.{refl, arith}
 use Rattle.segment_run.proofs.LoadLemmas.{turns_for}
 use Rattle.segment_run.proofs.OrderLemmas.{seen_done, numbers_left}
 use Rattle.segment_run.proofs.laws.segments_leave_room.Goals as goal
