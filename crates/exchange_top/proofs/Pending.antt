@@ -1,5 +1,5 @@
 -- What was written of a report when a run ends.
-use Rattle.std.proofs.Common.{◌≡◌, ℕ, ◌+◌, ◌-◌, List, [], ◌++◌, length, take, Option, Result, Ok, Err, OnErr, OnOk, refl, arith, sym, subst, ◌∙◌, ap, length-append, inl, inr}
+use Rattle.std.proofs.Common.{◌≡◌, ℕ, ◌+◌, List, [], ◌++◌, length, take, Option, Result, Ok, Err, OnErr, OnOk, refl, arith, sym, subst, ◌∙◌, ap, length-append, inl, inr}
 use Rattle.std.proofs.KnownBytes.{Appends-nil, Appends-trans}
 use Rattle.std.proofs.lemmas.List.{append_assoc, append-nil}
 use Rattle.std.proofs.Math.Seq.{take-append-add}

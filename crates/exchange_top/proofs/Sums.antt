@@ -1,5 +1,5 @@
 -- A generated trace that is run and summed up, and a run on another board.
-use Rattle.std.proofs.Common.{rules, Bool, false, ◌≡◌, ◌≢◌, ◌⊎◌, ℕ, ◌+◌, ◌≤◌, List, [], length, Option, Some, None, sym, ap, subst, inl, inr, arith}
+use Rattle.std.proofs.Common.{rules, false, ◌≡◌, ◌≢◌, ◌⊎◌, ℕ, ◌+◌, ◌≤◌, List, [], length, Option, Some, None, sym, ap, subst, inl, inr, arith}
 use Rattle.std.specs.Io.KnownBytes.{Appends, Keeps}
 use Rattle.std.proofs.KnownBytes.{Appends-trans}
 use Rattle.ex_io.specs.Ends.{Rose}

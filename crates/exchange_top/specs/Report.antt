@@ -2,9 +2,7 @@
 use Rattle.std.specs.Prelude.{◌≡◌, ℕ, List, [], ◌∷◌, ◌++◌, Option, Some, None}
 use Rattle.circuit_model.specs.declared.channel.Slot.{Slot}
 use Rattle.circuit_model.specs.declared.circuit.Circuit.{Circuit}
-use Rattle.circuit_model.specs.declared.circuit.Kind.{Kind}
 use Rattle.circuit_model.specs.FrameInput.{Input}
-use Rattle.circuit_model.specs.Ports.{Ports}
 use Rattle.tone_rules.specs.Tables.{table_of}
 use Rattle.exchange_events.specs.declared.answer.Answer.{Answer}
 use Rattle.exchange_events.specs.declared.trace.Event.{Event}
