@@ -8,7 +8,7 @@ use Rattle.call_processor.specs.declared.worked.Placed.{Placed}
 use Rattle.call_processor.specs.Keeping.{HandsOn, StillHolds, first_place}
 use Rattle.line_list.specs.declared.lines.Mark.{Mark}
 use Rattle.line_list.specs.declared.lines.Extent.{Extent}
-use Rattle.line_list.specs.Lines.{HandsLines, Line, calls_of, first_line, text_of}
+use Rattle.line_list.specs.Lines.{HandsLines, Line, calls_of, first_line, line_of, text_of}
 use Rattle.line_list.specs.Marks.{AreBefore, AreMarked, lines_in, lines_left, mark_of, octets_in, records_in}
 
 -- ---- sums over lines
