@@ -1,13 +1,14 @@
 -- A part of the rows of some lines, written row after row.
-use Rattle.std.proofs.Common.{◌≡◌, ℕ, refl, ◌+◌, ◌-◌, ◌*◌, ◌<◌, ◌≤◌, List, length, length-take-le, get_or, take, get_or-take, mul_comm, sym, subst, ap, ◌∙◌, inl, inr, arith}
+use Rattle.std.proofs.Common.{◌≡◌, ℕ, refl, ◌+◌, ◌-◌, ◌*◌, ◌<◌, ◌≤◌, List, length, length-take-le, length-drop, get_or, take, drop, get_or-take, mul_comm, sym, subst, ap, ◌∙◌, inl, inr, arith}
 use Rattle.std.proofs.Math.Nat.{mul-le-mul_right, lt_of_mul-lt-mul_right}
 use Rattle.std.proofs.lemmas.Nat.{mul-add-lt}
 use Rattle.std.proofs.lemmas.List.{get_or-append_right}
 use Rattle.std.proofs.lemmas.Bool.{cases_lt}
 use Rattle.std.proofs.lemmas.Slice.{take-put_mid}
-use borrow.Rule.Slice.PartMut.{put_mid}
+use borrow.Rule.Slice.PartMut.{put_mid, same_len_mid}
+use Rattle.circuit_model.specs.FrameInput.{idle_octet}
 use Rattle.frame_buffer.specs.Highways.{IsPart, RowsHold}
-use Rattle.frame_buffer.proofs.Rows.{put_row-below}
+use Rattle.frame_buffer.proofs.Rows.{put_row-below, put_row-beyond}
 
 -- a row that begins inside a part is a whole row of it
 pub row_within : (octets rows width row : ℕ) → octets ≡ rows * width → row * width < octets → row < rows
@@ -54,6 +55,58 @@ module _ (width : ℕ) (octet : ℕ → ℕ → ℕ) (first line : ℕ) (part : 
           ∙ ap (λ s. get_or (put_mid a k part row_now) (s + at) 0) (sym starts)
           ∙ here at near ∙ holds at near ∙ ap (λ l. octet l at) line_is
     ]
+
+-- the rows of the lines before this one are written, and all octets behind them are idle
+pub record IsWrittenTo (width : ℕ) (octet : ℕ → ℕ → ℕ) (first line : ℕ) (part : List ℕ) : Type 0 where
+  pub written : HoldBefore width octet first line part
+  pub idle : (i : ℕ) → (line - first) * width ≤ i → i < length part → get_or part i 0 ≡ idle_octet
+
+-- where all is idle, no line is before the first
+pub none_written : (width : ℕ) (octet : ℕ → ℕ → ℕ) (first : ℕ) (part : List ℕ) → ((i : ℕ) → i < length part → get_or part i 0 ≡ idle_octet) → IsWrittenTo width octet first first part
+none_written width octet first part all = record {
+  written = λ row at reached begins near. absurd (omega (arith, reached));
+  idle = λ i behind inside. all i inside;
+}
+
+module _ (width : ℕ) (octet : ℕ → ℕ → ℕ) (first line : ℕ) (part : List ℕ) (from : first ≤ line) (is : IsWrittenTo width octet first line part) where
+  further : (line - first) * width ≤ (line + 1 - first) * width
+  further = mul-le-mul_right width (omega arith)
+
+  next_row : (line + 1 - first) * width ≡ (line - first) * width + width
+  next_row = let next : line + 1 - first ≡ line - first + 1 = omega (arith, from) in ap (λ n. n * width) next ∙ grind arith
+
+  -- the row of a line that isn't in the part is none
+  pub written_past : length part ≤ (line - first) * width → IsWrittenTo width octet first (line + 1) part
+  written_past beyond = record {
+    written = none_there width octet first line part from is.written beyond;
+    idle = λ i behind inside. is.idle i (omega (arith, further, behind)) inside;
+  }
+
+  -- the row of a line that is to be idle is written already
+  pub written_idle : (rows : ℕ) → length part ≡ rows * width → ((at : ℕ) → at < width → octet line at ≡ idle_octet) → IsWrittenTo width octet first (line + 1) part
+  written_idle rows whole quiet = record {
+    written = λ row at reached begins near. elim (cases_lt (first + row) line) [
+      | inl earlier ↦ is.written row at earlier begins near
+      | inr last ↦
+          let this : row ≡ line - first = omega (arith, from, reached, last) in
+          let line_is : line ≡ first + row = omega (arith, from, this) in
+          let inside : row * width + at < length part = omega (arith, row_fits (length part) rows width row whole begins, near) in
+          is.idle (row * width + at) (subst (λ r. r * width ≤ row * width + at) this (omega arith)) inside
+          ∙ sym (quiet at near) ∙ ap (λ l. octet l at) line_is
+    ];
+    idle = λ i behind inside. is.idle i (omega (arith, further, behind)) inside;
+  }
+
+  -- the row of a line is written
+  pub written_row : (a k : ℕ) (row_now : List ℕ) → a ≡ (line - first) * width → k ≡ width → a + k ≤ length part → length row_now ≡ k → ((at : ℕ) → at < width → get_or row_now at 0 ≡ octet line at)
+      → IsWrittenTo width octet first (line + 1) (put_mid a k part row_now)
+  written_row a k row_now starts wide room fits holds = record {
+    written = written_there width octet first line part from is.written a k row_now starts wide room fits holds;
+    idle = λ i behind inside.
+        let past : a + k ≤ i = omega (arith, starts, wide, next_row, behind) in
+        let size : length (put_mid a k part row_now) ≡ length part = same_len_mid a k part row_now (fits ∙ sym (length-take-le k (drop a part) (omega (arith, room, length-drop a part)))) in
+        put_row-beyond a k part row_now room fits i past ∙ is.idle i (omega (arith, starts, past)) (omega (arith, inside, size));
+  }
 
 -- all rows of a part are those of lines that there are
 pub all_hold : (width : ℕ) (octet : ℕ → ℕ → ℕ) (first lines last : ℕ) (part : List ℕ) → (is : IsPart lines width first (length part)) → lines ≤ last → HoldBefore width octet first last part → RowsHold width octet first part

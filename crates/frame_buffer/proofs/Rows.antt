@@ -47,7 +47,7 @@ module _ (a k : ℕ) (xs ys : List ℕ) (room : a + k ≤ length xs) (fits : len
       get_or_append_left _ _ 0 j inside ∙ get_or-take a xs j 0 below
 
   -- and what is behind it
-  put_row-beyond : (j : ℕ) → a + k ≤ j → get_or (put_mid a k xs ys) j 0 ≡ get_or xs j 0
+  pub put_row-beyond : (j : ℕ) → a + k ≤ j → get_or (put_mid a k xs ys) j 0 ≡ get_or xs j 0
   put_row-beyond j beyond =
       let rest = drop-put_mid a k xs ys (a + k) (omega arith) (omega arith) fits in
       let at : a + k + (j - (a + k)) ≡ j = omega arith in

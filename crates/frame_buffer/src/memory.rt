@@ -2,9 +2,12 @@
 
 ghost use Rattle.std.specs.Prelude.{◌≡◌, ℕ, ◌+◌, ◌-◌, ◌*◌, ◌<◌, ◌≤◌, length, slice_index, IfOk};
 ghost use Rattle.std.specs.Borrow.{Lends, Array, sem, u8 as octet_row};
+ghost use Rattle.circuit_model.specs.declared.channel.Slot.{Slot};
+ghost use Rattle.circuit_model.specs.FrameInput.{idle_octet};
 ghost use Rattle.frame_buffer.specs.Speech.{Speech, octet_in_half, AllIdle, PutsLine, speech_with};
 ghost use Rattle.frame_buffer.specs.contracts.memory.FrameBuffer.{the_row};
 
+use crate::idle::make_idle;
 use circuit_model::{IDLE, PLACES, Slot};
 use std::alloc::{AllocError, Global};
 use std::marker::Model;
@@ -61,6 +64,17 @@ impl FrameBuffer {
         put_row(&mut self.filled, line, octets);
     }
 
+    /// Writes the idle octet over all places of so many lines, from line 0 on, in the half that is filled.
+    pub fn make_lines_idle(&mut self, lines: u8)
+        requires { lines ≤ self.old.lines }
+        ensures lines { self.new.lines ≡ self.old.lines }
+        ensures idle { (at : Slot) → at.line < lines → at.place < 30 → octet_in_half self.new.filled at ≡ idle_octet }
+        ensures others { (at : Slot) → lines ≤ at.line → at.place < 30 → octet_in_half self.new.filled at ≡ octet_in_half self.old.filled at }
+        ensures readable { self.new.readable ≡ self.old.readable }
+    {
+        make_rows_idle(&mut self.filled, lines);
+    }
+
     /// The octets of the half that is filled, line after line and thirty to a line, to be written.
     pub fn filled(&mut self) -> &mut [u8]
         ensures* writes_back { sem 𝓛 (Lends the_row (Array octet_row 0) self.entry result (speech_with self.old)) }
@@ -114,4 +128,15 @@ fn put_row(octets: &mut [u8], line: u8, row: &[u8; 30])
 {
     let start = usize::from(line) * usize::from(PLACES);
     octets[start..start + usize::from(PLACES)].copy_from_slice(row);
+}
+
+// Writes the idle octet over the rows of so many lines, from the first on.
+fn make_rows_idle(octets: &mut [u8], lines: u8)
+    requires { lines * 30 ≤ length octets.old }
+    ensures size { length octets.new ≡ length octets.old }
+    ensures idle { (i : ℕ) → i < lines * 30 → slice_index octets.new i ≡ idle_octet }
+    ensures others { (i : ℕ) → lines * 30 ≤ i → slice_index octets.new i ≡ slice_index octets.old i }
+{
+    let end = usize::from(lines) * usize::from(PLACES);
+    make_idle(&mut octets[..end]);
 }

@@ -2,13 +2,10 @@
 
 ghost use Rattle.std.specs.Prelude.{◌≡◌, ◌<◌, ◌≤◌, length, slice_index_or};
 ghost use Rattle.circuit_model.specs.declared.channel.Slot.{Slot};
-ghost use Rattle.circuit_model.specs.FrameInput.{octet_in, octet_at, idle_octet};
+ghost use Rattle.circuit_model.specs.FrameInput.{octet_in, idle_octet};
 ghost use Rattle.frame_buffer.specs.Speech.{octet_in_half};
 
-use circuit_model::IDLE;
 use frame_buffer::FrameBuffer;
-
-const IDLE_LINE: [u8; 30] = [IDLE; 30];
 
 // Takes the octets of so many external lines in, the idle octet for a line that sends nothing. The
 // lines behind them stay.
@@ -20,22 +17,11 @@ pub(crate) fn take_in(input: &[Option<[u8; 30]>], external: u8, speech: &mut Fra
     ensures others { (at : Slot) → external ≤ at.line → at.place < 30 → octet_in_half speech.new.filled at ≡ octet_in_half speech.old.filled at }
     ensures readable { speech.new.readable ≡ speech.old.readable }
 {
+    speech.make_lines_idle(external);
     for line in 0..external {
-        put_sent(speech, line, &input[usize::from(line)]);
-    }
-}
-
-// Writes what a line sends in a frame over its row.
-fn put_sent(speech: &mut FrameBuffer, line: u8, octets: &Option<[u8; 30]>)
-    requires { line < speech.old.lines }
-    ensures lines { speech.new.lines ≡ speech.old.lines }
-    ensures taken { (at : Slot) → at.line ≡ line → at.place < 30 → octet_in_half speech.new.filled at ≡ octet_at at.place octets.now }
-    ensures others { (at : Slot) → ¬ (at.line ≡ line) → at.place < 30 → octet_in_half speech.new.filled at ≡ octet_in_half speech.old.filled at }
-    ensures readable { speech.new.readable ≡ speech.old.readable }
-{
-    match octets {
-        Some(octets) => put_row(speech, line, octets),
-        None => speech.put_line(line, &IDLE_LINE),
+        if let Some(octets) = &input[usize::from(line)] {
+            put_row(speech, line, octets);
+        }
     }
 }
 

@@ -34,10 +34,14 @@ pub(crate) fn cross_part(highway: &Highway, image: &Image, slots: u8, first: u8,
     let mut starts = [0; 256];
     find_starts(highway, &mut starts);
     let slots = usize::from(slots);
+    make_idle(part);
     for line in first..highway.lines() {
+        if image.gets_nothing(line) {
+            continue;
+        }
         let start = usize::from(line - first) * slots;
         if start < part.len() {
-            cross_row(
+            gather_row(
                 highway,
                 &starts,
                 image,
@@ -59,23 +63,6 @@ fn find_starts(highway: &Highway, starts: &mut [u16; 256])
     for line in 0..highway.lines() {
         start += slots;
         starts[usize::from(line)] = start;
-    }
-}
-
-// Crosses to one outgoing line. One that gets nothing is idle.
-fn cross_row(highway: &Highway, starts: &[u16; 256], image: &Image, line: u8, row: &mut [u8])
-    requires lines { highway.now.lines ≡ lines_of image.now }
-    requires starts { AreStarts highway.now.lines highway.now.slots starts.now }
-    requires slots { highway.now.slots ≡ image.now.slots }
-    requires line { line < lines_of image.now }
-    requires row { length row.old ≡ image.now.slots }
-    ensures size { length row.new ≡ length row.old }
-    ensures octets { (slot : ℕ) → slot < length row.new → slice_index row.new slot ≡ gets image.now highway.now line slot }
-{
-    if image.gets_nothing(line) {
-        make_idle(row);
-    } else {
-        gather_row(highway, starts, image, line, row);
     }
 }
 

@@ -24,7 +24,8 @@ pub fn incoming(buffer: &FrameBuffer, image: &Image, highway: &mut Highway)
     send_part(buffer, image, slots, 0, highway.parts());
 }
 
-// What some lines send, from line `first` on: `part` holds their rows, of `slots` octets each.
+// What some lines send, from line `first` on: `part` holds their rows, of `slots` octets each. All of them are
+// made idle at once, since most lines may send nothing.
 pub(crate) fn send_part(buffer: &FrameBuffer, image: &Image, slots: u8, first: u8, part: &mut [u8])
     requires buffer { buffer.now.lines ≡ lines_of image.now }
     requires slots { image.now.slots ≡ slots }
@@ -34,7 +35,11 @@ pub(crate) fn send_part(buffer: &FrameBuffer, image: &Image, slots: u8, first: u
 {
     let mut store = Store::new();
     let slots = usize::from(slots);
+    make_idle(part);
     for line in first..buffer.lines() {
+        if image.sends_nothing(line) {
+            continue;
+        }
         let start = usize::from(line - first) * slots;
         if start < part.len() {
             send_row(
@@ -56,12 +61,8 @@ fn send_row(buffer: &FrameBuffer, image: &Image, line: u8, store: &mut Store, ro
     ensures size { length row.new ≡ length row.old }
     ensures octets { (slot : ℕ) → slot < length row.new → slice_index row.new slot ≡ sends image.now buffer.now line slot }
 {
-    if image.sends_nothing(line) {
-        make_idle(row);
-    } else {
-        store.load(buffer.row(line));
-        store.fetch(image.incoming_row(line), row);
-    }
+    store.load(buffer.row(line));
+    store.fetch(image.incoming_row(line), row);
 }
 
 /// The outgoing time stage of one frame: each place of a line reads the octet of the internal slot
@@ -90,7 +91,11 @@ pub(crate) fn read_part(crossed: &Crossed, table: &Image, first: u8, part: &mut 
 {
     let mut store = Store::new();
     let places = usize::from(PLACES);
+    make_idle(part);
     for line in first..crossed.lines() {
+        if table.reads_nothing(line) {
+            continue;
+        }
         let start = usize::from(line - first) * places;
         if start < part.len() {
             read_row(
@@ -113,10 +118,6 @@ fn read_row(crossed: &Crossed, table: &Image, line: u8, store: &mut Store, row: 
     ensures size { length row.new ≡ length row.old }
     ensures octets { (place : ℕ) → place < length row.new → slice_index row.new place ≡ reads table.now crossed.now line place }
 {
-    if table.reads_nothing(line) {
-        make_idle(row);
-    } else {
-        store.load(crossed.row(line));
-        store.fetch(table.outgoing_row(line), row);
-    }
+    store.load(crossed.row(line));
+    store.fetch(table.outgoing_row(line), row);
 }

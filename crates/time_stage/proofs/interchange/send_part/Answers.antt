@@ -1,11 +1,26 @@
-use Rattle.std.proofs.Common.{◌≡◌, ◌+◌, ◌-◌, ◌*◌, ◌≤◌, length, ◌∙◌, sym, subst, arith, rules}
+use Rattle.std.proofs.Common.{◌≡◌, ℕ, ◌+◌, ◌-◌, ◌*◌, ◌≤◌, length, Option, ◌∙◌, ap, sym, subst, arith, rules}
+use Rattle.frame_buffer.specs.Speech.{octet_in_half}
+use Rattle.control_memory.specs.Carrying.{fetched}
 use Rattle.time_stage.specs.Interchange.{sends}
-use Rattle.frame_buffer.proofs.Parts.{HoldBefore, row_fits, none_there, written_there}
+use Rattle.frame_buffer.proofs.Parts.{IsWrittenTo, row_fits, written_past, written_idle, written_row}
 use Rattle.time_stage.proofs.interchange.send_part.Goals as goal
 use Rattle.time_stage.proofs.interchange.send_part.Goals.{then-start-part, else-start-part}
 
 pub slice_bounds-send_row-end : goal.slice_bounds-send_row-end
 slice_bounds-send_row-end c = let fits = row_fits (length c.loop-line.part) c.requires.part.rows c.args.slots (c.loop-line.line - c.args.first) (search rules) (search rules) in search (rules, fits)
+
+pub loop-line-preserved-then-sends_nothing : goal.loop-line-preserved-then-sends_nothing
+loop-line-preserved-then-sends_nothing c =
+    let slots = c.args.slots in
+    let octet = sends c.args.image.now c.args.buffer.now in
+    let line = c.loop-line.line in
+    let part = c.loop-line.part in
+    let whole : length part ≡ c.requires.part.rows * slots = search rules in
+    record {
+      size = c.loop-line.invariant.size;
+      done = written_idle slots octet c.args.first line part c.loop-line.auto.line c.loop-line.invariant.done c.requires.part.rows whole
+          (λ at near. ap (λ (o : Option ℕ). fetched o (λ place. octet_in_half c.args.buffer.now.readable (record { line = line; place = place }))) (c.sends_nothing.ensures c.if-sends_nothing.true at (search (rules, near))));
+    }
 
 pub loop-line-preserved : goal.loop-line-preserved
 loop-line-preserved c =
@@ -15,7 +30,7 @@ loop-line-preserved c =
     let line = c.loop-line.line in
     let part = c.loop-line.part in
     let from : first ≤ line = c.loop-line.auto.line in
-    let done : HoldBefore slots octet first line part = c.loop-line.invariant.done in
+    let done : IsWrittenTo slots octet first line part = c.loop-line.invariant.done in
     let start : c.from.result * c.from-slots.result ≡ (line - first) * slots = search rules in
     record {
       size = c.if-start-part.auto.part ∙ c.loop-line.invariant.size;
@@ -26,10 +41,10 @@ loop-line-preserved c =
             let wide : k ≡ slots = omega (arith, c.from-slots.ensures) in
             let whole : length part ≡ c.requires.part.rows * slots = search rules in
             let fits = row_fits (length part) c.requires.part.rows slots (line - first) whole (omega (arith, start, w.if-start-part.true)) in
-            subst (HoldBefore slots octet first (line + 1)) (sym w.part-is)
-            (written_there slots octet first line part from done a k w.send_row.new.row start wide (omega (arith, fits, start, wide)) (search rules) (λ at near. w.send_row.ensures.octets at (search rules)))
+            subst (IsWrittenTo slots octet first (line + 1)) (sym w.part-is)
+            (written_row slots octet first line part from done a k w.send_row.new.row start wide (omega (arith, fits, start, wide)) (search rules) (λ at near. w.send_row.ensures.octets at (search rules)))
         | else-start-part w ↦
-            subst (HoldBefore slots octet first (line + 1)) (sym w.part-is)
-            (none_there slots octet first line part from done (omega (arith, start, w.if-start-part.false)))
+            subst (IsWrittenTo slots octet first (line + 1)) (sym w.part-is)
+            (written_past slots octet first line part from done (omega (arith, start, w.if-start-part.false)))
       ];
     }
