@@ -1,0 +1,6 @@
+pub mod StepLemmas
+pub mod WordLemmas
+pub mod NumberLemmas
+pub mod OctetLemmas
+pub mod SignalLemmas
+pub mod RowLemmas
