@@ -122,12 +122,11 @@ spaced_text octets n rest found =
 -- ---- what is there is read
 
 -- a digit begins the octets
-pub starts_digit : List ℕ → Bool
+abbrev pub starts_digit : List ℕ → Bool
 starts_digit [] = false
 starts_digit (octet ∷ octets) = is_ascii_digit octet
 
 no_digit : (rest : List ℕ) → starts_digit rest ≡ false → digit_at rest ≡ None
-unfolding starts_digit
 no_digit [] other = refl
 no_digit (octet ∷ octets) other = rw other refl
 

@@ -188,12 +188,11 @@ front_text (high ∷ low ∷ text) = by_case (front_text text) (octet_of high lo
         record { there = one_more high low octet text (octets_front text) pair more; octets = All-cons (λ o. o < 256) octet (octets_front text).0 pair.small more.octets }
 
 -- a space begins the octets, or there are none
-pub is_apart : List ℕ → Bool
+abbrev pub is_apart : List ℕ → Bool
 is_apart [] = true
 is_apart (octet ∷ octets) = eqb octet 32
 
 pub apart_none : (rest : List ℕ) → is_apart rest ≡ true → octet_at rest ≡ None
-unfolding is_apart
 apart_none [] apart = refl
 apart_none (octet ∷ []) apart = refl
 apart_none (octet ∷ low ∷ rest) apart = rw (eqb-true octet 32 apart) refl

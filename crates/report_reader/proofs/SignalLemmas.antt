@@ -1,5 +1,5 @@
 -- Messages at the front of octets, one after another.
-use Rattle.std.proofs.Common.{◌≡◌, ℕ, zero, suc, ◌+◌, ◌<◌, ◌≤◌, Bool, true, false, ltb, leb, List, [], ◌∷◌, ◌++◌, length, Option, Some, None, IfSome, All, decimal, refl, sym, ap, ◌∙◌, arith, append_assoc, length-append}
+use Rattle.std.proofs.Common.{◌≡◌, ℕ, zero, suc, ◌+◌, ◌^◌, ◌<◌, ◌≤◌, Bool, true, false, ltb, leb, List, [], ◌∷◌, ◌++◌, length, Option, Some, None, IfSome, All, decimal, refl, sym, ap, ◌∙◌, arith, append_assoc, length-append}
 use Rattle.std.proofs.lemmas.Bool.{lt-ltb, ltb-true, le-leb, leb-true, and_parts}
 use Rattle.std.proofs.lemmas.List.{append-nil}
 use Rattle.std.proofs.lemmas.List.Elements.{All-nil, All-cons, All-head, All-tail, All-append}
@@ -65,14 +65,14 @@ signal_text octets sent rest found =
         })
 
 pub signal_back : (sent : Signal) (rest : List ℕ) → IsSendable sent → is_apart rest ≡ true → signal_at (on_line sent.line sent.octets ++ rest) ≡ Some (sent, rest)
-unfolding behind
 signal_back sent rest fine apart =
     let line = spaced_back sent.line (58 ∷ (encode_upper sent.octets ++ rest)) (omega (arith, fine.line)) refl in
+    let mark = behind_word (58 ∷ []) (encode_upper sent.octets ++ rest) in
     let front = front_back sent.octets rest fine.octets (apart_none rest apart) in
     let octets : octets_at (encode_upper sent.octets ++ rest) ≡ Some (sent.octets, rest) = by_count (octets_front (encode_upper sent.octets ++ rest)) sent.octets rest
       (sym (ap (λ (f : List ℕ × List ℕ). f.0) front)) (sym (ap (λ (f : List ℕ × List ℕ). f.1) front)) fine.some fine.few in
     let below : ltb sent.line 32 ≡ true = lt-ltb sent.line 32 fine.line in
-    rw (line_text sent.line sent.octets rest, line, below, octets) refl
+    rw (line_text sent.line sent.octets rest, line, below, mark, octets) refl
 
 pub signal_shorter : (octets : List ℕ) (sent : Signal) (rest : List ℕ) → signal_at octets ≡ Some (sent, rest) → length rest < length octets
 signal_shorter octets sent rest found =

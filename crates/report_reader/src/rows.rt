@@ -1,5 +1,5 @@
 // What the lines send in a frame.
-ghost use Rattle.std.specs.Prelude.{◌≡◌, ◌<◌, length, option_map, IfOk, IfSome, OnOk};
+ghost use Rattle.std.specs.Prelude.{◌≡◌, length, option_map, IfOk, IfSome, OnOk};
 ghost use Rattle.report_reader.specs.Spelling.{is_idle};
 ghost use Rattle.report_reader.specs.Reading.{row_at, rows_before, rows_of};
 
@@ -33,7 +33,6 @@ fn row_of(octets: &[u8]) -> [u8; 30]
 fn row_at(octets: &[u8]) -> Option<(Signal, &[u8])>
     ensures read { option_map (λ cut. (cut.0, cut.1.now)) result ≡ row_at octets.now }
     ensures thirty { IfSome result (λ cut. length cut.0.octets ≡ 30) }
-    ensures shorter { IfSome result (λ cut. length cut.1.now < length octets.now) }
 {
     let (sent, rest) = signal_at(octets)?;
     let row = sent.octets.as_slice();

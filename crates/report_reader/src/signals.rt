@@ -1,5 +1,5 @@
 // Messages that a line tells, each behind the number of its line.
-ghost use Rattle.std.specs.Prelude.{◌≡◌, ◌<◌, length, option_map, IfOk, IfSome};
+ghost use Rattle.std.specs.Prelude.{◌≡◌, option_map, IfOk};
 ghost use Rattle.report_reader.specs.Reading.{octets_at, signal_at, signals_at};
 
 use crate::cut::{behind, octet_at, spaced_at};
@@ -32,8 +32,7 @@ fn octets_at(octets: &[u8]) -> Option<(Encoded, &[u8])>
 
 /// The octets of a line behind its number, and what follows them.
 pub(crate) fn signal_at(octets: &[u8]) -> Option<(Signal, &[u8])>
-    ensures read { option_map (λ cut. (cut.0, cut.1.now)) result ≡ signal_at octets.now }
-    ensures shorter { IfSome result (λ cut. length cut.1.now < length octets.now) }
+    ensures { option_map (λ cut. (cut.0, cut.1.now)) result ≡ signal_at octets.now }
 {
     let (line, rest) = spaced_at(octets)?;
     if line >= MOST_LINES {
