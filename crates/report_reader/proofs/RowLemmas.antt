@@ -1,12 +1,20 @@
 -- Rows at the front of octets, one after another.
-use Rattle.std.proofs.Common.{◌≡◌, ℕ, zero, suc, ◌+◌, ◌-◌, ◌<◌, ◌≤◌, Bool, true, false, not, cond, ltb, eqb, ◌&&◌, List, [], ◌∷◌, ◌++◌, length, replicate, Option, Some, None, refl, sym, ap, ◌∙◌, arith, append_assoc, length-append}
-use Rattle.std.proofs.lemmas.Bool.{lt-ltb, le-ltb, and_parts, eqb-true, not-true}
-use Rattle.std.proofs.lemmas.List.{append-nil}
+use Rattle.std.proofs.Common.{◌≡◌, ℕ, zero, suc, ◌+◌, ◌-◌, ◌<◌, ◌≤◌, Bool, true, false, not, cond, ltb, eqb, ◌&&◌, List, [], ◌∷◌, ◌++◌, length, replicate, get_or, slice_index, All, inl, inr, Option, Some, None, IfSome, refl, sym, ap, ◌∙◌, arith, append_assoc, length-append}
+use Rattle.std.specs.List.{last_or, list_all}
+use Rattle.std.proofs.lemmas.Bool.{cases_Bool, lt-ltb, le-ltb, and_parts, eq-eqb, eqb-true, ltb-false, not-true}
+use Rattle.std.proofs.lemmas.List.{append-nil, length-replicate, replicate_more}
+use Rattle.std.proofs.lemmas.List.Elements.{All-nil, All-cons, All-head, All-tail, All-append, All-get_or, All-replicate, All-weaker}
+use Rattle.std.proofs.lemmas.List.FromFn.{fill_by_all}
+use Rattle.std.proofs.lemmas.Option.{some_pair_parts, same_Some}
+use Rattle.circuit_model.specs.FrameInput.{idle_octet}
+use Rattle.report_text.specs.Report.{line_octets, lines_sent, octet_of, on_line, part, parts}
+use Rattle.report_text.proofs.Rows.{row_is, row_of}
 use Rattle.exchange_events.specs.declared.signal.Signal.{Signal}
-use Rattle.report_reader.specs.Spelling.{is_idle}
+use Rattle.report_reader.specs.Spelling.{is_idle, AreOctets, AreRows, IsRow, IsSendable}
 use Rattle.report_reader.specs.Reading.{passing, idle_row, row_at, rows_before, rows_of, rows_in, rows_step, signal_at, ◌>>=◌}
 use Rattle.report_reader.proofs.StepLemmas.{both, passed}
-use Rattle.report_reader.proofs.SignalLemmas.{signal_shorter}
+use Rattle.report_reader.proofs.OctetLemmas.{is_apart}
+use Rattle.report_reader.proofs.SignalLemmas.{line_text, signal_back, signal_shorter, signal_text}
 
 -- ---- one row
 
@@ -100,3 +108,79 @@ filled_more line rows more below pushed =
 pub pushed : (sent : Signal) (line : ℕ) (rows filled more : List (List ℕ)) (row : List ℕ) → line ≡ sent.line → filled ≡ rows_before line rows → row ≡ sent.octets → more ≡ filled ++ row ∷ []
     → more ≡ rows_before sent.line rows ++ sent.octets ∷ []
 pushed sent line rows filled more row at before is behind = rw (behind, before, is, at) refl
+
+-- ---- what rows spell
+
+-- rows of thirty octets are what their lines send
+pub rows_sent : (rows : List (List ℕ)) → All IsRow rows → lines_sent (octet_of rows) (length rows) ≡ rows
+rows_sent rows all = sym (fill_by_all (line_octets (octet_of rows)) rows (length rows) [] refl
+    (λ k within. sym (row_is k (get_or rows k []) (All-get_or IsRow rows k [] within all).thirty) ∙ row_of rows k))
+
+parts_append : (n : ℕ) (rows more : List (List ℕ)) → parts n (rows ++ more) ≡ parts n rows ++ parts (n + length rows) more
+parts_append n [] more = let e : n + 0 ≡ n = omega arith in rw e refl
+parts_append n (row ∷ rows) more =
+    let e : n + length (row ∷ rows) ≡ n + 1 + length rows = omega arith in
+    rw (e, parts_append (n + 1) rows more) (sym (append_assoc (part n row) (parts (n + 1) rows) (parts (n + 1 + length rows) more)))
+
+parts_idle : (n k : ℕ) → parts n (replicate k idle_row) ≡ []
+parts_idle n zero = refl
+parts_idle n (suc k) = parts_idle (n + 1) k
+
+last_pushed : (before : Option (List ℕ)) (rows : List (List ℕ)) (row : List ℕ) → last_or before (rows ++ row ∷ []) ≡ Some row
+last_pushed before [] row = refl
+last_pushed before (first ∷ rows) row = last_pushed (Some first) rows row
+
+idle_is_row : IsRow idle_row
+idle_is_row = record { thirty = refl; bytes = All-replicate (λ o. o < 256) 30 idle_octet (omega arith) }
+
+-- the parts of rows that were read, and one more behind idle ones
+parts_pushed : (line : ℕ) (rows : List (List ℕ)) (row : List ℕ) → length rows ≤ line → is_idle row ≡ false
+    → parts 0 (rows_before line rows ++ row ∷ []) ≡ parts 0 rows ++ on_line line row
+parts_pushed line rows row above busy =
+    let gap : ℕ = line - length rows in
+    let at : 0 + length rows + length (replicate gap idle_row) ≡ line = omega (arith, length-replicate gap idle_row) in
+    parts_append 0 (rows_before line rows) (row ∷ [])
+    ∙ rw (length-append rows (replicate gap idle_row)) (ap (λ (l : List ℕ). l ++ parts (0 + (length rows + length (replicate gap idle_row))) (row ∷ [])) (parts_append 0 rows (replicate gap idle_row) ∙ rw (parts_idle (0 + length rows) gap) (append-nil (parts 0 rows)))
+    ∙ ap (λ (l : List ℕ). parts 0 rows ++ l) (one_part (0 + (length rows + length (replicate gap idle_row))) (omega (arith, at))))
+  where
+    one_part : (n : ℕ) → n ≡ line → parts n (row ∷ []) ≡ on_line line row
+    one_part n at = rw (at, busy) (append-nil (on_line line row))
+
+-- rows that are read are those of a frame
+rows_pushed : (line : ℕ) (rows : List (List ℕ)) (row : List ℕ) → AreRows rows → length rows ≤ line → line < 32 → IsRow row → is_idle row ≡ false → AreRows (rows_before line rows ++ row ∷ [])
+rows_pushed line rows row so_far above below fine busy =
+    let gap : ℕ = line - length rows in
+    record {
+      few = omega (arith, length-append (rows_before line rows) (row ∷ []), length-append rows (replicate gap idle_row), length-replicate gap idle_row);
+      each = All-append IsRow (rows_before line rows) (row ∷ []) (All-append IsRow rows (replicate gap idle_row) so_far.each (All-replicate IsRow gap idle_row idle_is_row))
+        (All-cons IsRow row [] fine (All-nil IsRow));
+      last = rw (last_pushed None (rows_before line rows) row) busy;
+    }
+
+pub record AreRowsBefore (octets : List ℕ) (rows all : List (List ℕ)) : Type 0 where
+  pub there : parts 0 all ≡ parts 0 rows ++ octets
+  pub fine : AreRows all
+
+pub rows_text : (k : ℕ) (rows : List (List ℕ)) (octets : List ℕ) (all : List (List ℕ)) → AreRows rows → rows_in k rows octets ≡ Some all → AreRowsBefore octets rows all
+unfolding rows_in
+rows_text zero rows octets all so_far found = absurd cc
+rows_text (suc k) rows [] all so_far found = let same : rows ≡ all = same_Some rows all found in rw (← same) (record { there = sym (append-nil (parts 0 rows)); fine = so_far })
+rows_text (suc k) rows (octet ∷ octets) all so_far found = by_row (rows_text k) (both (row_at (octet ∷ octets)) _ _ found).here (both (row_at (octet ∷ octets)) _ _ found).is (both (row_at (octet ∷ octets)) _ _ found).later
+  where
+    by_row : ((more : List (List ℕ)) (others : List ℕ) (whole : List (List ℕ)) → AreRows more → rows_in k more others ≡ Some whole → AreRowsBefore others more whole)
+        → (read : Signal × List ℕ) → row_at (octet ∷ octets) ≡ Some read → rows_step rows read (rows_in k) ≡ Some all → AreRowsBefore (octet ∷ octets) rows all
+    by_row later read is next = elim (cases_Bool (ltb read.0.line (length rows))) [
+      | inl below ↦ let none = rw below at next in absurd cc
+      | inr above ↦
+          let row = row_there (octet ∷ octets) read.0 read.1 is in
+          let signal = signal_text (octet ∷ octets) read.0 read.1 row.there in
+          let over : length rows ≤ read.0.line = ltb-false read.0.line (length rows) above in
+          let fine = rows_pushed read.0.line rows read.0.octets so_far over signal.sendable.line (record { thirty = row.thirty; bytes = signal.sendable.octets }) row.busy in
+          let more = later (rows_before read.0.line rows ++ read.0.octets ∷ []) read.1 all fine (rw above at next) in
+          let text = signal.there in
+          let pushed = parts_pushed read.0.line rows read.0.octets over row.busy in
+          record {
+            there = more.there ∙ ap (λ (l : List ℕ). l ++ read.1) pushed ∙ append_assoc (parts 0 rows) (on_line read.0.line read.0.octets) read.1 ∙ ap (λ (l : List ℕ). parts 0 rows ++ l) (sym text);
+            fine = more.fine;
+          }
+    ]

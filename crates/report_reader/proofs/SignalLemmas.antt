@@ -1,5 +1,5 @@
 -- Messages at the front of octets, one after another.
-use Rattle.std.proofs.Common.{◌≡◌, ℕ, zero, suc, ◌+◌, ◌^◌, ◌<◌, ◌≤◌, Bool, true, false, ltb, leb, List, [], ◌∷◌, ◌++◌, length, Option, Some, None, IfSome, All, decimal, refl, sym, ap, ◌∙◌, arith, append_assoc, length-append}
+use Rattle.std.proofs.Common.{◌≡◌, ℕ, zero, suc, ◌+◌, ◌^◌, ◌<◌, ◌≤◌, Bool, true, false, ltb, leb, List, [], ◌∷◌, ◌++◌, length, codes, Option, Some, None, IfSome, All, decimal, refl, sym, ap, ◌∙◌, arith, append_assoc, length-append}
 use Rattle.std.proofs.lemmas.Bool.{lt-ltb, ltb-true, le-leb, leb-true, and_parts}
 use Rattle.std.proofs.lemmas.List.{append-nil}
 use Rattle.std.proofs.lemmas.List.Elements.{All-nil, All-cons, All-head, All-tail, All-append}
@@ -7,7 +7,7 @@ use Rattle.std.proofs.lemmas.Option.{some_pair_parts}
 use Rattle.circuit_model.specs.Channels.{between}
 use Rattle.hex.specs.Hex.{encode_upper}
 use Rattle.exchange_events.specs.declared.signal.Signal.{Signal}
-use Rattle.report_text.specs.Report.{on_line}
+use Rattle.report_text.specs.Report.{frame_messages, messages, on_line}
 use Rattle.report_reader.specs.Spelling.{IsSendable, most_lines}
 use Rattle.report_reader.specs.Reading.{behind, octets_at, octets_front, passing, signal_at, signals_at, signals_in, signals_step, spaced_at, ◌>>=◌}
 use Rattle.report_reader.proofs.StepLemmas.{both, passed}
@@ -140,3 +140,99 @@ signals_more mark all rest (octet ∷ front) others sends more sent goes found s
         let less = front_shorter mark rest (octet ∷ front) others sent found next in
         let step = step_by k mark sends rest (Some (octet ∷ front)) found in
         record { rounds = k; enough = omega arith; same = rw next at (sym step ∙ same) }
+
+-- ---- what messages in a row spell
+
+-- messages, each behind a word
+abbrev pub told : List ℕ → List Signal → List ℕ
+told mark [] = []
+told mark (sent ∷ sends) = mark ++ (on_line sent.line sent.octets ++ told mark sends)
+
+pub messages_told : (sends : List Signal) → messages sends ≡ told [] sends
+messages_told [] = refl
+messages_told (sent ∷ sends) = ap (λ (l : List ℕ). on_line sent.line sent.octets ++ l) (messages_told sends)
+
+pub frame_messages_told : (sends : List Signal) → frame_messages sends ≡ told (codes " send") sends
+frame_messages_told [] = refl
+frame_messages_told (sent ∷ sends) =
+    append_assoc (codes " send") (on_line sent.line sent.octets) (frame_messages sends) ∙ ap (λ (l : List ℕ). codes " send" ++ (on_line sent.line sent.octets ++ l)) (frame_messages_told sends)
+
+-- some messages were read behind others
+pub record AreBefore (mark octets : List ℕ) (sends all : List Signal) (rest : List ℕ) : Type 0 where
+  pub more : List Signal
+  pub whole : all ≡ sends ++ more
+  pub there : octets ≡ told mark more ++ rest
+  pub sendable : All IsSendable more
+
+none_before : (mark octets : List ℕ) (sends all : List Signal) (rest : List ℕ) → ◌≡◌ {A = Option (List Signal × List ℕ)} (Some (sends, octets)) (Some (all, rest)) → AreBefore mark octets sends all rest
+none_before mark octets sends all rest found =
+    let parts = some_pair_parts sends all octets rest found in
+    record { more = []; whole = sym parts.0 ∙ sym (append-nil sends); there = parts.1; sendable = All-nil IsSendable }
+
+one_before : (mark octets : List ℕ) (sends all : List Signal) (sent : Signal) (front others rest : List ℕ) → octets ≡ mark ++ front → IsSignalBefore front sent others
+    → AreBefore mark others (sends ++ sent ∷ []) all rest → AreBefore mark octets sends all rest
+one_before mark octets sends all sent front others rest at signal later =
+    let text : front ≡ on_line sent.line sent.octets ++ others = signal.there in
+    let behind : others ≡ told mark later.more ++ rest = later.there in
+    record {
+      more = sent ∷ later.more;
+      whole = later.whole ∙ append_assoc sends (sent ∷ []) later.more;
+      there = rw (at, text, behind) (sym (append_assoc mark (on_line sent.line sent.octets ++ told mark later.more) rest
+        ∙ ap (λ (l : List ℕ). mark ++ l) (append_assoc (on_line sent.line sent.octets) (told mark later.more) rest)));
+      sendable = All-cons IsSendable sent later.more signal.sendable later.sendable;
+    }
+
+pub signals_text : (k : ℕ) (mark : List ℕ) (sends : List Signal) (octets : List ℕ) (all : List Signal) (rest : List ℕ) → signals_in k mark sends octets ≡ Some (all, rest)
+    → AreBefore mark octets sends all rest
+unfolding signals_in
+signals_text zero mark sends octets all rest found = absurd cc
+signals_text (suc k) mark sends octets all rest found = by_word (signals_text k mark) (behind mark octets) refl found
+  where
+    by_word : ((more : List Signal) (others : List ℕ) (whole : List Signal) (left : List ℕ) → signals_in k mark more others ≡ Some (whole, left) → AreBefore mark others more whole left)
+        → (front : Option (List ℕ)) → behind mark octets ≡ front → signals_step front sends octets (signals_in k mark) ≡ Some (all, rest) → AreBefore mark octets sends all rest
+    by_word later None is found = none_before mark octets sends all rest found
+    by_word later (Some []) is found = none_before mark octets sends all rest found
+    by_word later (Some (octet ∷ front)) is found =
+        let read = both (signal_at (octet ∷ front)) _ _ found in
+        one_before mark octets sends all read.here.0 (octet ∷ front) read.here.1 rest (behind_text mark octets (octet ∷ front) is)
+        (signal_text (octet ∷ front) read.here.0 read.here.1 read.is) (later (sends ++ read.here.0 ∷ []) read.here.1 all rest read.later)
+
+-- no message follows
+pub data Stops (mark rest : List ℕ) : Type 0 where
+  No_word : behind mark rest ≡ None → Stops mark rest
+  No_more : behind mark rest ≡ Some [] → Stops mark rest
+
+stopped : (k : ℕ) (mark rest : List ℕ) (sends : List Signal) → Stops mark rest → signals_in (suc k) mark sends rest ≡ Some (sends, rest)
+stopped k mark rest sends (No_word none) = step_by k mark sends rest None none
+stopped k mark rest sends (No_more none) = step_by k mark sends rest (Some []) none
+
+-- what stands behind a message is apart from it
+told_apart : (mark rest : List ℕ) (sends : List Signal) → is_apart rest ≡ true → ((line : ℕ) (octets more : List ℕ) → is_apart (mark ++ (on_line line octets ++ more)) ≡ true)
+    → is_apart (told mark sends ++ rest) ≡ true
+told_apart mark rest [] apart spaced = apart
+told_apart mark rest (sent ∷ sends) apart spaced =
+    rw (append_assoc mark (on_line sent.line sent.octets ++ told mark sends) rest, append_assoc (on_line sent.line sent.octets) (told mark sends) rest) (spaced sent.line sent.octets (told mark sends ++ rest))
+
+told_more : (mark rest : List ℕ) (sent : Signal) (sends : List Signal) → told mark (sent ∷ sends) ++ rest ≡ mark ++ (on_line sent.line sent.octets ++ (told mark sends ++ rest))
+told_more mark rest sent sends = simp append_assoc refl
+
+pub signals_back : (k : ℕ) (mark rest : List ℕ) (sends more : List Signal) → Stops mark rest → is_apart rest ≡ true
+    → ((line : ℕ) (octets behind_it : List ℕ) → is_apart (mark ++ (on_line line octets ++ behind_it)) ≡ true) → All IsSendable more
+    → length (told mark more ++ rest) < k → signals_in k mark sends (told mark more ++ rest) ≡ Some (sends ++ more, rest)
+signals_back zero mark rest sends more stops apart spaced fine enough = absurd (omega arith)
+signals_back (suc k) mark rest sends [] stops apart spaced fine enough = stopped k mark rest sends stops ∙ rw (append-nil sends) refl
+signals_back (suc k) mark rest sends (sent ∷ more) stops apart spaced fine enough =
+    let others : List ℕ = told mark more ++ rest in
+    let line : List ℕ = on_line sent.line sent.octets ++ others in
+    let text = told_more mark rest sent more in
+    let first = step_by k mark sends (mark ++ line) (Some line) (behind_word mark line) in
+    let signal = signal_back sent others (All-head IsSendable sent more fine) (told_apart mark rest more apart spaced) in
+    let long = ap length text in
+    let less = signal_shorter line sent others signal in
+    let later = signals_back k mark rest (sends ++ sent ∷ []) more stops apart spaced (All-tail IsSendable sent more fine) (omega (arith, long, length-append mark line)) in
+    rw text (first ∙ one_step sends sent line others (signals_in k mark) (line_text sent.line sent.octets others) signal ∙ later ∙ ap (λ (l : List Signal). Some (l, rest)) (append_assoc sends (sent ∷ []) more))
+  where
+    one_step : (sends : List Signal) (sent : Signal) (line others : List ℕ) (next : List Signal → List ℕ → Option (List Signal × List ℕ)) {more : List ℕ} → line ≡ 32 ∷ more
+        → signal_at line ≡ Some (sent, others) → signals_step (Some line) sends (mark ++ line) next ≡ next (sends ++ sent ∷ []) others
+    one_step sends sent [] others next some signal = absurd cc
+    one_step sends sent (octet ∷ line) others next some signal = rw signal refl
