@@ -1,5 +1,5 @@
 -- Rows at the front of octets, one after another.
-use Rattle.std.proofs.Common.{◌≡◌, ℕ, zero, suc, ◌+◌, ◌-◌, ◌<◌, ◌≤◌, Bool, true, false, not, cond, ltb, eqb, ◌&&◌, List, [], ◌∷◌, ◌++◌, length, replicate, get_or, slice_index, All, inl, inr, Option, Some, None, IfSome, refl, sym, ap, ◌∙◌, arith, append_assoc, length-append}
+use Rattle.std.proofs.Common.{◌≡◌, ℕ, zero, suc, ◌+◌, ◌-◌, ◌<◌, ◌≤◌, Bool, true, false, not, cond, ltb, eqb, ◌&&◌, List, [], ◌∷◌, ◌++◌, length, replicate, get_or, slice_index, All, inl, inr, Option, Some, None, IfSome, ◌⊎◌, refl, sym, ap, ◌∙◌, arith, append_assoc, length-append}
 use Rattle.std.specs.List.{last_or, list_all}
 use Rattle.std.proofs.lemmas.Bool.{cases_Bool, lt-ltb, le-ltb, and_parts, eq-eqb, eqb-true, ltb-false, not-true}
 use Rattle.std.proofs.lemmas.List.{append-nil, length-replicate, replicate_more}
@@ -184,3 +184,117 @@ rows_text (suc k) rows (octet ∷ octets) all so_far found = by_row (rows_text k
             fine = more.fine;
           }
     ]
+
+-- ---- rows that are spelled are read
+
+part_apart : (line : ℕ) (row rest : List ℕ) → is_idle row ≡ true → is_apart rest ≡ true → is_apart (part line row ++ rest) ≡ true
+part_apart line row rest idle apart = rw idle apart
+
+part_busy : (line : ℕ) (row : List ℕ) → is_idle row ≡ false → part line row ≡ on_line line row
+part_busy line row busy = rw busy refl
+
+part_idle : (line : ℕ) (row : List ℕ) → is_idle row ≡ true → part line row ≡ []
+part_idle line row idle = rw idle refl
+
+line_apart : (line : ℕ) (row rest : List ℕ) → is_apart (on_line line row ++ rest) ≡ true
+line_apart line row rest = refl
+
+pub parts_apart : (n : ℕ) (rows : List (List ℕ)) → is_apart (parts n rows) ≡ true
+parts_apart n [] = refl
+parts_apart n (row ∷ rows) = elim (cases_Bool (is_idle row)) [
+  | inl idle ↦ part_apart n row (parts (n + 1) rows) idle (parts_apart (n + 1) rows)
+  | inr busy ↦ ap (λ (l : List ℕ). is_apart (l ++ parts (n + 1) rows)) (part_busy n row busy) ∙ line_apart n row (parts (n + 1) rows)
+]
+
+-- a row that is idle throughout
+all_idle : (row : List ℕ) → is_idle row ≡ true → row ≡ replicate (length row) idle_octet
+all_idle [] idle = refl
+all_idle (octet ∷ row) idle =
+    let tests = and_parts (eqb octet idle_octet) (is_idle row) idle in
+    let same : octet ≡ idle_octet = eqb-true octet idle_octet tests.0 in
+    rw same (ap (λ (l : List ℕ). idle_octet ∷ l) (all_idle row tests.1))
+
+idle_is : (row : List ℕ) → IsRow row → is_idle row ≡ true → row ≡ idle_row
+idle_is row fine idle = all_idle row idle ∙ ap (λ n. replicate n idle_octet) fine.thirty
+
+-- the last row of some is busy
+abbrev EndsBusy : List (List ℕ) → Type 0
+EndsBusy rows = IfSome (last_or None rows) (λ octets. is_idle octets ≡ false)
+
+ends_later : (row next : List ℕ) (rows : List (List ℕ)) → EndsBusy (row ∷ next ∷ rows) → EndsBusy (next ∷ rows)
+ends_later row next rows busy = busy
+
+ends_rest : (row : List ℕ) (rows : List (List ℕ)) → EndsBusy (row ∷ rows) → EndsBusy rows
+ends_rest row [] busy = tt
+ends_rest row (next ∷ rows) busy = busy
+
+row_back : (line : ℕ) (row : List ℕ) (rest : List ℕ) → line < 32 → IsRow row → is_idle row ≡ false → is_apart rest ≡ true
+    → row_at (on_line line row ++ rest) ≡ Some (record { line = line; octets = row }, rest)
+row_back line row rest below fine busy apart =
+    let sent : Signal = record { line = line; octets = row } in
+    let thirty : length row ≡ 30 = fine.thirty in
+    let signal = signal_back sent rest (record { line = below; some = omega (arith, thirty); few = omega (arith, thirty); octets = fine.bytes }) apart in
+    rw (signal, eq-eqb (length row) 30 thirty, busy) refl
+
+in_step : (k : ℕ) (rows : List (List ℕ)) (octets : List ℕ) {more : List ℕ} (sent : Signal) (rest : List ℕ) → octets ≡ 32 ∷ more → row_at octets ≡ Some (sent, rest) → length rows ≤ sent.line
+    → rows_in (suc k) rows octets ≡ rows_in k (rows_before sent.line rows ++ sent.octets ∷ []) rest
+in_step k rows [] sent rest some found above = absurd cc
+in_step k rows (octet ∷ octets) sent rest some found above =
+    step_by k rows octet octets (Some (sent, rest)) found ∙ rw (le-ltb sent.line (length rows) above) refl
+
+before_none : (line : ℕ) (rows : List (List ℕ)) → line ≡ length rows → rows_before line rows ≡ rows
+before_none line rows same = let none : line - length rows ≡ 0 = omega arith in rw none (append-nil rows)
+
+before_more : (line : ℕ) (rows : List (List ℕ)) → length rows ≤ line → rows_before (line + 1) rows ≡ rows_before line rows ++ idle_row ∷ []
+before_more line rows above =
+    let gap : line + 1 - length rows ≡ line - length rows + 1 = omega arith in
+    rw gap (ap (λ (l : List (List ℕ)). rows ++ l) (sym (replicate_more (line - length rows) idle_row)) ∙ sym (append_assoc rows (replicate (line - length rows) idle_row) (idle_row ∷ [])))
+
+length_before : (line : ℕ) (rows : List (List ℕ)) (row : List ℕ) → length rows ≤ line → length (rows_before line rows ++ row ∷ []) ≡ line + 1
+length_before line rows row above =
+    omega (arith, length-append (rows_before line rows) (row ∷ []), length-append rows (replicate (line - length rows) idle_row), length-replicate (line - length rows) idle_row)
+
+-- the parts of rows from a line on are read behind those of the lines before
+abbrev Backs : ℕ → List (List ℕ) → List (List ℕ) → ℕ → Type 0
+Backs k rows more line = length rows ≤ line → All IsRow more → EndsBusy more → (length more ≡ 0 → line ≡ length rows) → line + length more ≤ 32 → length (parts line more) < k
+    → rows_in k rows (parts line more) ≡ Some (rows_before line rows ++ more)
+
+back_idle : (k : ℕ) (rows more : List (List ℕ)) (row : List ℕ) (line : ℕ) → is_idle row ≡ true → Backs (suc k) rows more (line + 1) → Backs (suc k) rows (row ∷ more) line
+back_idle k rows [] row line idle later above fine busy none few enough = let no = sym idle ∙ busy in absurd cc
+back_idle k rows (next ∷ more) row line idle later above fine busy none few enough =
+    let text : parts line (row ∷ next ∷ more) ≡ parts (line + 1) (next ∷ more) = ap (λ (l : List ℕ). l ++ parts (line + 1) (next ∷ more)) (part_idle line row idle) in
+    let same : row ≡ idle_row = idle_is row (All-head IsRow row (next ∷ more) fine) idle in
+    let some : length (next ∷ more) ≡ 0 → line + 1 ≡ length rows = λ e. absurd (omega arith) in
+    let read = later (omega arith) (All-tail IsRow row (next ∷ more) fine) busy some (omega (arith, few)) (rw text at enough) in
+    rw text (read ∙ rw (before_more line rows above, same) (ap Some (append_assoc (rows_before line rows) (idle_row ∷ []) (next ∷ more))))
+
+back_busy : (k : ℕ) (rows more : List (List ℕ)) (row : List ℕ) (line : ℕ) → is_idle row ≡ false → Backs k (rows_before line rows ++ row ∷ []) more (line + 1) → Backs (suc k) rows (row ∷ more) line
+back_busy k rows more row line is_busy later above fine busy none few enough =
+    let rest : List ℕ = parts (line + 1) more in
+    let text : parts line (row ∷ more) ≡ on_line line row ++ rest = ap (λ (l : List ℕ). l ++ rest) (part_busy line row is_busy) in
+    let long = length_before line rows row above in
+    let below : line < 32 = omega (arith, few) in
+    let found = row_back line row rest below (All-head IsRow row more fine) is_busy (parts_apart (line + 1) more) in
+    let less = row_shorter (on_line line row ++ rest) (record { line = line; octets = row }) rest found in
+    let whole = rw text at enough in
+    let step = in_step k rows (on_line line row ++ rest) (record { line = line; octets = row }) rest (line_text line row rest) found above in
+    let read = later (omega (arith, long)) (All-tail IsRow row more fine) (ends_rest row more busy) (λ e. sym long) (omega (arith, few)) (omega (arith, less, whole)) in
+    rw text (step ∙ read ∙ rw (before_none (line + 1) (rows_before line rows ++ row ∷ []) (sym long)) (ap Some (append_assoc (rows_before line rows) (row ∷ []) more)))
+
+pub rows_back : (k : ℕ) (rows more : List (List ℕ)) (line : ℕ) → Backs k rows more line
+rows_back zero rows more line above fine busy none few enough = absurd (omega arith)
+rows_back (suc k) rows [] line above fine busy none few enough = end_by k rows ∙ rw (before_none line rows (none refl)) (ap Some (sym (append-nil rows)))
+rows_back (suc k) rows (row ∷ more) line above fine busy none few enough = elim (cases_Bool (is_idle row)) [
+  | inl idle ↦ back_idle k rows more row line idle (rows_back (suc k) rows more (line + 1)) above fine busy none few enough
+  | inr is_busy ↦ back_busy k rows more row line is_busy (rows_back k (rows_before line rows ++ row ∷ []) more (line + 1)) above fine busy none few enough
+]
+
+-- ---- the rows of a frame
+
+pub rows_of_text : (octets : List ℕ) (rows : List (List ℕ)) → rows_of octets ≡ Some rows → (octets ≡ parts 0 rows) × AreRows rows
+rows_of_text octets rows found =
+    let read = rows_text (length octets + 1) [] octets rows (record { few = omega arith; each = All-nil IsRow; last = tt }) found in
+    (sym read.there, read.fine)
+
+pub rows_of_parts : (rows : List (List ℕ)) → AreRows rows → rows_of (parts 0 rows) ≡ Some rows
+rows_of_parts rows fine = rows_back (length (parts 0 rows) + 1) [] rows 0 (omega arith) fine.each fine.last (λ e. refl) (omega (arith, fine.few)) (omega arith)
