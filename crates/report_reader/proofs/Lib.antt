@@ -4,3 +4,5 @@ pub mod NumberLemmas
 pub mod OctetLemmas
 pub mod SignalLemmas
 pub mod RowLemmas
+pub mod ReplyLemmas
+pub mod LineLemmas

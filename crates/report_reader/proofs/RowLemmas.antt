@@ -1,5 +1,5 @@
 -- Rows at the front of octets, one after another.
-use Rattle.std.proofs.Common.{◌≡◌, ℕ, zero, suc, ◌+◌, ◌-◌, ◌<◌, ◌≤◌, Bool, true, false, not, cond, ltb, eqb, ◌&&◌, List, [], ◌∷◌, ◌++◌, length, replicate, get_or, slice_index, All, inl, inr, Option, Some, None, IfSome, ◌⊎◌, refl, sym, ap, ◌∙◌, arith, append_assoc, length-append}
+use Rattle.std.proofs.Common.{◌≡◌, ℕ, zero, suc, ◌+◌, ◌-◌, ◌<◌, ◌≤◌, Bool, true, false, not, cond, ltb, eqb, ◌&&◌, List, [], ◌∷◌, ◌++◌, length, replicate, get_or, slice_index, All, inl, inr, Option, Some, None, IfSome, decimal, refl, sym, ap, ◌∙◌, arith, append_assoc, length-append}
 use Rattle.std.specs.List.{last_or, list_all}
 use Rattle.std.proofs.lemmas.Bool.{cases_Bool, lt-ltb, le-ltb, and_parts, eq-eqb, eqb-true, ltb-false, not-true}
 use Rattle.std.proofs.lemmas.List.{append-nil, length-replicate, replicate_more}
@@ -11,8 +11,10 @@ use Rattle.report_text.specs.Report.{line_octets, lines_sent, octet_of, on_line,
 use Rattle.report_text.proofs.Rows.{row_is, row_of}
 use Rattle.exchange_events.specs.declared.signal.Signal.{Signal}
 use Rattle.report_reader.specs.Spelling.{is_idle, AreOctets, AreRows, IsRow, IsSendable}
-use Rattle.report_reader.specs.Reading.{passing, idle_row, row_at, rows_before, rows_of, rows_in, rows_step, signal_at, ◌>>=◌}
+use Rattle.report_reader.specs.Reading.{behind, passing, idle_row, row_at, rows_before, rows_of, rows_in, rows_step, signal_at, spaced_at, ◌>>=◌}
 use Rattle.report_reader.proofs.StepLemmas.{both, passed}
+use Rattle.hex.specs.Hex.{encode_upper}
+use Rattle.report_reader.proofs.NumberLemmas.{spaced_back}
 use Rattle.report_reader.proofs.OctetLemmas.{is_apart}
 use Rattle.report_reader.proofs.SignalLemmas.{line_text, signal_back, signal_shorter, signal_text}
 
@@ -287,6 +289,19 @@ rows_back (suc k) rows [] line above fine busy none few enough = end_by k rows �
 rows_back (suc k) rows (row ∷ more) line above fine busy none few enough = elim (cases_Bool (is_idle row)) [
   | inl idle ↦ back_idle k rows more row line idle (rows_back (suc k) rows more (line + 1)) above fine busy none few enough
   | inr is_busy ↦ back_busy k rows more row line is_busy (rows_back k (rows_before line rows ++ row ∷ []) more (line + 1)) above fine busy none few enough
+]
+
+-- no word is before the rows of a frame
+pub parts_stop : (mark : List ℕ) (line : ℕ) (rows : List (List ℕ)) → ((octets : List ℕ) (read : ℕ × List ℕ) → spaced_at octets ≡ Some read → behind mark octets ≡ None)
+    → behind mark [] ≡ None → line + length rows ≤ 32 → behind mark (parts line rows) ≡ None
+parts_stop mark line [] apart empty few = empty
+parts_stop mark line (row ∷ rows) apart empty few = elim (cases_Bool (is_idle row)) [
+  | inl idle ↦ ap (λ (l : List ℕ). behind mark (l ++ parts (line + 1) rows)) (part_idle line row idle) ∙ parts_stop mark (line + 1) rows apart empty (omega (arith, few))
+  | inr busy ↦
+      let rest : List ℕ = 58 ∷ (encode_upper row ++ parts (line + 1) rows) in
+      let number = spaced_back line rest (omega (arith, few)) refl in
+      ap (λ (l : List ℕ). behind mark (l ++ parts (line + 1) rows)) (part_busy line row busy) ∙ ap (λ (l : List ℕ). behind mark l) (line_text line row (parts (line + 1) rows))
+      ∙ apart (32 ∷ (decimal line ++ rest)) (line, rest) number
 ]
 
 -- ---- the rows of a frame

@@ -207,7 +207,7 @@ stopped k mark rest sends (No_word none) = step_by k mark sends rest None none
 stopped k mark rest sends (No_more none) = step_by k mark sends rest (Some []) none
 
 -- what stands behind a message is apart from it
-told_apart : (mark rest : List ℕ) (sends : List Signal) → is_apart rest ≡ true → ((line : ℕ) (octets more : List ℕ) → is_apart (mark ++ (on_line line octets ++ more)) ≡ true)
+pub told_apart : (mark rest : List ℕ) (sends : List Signal) → is_apart rest ≡ true → ((line : ℕ) (octets more : List ℕ) → is_apart (mark ++ (on_line line octets ++ more)) ≡ true)
     → is_apart (told mark sends ++ rest) ≡ true
 told_apart mark rest [] apart spaced = apart
 told_apart mark rest (sent ∷ sends) apart spaced =
