@@ -228,3 +228,106 @@ frame_back n sends rows held fine are =
     let stops : Stops (codes " send") (parts 0 rows) = No_word (parts_stop (codes " send") 0 rows (no_word 115 (codes "end") refl) (no_word_there _ 32) (omega (arith, are.few))) in
     let signals = signals_back (length rest + 1) (codes " send") (parts 0 rows) [] sends stops apart send_apart fine (omega arith) in
     rw (number, signals, rows_of_parts rows are) refl
+
+-- ---- what is read is told
+
+-- a reply that no octets stand beside
+abbrev alone : Kept → Option (Kept × List (List ℕ))
+alone reply = Some (reply, [])
+
+-- a reply of this word is told there
+pub record IsToldIn (w : Word) (octets : List ℕ) (reply : Kept) (rows : List (List ℕ)) : Type 0 where
+  pub named : word_of reply ≡ w
+  pub there : octets ≡ body rows reply
+  pub fine : IsToldReply reply
+  pub beside : AreToldOctets reply rows
+
+signals_there : (mark octets : List ℕ) (sends : List Signal) (rest : List ℕ) → signals_at mark octets ≡ Some (sends, rest) → (octets ≡ told mark sends ++ rest) × All IsSendable sends
+signals_there mark octets sends rest found =
+    let read = signals_text (length octets + 1) mark [] octets sends rest found in
+    let same : sends ≡ read.more = read.whole in
+    (rw same read.there, rw same read.sendable)
+
+told_alone : {w : Word} {octets : List ℕ} (k reply : Kept) (rows : List (List ℕ)) → IsToldIn w octets k [] → alone k ≡ Some (reply, rows) → IsToldIn w octets reply rows
+told_alone k reply rows is found = let parts = some_pair_parts k reply [] rows found in rw (← parts.0, ← parts.1) is
+
+plain_told : (w : Word) (k : Kept) (octets : List ℕ) (reply : Kept) (rows : List (List ℕ)) → (octets ≡ [] → IsToldIn w octets k [])
+    → (passing (is_empty octets) k >>= alone) ≡ Some (reply, rows) → IsToldIn w octets reply rows
+plain_told w k octets reply rows is found =
+    let read = both (passing (is_empty octets) k) _ _ found in
+    let test = passed (is_empty octets) k read.here read.is in
+    told_alone k reply rows (is (empty_is octets test.0)) (ap alone test.1 ∙ read.later)
+
+pair_told : (w : Word) (k : ℕ × ℕ → Kept) (octets : List ℕ) (reply : Kept) (rows : List (List ℕ))
+    → ((a : ℕ × ℕ) → octets ≡ pair a.0 a.1 → IsHeld a.0 → IsHeld a.1 → IsToldIn w octets (k a) [])
+    → ((pair_of octets >>= λ a. Some (k a)) >>= alone) ≡ Some (reply, rows) → IsToldIn w octets reply rows
+pair_told w k octets reply rows is found =
+    let read = both (pair_of octets >>= λ a. Some (k a)) alone _ found in
+    let numbers = both (pair_of octets) (λ a. Some (k a)) _ read.is in
+    let text = pair_of_text octets numbers.here numbers.is in
+    told_alone (k numbers.here) reply rows (is numbers.here text.0 text.1 text.2) (ap (λ (r : Option Kept). r >>= alone) numbers.later ∙ read.later)
+
+message_told : (octets : List ℕ) (reply : Kept) → message_of octets ≡ Some reply → IsToldIn word.Message octets reply []
+message_told octets reply found =
+    let moved = both (moves_at octets) _ _ found in
+    let sends = both (signals_at [] moved.here.1) _ _ moved.later in
+    let test = passed (is_empty sends.here.1) (Sent sends.here.0 moved.here.0 []) reply sends.later in
+    let first = moves_text octets moved.here.0 moved.here.1 moved.is in
+    let second = signals_there [] moved.here.1 sends.here.0 sends.here.1 sends.is in
+    rw (← test.1) (by_parts moved.here sends.here (empty_is sends.here.1 test.0) first second)
+  where
+    by_parts : (moved : Option (ℕ × ℕ) × List ℕ) (sends : List Signal × List ℕ) → sends.1 ≡ []
+        → (octets ≡ moved_text moved.0 ++ moved.1) × IfSome moved.0 (λ held. IsHeld held.0 × IsHeld held.1) → (moved.1 ≡ told [] sends.0 ++ sends.1) × All IsSendable sends.0
+        → IsToldIn word.Message octets (Sent sends.0 moved.0 []) []
+    by_parts moved sends none first second = record {
+      named = refl;
+      there = first.0 ∙ ap (λ (l : List ℕ). moved_text moved.0 ++ l) (second.0 ∙ rw none (append-nil (told [] sends.0)));
+      fine = (second.1, first.1, refl);
+      beside = refl;
+    }
+
+frame_told : (octets : List ℕ) (reply : Kept) (rows : List (List ℕ)) → frame_of octets ≡ Some (reply, rows) → IsToldIn word.Frame octets reply rows
+frame_told octets reply rows found =
+    let n = both (spaced_at octets) _ _ found in
+    let sends = both (signals_at (codes " send") n.here.1) _ _ n.later in
+    let are = both (rows_of sends.here.1) _ _ sends.later in
+    let parts = some_pair_parts (Frame n.here.0 sends.here.0 []) reply are.here rows are.later in
+    let first = spaced_text octets n.here.0 n.here.1 n.is in
+    let second = signals_there (codes " send") n.here.1 sends.here.0 sends.here.1 sends.is in
+    let third = rows_of_text sends.here.1 are.here are.is in
+    by_parts n.here sends.here are.here parts.0 parts.1 first second third
+  where
+    by_parts : (n : ℕ × List ℕ) (sends : List Signal × List ℕ) (are : List (List ℕ)) → Frame n.0 sends.0 [] ≡ reply → are ≡ rows → (octets ≡ 32 ∷ (decimal n.0 ++ n.1)) × (n.0 < 2 ^ 32)
+        → (n.1 ≡ told (codes " send") sends.0 ++ sends.1) × All IsSendable sends.0 → (sends.1 ≡ parts 0 are) × AreRows are → IsToldIn word.Frame octets reply rows
+    by_parts n sends are is beside first second third = rw (← is, ← beside) (record {
+      named = refl;
+      there = first.0 ∙ ap (λ (l : List ℕ). 32 ∷ (decimal n.0 ++ l)) (second.0 ∙ ap (λ (l : List ℕ). told (codes " send") sends.0 ++ l) third.0);
+      fine = (first.1, second.1, refl);
+      beside = third.1;
+    })
+
+pub told_text : (w : Word) (octets : List ℕ) (reply : Kept) (rows : List (List ℕ)) → told_of w octets ≡ Some (reply, rows) → IsToldIn w octets reply rows
+told_text word.Granted octets reply rows found =
+    pair_told word.Granted (λ a. Granted a.0 a.1) octets reply rows (λ a text low high. record { named = refl; there = text; fine = (low, high); beside = refl }) found
+told_text word.Busy octets reply rows found = plain_told word.Busy Busy octets reply rows (λ none. record { named = refl; there = none; fine = tt; beside = refl }) found
+told_text word.Seated octets reply rows found =
+    pair_told word.Seated (λ a. Seated a.0 a.1) octets reply rows (λ a text low high. record { named = refl; there = text; fine = (low, high); beside = refl }) found
+told_text word.NoPort octets reply rows found = plain_told word.NoPort NoPort octets reply rows (λ none. record { named = refl; there = none; fine = tt; beside = refl }) found
+told_text word.Freed octets reply rows found = plain_told word.Freed Freed octets reply rows (λ none. record { named = refl; there = none; fine = tt; beside = refl }) found
+told_text word.NotNailed octets reply rows found = plain_told word.NotNailed NotNailed octets reply rows (λ none. record { named = refl; there = none; fine = tt; beside = refl }) found
+told_text word.Message octets reply rows found =
+    let read = both (message_of octets) alone _ found in
+    told_alone read.here reply rows (message_told octets read.here read.is) read.later
+told_text word.Frame octets reply rows found = frame_told octets reply rows found
+
+-- ---- what is told is read
+
+pub told_back : (reply : Kept) (rows : List (List ℕ)) → IsToldReply reply → AreToldOctets reply rows → told_of (word_of reply) (body rows reply) ≡ Some (reply, rows)
+told_back (Granted a b) rows fine beside = rw (beside, pair_whole a b fine.0 fine.1) refl
+told_back Busy rows fine beside = rw beside refl
+told_back (Seated a b) rows fine beside = rw (beside, pair_whole a b fine.0 fine.1) refl
+told_back NoPort rows fine beside = rw beside refl
+told_back Freed rows fine beside = rw beside refl
+told_back NotNailed rows fine beside = rw beside refl
+told_back (Sent sends moved records) rows fine beside = rw (beside, fine.2, message_back moved sends fine.1 fine.0) refl
+told_back (Frame n sends records) rows fine beside = rw fine.2 (frame_back n sends rows fine.0 fine.1 beside)
