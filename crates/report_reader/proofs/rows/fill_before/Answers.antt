@@ -1,0 +1,7 @@
+use Rattle.std.proofs.Common.{◌≡◌, ℕ, ◌+◌, ◌-◌, ◌<◌, List, [], ◌∷◌, ◌++◌, length, replicate, ap, sym, ◌∙◌, arith, append_assoc, length-append}
+use Rattle.report_reader.specs.Reading.{idle_row, rows_before}
+use Rattle.report_reader.proofs.RowLemmas.{filled_more}
+use Rattle.report_reader.proofs.rows.fill_before.Goals as goal
+
+pub loop-rows-preserved : goal.loop-rows-preserved
+loop-rows-preserved c = filled_more c.args.line c.loop-rows.rows.items c.push.new.self.items (omega arith) c.in_ok-push.ensures.items ∙ c.loop-rows.invariant

@@ -1,0 +1,93 @@
+-- Which answers the lines of a report spell. Source: this exchange's own.
+use Rattle.std.specs.Prelude.{◌≡◌, ℕ, ◌+◌, ◌^◌, ◌<◌, ◌≤◌, ◌==◌, Bool, false, List, [], ◌∷◌, ◌++◌, length, codes, All, IfSome, Option, None, ⊤}
+use Rattle.std.specs.List.{last_or, list_all}
+use Rattle.circuit_model.specs.FrameInput.{idle_octet}
+use Rattle.q931_elements.specs.Limits.{longest_message}
+use Rattle.exchange_events.specs.Limits.{most_events}
+use Rattle.exchange_events.specs.declared.answer.Answer.{Answer}
+use Rattle.exchange_events.specs.declared.answer.Kept.{Kept}
+use Rattle.exchange_events.specs.declared.answer.Kept.TheVariants.{Granted, Busy, Seated, NoPort, Freed, NotNailed, Sent, Frame}
+use Rattle.exchange_events.specs.declared.signal.Signal.{Signal}
+use Rattle.report_text.specs.Report.{answer_line}
+
+-- how many external lines an exchange has at the most
+abbrev pub most_lines : ℕ
+most_lines = 32
+
+-- a number that an answer can hold, in 32 bits
+abbrev pub IsHeld : ℕ → Type 0
+IsHeld n = n < 2 ^ 32
+
+-- these are octets
+abbrev pub AreOctets : List ℕ → Type 0
+AreOctets octets = All (λ octet. octet < 256) octets
+
+-- a message to one of the lines, of some octets
+pub record IsSendable (sent : Signal) : Type 0 where
+  pub line : sent.line < most_lines
+  pub some : 1 ≤ length sent.octets
+  pub few : length sent.octets ≤ longest_message
+  pub octets : AreOctets sent.octets
+
+-- every octet of a line is idle
+abbrev pub is_idle : List ℕ → Bool
+is_idle octets = list_all (λ octet. octet == idle_octet) octets
+
+-- the thirty octets of a line in one frame
+pub record IsRow (octets : List ℕ) : Type 0 where
+  pub thirty : length octets ≡ 30
+  pub bytes : AreOctets octets
+
+-- the octets of a frame, line by line, up to the last line that sends any other than idle
+pub record AreRows (rows : List (List ℕ)) : Type 0 where
+  pub few : length rows ≤ most_lines
+  pub each : All IsRow rows
+  pub last : IfSome (last_or None rows) (λ octets. is_idle octets ≡ false)
+
+-- a reply as a line tells it: its numbers can be held, its messages sent; no line tells of the records of calls
+abbrev pub IsToldReply : Kept → Type 0
+IsToldReply (Granted a b) = IsHeld a × IsHeld b
+IsToldReply Busy = ⊤
+IsToldReply (Seated a b) = IsHeld a × IsHeld b
+IsToldReply NoPort = ⊤
+IsToldReply Freed = ⊤
+IsToldReply NotNailed = ⊤
+IsToldReply (Sent sends moved records) = All IsSendable sends × IfSome moved (λ both. IsHeld both.0 × IsHeld both.1) × (records ≡ [])
+IsToldReply (Frame n sends records) = IsHeld n × All IsSendable sends × (records ≡ [])
+
+-- the octets beside a reply as a line tells them: none where it is no frame's
+abbrev pub AreToldOctets : Kept → List (List ℕ) → Type 0
+AreToldOctets (Frame n sends records) rows = AreRows rows
+AreToldOctets reply rows = rows ≡ []
+
+-- an answer in normal form: it holds what its line tells, and nothing else
+pub record IsNormal (answer : Answer) : Type 0 where
+  pub event : (1 ≤ answer.event) × (answer.event ≤ most_events)
+  pub reply : IsToldReply answer.reply
+  pub octets : AreToldOctets answer.reply answer.octets
+
+-- a line, given without the line feed that ends it, spells an answer in normal form: it is the one that is printed for it
+pub record Spells (line : List ℕ) (answer : Answer) : Type 0 where
+  pub printed : answer_line answer ≡ line ++ codes "\n"
+  pub normal : IsNormal answer
+
+-- the lines of answers, one after another
+abbrev pub lines_of : List Answer → List ℕ
+lines_of [] = []
+lines_of (answer ∷ answers) = answer_line answer ++ lines_of answers
+
+-- bytes are a report: the lines of answers in normal form
+pub record IsReport (bytes : List ℕ) (answers : List Answer) : Type 0 where
+  pub printed : bytes ≡ lines_of answers
+  pub normal : All IsNormal answers
+
+-- line n of bytes is the first that spells no answer or that no line feed ends: the lines before it are those of answers, and no line behind
+-- them does both
+pub record IsFaultyAt (bytes : List ℕ) (n : ℕ) : Type 0 where
+  pub before : List Answer
+  pub behind : List ℕ
+  pub printed : bytes ≡ lines_of before ++ behind
+  pub normal : All IsNormal before
+  pub number : n ≡ length before + 1
+  pub some : 0 < length behind
+  pub faulty : (line rest : List ℕ) (answer : Answer) → behind ≡ line ++ codes "\n" ++ rest → Spells line answer → ⊥

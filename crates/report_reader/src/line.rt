@@ -1,0 +1,143 @@
+// A line of a report, read back.
+ghost use Rattle.std.specs.Prelude.{◌≡◌, ◌≢◌, ◌<◌, ◌++◌, option_map, IfOk, MatchOption};
+ghost use Rattle.exchange_events.specs.declared.answer.Answer.{Answer};
+ghost use Rattle.report_reader.specs.Reading.{frame_of, is_empty, message_of, moves_at, passing, reading, reply_of, told_of};
+ghost use Rattle.report_reader.specs.Spelling.{Spells};
+
+use crate::cut::{behind, number_at, pair_at, pair_of, spaced_at};
+use crate::rows::rows_of;
+use crate::signals::signals_at;
+use crate::word::{Word, word_at};
+use exchange_events::{Answer, Kept, RecordList, Rows};
+use std::alloc::{AllocError, Global};
+
+/// How many events a trace has at most.
+const MOST_EVENTS: u32 = 65_535;
+
+// How many live paths were moved, where that is told, and what follows.
+fn moves_at(octets: &[u8]) -> Option<(Option<(u32, u32)>, &[u8])>
+    ensures { option_map (λ cut. (cut.0, cut.1.now)) result ≡ moves_at octets.now }
+{
+    let Some(rest) = behind(b" moved", octets) else {
+        return Some((None, octets));
+    };
+    let (both, rest) = pair_at(rest)?;
+    Some((Some(both), rest))
+}
+
+// What stands behind `message`.
+fn message_of(alloc: Global, octets: &[u8]) -> Result<Option<Kept>, AllocError>
+    ensures { IfOk result (λ reply. reply ≡ message_of octets.now) }
+{
+    let Some((moved, rest)) = moves_at(octets) else {
+        return Ok(None);
+    };
+    let Some((sends, rest)) = signals_at(alloc, b"", rest)? else {
+        return Ok(None);
+    };
+    if !rest.is_empty() {
+        return Ok(None);
+    }
+    Ok(Some(Kept::Sent {
+        sends,
+        moved,
+        records: RecordList::of(Vec::new(alloc)),
+    }))
+}
+
+// What stands behind `frame`.
+fn frame_of(alloc: Global, octets: &[u8]) -> Result<Option<(Kept, Rows)>, AllocError>
+    ensures { IfOk result (λ told. told ≡ frame_of octets.now) }
+{
+    let Some((number, rest)) = spaced_at(octets) else {
+        return Ok(None);
+    };
+    let Some((sends, rest)) = signals_at(alloc, b" send", rest)? else {
+        return Ok(None);
+    };
+    let Some(rows) = rows_of(alloc, rest)? else {
+        return Ok(None);
+    };
+    let frame = Kept::Frame {
+        number,
+        sends,
+        records: RecordList::of(Vec::new(alloc)),
+    };
+    Ok(Some((frame, rows)))
+}
+
+// A reply without numbers and lists, at the end of a line.
+fn at_end(reply: Kept, octets: &[u8]) -> Option<Kept>
+    ensures { result ≡ passing (is_empty octets.now) reply }
+{
+    if octets.is_empty() { Some(reply) } else { None }
+}
+
+// What stands behind the word of a reply that isn't a frame's.
+fn reply_of(alloc: Global, word: Word, octets: &[u8]) -> Result<Option<Kept>, AllocError>
+    ensures { IfOk result (λ reply. reply ≡ reply_of word octets.now) }
+{
+    Ok(match word {
+        Word::Granted => pair_of(octets).map(|(a, b)| Kept::Granted(a, b)),
+        Word::Busy => at_end(Kept::Busy, octets),
+        Word::Seated => pair_of(octets).map(|(a, b)| Kept::Seated(a, b)),
+        Word::NoPort => at_end(Kept::NoPort, octets),
+        Word::Freed => at_end(Kept::Freed, octets),
+        Word::NotNailed => at_end(Kept::NotNailed, octets),
+        Word::Message => message_of(alloc, octets)?,
+        Word::Frame => None,
+    })
+}
+
+// A reply, and the octets beside it.
+fn told_of(
+    alloc: Global,
+    word: Word,
+    octets: &[u8],
+) -> Result<Option<(Kept, Rows)>, AllocError>
+    ensures { IfOk result (λ told. told ≡ told_of word octets.now) }
+{
+    if let Word::Frame = word {
+        return frame_of(alloc, octets);
+    }
+    let Some(reply) = reply_of(alloc, word, octets)? else {
+        return Ok(None);
+    };
+    Ok(Some((reply, Rows::of(Vec::new(alloc)))))
+}
+
+// The answer that a line spells.
+fn answer_of(alloc: Global, line: &[u8]) -> Result<Option<Answer>, AllocError>
+    ensures { IfOk result (λ answer. answer ≡ reading line.now) }
+{
+    let Some((event, rest)) = number_at(line) else {
+        return Ok(None);
+    };
+    if event == 0 || event > MOST_EVENTS {
+        return Ok(None);
+    }
+    let Some((word, rest)) = word_at(rest) else {
+        return Ok(None);
+    };
+    let Some((reply, octets)) = told_of(alloc, word, rest)? else {
+        return Ok(None);
+    };
+    Ok(Some(Answer {
+        event,
+        reply,
+        octets,
+    }))
+}
+
+/// The answer that a line of a report spells, given without the line feed that ends it; none exactly
+/// where it spells none. What is spelled is an answer in normal form: it has no records, and octets
+/// only where it is a frame's, up to the last line that sends any other than idle.
+///
+/// # Errors
+///
+/// [`AllocError`] for want of memory.
+pub fn read_report_line(alloc: Global, line: &[u8]) -> Result<Option<Answer>, AllocError>
+    ensures spelled { IfOk result (λ found. MatchOption found ((answer : Answer) → Spells line.now answer → ⊥) (λ answer. Spells line.now answer)) }
+{
+    answer_of(alloc, line)
+}
