@@ -19,6 +19,7 @@ FRAMES_PER_SECOND = 8000
 
 MOST_BYTES = 67_108_864
 MOST_EVENTS = 65_535
+MOST_CHANGES = 65535
 MOST_NUMBERS = 256
 MOST_MESSAGE_DIGITS = 520
 FRAME_DIGITS = 2 * PLACES
@@ -144,6 +145,7 @@ class TraceReader:
         self.tones = {}
         self.timers = {}
         self.events = []
+        self.changes = []
         self.kinds = {
             "number": (self.number, range(3, 4)),
             "tone": (self.tone, range(2, 3)),
@@ -154,6 +156,7 @@ class TraceReader:
             "M": (self.message, range(1, 3)),
             "F": (self.frame, range(0, MOST_BYTES)),
             "sync": (self.sync, range(0, 1)),
+            "change": (self.change, range(0, 1)),
         }
 
     def take(self, line):
@@ -243,6 +246,11 @@ class TraceReader:
 
     def sync(self):
         return None
+
+    def change(self):
+        if len(self.changes) == MOST_CHANGES:
+            raise Fault("limit")
+        self.changes.append(len(self.events))
 
 
 def header(line):

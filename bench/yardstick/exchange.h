@@ -12,6 +12,7 @@ enum {
     MESSAGE = 260,
     IDLE = 0xD5,
     MOST_EVENTS = 65535,
+    MOST_CHANGES = 65535,
     MOST_BYTES = 1 << 26,
     PIECE = 1 << 16,
     // Entries of tables that name nothing: a cell, an internal slot, a line and a room that are there, and count for

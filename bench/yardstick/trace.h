@@ -18,6 +18,7 @@ typedef struct { uint8_t octets[TONE]; unsigned length; } Tone; // no octets: it
 
 static Tone tones[2];
 static Event events[MOST_EVENTS];
+static unsigned changes; // Of meters, of which the yardstick has none.
 static Row *rows;
 static uint8_t *messages;
 static size_t event_count, row_count, row_room, message_count, message_room;
@@ -252,6 +253,9 @@ static void read_words(Word *words, size_t count) {
         read_header(words, count);
     } else if (is(words[0], "sync")) {
         if (count != 1) refuse("word");
+    } else if (is(words[0], "change")) {
+        if (count != 1) refuse("word");
+        if (changes++ == MOST_CHANGES) refuse("limit");
     } else if (is(words[0], "F")) {
         read_frame(words, count);
     } else if (is(words[0], "nail")) {

@@ -1,5 +1,6 @@
 -- What every trace keeps to. Source: this exchange's own.
-use Rattle.std.specs.Prelude.{◌≡◌, ◌≢◌, ℕ, ◌<◌, ◌≤◌, nat_lt, Bool, true, IsTrue, List, [], ◌∷◌, length, All, AllPairs}
+use Rattle.std.specs.Prelude.{◌≡◌, ◌≢◌, ℕ, ◌<◌, ◌≤◌, nat_lt, Bool, true, IsTrue, ◌==◌, List, [], ◌∷◌, length, All, AllPairs}
+use Rattle.std.specs.List.{list_any}
 use Rattle.circuit_model.specs.declared.channel.Slot.{Slot}
 use Rattle.circuit_model.specs.Extent.{IsExternal}
 use Rattle.number_plan.specs.declared.target.Target.{Target}
@@ -8,7 +9,7 @@ use Rattle.number_plan.specs.Plan.{all_targets}
 use Rattle.exchange_events.specs.declared.trace.Event.{Event}
 use Rattle.exchange_events.specs.declared.trace.Event.TheVariants.{Nail, Seat, Free, Message, Frame}
 use Rattle.exchange_events.specs.declared.trace.Trace.{Trace}
-use Rattle.exchange_events.specs.Limits.{most_events}
+use Rattle.exchange_events.specs.Limits.{most_changes, most_events}
 use Rattle.exchange_events.specs.Sizes.{Setting}
 
 -- two slots that can be nailed together
@@ -46,6 +47,16 @@ pub record AreSegments (events : ℕ) (ends : List ℕ) : Type 0 where
   pub rising : AllPairs (λ m n. m < n) ends
   pub whole : last_of ends ≡ events
 
+-- the place is one between segments: it is before the first of them, or at the end of one
+abbrev pub is_between : List ℕ → ℕ → Bool
+is_between ends count = list_any (λ place. place == count) (0 ∷ ends)
+
+-- where meters change: the places rise or stay as they are, and each is between segments
+pub record AreChanges (ends changes : List ℕ) : Type 0 where
+  pub few : length changes ≤ most_changes
+  pub rising : AllPairs (λ m n. m ≤ n) changes
+  pub between : All (λ count. is_between ends count ≡ true) changes
+
 -- what an exchange over a fabric of n internal slots is built with, by a trace
 abbrev pub setting_of : ℕ → Trace → Setting
 setting_of slots trace = record {
@@ -55,7 +66,7 @@ setting_of slots trace = record {
 }
 
 -- an exchange of 1 to 32 external and at most 2 bridge lines and of 1 to 8 call processors; the lines of its plan exist; its events are not too
--- many, each is one of as many external lines, and each is in a segment
+-- many, each is one of as many external lines, and each is in a segment; its meters change between segments
 pub record IsSound (trace : Trace) : Type 0 where
   pub some : 1 ≤ trace.external
   pub few : trace.external ≤ 32
@@ -65,3 +76,4 @@ pub record IsSound (trace : Trace) : Type 0 where
   pub count : length trace.events ≤ most_events
   pub events : All (Fits trace.external) trace.events
   pub segments : AreSegments (length trace.events) trace.segments
+  pub changes : AreChanges trace.segments trace.changes

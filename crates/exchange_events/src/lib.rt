@@ -33,4 +33,4 @@ pub use outbox::{Outbox, Response};
 pub use record::{CallRecord, MOST_RECORDS, Party, Records};
 pub use reply::Reply;
 pub use signal::{Encoded, MOST_SENDS, Signal, Signals};
-pub use trace::{Event, Events, Input, Segments, Trace};
+pub use trace::{Changes, Event, Events, Input, Segments, Trace};

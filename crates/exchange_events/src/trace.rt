@@ -34,7 +34,11 @@ pub type Events = ListOf<Event>;
 /// The number of the last event of each segment that has events, rising. Contracts see their list.
 pub type Segments = ListOf<u32>;
 
-/// A trace: the sizes of the exchange, its number plan, its tones and its timers, and what happens to it.
+/// For each change of meters, in file order, how many events are before it. Contracts see their list.
+pub type Changes = ListOf<u32>;
+
+/// A trace: the sizes of the exchange, its number plan, its tones and its timers, what happens to it, and
+/// where its meters change.
 #[derive(Drop)]
 pub struct Trace {
     /// How many external lines there are, 1 to 32.
@@ -53,6 +57,8 @@ pub struct Trace {
     pub events: Events,
     /// Where the segments end.
     pub segments: Segments,
+    /// Where the meters change, at most 65,535 times.
+    pub changes: Changes,
 }
 
 impl Trace {

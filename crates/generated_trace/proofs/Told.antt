@@ -22,7 +22,7 @@ use Rattle.traffic_gen.proofs.Fit.{lines_fit}
 use Rattle.trace_text.specs.declared.said.Said.{Said}
 use Rattle.trace_text.specs.TraceLines.{says}
 use Rattle.trace_text.specs.TraceTimers.{timers_by}
-use Rattle.trace_text.specs.TraceGrammar.{EachSays, IsWhatLinesSay, IsTrace, events_in, numbers_in, plan_of, tones_in, tones_of, timers_in, timers_of, segment_ends, sizes_in, so_far}
+use Rattle.trace_text.specs.TraceGrammar.{EachSays, IsWhatLinesSay, IsTrace, events_in, numbers_in, plan_of, tones_in, tones_of, timers_in, timers_of, segment_ends, changes_in, sizes_in, so_far}
 use Rattle.trace_text.proofs.TraceHolds.{events-append, sizes_first}
 use Rattle.trace_text.proofs.TraceReadings.{one_trace}
 use Rattle.generated_trace.specs.Told.{said_by}
@@ -208,6 +208,7 @@ trace_of told = record {
   timers = timers_by (timers_of (timers_in told));
   events = events_in told;
   segments = segment_ends told;
+  changes = changes_in told;
 }
 
 sizes_told : (seed calls : ℕ) → sizes_in (traffic_told seed calls) ≡ Some eight
@@ -216,7 +217,7 @@ sizes_told seed calls = refl
 
 is_told : (seed calls : ℕ) → IsWhatLinesSay (trace_of (traffic_told seed calls)) (traffic_told seed calls)
 unfolding trace_of
-is_told seed calls = record { sizes = sizes_told seed calls; plan = refl; tones = refl; timers = refl; events = refl; segments = refl }
+is_told seed calls = record { sizes = sizes_told seed calls; plan = refl; tones = refl; timers = refl; events = refl; segments = refl; changes = refl }
 
 is_traffic : (seed calls : ℕ) → calls ≤ 2000 → IsTrafficOf seed calls (trace_of (traffic_told seed calls))
 unfolding traffic

@@ -107,3 +107,14 @@ fn a_trace_has_at_most_65535_events(rt: HostRuntime) -> Result<(), Fail> {
     assert_eq!(rt; trace.segments.as_slice(), [65_535].as_slice());
     Ok(())
 }
+
+#[test]
+fn changes_are_numbered_by_the_events_before_them(rt: HostRuntime) -> Result<(), Fail> {
+    let text = format!(in rt.alloc();
+        "{HEADER}change\nF\nF\nchange\nchange\nsync\nF\n change \nF\nsync\nchange"
+    )?;
+    let trace = read(&rt, text.as_str())?;
+    assert_eq!(rt; trace.segments.as_slice(), [2, 3, 4].as_slice());
+    assert_eq!(rt; trace.changes.as_slice(), [0, 2, 2, 3, 4].as_slice());
+    Ok(())
+}

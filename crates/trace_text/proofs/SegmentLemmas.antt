@@ -1,13 +1,14 @@
 -- The segments of a trace: their ends rise, and the last is that of the last event.
-use Rattle.std.proofs.Common.{◌≡◌, ℕ, ◌+◌, ◌<◌, ◌≤◌, List, [], ◌∷◌, ◌++◌, length, All, refl, sym, subst, ◌∙◌, inl, inr, arith, append-nil}
+use Rattle.std.proofs.Common.{◌≡◌, ℕ, ◌+◌, ◌<◌, ◌≤◌, ◌==◌, Bool, true, false, ◌||◌, List, [], ◌∷◌, ◌++◌, length, All, refl, sym, subst, ◌∙◌, inl, inr, arith, append-nil}
 use Rattle.std.specs.Prelude.{AllPairs}
+use Rattle.std.specs.List.{list_any}
 use Rattle.std.proofs.lemmas.Bool.{cases_eq, eq-eqb, ne_eqb}
 use Rattle.std.proofs.lemmas.List.Elements.{All-nil, All-cons, All-weaker}
 use Rattle.std.proofs.lemmas.List.Kept.{AllPairs-cons}
 use Rattle.trace_text.specs.declared.said.Said.{Said}
-use Rattle.trace_text.specs.declared.said.Said.TheVariants.{Nothing, Header, Numbered, Toned, Timed, Happens, Sync}
-use Rattle.trace_text.specs.TraceGrammar.{events_in, open_segment_end, ends_after, segment_ends}
-use Rattle.exchange_events.specs.Sound.{last_of, AreSegments}
+use Rattle.trace_text.specs.declared.said.Said.TheVariants.{Nothing, Header, Numbered, Toned, Timed, Happens, Sync, Change}
+use Rattle.trace_text.specs.TraceGrammar.{events_in, open_segment_end, ends_after, segment_ends, changes_after, changes_in}
+use Rattle.exchange_events.specs.Sound.{last_of, AreSegments, AreChanges}
 
 -- the ends of some segments, behind n events, of which n came before the first of these segments
 pub record AreEnds (begun last : ℕ) (ends : List ℕ) : Type 0 where
@@ -52,6 +53,7 @@ are_ends begun count (Happens event ∷ told) le =
     let e = are_ends begun (count + 1) told (omega (arith, le)) in
     rw more at e
 are_ends begun count (Sync ∷ told) le = with_end begun count (count + length (events_in told)) (ends_after count count told) le (are_ends count count told (omega arith))
+are_ends begun count (Change ∷ told) le = with_end begun count (count + length (events_in told)) (ends_after count count told) le (are_ends count count told (omega arith))
 
 last_behind : (ends : List ℕ) → last_of (0 ∷ ends) ≡ last_of ends
 last_behind [] = refl
@@ -65,3 +67,69 @@ segments_sound told =
       rising = e.rising;
       whole = let none : 0 + length (events_in told) ≡ length (events_in told) = omega arith in sym (last_behind (segment_ends told)) ∙ e.whole ∙ none;
     }
+
+-- ---- the changes of meters
+
+abbrev is_place : List ℕ → ℕ → Bool
+is_place places count = list_any (λ place. place == count) places
+
+-- places behind so many events, each of which is the end of a segment, or the place at which the first of them begins
+record ArePlaces (begun count : ℕ) (ends places : List ℕ) : Type 0 where
+  from : All (λ n. count ≤ n) places
+  rising : AllPairs (λ m n. m ≤ n) places
+  between : All (λ n. is_place (begun ∷ ends) n ≡ true) places
+
+or_true : (b : Bool) → (b || true) ≡ true
+or_true true = refl
+or_true false = refl
+
+-- the end of a segment is a place, and so are those behind it
+behind_end : (begun count : ℕ) (ends : List ℕ) (n : ℕ) → is_place (count ∷ ends) n ≡ true → is_place (begun ∷ (open_segment_end begun count ++ ends)) n ≡ true
+behind_end begun count ends n is =
+    elim (cases_eq begun count) [
+      | inl same ↦ rw (eq-eqb begun count same, same) is
+      | inr other ↦ rw (ne_eqb begun count other, is) (or_true (begun == n))
+    ]
+
+-- a segment ends before places
+with_places : (begun count : ℕ) (ends places : List ℕ) → ArePlaces count count ends places → ArePlaces begun count (open_segment_end begun count ++ ends) places
+with_places begun count ends places e = record {
+  from = e.from;
+  rising = e.rising;
+  between = All-weaker (λ n. is_place (count ∷ ends) n ≡ true) (λ n. is_place (begun ∷ (open_segment_end begun count ++ ends)) n ≡ true) (behind_end begun count ends) places e.between;
+}
+
+-- one more place before others
+one_place : (count : ℕ) (ends places : List ℕ) → ArePlaces count count ends places → ArePlaces count count ends (count ∷ places)
+one_place count ends places e = record {
+  from = All-cons (λ n. count ≤ n) count places (omega arith) e.from;
+  rising = AllPairs-cons (λ m n. m ≤ n) count places e.from e.rising;
+  between = All-cons (λ n. is_place (count ∷ ends) n ≡ true) count places (rw (eq-eqb count count refl) refl) e.between;
+}
+
+no_places : AllPairs (λ m n. m ≤ n) []
+no_places i j d lt within = absurd (omega arith)
+
+are_places : (begun count : ℕ) (told : List Said) → ArePlaces begun count (ends_after begun count told) (changes_after count told)
+are_places begun count [] = record { from = All-nil (λ n. count ≤ n); rising = no_places; between = All-nil (λ n. is_place (begun ∷ open_segment_end begun count) n ≡ true) }
+are_places begun count (Nothing ∷ told) = are_places begun count told
+are_places begun count (Header sizes ∷ told) = are_places begun count told
+are_places begun count (Numbered number ∷ told) = are_places begun count told
+are_places begun count (Toned given ∷ told) = are_places begun count told
+are_places begun count (Timed given ∷ told) = are_places begun count told
+are_places begun count (Happens event ∷ told) =
+    let e = are_places begun (count + 1) told in
+    record {
+      from = All-weaker (λ n. count + 1 ≤ n) (λ n. count ≤ n) (λ n above. omega (arith, above)) (changes_after (count + 1) told) e.from;
+      rising = e.rising;
+      between = e.between;
+    }
+are_places begun count (Sync ∷ told) = with_places begun count (ends_after count count told) (changes_after count told) (are_places count count told)
+are_places begun count (Change ∷ told) =
+    with_places begun count (ends_after count count told) (count ∷ changes_after count told)
+    (one_place count (ends_after count count told) (changes_after count told) (are_places count count told))
+
+pub changes_sound : (told : List Said) → length (changes_in told) ≤ 65535 → AreChanges (segment_ends told) (changes_in told)
+changes_sound told few =
+    let e = are_places 0 0 told in
+    record { few = few; rising = e.rising; between = e.between }

@@ -1,5 +1,5 @@
 -- The events of a trace are those of an exchange of its size.
-use Rattle.std.proofs.Common.{◌≡◌, ◌≢◌, ℕ, ◌<◌, ◌≤◌, Bool, true, false, nat_lt, nat_le, nat_eq, List, [], ◌∷◌, ◌++◌, length, Option, Some, None, option_and_then, ok_or, Result, Ok, Err, All, replicate, slice_set, refl, arith, sym, ◌∙◌, inl, inr, is_some, slice_index_or, if◌then◌else◌, ◌&&◌, ◌||◌, codes, length-append, ap, subst}
+use Rattle.std.proofs.Common.{◌≡◌, ◌≢◌, ℕ, ◌+◌, ◌<◌, ◌≤◌, Bool, true, false, nat_lt, nat_le, nat_eq, List, [], ◌∷◌, ◌++◌, length, Option, Some, None, option_and_then, ok_or, Result, Ok, Err, All, replicate, slice_set, refl, arith, sym, ◌∙◌, inl, inr, is_some, slice_index_or, if◌then◌else◌, ◌&&◌, ◌||◌, codes, length-append, ap, subst}
 use Rattle.std.specs.Prelude.{IfSome}
 use Rattle.std.specs.List.{list_all}
 use Rattle.std.specs.Str.{bytes_eq}
@@ -19,7 +19,7 @@ use Rattle.trace_text.specs.declared.said.Sizes.{Sizes}
 use Rattle.trace_text.specs.declared.said.GivenTone.{GivenTone}
 use Rattle.trace_text.specs.declared.timing.GivenTimer.{GivenTimer}
 use Rattle.trace_text.specs.declared.said.Said.{Said}
-use Rattle.trace_text.specs.declared.said.Said.TheVariants.{Nothing, Header, Numbered, Toned, Timed, Happens, Sync}
+use Rattle.trace_text.specs.declared.said.Said.TheVariants.{Nothing, Header, Numbered, Toned, Timed, Happens, Sync, Change}
 use Rattle.trace_text.specs.declared.said.Kind.{Kind}
 use Rattle.trace_text.specs.declared.said.Kind.TheVariants as kind
 use Rattle.exchange_events.specs.declared.trace.Event.{Event}
@@ -33,11 +33,11 @@ use Rattle.exchange_events.specs.declared.trace.Trace.{Trace}
 use Rattle.trace_text.specs.TraceFields.{slash, numeral_in, external_line, slot, room, octets_written, thirty, at_most, longest_message, header}
 use Rattle.trace_text.specs.TraceWords.{cut_at, numeral, lines, words, two, one_or_two, three, is_comment, is_blank, is_printable}
 use Rattle.trace_text.specs.TraceLines.{◌>>=◌, colon, with_part, with_parts, frame, message, nail, seat, free, target, number, numbered, tone, timer, toned, timed, happens, SoFar, before_events, by_kind, kind_of, by_words, by_place, reads, joins, says}
-use Rattle.trace_text.specs.TraceGrammar.{sizes_in, numbers_in, plan_of, events_in, so_far, EachSays, IsTrace}
+use Rattle.trace_text.specs.TraceGrammar.{sizes_in, numbers_in, plan_of, events_in, changes_after, changes_in, so_far, EachSays, IsTrace}
 use Rattle.exchange_events.specs.Sound.{Fits, is_reached, IsSound}
 use Rattle.trace_text.proofs.TraceOctets.{in_range, are_octets}
-use Rattle.trace_text.proofs.TraceHolds.{sizes_first, events-append, plan_stays, plan_more}
-use Rattle.trace_text.proofs.SegmentLemmas.{segments_sound}
+use Rattle.trace_text.proofs.TraceHolds.{sizes_first, events-append, plan_stays, plan_more, changes-append, changes_stay}
+use Rattle.trace_text.proofs.SegmentLemmas.{segments_sound, changes_sound}
 
 -- a step that found something had something to begin with
 pub found_first : {A B : Type 0} (o : Option A) (step : A → Option B) (v : B) → option_and_then step o ≡ Some v → (x : A) × (o ≡ Some x) × (step x ≡ Some v)
@@ -320,6 +320,7 @@ IsFine s (Toned given) = Unit {0}
 IsFine s (Timed given) = Unit {0}
 IsFine s (Happens e) = IsOfExchange s.sizes (λ sizes. Fits sizes.external e)
 IsFine s Sync = Unit {0}
+IsFine s Change = Unit {0}
 
 event_fine : (s : SoFar) (sizes : Sizes) (r : Result Event Reason) (said : Said) → s.sizes ≡ Some sizes → ((e : Event) → r ≡ Ok e → Fits sizes.external e)
     → happens r ≡ Ok said → IsFine s said
@@ -369,6 +370,8 @@ kind_fine s sizes kind.Tone others said known h = tone_fine s (tone s.tones othe
 kind_fine s sizes kind.Timer others said known h = timer_fine s (timer s.timers others) said h
 kind_fine s sizes kind.Sync [] said known h = let is : Sync ≡ said = grind (arith, h) in subst (λ v. IsFine s v) is tt
 kind_fine s sizes kind.Sync (word ∷ others) said known h = absurd (grind (arith, h))
+kind_fine s sizes kind.Change [] said known h = let is : Change ≡ said = grind (arith, h) in subst (λ v. IsFine s v) is tt
+kind_fine s sizes kind.Change (word ∷ others) said known h = absurd (grind (arith, h))
 kind_fine s sizes kind.Unknown others said known h = absurd (grind (arith, h))
 
 nothing_fine : (s : SoFar) (said : Said) → by_words s 0 [] ≡ Ok said → IsFine s said
@@ -397,7 +400,7 @@ reads_fine s line said h =
       | inr read ↦ place_fine s s.sizes line said refl (rw read at h)
     ]
 
--- what passes the last checks is what was read, and an event is not one too many
+-- what passes the last checks is what was read, and neither an event nor a change is one too many
 abbrev pub IsCounted : SoFar → Said → Type 0
 IsCounted s Nothing = Unit {0}
 IsCounted s (Header sizes) = Unit {0}
@@ -406,6 +409,7 @@ IsCounted s (Toned given) = Unit {0}
 IsCounted s (Timed given) = Unit {0}
 IsCounted s (Happens e) = s.events < 65535
 IsCounted s Sync = Unit {0}
+IsCounted s Change = s.changes < 65535
 
 joins_same : (s : SoFar) (said other : Said) → joins s said ≡ Ok other → (said ≡ other) × IsCounted s said
 joins_same s Nothing other h = (grind (arith, h), tt)
@@ -416,6 +420,11 @@ joins_same s Sync other h = (grind (arith, h), tt)
 joins_same s (Happens e) other h =
     elim (true_or_false (nat_lt s.events 65535)) [
       | inl few ↦ let ok = rw few at h in (grind (arith, ok), ltb-true s.events 65535 few)
+      | inr many ↦ let failed = rw many at h in absurd (grind (arith, failed))
+    ]
+joins_same s Change other h =
+    elim (true_or_false (nat_lt s.changes 65535)) [
+      | inl few ↦ let ok = rw few at h in (grind (arith, ok), ltb-true s.changes 65535 few)
       | inr many ↦ let failed = rw many at h in absurd (grind (arith, failed))
     ]
 joins_same s (Numbered n) other h =
@@ -436,33 +445,45 @@ says_fine s line said h =
 -- what some lines say is sound, in an exchange with n external lines
 pub record IsSoundFront (external : ℕ) (told : List Said) : Type 0 where
   pub count : length (events_in told) ≤ 65535
+  pub changes : length (changes_in told) ≤ 65535
   pub events : All (Fits external) (events_in told)
   pub planned : all_targets (is_reached external) (plan_of (numbers_in told)) ≡ true
 
 -- one more line that says neither an event nor a number
-stays : (external : ℕ) (told : List Said) (said : Said) → events_in (said ∷ []) ≡ [] → numbers_in (said ∷ []) ≡ [] → IsSoundFront external told → IsSoundFront external (told ++ said ∷ [])
-stays external told said no_event no_number front =
+stays : (external : ℕ) (told : List Said) (said : Said) → events_in (said ∷ []) ≡ [] → numbers_in (said ∷ []) ≡ [] → length (changes_in (told ++ said ∷ [])) ≤ 65535
+    → IsSoundFront external told → IsSoundFront external (told ++ said ∷ [])
+stays external told said no_event no_number few front =
     let same : events_in (told ++ said ∷ []) ≡ events_in told =
     events-append told (said ∷ []) ∙ ap (λ (es : List Event). events_in told ++ es) no_event ∙ append-nil (events_in told) in
     record {
       count = rw same front.count;
+      changes = few;
       events = subst (All (Fits external)) (sym same) front.events;
       planned = ap (all_targets (is_reached external)) (sym (plan_stays told said no_number)) ∙ front.planned;
     }
 
+-- as few changes as before
+as_few : (external : ℕ) (told : List Said) (said : Said) → changes_after (length (events_in told)) (said ∷ []) ≡ [] → IsSoundFront external told → length (changes_in (told ++ said ∷ [])) ≤ 65535
+as_few external told said none front = subst (λ (ns : List ℕ). length ns ≤ 65535) (changes_stay told said none) front.changes
+
 -- one more line
 one_more : (sizes : Sizes) (told : List Said) (said : Said) → ((first : Sizes) → sizes_in told ≡ Some first → first ≡ sizes) → IsFine (so_far told) said → IsCounted (so_far told) said
     → IsSoundFront sizes.external told → IsSoundFront sizes.external (told ++ said ∷ [])
-one_more sizes told Nothing same fine counted front = stays sizes.external told Nothing refl refl front
-one_more sizes told (Header first) same fine counted front = stays sizes.external told (Header first) refl refl front
-one_more sizes told (Toned given) same fine counted front = stays sizes.external told (Toned given) refl refl front
-one_more sizes told (Timed given) same fine counted front = stays sizes.external told (Timed given) refl refl front
-one_more sizes told Sync same fine counted front = stays sizes.external told Sync refl refl front
+one_more sizes told Nothing same fine counted front = stays sizes.external told Nothing refl refl (as_few sizes.external told Nothing refl front) front
+one_more sizes told (Header first) same fine counted front = stays sizes.external told (Header first) refl refl (as_few sizes.external told (Header first) refl front) front
+one_more sizes told (Toned given) same fine counted front = stays sizes.external told (Toned given) refl refl (as_few sizes.external told (Toned given) refl front) front
+one_more sizes told (Timed given) same fine counted front = stays sizes.external told (Timed given) refl refl (as_few sizes.external told (Timed given) refl front) front
+one_more sizes told Sync same fine counted front = stays sizes.external told Sync refl refl (as_few sizes.external told Sync refl front) front
+one_more sizes told Change same fine counted front =
+    let count = length (events_in told) in
+    let added : length (changes_in (told ++ Change ∷ [])) ≡ length (changes_in told) + 1 = ap length (changes-append told (Change ∷ [])) ∙ length-append (changes_in told) (count ∷ []) in
+    stays sizes.external told Change refl refl (omega (arith, counted, added)) front
 one_more sizes told (Numbered n) same fine counted front =
     let kept : events_in (told ++ Numbered n ∷ []) ≡ events_in told = events-append told (Numbered n ∷ []) ∙ append-nil (events_in told) in
     let reached : is_reached sizes.external n.target ≡ true = subst (λ (v : Sizes). is_reached v.external n.target ≡ true) (same fine.0 fine.1) fine.2 in
     record {
       count = rw kept front.count;
+      changes = as_few sizes.external told (Numbered n) refl front;
       events = subst (All (Fits sizes.external)) (sym kept) front.events;
       planned = ap (all_targets (is_reached sizes.external)) (sym (plan_more told n))
           ∙ all_with (λ m. is_reached sizes.external m.target) (plan_of (numbers_in told)) n front.planned reached;
@@ -472,6 +493,7 @@ one_more sizes told (Happens e) same fine counted front =
     let fits : Fits sizes.external e = subst (λ (v : Sizes). Fits v.external e) (same fine.0 fine.1) fine.2 in
     record {
       count = rw (added, length-append (events_in told) (e ∷ [])) (omega (arith, counted));
+      changes = as_few sizes.external told (Happens e) refl front;
       events = subst (All (Fits sizes.external)) (sym added) (All-push (Fits sizes.external) (events_in told) e front.events fits);
       planned = ap (all_targets (is_reached sizes.external)) (sym (plan_stays told (Happens e) refl)) ∙ front.planned;
     }
@@ -498,6 +520,7 @@ sizes_behind_all before (Numbered n ∷ told) (row ∷ rows) sizes meets known =
 sizes_behind_all before (Toned given ∷ told) (row ∷ rows) sizes meets known = sizes_behind_all (before ++ Toned given ∷ []) told rows sizes meets.1 known
 sizes_behind_all before (Timed given ∷ told) (row ∷ rows) sizes meets known = sizes_behind_all (before ++ Timed given ∷ []) told rows sizes meets.1 known
 sizes_behind_all before (Sync ∷ told) (row ∷ rows) sizes meets known = sizes_behind_all (before ++ Sync ∷ []) told rows sizes meets.1 known
+sizes_behind_all before (Change ∷ told) (row ∷ rows) sizes meets known = sizes_behind_all (before ++ Change ∷ []) told rows sizes meets.1 known
 sizes_behind_all before (Happens e ∷ told) (row ∷ rows) sizes meets known = sizes_behind_all (before ++ Happens e ∷ []) told rows sizes meets.1 known
 sizes_behind_all before (Header first ∷ told) (row ∷ rows) sizes meets known =
     let are = (says_fine (so_far before) row (Header first) meets.0).0 in
@@ -507,7 +530,7 @@ sizes_behind_all before (Header first ∷ told) (row ∷ rows) sizes meets known
 pub sound_trace : (bytes : List ℕ) (t : Trace) → IsTrace bytes t → IsSound t
 sound_trace bytes t is =
     let sizes : Sizes = record { external = t.external; bridges = t.bridges; processors = t.processors } in
-    let s = sound_front sizes [] is.told (lines bytes) is.meets is.all.sizes (record { count = omega arith; events = All-nil (Fits t.external); planned = refl }) in
+    let s = sound_front sizes [] is.told (lines bytes) is.meets is.all.sizes (record { count = omega arith; changes = omega arith; events = All-nil (Fits t.external); planned = refl }) in
     let are = sizes_behind_all [] is.told (lines bytes) sizes is.meets is.all.sizes in
     record {
       some = are.some;
@@ -518,4 +541,5 @@ sound_trace bytes t is =
       count = rw is.all.events s.count;
       events = rw is.all.events s.events;
       segments = rw (is.all.events, is.all.segments) (segments_sound is.told);
+      changes = rw (is.all.segments, is.all.changes) (changes_sound is.told s.changes);
     }

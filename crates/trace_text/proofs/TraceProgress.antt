@@ -42,20 +42,21 @@ pub begun : (bytes : List ℕ) (d : Draft) → Holds d [] → Progress bytes byt
 begun bytes d held = record { front = []; told = []; parts = refl; meets = tt; held = held; place = refl; room = omega arith }
 
 -- what the draft keeps is what the lines before said
-known_so_far : Option Sizes → ℕ → List Number → Tones → GivenTimers → SoFar
-known_so_far sizes events plan tones timers = record { sizes = sizes; events = events; plan = plan; tones = tones; timers = timers }
+known_so_far : Option Sizes → ℕ → List Number → Tones → GivenTimers → ℕ → SoFar
+known_so_far sizes events plan tones timers changes = record { sizes = sizes; events = events; plan = plan; tones = tones; timers = timers; changes = changes }
 
-same_so_far : (s u : SoFar) → s.sizes ≡ u.sizes → s.events ≡ u.events → s.plan ≡ u.plan → s.tones ≡ u.tones → s.timers ≡ u.timers → s ≡ u
+same_so_far : (s u : SoFar) → s.sizes ≡ u.sizes → s.events ≡ u.events → s.plan ≡ u.plan → s.tones ≡ u.tones → s.timers ≡ u.timers → s.changes ≡ u.changes → s ≡ u
 unfolding known_so_far
-same_so_far s u a b c t m =
-    ap (λ x. known_so_far x s.events s.plan s.tones s.timers) a
-    ∙ ap (λ x. known_so_far u.sizes x s.plan s.tones s.timers) b
-    ∙ ap (λ x. known_so_far u.sizes u.events x s.tones s.timers) c
-    ∙ ap (λ (x : Tones). known_so_far u.sizes u.events u.plan x s.timers) t
-    ∙ ap (λ (x : GivenTimers). known_so_far u.sizes u.events u.plan u.tones x) m
+same_so_far s u a b c t m g =
+    ap (λ x. known_so_far x s.events s.plan s.tones s.timers s.changes) a
+    ∙ ap (λ x. known_so_far u.sizes x s.plan s.tones s.timers s.changes) b
+    ∙ ap (λ x. known_so_far u.sizes u.events x s.tones s.timers s.changes) c
+    ∙ ap (λ (x : Tones). known_so_far u.sizes u.events u.plan x s.timers s.changes) t
+    ∙ ap (λ (x : GivenTimers). known_so_far u.sizes u.events u.plan u.tones x s.changes) m
+    ∙ ap (λ x. known_so_far u.sizes u.events u.plan u.tones u.timers x) g
 
 kept_so_far : (d : Draft) (told : List Said) → Holds d told → kept d ≡ so_far told
-kept_so_far d told held = same_so_far (kept d) (so_far told) held.sizes (ap length held.events) held.plan held.tones held.timers
+kept_so_far d told held = same_so_far (kept d) (so_far told) held.sizes (ap length held.events) held.plan held.tones held.timers (ap length held.changes)
 
 -- what a line says, by the draft, is what it says behind the lines before it
 says_held : (d : Draft) (told : List Said) (line : List ℕ) → Holds d told → says (kept d) line ≡ says (so_far told) line

@@ -14,7 +14,7 @@ use Rattle.trace_text.specs.TraceLines.{says}
 use Rattle.tone_rules.specs.declared.tones.Tones.{Tones}
 use Rattle.call_timers.specs.declared.timers.Timers.{Timers}
 use Rattle.trace_text.specs.TraceTimers.{timers_by}
-use Rattle.trace_text.specs.TraceGrammar.{most_bytes, sizes_in, numbers_in, plan_of, tones_in, tones_of, timers_in, timers_of, events_in, so_far, segment_ends, EachSays, IsWhatLinesSay, IsTrace, IsFirstFault, IsRefused, Too_long, At_line, At_end}
+use Rattle.trace_text.specs.TraceGrammar.{most_bytes, sizes_in, numbers_in, plan_of, tones_in, tones_of, timers_in, timers_of, events_in, so_far, segment_ends, changes_in, EachSays, IsWhatLinesSay, IsTrace, IsFirstFault, IsRefused, Too_long, At_line, At_end}
 
 -- what became of a row of lines: what each says, or the place of the first that fails and why
 pub data Outcome : Type 0 where
@@ -72,22 +72,23 @@ same_told before rows told others m n = let e : All_say told ≡ All_say others 
 fault_outcome : (bytes : List ℕ) (number : ℕ) (why : Reason) (f : IsFirstFault bytes number why) → outcome [] (lines bytes) ≡ Stops (length f.before) why
 fault_outcome bytes number why f = ap (outcome []) f.parts ∙ outcome_stops [] f.before f.told f.line f.after why f.meets f.fails
 
-traced : ℕ → ℕ → ℕ → List Number → Tones → Timers → List Event → List ℕ → Trace
-traced external bridges processors plan tones timers events segments =
-    record { external = external; bridges = bridges; processors = processors; plan = plan; tones = tones; timers = timers; events = events; segments = segments }
+traced : ℕ → ℕ → ℕ → List Number → Tones → Timers → List Event → List ℕ → List ℕ → Trace
+traced external bridges processors plan tones timers events segments changes =
+    record { external = external; bridges = bridges; processors = processors; plan = plan; tones = tones; timers = timers; events = events; segments = segments; changes = changes }
 
 same_trace : (t u : Trace) → t.external ≡ u.external → t.bridges ≡ u.bridges → t.processors ≡ u.processors → t.plan ≡ u.plan → t.tones ≡ u.tones → t.timers ≡ u.timers
-    → t.events ≡ u.events → t.segments ≡ u.segments → t ≡ u
+    → t.events ≡ u.events → t.segments ≡ u.segments → t.changes ≡ u.changes → t ≡ u
 unfolding traced
-same_trace t u a b c p k m d e =
-    ap (λ x. traced x t.bridges t.processors t.plan t.tones t.timers t.events t.segments) a
-    ∙ ap (λ x. traced u.external x t.processors t.plan t.tones t.timers t.events t.segments) b
-    ∙ ap (λ x. traced u.external u.bridges x t.plan t.tones t.timers t.events t.segments) c
-    ∙ ap (λ x. traced u.external u.bridges u.processors x t.tones t.timers t.events t.segments) p
-    ∙ ap (λ (x : Tones). traced u.external u.bridges u.processors u.plan x t.timers t.events t.segments) k
-    ∙ ap (λ (x : Timers). traced u.external u.bridges u.processors u.plan u.tones x t.events t.segments) m
-    ∙ ap (λ x. traced u.external u.bridges u.processors u.plan u.tones u.timers x t.segments) d
-    ∙ ap (λ x. traced u.external u.bridges u.processors u.plan u.tones u.timers u.events x) e
+same_trace t u a b c p k m d e g =
+    ap (λ x. traced x t.bridges t.processors t.plan t.tones t.timers t.events t.segments t.changes) a
+    ∙ ap (λ x. traced u.external x t.processors t.plan t.tones t.timers t.events t.segments t.changes) b
+    ∙ ap (λ x. traced u.external u.bridges x t.plan t.tones t.timers t.events t.segments t.changes) c
+    ∙ ap (λ x. traced u.external u.bridges u.processors x t.tones t.timers t.events t.segments t.changes) p
+    ∙ ap (λ (x : Tones). traced u.external u.bridges u.processors u.plan x t.timers t.events t.segments t.changes) k
+    ∙ ap (λ (x : Timers). traced u.external u.bridges u.processors u.plan u.tones x t.events t.segments t.changes) m
+    ∙ ap (λ x. traced u.external u.bridges u.processors u.plan u.tones u.timers x t.segments t.changes) d
+    ∙ ap (λ x. traced u.external u.bridges u.processors u.plan u.tones u.timers u.events x t.changes) e
+    ∙ ap (λ x. traced u.external u.bridges u.processors u.plan u.tones u.timers u.events u.segments x) g
 
 sizes_of : Trace → Sizes
 sizes_of t = record { external = t.external; bridges = t.bridges; processors = t.processors }
@@ -97,7 +98,7 @@ unfolding sizes_of
 told_once t u told x y =
     let both : Some (sizes_of t) ≡ Some (sizes_of u) = sym x.sizes ∙ y.sizes in
     let same : sizes_of t ≡ sizes_of u = cc in
-    same_trace t u (ap (λ s. s.external) same) (ap (λ s. s.bridges) same) (ap (λ s. s.processors) same) (x.plan ∙ sym y.plan) (x.tones ∙ sym y.tones) (x.timers ∙ sym y.timers) (x.events ∙ sym y.events) (x.segments ∙ sym y.segments)
+    same_trace t u (ap (λ s. s.external) same) (ap (λ s. s.bridges) same) (ap (λ s. s.processors) same) (x.plan ∙ sym y.plan) (x.tones ∙ sym y.tones) (x.timers ∙ sym y.timers) (x.events ∙ sym y.events) (x.segments ∙ sym y.segments) (x.changes ∙ sym y.changes)
 
 pub one_trace : (bytes : List ℕ) (t u : Trace) → IsTrace bytes t → IsTrace bytes u → t ≡ u
 one_trace bytes t u x y = told_once t u x.told x.all (subst (λ told. IsWhatLinesSay u told) (sym (same_told [] (lines bytes) x.told y.told x.meets y.meets)) y.all)
@@ -179,8 +180,8 @@ Reading bytes = ((t : Trace) × IsTrace bytes t) ⊎ ((number : ℕ) × (why : R
 with_sizes : (bytes : List ℕ) → length bytes ≤ most_bytes → (told : List Said) → EachSays [] (lines bytes) told → (sizes : Option Sizes) → sizes_in told ≡ sizes → Reading bytes
 with_sizes bytes few told meets None e = inr (length (lines bytes) + 1, reason.Header, At_end few (record { told = told; meets = meets; none = e; place = refl; named = refl }))
 with_sizes bytes few told meets (Some sizes) e = inl (
-  record { external = sizes.external; bridges = sizes.bridges; processors = sizes.processors; plan = plan_of (numbers_in told); tones = tones_of (tones_in told); timers = timers_by (timers_of (timers_in told)); events = events_in told; segments = segment_ends told },
-  record { few = few; told = told; meets = meets; all = record { sizes = e; plan = refl; tones = refl; timers = refl; events = refl; segments = refl } },
+  record { external = sizes.external; bridges = sizes.bridges; processors = sizes.processors; plan = plan_of (numbers_in told); tones = tones_of (tones_in told); timers = timers_by (timers_of (timers_in told)); events = events_in told; segments = segment_ends told; changes = changes_in told },
+  record { few = few; told = told; meets = meets; all = record { sizes = e; plan = refl; tones = refl; timers = refl; events = refl; segments = refl; changes = refl } },
 )
 
 pub some_reading : (bytes : List ℕ) → Reading bytes

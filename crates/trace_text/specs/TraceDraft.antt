@@ -11,13 +11,13 @@ use Rattle.trace_text.specs.declared.fault.TraceFault.TheVariants as trace_fault
 use Rattle.trace_text.specs.declared.fault.Reason.TheVariants as reason
 use Rattle.trace_text.specs.declared.said.Sizes.{Sizes}
 use Rattle.trace_text.specs.declared.said.Said.{Said}
-use Rattle.trace_text.specs.declared.said.Said.TheVariants.{Nothing, Header, Numbered, Toned, Timed, Happens, Sync}
+use Rattle.trace_text.specs.declared.said.Said.TheVariants.{Nothing, Header, Numbered, Toned, Timed, Happens, Sync, Change}
 use Rattle.trace_text.specs.TraceLines.{SoFar}
-use Rattle.trace_text.specs.TraceGrammar.{sizes_in, numbers_in, plan_of, tones_in, tones_of, timers_in, timers_of, events_in, segment_ends, ends_after, IsRefused}
+use Rattle.trace_text.specs.TraceGrammar.{sizes_in, numbers_in, plan_of, tones_in, tones_of, timers_in, timers_of, events_in, segment_ends, ends_after, changes_in, IsRefused}
 
 -- what a draft keeps of the lines so far, as far as the next line depends on it
 abbrev pub kept : Draft → SoFar
-kept d = record { sizes = d.sizes; events = length d.events.items; plan = d.plan; tones = d.tones; timers = d.timers }
+kept d = record { sizes = d.sizes; events = length d.events.items; plan = d.plan; tones = d.tones; timers = d.timers; changes = length d.changes.items }
 
 -- what a line said fits a draft: a header is the first, and a number is one
 abbrev pub Suits : Draft → Said → Type 0
@@ -28,6 +28,7 @@ Suits d (Toned given) = Unit {0}
 Suits d (Timed given) = Unit {0}
 Suits d (Happens event) = Unit {0}
 Suits d Sync = Unit {0}
+Suits d Change = Unit {0}
 
 -- a fault of a line, at its place in the trace
 abbrev pub at_line : LineFault → ℕ → TraceFault
@@ -40,7 +41,8 @@ of_plan plan_fault.Prefix = line_fault.Refused reason.Prefix
 of_plan plan_fault.TooMany = line_fault.Refused reason.Limit
 of_plan plan_fault.Memory = line_fault.Memory
 
--- the draft holds what the lines so far said: the sizes, the plan, the tones, the timers, the events, and the ends of the segments that ended
+-- the draft holds what the lines so far said: the sizes, the plan, the tones, the timers, the events, the ends of the segments that ended, and
+-- the changes of meters
 pub record Holds (d : Draft) (told : List Said) : Type 0 where
   pub sizes : d.sizes ≡ sizes_in told
   pub plan : d.plan ≡ plan_of (numbers_in told)
@@ -48,6 +50,7 @@ pub record Holds (d : Draft) (told : List Said) : Type 0 where
   pub timers : d.timers ≡ timers_of (timers_in told)
   pub events : d.events.items ≡ events_in told
   pub ends : (more : List Said) → segment_ends (told ++ more) ≡ d.ends.items ++ ends_after d.begun (length d.events.items) more
+  pub changes : d.changes.items ≡ changes_in told
 
 -- at the end of n lines a fault is memory that ran out, or no header was among them
 abbrev pub FailsAtEnd : Option Sizes → ℕ → TraceFault → Type 0

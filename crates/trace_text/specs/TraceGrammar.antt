@@ -10,7 +10,7 @@ use Rattle.trace_text.specs.declared.fault.Reason.TheVariants as reason
 use Rattle.trace_text.specs.declared.said.Sizes.{Sizes}
 use Rattle.trace_text.specs.declared.said.GivenTone.{GivenTone}
 use Rattle.trace_text.specs.declared.said.Said.{Said}
-use Rattle.trace_text.specs.declared.said.Said.TheVariants.{Nothing, Header, Numbered, Toned, Timed, Happens, Sync}
+use Rattle.trace_text.specs.declared.said.Said.TheVariants.{Nothing, Header, Numbered, Toned, Timed, Happens, Sync, Change}
 use Rattle.trace_text.specs.declared.timing.GivenTimer.{GivenTimer}
 use Rattle.trace_text.specs.declared.timing.GivenTimers.{GivenTimers}
 use Rattle.trace_text.specs.TraceTimers.{no_timers, with_timer, timers_by}
@@ -31,6 +31,7 @@ sizes_in (Toned given ∷ others) = sizes_in others
 sizes_in (Timed given ∷ others) = sizes_in others
 sizes_in (Happens event ∷ others) = sizes_in others
 sizes_in (Sync ∷ others) = sizes_in others
+sizes_in (Change ∷ others) = sizes_in others
 
 -- the events, in file order
 abbrev pub events_in : List Said → List Event
@@ -42,6 +43,7 @@ events_in (Toned given ∷ others) = events_in others
 events_in (Timed given ∷ others) = events_in others
 events_in (Happens event ∷ others) = event ∷ events_in others
 events_in (Sync ∷ others) = events_in others
+events_in (Change ∷ others) = events_in others
 
 -- the numbers, in file order
 abbrev pub numbers_in : List Said → List Number
@@ -53,6 +55,7 @@ numbers_in (Toned given ∷ others) = numbers_in others
 numbers_in (Timed given ∷ others) = numbers_in others
 numbers_in (Happens event ∷ others) = numbers_in others
 numbers_in (Sync ∷ others) = numbers_in others
+numbers_in (Change ∷ others) = numbers_in others
 
 -- the plan of these numbers: each in its place
 abbrev pub plan_of : List Number → List Number
@@ -68,6 +71,7 @@ tones_in (Toned given ∷ others) = given ∷ tones_in others
 tones_in (Timed given ∷ others) = tones_in others
 tones_in (Happens event ∷ others) = tones_in others
 tones_in (Sync ∷ others) = tones_in others
+tones_in (Change ∷ others) = tones_in others
 
 -- these tones, each under its kind; one that isn't given has no octets
 abbrev pub no_tones : Tones
@@ -86,14 +90,11 @@ timers_in (Toned given ∷ others) = timers_in others
 timers_in (Timed given ∷ others) = given ∷ timers_in others
 timers_in (Happens event ∷ others) = timers_in others
 timers_in (Sync ∷ others) = timers_in others
+timers_in (Change ∷ others) = timers_in others
 
 -- these timers, each under its name
 abbrev pub timers_of : List GivenTimer → GivenTimers
 timers_of given = fold with_timer no_timers given
-
--- what lines said, as far as the next line depends on it
-abbrev pub so_far : List Said → SoFar
-so_far told = record { sizes = sizes_in told; events = length (events_in told); plan = plan_of (numbers_in told); tones = tones_of (tones_in told); timers = timers_of (timers_in told) }
 
 -- a segment ends with the last event so far, where it has any
 abbrev pub open_segment_end : ℕ → ℕ → List ℕ
@@ -109,9 +110,29 @@ ends_after begun count (Toned given ∷ others) = ends_after begun count others
 ends_after begun count (Timed given ∷ others) = ends_after begun count others
 ends_after begun count (Happens event ∷ others) = ends_after begun (count + 1) others
 ends_after begun count (Sync ∷ others) = open_segment_end begun count ++ ends_after count count others
+ends_after begun count (Change ∷ others) = open_segment_end begun count ++ ends_after count count others
 
 abbrev pub segment_ends : List Said → List ℕ
 segment_ends told = ends_after 0 0 told
+
+-- for each change of meters, in file order, how many events are before it. `count` came before these lines
+abbrev pub changes_after : ℕ → List Said → List ℕ
+changes_after count [] = []
+changes_after count (Nothing ∷ others) = changes_after count others
+changes_after count (Header sizes ∷ others) = changes_after count others
+changes_after count (Numbered number ∷ others) = changes_after count others
+changes_after count (Toned given ∷ others) = changes_after count others
+changes_after count (Timed given ∷ others) = changes_after count others
+changes_after count (Happens event ∷ others) = changes_after (count + 1) others
+changes_after count (Sync ∷ others) = changes_after count others
+changes_after count (Change ∷ others) = count ∷ changes_after count others
+
+abbrev pub changes_in : List Said → List ℕ
+changes_in told = changes_after 0 told
+
+-- what lines said, as far as the next line depends on it
+abbrev pub so_far : List Said → SoFar
+so_far told = record { sizes = sizes_in told; events = length (events_in told); plan = plan_of (numbers_in told); tones = tones_of (tones_in told); timers = timers_of (timers_in told); changes = length (changes_in told) }
 
 -- each line, after those before it, meets all of its checks and says what is at its place
 abbrev pub EachSays : List Said → List (List ℕ) → List Said → Type 0
@@ -120,7 +141,8 @@ EachSays before [] (said ∷ told) = ⊥
 EachSays before (line ∷ others) [] = ⊥
 EachSays before (line ∷ others) (said ∷ told) = (says (so_far before) line ≡ Ok said) × EachSays (before ++ said ∷ []) others told
 
--- the trace is what the lines say: the sizes of the header, the plan of the numbers, the tones, the timers, the events, and the ends of the segments
+-- the trace is what the lines say: the sizes of the header, the plan of the numbers, the tones, the timers, the events, the ends of the
+-- segments, and the changes of meters
 pub record IsWhatLinesSay (t : Trace) (told : List Said) : Type 0 where
   pub sizes : sizes_in told ≡ Some (record { external = t.external; bridges = t.bridges; processors = t.processors })
   pub plan : t.plan ≡ plan_of (numbers_in told)
@@ -128,6 +150,7 @@ pub record IsWhatLinesSay (t : Trace) (told : List Said) : Type 0 where
   pub timers : t.timers ≡ timers_by (timers_of (timers_in told))
   pub events : t.events ≡ events_in told
   pub segments : t.segments ≡ segment_ends told
+  pub changes : t.changes ≡ changes_in told
 
 -- the bytes are the trace: each line meets all of its checks, given the lines before it, and the trace is what the lines say
 pub record IsTrace (bytes : List ℕ) (t : Trace) : Type 0 where

@@ -14,7 +14,7 @@ use Rattle.tone_rules.specs.declared.tones.Tones.{Tones}
 use Rattle.tone_rules.specs.CallTones.{is_given}
 use Rattle.exchange_events.specs.declared.trace.Event.{Event}
 use Rattle.exchange_events.specs.declared.trace.Event.TheVariants.{Nail, Seat, Free, Message, Frame}
-use Rattle.exchange_events.specs.Limits.{most_events}
+use Rattle.exchange_events.specs.Limits.{most_changes, most_events}
 use Rattle.trace_text.specs.declared.fault.Reason.{Reason}
 use Rattle.trace_text.specs.declared.fault.Reason.TheVariants as reason
 use Rattle.trace_text.specs.declared.fault.LineFault.{LineFault}
@@ -159,10 +159,10 @@ timer given others = do
 abbrev pub timed : Result GivenTimer Reason → Result Said Reason
 timed reading = reading >>= λ t. Ok (said.Timed t)
 
--- the end of a segment: one word
-abbrev pub sync : List (List ℕ) → Result Said Reason
-sync [] = Ok said.Sync
-sync (word ∷ others) = Err reason.Word
+-- a line of one word, which says this
+abbrev pub alone : Said → List (List ℕ) → Result Said Reason
+alone said [] = Ok said
+alone said (word ∷ others) = Err reason.Word
 
 -- the kind of line that a first word names
 abbrev pub kind_of : List ℕ → Kind
@@ -176,16 +176,18 @@ kind_of word =
     else if bytes_eq word (codes "number") then kind.Number
     else if bytes_eq word (codes "tone") then kind.Tone
     else if bytes_eq word (codes "timer") then kind.Timer
+    else if bytes_eq word (codes "change") then kind.Change
     else kind.Unknown
 
 -- what the lines so far said, as far as the next line depends on it: the sizes of the header, where there was one, how many events, the
--- numbers, the tones and the timers
+-- numbers, the tones, the timers and how many changes of meters
 pub record SoFar : Type 0 where
   pub sizes : Option Sizes
   pub events : ℕ
   pub plan : List Number
   pub tones : Tones
   pub timers : GivenTimers
+  pub changes : ℕ
 
 -- a line that comes before the first event, or nowhere
 abbrev pub before_events : SoFar → Result Said Reason → Result Said Reason
@@ -201,7 +203,8 @@ by_kind so_far external kind.Free others = happens (free external others)
 by_kind so_far external kind.Number others = before_events so_far (numbered (number external others))
 by_kind so_far external kind.Tone others = before_events so_far (toned (tone so_far.tones others))
 by_kind so_far external kind.Timer others = before_events so_far (timed (timer so_far.timers others))
-by_kind so_far external kind.Sync others = sync others
+by_kind so_far external kind.Sync others = alone said.Sync others
+by_kind so_far external kind.Change others = alone said.Change others
 by_kind so_far external kind.Unknown others = Err reason.Word
 
 abbrev pub by_words : SoFar → ℕ → List (List ℕ) → Result Said Reason
@@ -221,13 +224,15 @@ by_place so_far (Some sizes) line = after_header so_far sizes.external line
 abbrev pub reads : SoFar → List ℕ → Result Said Reason
 reads so_far line = if is_comment line || is_blank line then Ok said.Nothing else by_place so_far so_far.sizes line
 
--- the last checks of a line: no number equals, begins or continues an earlier one, and there are at most 256 numbers and 65,535 events
+-- the last checks of a line: no number equals, begins or continues an earlier one, and there are at most 256 numbers, 65,535 events and
+-- 65,535 changes
 abbrev pub joins : SoFar → Said → Result Said Reason
 joins so_far (said.Numbered number) =
     if is_number_taken so_far.plan number.digits then Err reason.Prefix
     else if length so_far.plan == 256 then Err reason.Limit
     else Ok (said.Numbered number)
 joins so_far (said.Happens event) = if nat_lt so_far.events most_events then Ok (said.Happens event) else Err reason.Limit
+joins so_far said.Change = if nat_lt so_far.changes most_changes then Ok said.Change else Err reason.Limit
 joins so_far other = Ok other
 
 -- what a line says behind the lines so far

@@ -5,19 +5,22 @@ use crate::cut::{first_word, is_text};
 use crate::fault::{LineFault, Reason, TraceFault};
 use crate::fields::header_of;
 use crate::line::{
-    frame_of, free_of, kind_of, message_of, nail_of, number_of, seat_of, sync_of, timer_of, tone_of,
+    alone, frame_of, free_of, kind_of, message_of, nail_of, number_of, seat_of, timer_of, tone_of,
 };
 use crate::plain::{ends_word, plain_frame, plain_free, plain_message, plain_nail};
 use crate::said::{GivenTone, Kind, Said, Sizes};
 use crate::timing::GivenTimers;
 use circuit_model::Kind as Tone;
-use exchange_events::{Event, Events, Segments, Trace};
+use exchange_events::{Changes, Event, Events, Segments, Trace};
 use number_plan::Plan;
 use std::alloc::{AllocError, Global};
 use tone_rules::Tones;
 
 /// How many events a trace has at most.
 const MOST_EVENTS: usize = 65_535;
+
+/// How many changes of meters a trace has at most.
+const MOST_CHANGES: usize = 65_535;
 
 /// What the lines so far said.
 #[derive(Drop)]
@@ -30,7 +33,9 @@ pub struct Draft {
     ends: Vec<u32>,
     // How many events came before the segment that is open.
     begun: u32,
+    changes: Vec<u32>,
     ghost few: { vec_len events ≤ 65535 },
+    ghost changed: { vec_len changes ≤ 65535 },
 }
 
 ghost use Rattle.std.specs.Prelude.{◌≡◌};
@@ -65,19 +70,21 @@ impl Draft {
             events: Vec::new(alloc),
             ends: Vec::new(alloc),
             begun: 0,
+            changes: Vec::new(alloc),
         }
     }
 
     // Ends the segment that is open.
     fn end_segment(&mut self) -> Result<(), AllocError>
-        ensures taken { OnOk result ((told : List Said) →
-            Holds self.old told → Holds self.new (told ++ Said.Sync ∷ [])) }
         ensures ended { OnOk result (self.new.ends.items
             ≡ self.old.ends.items ++ open_segment_end self.old.begun (vec_len self.old.events)) }
+        ensures begun { OnOk result (self.new.begun ≡ vec_len self.old.events) }
+        ensures sizes { OnOk result (self.new.sizes ≡ self.old.sizes) }
         ensures plan { OnOk result (self.new.plan ≡ self.old.plan) }
         ensures tones { OnOk result (self.new.tones ≡ self.old.tones) }
         ensures timers { OnOk result (self.new.timers ≡ self.old.timers) }
         ensures events { OnOk result (self.new.events.items ≡ self.old.events.items) }
+        ensures changes { OnOk result (self.new.changes.items ≡ self.old.changes.items) }
     {
         let count = self.events.len() as u32;
         if count != self.begun {
@@ -106,6 +113,13 @@ impl Draft {
             }
             Said::Happens(event) => self.events.push(event)?,
             Said::Sync => self.end_segment()?,
+            Said::Change if self.changes.len() == MOST_CHANGES => {
+                return Err(LineFault::Refused(Reason::Limit));
+            }
+            Said::Change => {
+                self.end_segment()?;
+                self.changes.push(self.begun)?;
+            }
         }
         Ok(())
     }
@@ -163,7 +177,8 @@ impl Draft {
             Kind::Number => Ok(self.number_line(external, line)?),
             Kind::Tone => Ok(self.tone_line(alloc, line)?),
             Kind::Timer => Ok(self.timer_line(line)?),
-            Kind::Sync => Ok(sync_of(line)?),
+            Kind::Sync => Ok(alone(Said::Sync, line)?),
+            Kind::Change => Ok(alone(Said::Change, line)?),
             Kind::Unknown => Err(LineFault::Refused(Reason::Word)),
         }
     }
@@ -249,6 +264,7 @@ impl Draft {
             timers: self.timers.timers(),
             events: Events::of(self.events),
             segments: Segments::of(self.ends),
+            changes: Changes::of(self.changes),
         })
     }
 }

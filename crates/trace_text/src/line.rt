@@ -2,7 +2,7 @@
 ghost use Rattle.std.specs.Prelude.{◌≡◌, ◌<◌, IsTrue, length, MatchResult, IfOk, Ok, Err};
 ghost use Rattle.number_plan.specs.Plan.{is_number};
 ghost use Rattle.trace_text.specs.TraceWords.{words};
-ghost use Rattle.trace_text.specs.TraceLines.{with_part, frame, message, nail, seat, free, target, number, tone, tone_named, timer, sync, kind_of, Gives};
+ghost use Rattle.trace_text.specs.TraceLines.{with_part, frame, message, nail, seat, free, target, number, tone, tone_named, timer, alone, kind_of, Gives};
 ghost use Rattle.trace_text.specs.TraceTimers.{timer_named};
 
 use crate::cut::{first_word, halves_at, numeral_of, one_or_two_words, three_words, two_words};
@@ -181,15 +181,15 @@ pub(crate) fn timer_of(given: &GivenTimers, line: &[u8]) -> Result<GivenTimer, R
     Ok(GivenTimer { name, frames })
 }
 
-/// The end of a segment, where a line has no further word.
-pub(crate) fn sync_of(line: &[u8]) -> Result<Said, Reason>
-    ensures says { result ≡ sync (words line.now) }
-    ensures suits { IfOk result (λ said. said ≡ Said.Sync) }
+/// What a line of one word says, where it has no further word.
+pub(crate) fn alone(said: Said, line: &[u8]) -> Result<Said, Reason>
+    ensures says { result ≡ alone said (words line.now) }
+    ensures suits { IfOk result (λ s. s ≡ said) }
 {
     if first_word(line).is_some() {
         return Err(Reason::Word);
     }
-    Ok(Said::Sync)
+    Ok(said)
 }
 
 /// The kind of line that a first word names.
@@ -214,6 +214,8 @@ pub(crate) fn kind_of(word: &[u8]) -> Kind
         Kind::Tone
     } else if word == b"timer".as_slice() {
         Kind::Timer
+    } else if word == b"change".as_slice() {
+        Kind::Change
     } else {
         Kind::Unknown
     }

@@ -25,6 +25,8 @@ pub enum Kind {
     Message,
     /// The segment ends.
     Sync,
+    /// The segment ends, and the meters change.
+    Change,
     /// Two slots are connected.
     Nail,
     /// A slot takes a seat in a conference room.
@@ -67,4 +69,6 @@ pub enum Said {
     Happens(Event),
     /// The segment ends.
     Sync,
+    /// The segment ends, and the meters change.
+    Change,
 }

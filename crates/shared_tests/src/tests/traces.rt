@@ -4,7 +4,7 @@ ghost use Rattle.exchange_events.specs.Sound.{IsSound, Fits};
 
 use call_timers::Timers;
 use circuit_model::Slot;
-use exchange_events::{Event, Events, Input, Segments, Trace};
+use exchange_events::{Changes, Event, Events, Input, Segments, Trace};
 use number_plan::Plan;
 use std::alloc::{AllocError, Global};
 use tone_rules::Tones;
@@ -64,5 +64,6 @@ pub fn nails_and_frames(alloc: Global) -> Result<Trace, AllocError>
         timers: TIMERS,
         events: Events::of(events),
         segments: Segments::of(ends),
+        changes: Changes::of(Vec::new(alloc)),
     })
 }

@@ -13,6 +13,7 @@ returns-clause-read c = λ told h.
     let planned : n.plan ≡ d.plan = grind arith in
     let toned : n.tones ≡ d.tones = grind arith in
     let timed : n.timers ≡ d.timers = grind arith in
+    let changed : n.changes.items ≡ d.changes.items = grind arith in
     record {
       sizes = sym h.sizes ∙ c.in-Some.is;
       plan = planned ∙ h.plan;
@@ -20,4 +21,5 @@ returns-clause-read c = λ told h.
       timers = c.timers.ensures ∙ ap timers_by (timed ∙ h.timers);
       events = c.of.ensures ∙ kept ∙ h.events;
       segments = c.of-2.ensures ∙ closed ∙ sym (segments_all d told h);
+      changes = c.of-3.ensures ∙ changed ∙ h.changes;
     }
