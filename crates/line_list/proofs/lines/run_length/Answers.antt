@@ -1,4 +1,4 @@
-use Rattle.std.proofs.Common.{arith, ◌<◌}
+use Rattle.std.proofs.Common.{arith}
 use Rattle.line_list.specs.declared.lines.Mark.{Mark}
 use Rattle.line_list.proofs.LineLemmas.{before_more}
 use Rattle.line_list.proofs.lines.run_length.Goals as goal
