@@ -1,5 +1,5 @@
 -- What a worker keeps of the events that it did. Source: this exchange's own.
-use Rattle.std.specs.Prelude.{◌≡◌, ℕ, ◌+◌, ◌<◌, Bool, List, [], ◌∷◌, ◌++◌, length, drop, All, Option, Some, None}
+use Rattle.std.specs.Prelude.{◌≡◌, ℕ, ◌+◌, ◌<◌, ◌≤◌, Bool, List, [], ◌∷◌, ◌++◌, length, drop, All, Option, Some, None}
 use Rattle.exchange_events.specs.declared.outbox.Outbox.{Outbox}
 use Rattle.exchange_events.specs.declared.outbox.Response.{Response}
 use Rattle.exchange_events.specs.Kept.{kept_of}
@@ -28,14 +28,19 @@ first_place (p ∷ ps) = Some p.place
 abbrev pub IsKept : {K : Type 0} → (K → List Placed → Type 0) → Placed → K → K → Type 0
 IsKept holds p before after = (answers : List Placed) → holds before answers → holds after (answers ++ p ∷ [])
 
--- A keeper that held these answers handed the first ones to another: the first of all, and those behind it that come before a place. The other has
--- them behind its own.
+-- none of these answers is left, or the first of them comes at a place or behind it
+abbrev pub BeginsFrom : ℕ → List Placed → Type 0
+BeginsFrom below answers = (place : ℕ) → first_place answers ≡ Some place → below ≤ place
+
+-- A keeper that held these answers handed the first ones to another: the first of all, and the next ones as far as they come before a place. The
+-- other has them behind its own.
 pub record HandsOn {K : Type 0} (holds : K → List Placed → Type 0) (below : ℕ) (answers others : List Placed) (from to : K) : Type 0 where
   pub run : List Placed
   pub rest : List Placed
   pub parts : answers ≡ run ++ rest
   pub some : 0 < length answers → 0 < length run
   pub before : All (λ (p : Placed). p.place < below) (drop 1 run)
+  pub stops : BeginsFrom below rest
   pub left : holds from rest
   pub got : holds to (others ++ run)
 

@@ -1,7 +1,7 @@
 //! The keeper of whole answers.
 ghost use Rattle.std.specs.Prelude.{◌≡◌, ◌++◌, ◌∷◌, List, [], OnOk, OnErr, take, drop};
 ghost use Rattle.call_processor.specs.declared.worked.Placed.{Placed};
-ghost use Rattle.call_processor.specs.Keeping.{HandsBelow};
+ghost use Rattle.call_processor.specs.Keeping.{BeginsFrom, HandsBelow};
 
 use crate::keeper::Keeper;
 use crate::worked::Placed;
@@ -80,6 +80,7 @@ fn hand_on_below(
     below: u32,
 ) -> Result<(), AllocError>
     ensures handed { OnOk result (HandsBelow below from.old.items to.old.items from.new.items to.new.items) }
+    ensures stops { OnOk result (BeginsFrom below from.new.items) }
     ensures refused { OnErr result ((more : List Placed) × (to.new.items ≡ to.old.items ++ more)) }
 {
     while let Some(next) = from.front() {

@@ -51,8 +51,8 @@ pub trait Keeper: Sized + Send + Drop {
     fn first_place(&self) -> Option<u32>
         ensures { (answers : List Placed) → holds self.now answers → result ≡ first_place answers };
 
-    /// Hands the first event that it keeps to another keeper, and with it those behind that come before
-    /// the place `below`.
+    /// Hands the first event that it keeps to another keeper, and with it the next ones as far as they
+    /// come before the place `below`.
     ///
     /// # Errors
     ///

@@ -1,15 +1,15 @@
 -- Lines in one text, and the answers that they are of.
-use Rattle.std.proofs.Common.{◌≡◌, ℕ, zero, suc, ◌+◌, ◌-◌, ◌<◌, ◌≤◌, List, [], ◌∷◌, ◌++◌, length, map, take, drop, get_or, Some, None, Result, Ok, Err, OnOk, OnErr, refl, sym, ap, subst, ◌∙◌, arith, add-one, append_assoc, length-append, length-drop, take-append-drop}
+use Rattle.std.proofs.Common.{◌≡◌, ℕ, zero, suc, ◌+◌, ◌-◌, ◌<◌, ◌≤◌, List, [], ◌∷◌, ◌++◌, length, map, take, drop, get_or, Some, Result, Ok, Err, OnOk, OnErr, refl, sym, ap, subst, ◌∙◌, arith, add-one, length-append, length-drop, take-append-drop}
 use Rattle.std.specs.Prelude.{All}
-use Rattle.std.proofs.lemmas.List.{append-nil, drop-append-le, drop-drop, drop-map, drop-take, length-map, length-take-le, map-append, drop_at, nil_from_length, take-append-le, take_all, take_at, take-map}
+use Rattle.std.proofs.lemmas.List.{drop-append-le, drop-drop, drop-map, drop-take, length-map, length-take-le, map-append, drop_at, nil_from_length, take-append-le, take_all, take_at, take-map}
 use Rattle.std.proofs.lemmas.List.Elements.{All-nil, All-cons, All-head, All-more, All-tail}
 use Rattle.exchange_events.specs.declared.record.CallRecord.{CallRecord}
 use Rattle.call_processor.specs.declared.worked.Placed.{Placed}
-use Rattle.call_processor.specs.Keeping.{HandsOn, StillHolds, first_place}
+use Rattle.call_processor.specs.Keeping.{HandsOn, first_place}
 use Rattle.line_list.specs.declared.lines.Mark.{Mark}
 use Rattle.line_list.specs.declared.lines.Extent.{Extent}
-use Rattle.line_list.specs.Lines.{HandsLines, Line, calls_of, first_line, line_of, text_of}
-use Rattle.line_list.specs.Marks.{AreBefore, AreMarked, lines_in, lines_left, mark_of, octets_in, records_in}
+use Rattle.line_list.specs.Lines.{HandsLines, Line, calls_of, first_line, text_of}
+use Rattle.line_list.specs.Marks.{AreBefore, AreMarked, BeginFrom, lines_in, lines_left, mark_of, octets_in, records_in}
 
 -- ---- sums over lines
 
@@ -98,6 +98,13 @@ before_more below i ms d inside low so_far = subst (λ (n : ℕ). AreBefore belo
     go (suc i) [] inside low so_far = absurd (omega arith)
     go (suc i) (x ∷ xs) inside low so_far =
         subst (λ (n : ℕ). AreBefore below (take n xs)) (add-one i) (All-more (λ (m : Mark). m.place < below) xs i d (omega (arith, inside)) so_far (low (omega arith)))
+
+-- what is left of the lines begins as what is left of the marks
+begin_lines : (below : ℕ) (t : List ℕ) (r : List CallRecord) (ms : List Mark) → BeginFrom below ms → (place : ℕ) → first_line (lines_in t r ms) ≡ Some place → below ≤ place
+begin_lines below t r [] far place is = absurd (cc is)
+begin_lines below t r (m ∷ ms) far place is =
+    let same : m.place ≡ place = cc is in
+    subst (λ (n : ℕ). below ≤ n) same (All-head (λ (m : Mark). below ≤ m.place) m [] far)
 
 before_lines : (below : ℕ) (t : List ℕ) (r : List CallRecord) (ms : List Mark) → AreBefore below ms → All (λ (l : Line). l.place < below) (lines_in t r ms)
 before_lines below t r [] low = All-nil (λ (l : Line). l.place < below)
@@ -224,9 +231,9 @@ module _ (text : List ℕ) (records : List CallRecord) (marks : List Mark) (hand
 
       -- others get them
       pub hands_run : (below : ℕ) (others to : List Line) (t : List ℕ) (r : List CallRecord) → t ≡ take (end.octets - handed.octets) (drop handed.octets text)
-          → r ≡ take (end.records - handed.records) (drop handed.records records) → (0 < length l → 0 < n) → AreBefore below (drop 1 (take n l)) → to ≡ others ++ lines_in t r (take n l)
+          → r ≡ take (end.records - handed.records) (drop handed.records records) → (0 < length l → 0 < n) → AreBefore below (drop 1 (take n l)) → BeginFrom below (drop n l) → to ≡ others ++ lines_in t r (take n l)
           → HandsLines below (lines_left text records marks handed) others (lines_left text records marks end) to
-      hands_run below others to t r t_is r_is some low got =
+      hands_run below others to t r t_is r_is some low far got =
           let octets : end.octets - handed.octets ≡ octets_in (take n l) = omega (arith, octets_are) in
           let calls : end.records - handed.records ≡ records_in (take n l) = omega (arith, records_are) in
           let count = lines_long (drop handed.octets text) (drop handed.records records) left in
@@ -236,6 +243,7 @@ module _ (text : List ℕ) (records : List CallRecord) (marks : List Mark) (hand
             parts = handed_left;
             some = λ any. let more = some (omega (arith, any, count, size)) in omega (arith, more, run_long);
             before = before_run below _ _ (take n l) low;
+            stops = begin_lines below _ _ (drop end.lines marks) (subst (BeginFrom below) (sym rest_is) far);
             got = got ∙ (λ i. others ++ lines_in ((t_is ∙ ap (λ (k : ℕ). take k (drop handed.octets text)) octets) i) ((r_is ∙ ap (λ (k : ℕ). take k (drop handed.records records)) calls) i) (take n l));
           }
 
@@ -298,6 +306,7 @@ module _ (f : Placed → Line) (same : (p : Placed) → (f p).place ≡ p.place)
         parts = sym (take-append-drop n answers);
         some = λ any. let more = h.some (subst (λ (k : ℕ). 0 < k) (sym count) any) in subst (λ (k : ℕ). 0 < k) many more;
         before = before_answers below (drop 1 (take n answers)) (subst (λ (ls : List Line). All (λ (l : Line). l.place < below) ls) (ap (drop 1) run_is ∙ drop-map f 1 (take n answers)) h.before);
+        stops = λ place is. h.stops place (ap first_line rest_is ∙ first_of (drop n answers) ∙ is);
         left = rest_is;
         got = h.got ∙ (λ i. behind i ++ run_is i) ∙ sym (map-append f told (take n answers));
       }

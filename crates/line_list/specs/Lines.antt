@@ -1,5 +1,5 @@
 -- Lines of events, as they are kept until they are written. Source: this exchange's own.
-use Rattle.std.specs.Prelude.{◌≡◌, ℕ, ◌<◌, List, [], ◌∷◌, ◌++◌, length, drop, All, Option, Some, None}
+use Rattle.std.specs.Prelude.{◌≡◌, ℕ, ◌<◌, ◌≤◌, List, [], ◌∷◌, ◌++◌, length, drop, All, Option, Some, None}
 use Rattle.exchange_events.specs.declared.record.CallRecord.{CallRecord}
 use Rattle.report_text.specs.Report.{answer_line}
 use Rattle.call_processor.specs.declared.worked.Placed.{Placed}
@@ -37,10 +37,11 @@ abbrev pub first_line : List Line → Option ℕ
 first_line [] = None
 first_line (l ∷ ls) = Some l.place
 
--- The first lines were handed to others: the first of all, and those behind it that come before a place.
+-- The first lines were handed to others: the first of all, and the next ones as far as they come before a place.
 pub record HandsLines (below : ℕ) (lines others from to : List Line) : Type 0 where
   pub run : List Line
   pub parts : lines ≡ run ++ from
   pub some : 0 < length lines → 0 < length run
   pub before : All (λ (l : Line). l.place < below) (drop 1 run)
+  pub stops : (place : ℕ) → first_line from ≡ Some place → below ≤ place
   pub got : to ≡ others ++ run

@@ -37,3 +37,7 @@ pub record AreMarked (text : List ℕ) (records : List CallRecord) (marks : List
 -- each line comes before a place
 abbrev pub AreBefore : ℕ → List Mark → Type 0
 AreBefore below marks = All (λ (m : Mark). m.place < below) marks
+
+-- no line is left, or the first of them comes at a place or behind it
+abbrev pub BeginFrom : ℕ → List Mark → Type 0
+BeginFrom below marks = All (λ (m : Mark). below ≤ m.place) (take 1 marks)

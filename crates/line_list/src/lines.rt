@@ -6,7 +6,7 @@ ghost use Rattle.report_text.specs.Report.{response_line};
 ghost use Rattle.call_processor.specs.Keeping.{placed};
 ghost use Rattle.line_list.specs.Lines.{HandsLines, calls_of, first_line, line_of, listed, text_of};
 ghost use Rattle.call_profile.specs.CallsTold.{calls_kept};
-ghost use Rattle.line_list.specs.Marks.{AreBefore, lines_in, mark_of, octets_in, records_in};
+ghost use Rattle.line_list.specs.Marks.{AreBefore, BeginFrom, lines_in, mark_of, octets_in, records_in};
 
 use crate::listing::Listing;
 use exchange_events::{CallRecord, Outbox, Response};
@@ -157,7 +157,8 @@ impl Lines {
         }
     }
 
-    /// Hands the first line to others, and with it those behind that come before the place `below`.
+    /// Hands the first line to others, and with it the next ones as far as they come before the place
+    /// `below`.
     ///
     /// # Errors
     ///
@@ -352,11 +353,12 @@ fn marks_left(marks: &Vec<Mark>, handed: usize) -> &[Mark]
     &marks.as_slice()[handed..]
 }
 
-// How many lines come first: the first of all, and those behind it that come before a place.
+// How many lines come first: the first of all, and the next ones as far as they come before a place.
 fn run_length(marks: &[Mark], below: u32) -> usize
     ensures within { result ≤ length marks.now }
     ensures some { 0 < length marks.now → 0 < result }
     ensures before { AreBefore below (drop 1 (take result marks.now)) }
+    ensures stops { BeginFrom below (drop result marks.now) }
 {
     let mut count = 0;
     for mark in marks {

@@ -1,3 +1,4 @@
+pub mod ChoiceLemmas
 pub mod OrderLemmas
 pub mod ListLemmas
 pub mod DoerLemmas

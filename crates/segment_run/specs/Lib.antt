@@ -1,3 +1,4 @@
+pub mod Choice
 pub mod Segment
 pub mod Segments
 pub mod Team

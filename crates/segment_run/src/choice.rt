@@ -1,5 +1,7 @@
 //! Whether a segment is worth threads.
-use std::cmp::{max, min};
+ghost use Rattle.std.specs.Prelude.{◌≤◌, ◌↔◌, IsTrue};
+ghost use Rattle.segment_run.specs.Choice.{events_beside};
+ghost use Rattle.segment_run.specs.declared.choice.TheConstants.{FEWEST_BESIDE};
 
 /// n events at least have to be done beside the largest part of a segment, for threads to pay
 /// (`bench/README.md` says where the number is measured).
@@ -7,12 +9,14 @@ pub const FEWEST_BESIDE: u32 = 128;
 
 /// Whether a segment is worth threads, by how many events each worker has in it: all parts but the
 /// largest have enough events together.
-pub fn is_worth_threads(loads: &[u32; 9]) -> bool {
-    let mut largest = 0;
+pub fn is_worth_threads(loads: &[u32; 9]) -> bool
+    ensures { IsTrue result ↔ FEWEST_BESIDE ≤ events_beside loads.now }
+{
+    let mut largest: u32 = 0;
     let mut beside: u32 = 0;
     for load in loads {
-        beside = beside.saturating_add(min(largest, *load));
-        largest = max(largest, *load);
+        beside = beside.saturating_add(largest.min(*load));
+        largest = largest.max(*load);
     }
     beside >= FEWEST_BESIDE
 }

@@ -50,4 +50,4 @@ returns-clause-handed c =
     let e = c.behind-end.ensures in
     rw (← c.self.view_is)
     (hands_run _ _ _ _ c.self.invariant _ c.marks_left-left.ensures c.run_length.result c.run_length.ensures.within c.behind-end.result e.lines e.octets e.records
-    c.args.below _ _ _ _ c.between-text.ensures c.between-records.ensures c.run_length.ensures.some c.run_length.ensures.before c.in_ok-append.ensures.lines)
+    c.args.below _ _ _ _ c.between-text.ensures c.between-records.ensures c.run_length.ensures.some c.run_length.ensures.before c.run_length.ensures.stops c.in_ok-append.ensures.lines)
