@@ -293,8 +293,16 @@ fn a_number_in_parts(rt: HostRuntime) -> Result<(), Fail> {
 // and there is no port.
 const GIVEN_UP: [(&str, &str, &str); 9] = [
     ("080200010504038090A3", "080200017B7000", "9C"),
-    ("080200010504038090A3", "080200017B70168031303131303131303131303131303131303131303131", "9C"),
-    ("080200010504038090A370028031", "080200017B7015803031313031313031313031313031313031313031", "9C"),
+    (
+        "080200010504038090A3",
+        "080200017B70168031303131303131303131303131303131303131303131",
+        "9C",
+    ),
+    (
+        "080200010504038090A370028031",
+        "080200017B7015803031313031313031313031313031313031313031",
+        "9C",
+    ),
     ("080200010504038090A370028031", "080200017BA17002802A", "9C"),
     ("080200010504038090A370028031", "080200017B70028039", "81"),
     ("080200010504038090A370028031", "080200017BA170028030", "9C"),
@@ -307,7 +315,12 @@ const GIVEN_UP: [(&str, &str, &str); 9] = [
 fn callers_are_cleared_for_what_they_dial(rt: HostRuntime) -> Result<(), Fail> {
     let alloc = rt.alloc();
     for (setup, information, cause) in GIVEN_UP {
-        let steps = [Fill(1), Message(0, setup), Message(0, information), Message(0, "080200014D")];
+        let steps = [
+            Fill(1),
+            Message(0, setup),
+            Message(0, information),
+            Message(0, "080200014D"),
+        ];
         let wanted = format!(in alloc;
             "16 message 0:080280010D1803A98381\n\
             17 message 0:0802800145080282{cause}\n\
