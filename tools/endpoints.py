@@ -16,6 +16,7 @@ from q931 import (
     CONNECT,
     CONNECT_ACKNOWLEDGE,
     DISCONNECT,
+    INFORMATION,
     PROGRESS_INDICATOR,
     RELEASE,
     RELEASE_COMPLETE,
@@ -29,12 +30,14 @@ from q931 import (
     number,
     read_message,
     restart_indicator,
+    sending_complete,
     written,
 )
 from reading import Refused
 
 # The states of a leg, as its user sees it.
 CALLS = "calls"  # the caller, before CONNECT
+DIALS = "dials"  # the caller, asked for more digits
 IS_CALLED = "is called"  # the called user, before its first answer
 PROCEEDS = "proceeds"
 ALERTS = "alerts"
@@ -44,7 +47,7 @@ CLEARS = "clears"  # DISCONNECT was sent
 RELEASES = "releases"  # RELEASE was sent
 
 UNANSWERED = (IS_CALLED, PROCEEDS, ALERTS)
-STANDING = (CALLS, *UNANSWERED, TALKS)
+STANDING = (CALLS, DIALS, *UNANSWERED, TALKS)
 
 
 @dataclass(eq=False)
@@ -85,7 +88,7 @@ class Endpoints:
 
     # ---- what a user asks for
 
-    def call(self, where, digits, caller=None, exclusive=True):
+    def call(self, where, digits=None, caller=None, exclusive=True):
         line, channel = where if isinstance(where, tuple) else (where, None)
         used = {leg.reference for leg in self.legs if leg.line == line and leg.is_own}
         leg = Leg(line, min(set(range(1, len(used) + 2)) - used), True, CALLS, channel)
@@ -95,7 +98,14 @@ class Endpoints:
             elements.append(channel_identification(channel, exclusive))
         if caller is not None:
             elements.append(number(CALLING_PARTY_NUMBER, caller))
-        return leg.message(SETUP, *elements, number(CALLED_PARTY_NUMBER, digits))
+        if digits is not None:
+            elements.append(number(CALLED_PARTY_NUMBER, digits))
+        return leg.message(SETUP, *elements)
+
+    def dial(self, where, digits, to_the_end):
+        leg = self.find(where, (DIALS,), "to dial on in")
+        end = [sending_complete()] if to_the_end else []
+        return leg.message(INFORMATION, *end, number(CALLED_PARTY_NUMBER, digits))
 
     def proceed(self, where):
         return self._advance(where, (IS_CALLED,), PROCEEDS, CALL_PROCEEDING, "to proceed with")
@@ -153,7 +163,8 @@ class Endpoints:
 
     def _take(self, leg, message):
         if message.kind in (CALL_PROCEEDING, SETUP_ACKNOWLEDGE):
-            leg.channel = message.channel[0]
+            leg.state = DIALS if message.kind == SETUP_ACKNOWLEDGE else CALLS
+            leg.channel = message.channel[0] if message.channel else leg.channel
         elif message.kind == CONNECT:
             leg.state = TALKS
             return leg.message(CONNECT_ACKNOWLEDGE)

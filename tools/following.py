@@ -1,8 +1,9 @@
 """Follows the calls and the taken slots of a run, event by event, in the order of its report.
 
-What a call is told by its messages: a SETUP that CALL PROCEEDING answers begins a leg on the
-caller's line, and the SETUP that goes out for it begins the other. A leg ends with RELEASE, RELEASE
-COMPLETE or a STATUS of the null state from its user, with RELEASE COMPLETE to it, or by RESTART.
+What a call is told by its messages: a SETUP that CALL PROCEEDING or SETUP ACKNOWLEDGE answers
+begins a leg on the caller's line, and the SETUP that goes out for it begins the other, at once or
+after INFORMATION with the rest of the number. A leg ends with RELEASE, RELEASE COMPLETE or a STATUS
+of the null state from its user, with RELEASE COMPLETE to it, or by RESTART.
 """
 
 from __future__ import annotations
@@ -13,6 +14,7 @@ from q931 import (
     CALL_PROCEEDING,
     CONNECT,
     DISCONNECT,
+    INFORMATION,
     RELEASE,
     RELEASE_COMPLETE,
     RESTART,
@@ -24,13 +26,12 @@ from q931 import (
 )
 from reading import Arrival, Frame, Free, Nail, Refused, Seat, Slot
 
-BEGINS_LEG = (SETUP, SETUP_ACKNOWLEDGE, CALL_PROCEEDING)  # each names the leg's channel
-
 
 @dataclass(eq=False)
 class Leg:
     call: Call
     slot: Slot
+    dials: bool  # whether more digits are awaited
 
 
 @dataclass(frozen=True)
@@ -88,7 +89,7 @@ class Run:
 
     def _message(self, event, reply):
         message = read_message(event.octets)
-        sent = [(line, sent_message(octets, reply)) for line, octets in reply.sent]
+        sent = [(line, sent_message(octets, reply.event)) for line, octets in reply.sent]
         row = Row(reply.event, self.frames, event.line, False, message, moved=reply.moved)
         leg = None if message is None else self._legs.get(key(event.line, message, 0))
         if message is None or not (leg or sent):
@@ -107,9 +108,9 @@ class Run:
         self.calls.append(call)
         for line, message in sent:
             if message.kind in (CALL_PROCEEDING, SETUP_ACKNOWLEDGE):
-                call.caller = self._begin(call, line, message)
+                call.caller = self._begin(call, row, line, message)
             elif message.kind == SETUP:
-                call.called = self._begin(call, line, message)
+                call.called = self._begin(call, row, line, message)
             elif message.kind == RELEASE_COMPLETE:
                 call.refused = message.cause
             elif message.kind == CONNECT:
@@ -118,6 +119,8 @@ class Run:
 
     def _on_call(self, leg, row, sent):
         call = leg.call
+        if leg.dials and row.message.kind == INFORMATION:
+            self._information(leg, row, sent)
         self._note(call, row, leg, sent)
         if any(message.kind == CONNECT for _, message in sent):
             call.answered = row.frame
@@ -126,6 +129,18 @@ class Run:
                 call.cleared = row.frame, clearing_cause(row.message)
         if ends_leg(row.message):
             self._end(key(row.line, row.message, 0))
+
+    def _information(self, leg, row, sent):
+        """More of the number: the call goes on as after a SETUP, or is cleared, or still more is awaited."""
+        call = leg.call
+        if row.message.digits is not None:
+            call.digits = (call.digits or "") + row.message.digits
+        for line, message in sent:
+            if message.kind == SETUP:
+                call.called = self._begin(call, row, line, message)
+            elif message.kind == DISCONNECT:
+                call.cleared = row.frame, message.cause
+        leg.dials = not sent
 
     def _restart(self, row, sent):
         """A RESTART stands in the ladder of each call that it ends, with what was sent for it."""
@@ -156,8 +171,10 @@ class Run:
         leg = self._legs.get(key(line, message, 1))
         return None if leg is None else leg.call
 
-    def _begin(self, call, line, message):
-        leg = Leg(call, Slot(line, message.channel[0]))
+    def _begin(self, call, row, line, message):
+        if message.channel is None:
+            raise never_sent(row.event)
+        leg = Leg(call, Slot(line, message.channel[0]), message.kind == SETUP_ACKNOWLEDGE)
         self._legs[key(line, message, 1)] = leg
         self.taken.add(leg.slot)
         return leg
@@ -177,12 +194,16 @@ class Run:
             self.on_no_call.append(Row(row.event, row.frame, line, True, message))
 
 
-def sent_message(octets, reply):
-    """A message of a report, which has a header, and a channel where it begins a leg."""
+def sent_message(octets, event):
+    """A message of a report, which has a header."""
     message = read_message(octets)
-    if message is None or message.kind in BEGINS_LEG and message.channel is None:
-        raise Refused(f"event {reply.event} of the report has a message that the exchange never sends")
+    if message is None:
+        raise never_sent(event)
     return message
+
+
+def never_sent(event):
+    return Refused(f"event {event} of the report has a message that the exchange never sends")
 
 
 def key(line, message, is_sent):

@@ -15,6 +15,7 @@ PROGRESS_INDICATOR = 0x1E
 CALLING_PARTY_NUMBER = 0x6C
 CALLED_PARTY_NUMBER = 0x70
 RESTART_INDICATOR = 0x79
+SENDING_COMPLETE = 0xA1
 
 ALERTING = 0x01
 CALL_PROCEEDING = 0x02
@@ -27,6 +28,7 @@ RESTART = 0x46
 RELEASE = 0x4D
 RELEASE_COMPLETE = 0x5A
 STATUS_ENQUIRY = 0x75
+INFORMATION = 0x7B
 STATUS = 0x7D
 
 TYPES = {
@@ -225,9 +227,11 @@ USER = 0x80  # the location of a cause
 
 
 def written(flag, reference, kind, *elements):
-    """The octets of a message; its elements are pairs of a code and contents, in rising order of code."""
-    head = bytes([0x08, 0x02, flag << 7 | reference >> 8, reference & 0xFF, kind])
-    return head + b"".join(bytes([code, len(contents)]) + contents for code, contents in elements)
+    """The octets of a message; its elements are pairs of a code and contents, or None for one of one octet."""
+    octets = [bytes([0x08, 0x02, flag << 7 | reference >> 8, reference & 0xFF, kind])]
+    for code, contents in elements:
+        octets.append(bytes([code]) if contents is None else bytes([code, len(contents)]) + contents)
+    return b"".join(octets)
 
 
 def channel_identification(channel, exclusive=True):
@@ -237,6 +241,10 @@ def channel_identification(channel, exclusive=True):
 def number(code, digits):
     """A calling or called party number, whose type and plan are unknown."""
     return code, b"\x80" + digits.encode("ascii")
+
+
+def sending_complete():
+    return SENDING_COMPLETE, None
 
 
 def cause(value):
@@ -277,6 +285,8 @@ def contents_text(message):
         said.append(cause_text(message.cause))
     if message.call_state is not None:
         said.append(state_text(message.call_state))
+    if message.kind == INFORMATION and SENDING_COMPLETE in message.elements:
+        said.append("sending complete")
     if message.restarts_line:
         said.append("the whole line")
     if PROGRESS_INDICATOR in message.elements:

@@ -58,17 +58,20 @@ static void put_status(Slot x, Cause cause) {
     put_state(leg(x)->state);
 }
 
-// Clears the peer of a leg that was cleared, where it is a leg.
-static void clear_peer(Leg l, Cause cause) {
-    if (l.peer != LEG) return;
-    Leg *peer = leg(l.other);
-    clear(l.other);
-    peer->state = DISCONNECT_INDICATION;
-    peer->peer = ALONE;
-    int heard = cause == USER_BUSY && sound(l.other, BUSY);
-    put_to(l.other, peer, DISCONNECT);
+static void clear_leg(Slot x, Cause cause) {
+    Leg *l = leg(x);
+    clear(x);
+    l->state = DISCONNECT_INDICATION;
+    l->peer = ALONE;
+    int heard = cause == USER_BUSY && sound(x, BUSY);
+    put_to(x, l, DISCONNECT);
     put_cause(cause);
     if (heard) put_progress();
+}
+
+// Clears the peer of a leg that was cleared, where it is a leg.
+static void clear_peer(Leg l, Cause cause) {
+    if (l.peer == LEG) clear_leg(l.other, cause);
 }
 
 static void alert(Slot x) {
@@ -112,46 +115,9 @@ static void gone(Slot x, Cause cause) {
     clear_peer(l, cause);
 }
 
-// Answers whether the state of a leg allows the message, and then does what it asks for.
-static int is_done(Slot x, const Message *m) {
-    State state = leg(x)->state;
-    Element e;
-    switch (m->type) {
-    case PROGRESS: case NOTIFY: case FACILITY: case USER_INFORMATION: case SETUP: return 1;
-    case CONNECT_ACKNOWLEDGE: return state == ACTIVE;
-    case CALL_PROCEEDING:
-        if (state != PRESENT) return 0;
-        leg(x)->state = INCOMING_PROCEEDING;
-        return 1;
-    case ALERTING:
-        if (state != PRESENT && state != INCOMING_PROCEEDING) return 0;
-        alert(x);
-        return 1;
-    case CONNECT:
-        if (state != PRESENT && state != RECEIVED && state != INCOMING_PROCEEDING) return 0;
-        answer(x);
-        return 1;
-    case DISCONNECT:
-        if (state == RELEASE_REQUEST) return 0;
-        disconnect_call(x, cause_in(*m));
-        return 1;
-    case RELEASE:
-        if (state == RELEASE_REQUEST) gone(x, cause_in(*m));
-        else released(x, cause_in(*m));
-        return 1;
-    case RELEASE_COMPLETE: gone(x, cause_in(*m)); return 1;
-    case STATUS:
-        e = find(*m, CALL_STATE);
-        if (e.length && (e.at[0] & 0x3F) == NULL_STATE) gone(x, TEMPORARY_FAILURE);
-        return 1;
-    case STATUS_ENQUIRY: put_status(x, TO_ENQUIRY); return 1;
-    default: return 0;
-    }
-}
-
 // ---- SETUP
 
-// What a SETUP says: the first elements of the codes that count, by their order in the one that goes out.
+// What a SETUP says, or INFORMATION: the first elements of the codes that count, by their order in the SETUP that goes out.
 typedef enum { BEARER_SAID, CHANNEL_SAID, CALLING_SAID, CALLED_SAID, LOW_SAID, HIGH_SAID, SAID } Said;
 
 static const uint8_t one_more_than_said[128] = {
@@ -160,7 +126,7 @@ static const uint8_t one_more_than_said[128] = {
 };
 
 // Answers whether nothing more of the number comes.
-static int read_setup(Message m, Element said[SAID]) {
+static int read_said(Message m, Element said[SAID]) {
     for (Element e; (e = next_element(&m)).at;) {
         unsigned k = one_more_than_said[e.code];
         if (k && !said[k - 1].at) said[k - 1] = e;
@@ -188,7 +154,35 @@ static const Node *look_up(Element e) {
 // The slots that a call takes, and where it goes.
 typedef struct { Slot caller, called; const Node *to; } Route;
 
-// Why the call can't be, or 0. A number that isn't whole leads nowhere yet.
+// Where the number leads, which may be on to more digits. Like the two that follow it answers why the call can't
+// be, or 0.
+static Cause find_target(Element number, int complete, Route *r) {
+    r->to = look_up(number);
+    if (!r->to) return INVALID_NUMBER;
+    if (r->to->found == NO_NUMBER) return UNALLOCATED;
+    return r->to->found == MORE && complete ? INVALID_NUMBER : 0;
+}
+
+static Cause find_caller(unsigned line, Channel channel, Route *r) {
+    uint32_t idle = ALL_SLOTS & ~taken[line];
+    int named = channel.kind >= PREFERRED && idle >> channel.place & 1;
+    if (channel.kind == EXCLUSIVE && !named) return CHANNEL_NOT_AVAILABLE;
+    if (!idle) return NO_CHANNEL;
+    r->caller = (Slot){ line, named ? channel.place : __builtin_ctz(idle) };
+    return 0;
+}
+
+// A slot or a port for a number that is whole.
+static Cause find_called(Route *r) {
+    if (r->to->found == MORE) return 0;
+    if (r->to->found == TO_ROOM) return has_port() ? 0 : CONGESTION;
+    uint32_t idle = ALL_SLOTS & ~taken[r->to->target];
+    if (r->to->target == r->caller.line) idle &= ~(1u << r->caller.place);
+    if (!idle) return NO_CHANNEL;
+    r->called = (Slot){ r->to->target, __builtin_ctz(idle) };
+    return 0;
+}
+
 static Cause find_route(unsigned line, const Element said[SAID], int complete, Route *r) {
     Cause fault = bearer_fault(said[BEARER_SAID]);
     if (fault) return fault;
@@ -196,32 +190,39 @@ static Cause find_route(unsigned line, const Element said[SAID], int complete, R
     if (channel.kind == INVALID) return INVALID_CONTENTS;
     Element number = said[CALLED_SAID];
     if (number.at ? !number.length || number.length > 1 + MOST_DIGITS : complete) return INVALID_NUMBER;
-    r->to = look_up(number);
-    if (!r->to) return INVALID_NUMBER;
-    if (r->to->found == NO_NUMBER) return UNALLOCATED;
-    if (r->to->found == MORE && complete) return INVALID_NUMBER;
-
-    uint32_t idle = ALL_SLOTS & ~taken[line];
-    int named = channel.kind >= PREFERRED && idle >> channel.place & 1;
-    if (channel.kind == EXCLUSIVE && !named) return CHANNEL_NOT_AVAILABLE;
-    if (!idle) return NO_CHANNEL;
-    r->caller = (Slot){ line, named ? channel.place : __builtin_ctz(idle) };
-    if (r->to->found == MORE) return 0;
-    if (r->to->found == TO_ROOM) return has_port() ? 0 : CONGESTION;
-    idle = ALL_SLOTS & ~taken[r->to->target];
-    if (r->to->target == line) idle &= ~(1u << r->caller.place);
-    if (!idle) return NO_CHANNEL;
-    r->called = (Slot){ r->to->target, __builtin_ctz(idle) };
-    return 0;
+    if ((fault = find_target(number, complete, r))) return fault;
+    if ((fault = find_caller(line, channel, r))) return fault;
+    return find_called(r);
 }
 
-static void call_line(uint16_t reference, const Route *r, const Element said[SAID]) {
+// What a caller in overlap sending has said: the elements of its SETUP, which stay where they are in the trace, and
+// the number, which grows here.
+static struct { Element said[SAID]; uint8_t number[1 + MOST_DIGITS]; } dialled[EXTERNAL][PLACES];
+
+static void wait_for_digits(uint16_t reference, const Route *r, const Element said[SAID]) {
+    Slot x = r->caller;
+    Element *kept = dialled[x.line][x.place].said;
+    uint8_t *number = dialled[x.line][x.place].number;
+    memcpy(kept, said, SAID * sizeof *said);
+    if (said[CALLED_SAID].length) memcpy(number, said[CALLED_SAID].at, said[CALLED_SAID].length);
+    kept[CALLED_SAID] = (Element){ CALLED_NUMBER, said[CALLED_SAID].length, number };
+    add_leg(x, (Leg){ OVERLAP_SENDING, 0, ALONE, reference, x });
+    put_to(x, leg(x), SETUP_ACKNOWLEDGE);
+    put_channel(x.place);
+}
+
+// The caller's leg may be there already; then its user knows the channel.
+static void put_proceeding(Slot x, int is_new) {
+    put_to(x, leg(x), CALL_PROCEEDING);
+    if (is_new) put_channel(x.place);
+}
+
+static void call_line(uint16_t reference, const Route *r, const Element said[SAID], int is_new) {
     static const uint8_t most[SAID] = { [CALLING_SAID] = 22, [CALLED_SAID] = 21, [LOW_SAID] = 16, [HIGH_SAID] = 3 };
     Slot x = r->caller, y = r->called;
     add_leg(x, (Leg){ OUTGOING_PROCEEDING, 0, LEG, reference, y });
     add_leg(y, (Leg){ PRESENT, 1, LEG, __builtin_ctz(~references[y.line]) + 1, x });
-    put_to(x, leg(x), CALL_PROCEEDING);
-    put_channel(x.place);
+    put_proceeding(x, is_new);
     put_to(y, leg(y), SETUP);
     put_octet(SENDING_COMPLETE);
     put_element(BEARER, said[BEARER_SAID].at, said[BEARER_SAID].length);
@@ -230,37 +231,95 @@ static void call_line(uint16_t reference, const Route *r, const Element said[SAI
         if (said[k].length && said[k].length <= most[k]) put_element(said[k].code, said[k].at, said[k].length);
 }
 
-static void call_room(uint16_t reference, const Route *r) {
+static void call_room(uint16_t reference, const Route *r, int is_new) {
     Slot x = r->caller;
     add_leg(x, (Leg){ ACTIVE, 0, ROOM, reference, x });
     put(" moved ");
     sit(x, r->to->target);
-    put_to(x, leg(x), CALL_PROCEEDING);
-    put_channel(x.place);
+    put_proceeding(x, is_new);
     put_to(x, leg(x), CONNECT);
-}
-
-static void wait_for_digits(uint16_t reference, const Route *r) {
-    Slot x = r->caller;
-    add_leg(x, (Leg){ OVERLAP_SENDING, 0, ALONE, reference, x });
-    put_to(x, leg(x), SETUP_ACKNOWLEDGE);
-    put_channel(x.place);
 }
 
 static void set_up(unsigned line, const Message *m) {
     Element said[SAID] = { 0 };
     Route r;
-    int complete = read_setup(*m, said);
+    int complete = read_said(*m, said);
     Cause fault = find_route(line, said, complete, &r);
     if (fault) {
         put_message(line, 1, m->reference, RELEASE_COMPLETE);
         put_cause(fault);
     } else if (r.to->found == MORE) {
-        wait_for_digits(m->reference, &r);
+        wait_for_digits(m->reference, &r, said);
     } else if (r.to->found == TO_ROOM) {
-        call_room(m->reference, &r);
+        call_room(m->reference, &r, 1);
     } else {
-        call_line(m->reference, &r, said);
+        call_line(m->reference, &r, said, 1);
+    }
+}
+
+// ---- INFORMATION
+
+// Adds a called party number to the one so far, whose type octet stays; answers whether there is room.
+static int is_added(uint8_t *number, Element *so_far, Element more) {
+    unsigned skipped = so_far->length > 0;
+    if (!more.length || so_far->length + more.length - skipped > 1 + MOST_DIGITS) return 0;
+    memcpy(number + so_far->length, more.at + skipped, more.length - skipped);
+    so_far->length += more.length - skipped;
+    return 1;
+}
+
+static void take_digits(Slot x, const Message *m) {
+    Element *said = dialled[x.line][x.place].said, more[SAID] = { 0 };
+    int complete = read_said(*m, more), is_more = more[CALLED_SAID].at != NULL;
+    Route r = { .caller = x };
+    Cause fault = 0;
+    if (is_more && !is_added(dialled[x.line][x.place].number, &said[CALLED_SAID], more[CALLED_SAID])) fault = INVALID_NUMBER;
+    if (!fault) fault = find_target(said[CALLED_SAID], complete, &r);
+    if (!fault) fault = find_called(&r);
+    if (fault) clear_leg(x, fault);
+    else if (r.to->found == TO_ROOM) call_room(leg(x)->reference, &r, 0);
+    else if (r.to->found == TO_LINE) call_line(leg(x)->reference, &r, said, 0);
+}
+
+// ---- Messages to a leg
+
+// Answers whether the state of a leg allows the message, and then does what it asks for.
+static int is_done(Slot x, const Message *m) {
+    State state = leg(x)->state;
+    Element e;
+    switch (m->type) {
+    case PROGRESS: case NOTIFY: case FACILITY: case USER_INFORMATION: case SETUP: return 1;
+    case CONNECT_ACKNOWLEDGE: return state == ACTIVE;
+    case INFORMATION:
+        if (state == OVERLAP_SENDING) take_digits(x, m);
+        return state == OVERLAP_SENDING || state == OUTGOING_PROCEEDING || state == DELIVERED || state == ACTIVE;
+    case CALL_PROCEEDING:
+        if (state != PRESENT) return 0;
+        leg(x)->state = INCOMING_PROCEEDING;
+        return 1;
+    case ALERTING:
+        if (state != PRESENT && state != INCOMING_PROCEEDING) return 0;
+        alert(x);
+        return 1;
+    case CONNECT:
+        if (state != PRESENT && state != RECEIVED && state != INCOMING_PROCEEDING) return 0;
+        answer(x);
+        return 1;
+    case DISCONNECT:
+        if (state == RELEASE_REQUEST) return 0;
+        disconnect_call(x, cause_in(*m));
+        return 1;
+    case RELEASE:
+        if (state == RELEASE_REQUEST) gone(x, cause_in(*m));
+        else released(x, cause_in(*m));
+        return 1;
+    case RELEASE_COMPLETE: gone(x, cause_in(*m)); return 1;
+    case STATUS:
+        e = find(*m, CALL_STATE);
+        if (e.length && (e.at[0] & 0x3F) == NULL_STATE) gone(x, TEMPORARY_FAILURE);
+        return 1;
+    case STATUS_ENQUIRY: put_status(x, TO_ENQUIRY); return 1;
+    default: return 0;
     }
 }
 

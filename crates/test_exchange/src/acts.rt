@@ -33,6 +33,7 @@ impl PlainExchange {
             Act::Proceeding => self.set_state(leg, State::Incoming),
             Act::Alerting => self.alert(alloc, leg, sent)?,
             Act::Answer => self.answer(alloc, leg, sent)?,
+            Act::Digits => self.take_digits(alloc, leg, message, sent)?,
             Act::Disconnect => self.release(alloc, leg, cause, sent)?,
             Act::Released => {
                 self.remove(leg);
@@ -102,7 +103,7 @@ impl PlainExchange {
 
     // The leg is cleared, and waits for its user in this state.
     fn stand_alone(&mut self, leg: Leg, state: State) {
-        self.clear(leg.at);
+        self.forget(leg);
         replace_leg(
             &mut self.legs,
             Leg {
@@ -115,12 +116,17 @@ impl PlainExchange {
 
     /// The leg is gone.
     pub(crate) fn remove(&mut self, leg: Leg) {
-        self.clear(leg.at);
+        self.forget(leg);
         self.legs.retain(|held| held.at != leg.at);
     }
 
-    /// The leg that this one was in a call with is cleared, and its user hears why where there is a tone
-    /// for that.
+    // The circuits of a leg's slot are taken away, and the number that its user dials.
+    fn forget(&mut self, leg: Leg) {
+        self.clear(leg.at);
+        self.waiting.retain(|passed| passed.at != leg.at);
+    }
+
+    /// The leg that this one was in a call with is cleared.
     pub(crate) fn clear_peer(
         &mut self,
         alloc: Global,
@@ -128,17 +134,28 @@ impl PlainExchange {
         cause: u8,
         sent: &mut Sent,
     ) -> Result<(), AllocError> {
-        let Some(peer) = self.peer_of(leg) else {
-            return Ok(());
-        };
-        self.stand_alone(peer, State::Disconnected);
-        let sounds = cause == USER_BUSY && self.sound(peer.at, Kind::Busy)?;
-        let mut octets = bare_message(alloc, peer.side, peer.reference, DISCONNECT)?;
+        match self.peer_of(leg) {
+            Some(peer) => self.clear_leg(alloc, peer, cause, sent),
+            None => Ok(()),
+        }
+    }
+
+    /// The leg is cleared, and its user hears why where there is a tone for that.
+    pub(crate) fn clear_leg(
+        &mut self,
+        alloc: Global,
+        leg: Leg,
+        cause: u8,
+        sent: &mut Sent,
+    ) -> Result<(), AllocError> {
+        self.stand_alone(leg, State::Disconnected);
+        let sounds = cause == USER_BUSY && self.sound(leg.at, Kind::Busy)?;
+        let mut octets = bare_message(alloc, leg.side, leg.reference, DISCONNECT)?;
         add_cause(&mut octets, cause)?;
         if sounds {
             add_progress(&mut octets)?;
         }
-        sent.send(peer.at.line, octets)
+        sent.send(leg.at.line, octets)
     }
 }
 

@@ -6,6 +6,7 @@ use crate::elements::receive;
 use crate::legs::{Leg, Peer, State, leg_at, leg_named};
 use crate::no_leg::answer_without_leg;
 use crate::numbers::Number;
+use crate::passed::Passed;
 use crate::paths::{Chains, Paths};
 use crate::ports::Ports;
 use crate::sent::{CallRecord, Course, Party, Sent};
@@ -14,7 +15,7 @@ use circuit_model::{Circuit, Kind, PLACES, Slot};
 use plain_model::{Exchange, find_heard};
 use std::alloc::{AllocError, Global};
 
-/// An exchange that keeps lists of legs, paths and ports, beside the circuits of `plain_model`.
+/// An exchange that keeps lists of legs, dialled numbers, paths and ports, beside the circuits of `plain_model`.
 ///
 /// Where memory runs out the exchange is half changed, and no use any more.
 #[derive(Drop)]
@@ -24,6 +25,8 @@ pub struct PlainExchange {
     pub(crate) ports: Ports,
     pub(crate) paths: Paths,
     pub(crate) legs: Vec<Leg>,
+    // Of the callers who send their numbers in parts.
+    pub(crate) waiting: Vec<Passed>,
     pub(crate) numbers: Vec<Number>,
     tones: PlainTones,
     // How often the two tones were put on a slot.
@@ -67,6 +70,7 @@ impl PlainExchange {
             ports: Ports::new(alloc, external, bridges),
             paths: Paths::new(alloc, slots),
             legs: Vec::new(alloc),
+            waiting: Vec::new(alloc),
             numbers,
             tones,
             rung: 0,

@@ -1,6 +1,7 @@
 //! The legs of calls, as a list.
 
 use circuit_model::Slot;
+use std::alloc::AllocError;
 
 /// The call state of a leg (ITU-T Q.931 (05/98), 2.1.2); the numbers are those of 4.5.7.
 #[derive(Clone, Copy, PartialEq, Eq)]
@@ -99,4 +100,11 @@ pub(crate) fn replace_leg(legs: &mut Vec<Leg>, leg: Leg) {
             *held = leg;
         }
     }
+}
+
+/// Puts a leg, in place of the one that holds its slot if there is one.
+pub(crate) fn put_leg(legs: &mut Vec<Leg>, leg: Leg) -> Result<(), AllocError> {
+    legs.retain(|held| held.at != leg.at);
+    legs.push(leg)?;
+    Ok(())
 }

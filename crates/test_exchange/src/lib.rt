@@ -20,6 +20,8 @@ mod legs;
 mod new_call;
 mod no_leg;
 mod numbers;
+mod overlap;
+mod passed;
 mod paths;
 mod ports;
 mod report;

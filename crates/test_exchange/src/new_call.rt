@@ -1,26 +1,23 @@
 //! A call that is set up: its channels and its first messages.
 
-ghost use Rattle.std.specs.Prelude.{◌<◌, IfOk, IfSome, length};
+ghost use Rattle.std.specs.Prelude.{◌<◌, IfOk, IfSome};
 
 use crate::channels::place_of_channel;
 use crate::elements::Received;
 use crate::exchange::PlainExchange;
-use crate::legs::{Leg, Peer, Side, State, new_reference};
-use crate::numbers::{Found, Target, look};
+use crate::legs::{Leg, Peer, Side, State, new_reference, put_leg};
+use crate::numbers::{Found, Target, are_digits, look};
+use crate::passed::Passed;
 use crate::sent::{Course, Sent};
-use crate::setup::{Asked, Channel, Refusal, read_setup};
-use crate::types::{
-    BEARER_CAPABILITY, CALL_PROCEEDING, CALLED_PARTY_NUMBER, CALLING_PARTY_NUMBER, CONNECT,
-    HIGH_LAYER_COMPATIBILITY, LOW_LAYER_COMPATIBILITY, RELEASE_COMPLETE, SENDING_COMPLETE, SETUP,
-    SETUP_ACKNOWLEDGE,
-};
-use crate::writing::{add_cause, add_channel, add_element, bare_message};
+use crate::setup::{Channel, Refusal, read_setup};
+use crate::types::{CALL_PROCEEDING, CONNECT, RELEASE_COMPLETE, SETUP_ACKNOWLEDGE};
+use crate::writing::{add_cause, add_channel, bare_message};
 use circuit_model::Slot;
 use std::alloc::{AllocError, Global};
 
-// Why there is no call.
+/// Why there is no call.
 #[derive(Drop)]
-enum Halt {
+pub(crate) enum Halt {
     Refused(Refusal),
     Memory(AllocError),
 }
@@ -58,7 +55,7 @@ impl PlainExchange {
         sent.send(line, octets)
     }
 
-    // Makes the call, if nothing stands against it.
+    // Makes the call, or awaits more digits, if nothing stands against it.
     fn call(
         &mut self,
         alloc: Global,
@@ -67,30 +64,64 @@ impl PlainExchange {
         sent: &mut Sent,
     ) -> Result<(), Halt> {
         let asked = read_setup(setup)?;
-        let target = self.target_of(asked)?;
-        let caller = self.caller_slot(line, asked.channel)?;
+        let target = self.target_of(asked.dialled, asked.is_complete)?;
+        let at = self.caller_slot(line, asked.channel)?;
+        let passed = Passed::of(alloc, at, setup)?;
+        let caller = Leg {
+            at,
+            state: State::Overlap,
+            reference: setup.reference,
+            side: Side::Caller,
+            peer: Peer::Alone,
+        };
         match target {
-            None => self.wait_for_digits(alloc, setup, caller, sent)?,
-            Some(Target::Line(line)) => {
-                let called = self.called_slot(line, caller)?;
-                self.offer(alloc, setup, asked, caller, called, sent)?;
-            }
-            Some(Target::Room(_)) if self.ports.is_full() => {
-                return Err(Halt::Refused(Refusal::NoPort));
-            }
-            Some(Target::Room(room)) => self.answer_by_room(alloc, setup, caller, room, sent)?,
+            None => self.wait_for_digits(alloc, caller, passed, sent)?,
+            Some(target) => self.lead(alloc, caller, &passed, target, Some(at.place), sent)?,
         }
         Ok(())
     }
 
-    // Where the number leads, and None where it isn't whole and more comes.
-    fn target_of(&self, asked: Asked) -> Result<Option<Target>, Refusal> {
-        match look(self.numbers(), asked.dialled) {
+    /// Where dialled octets lead, and None where the number isn't whole and more comes.
+    pub(crate) fn target_of(
+        &self,
+        dialled: &[u8],
+        is_complete: bool,
+    ) -> Result<Option<Target>, Refusal> {
+        if !are_digits(dialled) {
+            return Err(Refusal::NoDigits);
+        }
+        match look(self.numbers(), dialled) {
             Found::Target(target) => Ok(Some(target)),
-            Found::More if asked.is_complete => Err(Refusal::UnfinishedNumber),
+            Found::More if is_complete => Err(Refusal::UnfinishedNumber),
             Found::More => Ok(None),
             Found::Nothing => Err(Refusal::UnknownNumber),
         }
+    }
+
+    /// Makes the call to where its number leads, if there is a slot or a port for it. The caller gets its
+    /// channel where that is given here.
+    pub(crate) fn lead(
+        &mut self,
+        alloc: Global,
+        caller: Leg,
+        passed: &Passed,
+        target: Target,
+        channel: Option<u8>,
+        sent: &mut Sent,
+    ) -> Result<(), Halt>
+        requires { IfSome channel (λ place. place < 30) }
+    {
+        match target {
+            Target::Line(line) => {
+                let called = self.called_slot(line, caller.at)?;
+                self.offer(alloc, caller, passed, called, channel, sent)?;
+            }
+            Target::Room(_) if self.ports.is_full() => {
+                return Err(Halt::Refused(Refusal::NoPort));
+            }
+            Target::Room(room) => self.answer_by_room(alloc, caller, room, channel, sent)?,
+        }
+        Ok(())
     }
 
     // The named slot where it is idle, else the lowest idle one of the line.
@@ -131,135 +162,101 @@ impl PlainExchange {
     fn wait_for_digits(
         &mut self,
         alloc: Global,
-        setup: &Received,
-        caller: Slot,
+        caller: Leg,
+        passed: Passed,
         sent: &mut Sent,
     ) -> Result<(), AllocError>
-        requires { caller.place < 30 }
+        requires { caller.at.place < 30 }
     {
-        self.legs.push(Leg {
-            at: caller,
-            state: State::Overlap,
-            reference: setup.reference,
-            side: Side::Caller,
-            peer: Peer::Alone,
-        })?;
+        put_leg(&mut self.legs, caller)?;
+        self.keep(passed)?;
         sent.course = Course::Overlap;
-        send_with_channel(alloc, setup, SETUP_ACKNOWLEDGE, caller, sent)
+        tell_channel(
+            alloc,
+            caller,
+            SETUP_ACKNOWLEDGE,
+            Some(caller.at.place),
+            sent,
+        )
     }
 
     // The caller is told to wait, and the call is offered to the called user.
     fn offer(
         &mut self,
         alloc: Global,
-        setup: &Received,
-        asked: Asked,
-        caller: Slot,
+        caller: Leg,
+        passed: &Passed,
         called: Slot,
+        channel: Option<u8>,
         sent: &mut Sent,
     ) -> Result<(), AllocError>
-        requires caller { caller.place < 30 }
         requires called { called.place < 30 }
+        requires channel { IfSome channel (λ place. place < 30) }
     {
         let reference = new_reference(self.legs(), called.line);
-        self.legs.push(Leg {
-            at: caller,
-            state: State::CallProceeding,
-            reference: setup.reference,
-            side: Side::Caller,
-            peer: Peer::Leg(called),
-        })?;
+        let state = State::CallProceeding;
+        let peer = Peer::Leg(called);
+        put_leg(
+            &mut self.legs,
+            Leg {
+                state,
+                peer,
+                ..caller
+            },
+        )?;
         self.legs.push(Leg {
             at: called,
             state: State::Present,
             reference,
             side: Side::Called,
-            peer: Peer::Leg(caller),
+            peer: Peer::Leg(caller.at),
         })?;
         sent.course = Course::Offered;
-        send_with_channel(alloc, setup, CALL_PROCEEDING, caller, sent)?;
-        let octets = offered_setup(alloc, setup, asked, reference, called.place)?;
-        sent.send(called.line, octets)
+        tell_channel(alloc, caller, CALL_PROCEEDING, channel, sent)?;
+        sent.send(called.line, passed.setup(alloc, reference, called.place)?)
     }
 
     // The caller is seated, and told that the room has answered.
     fn answer_by_room(
         &mut self,
         alloc: Global,
-        setup: &Received,
-        caller: Slot,
+        caller: Leg,
         room: u8,
+        channel: Option<u8>,
         sent: &mut Sent,
     ) -> Result<(), AllocError>
-        requires { caller.place < 30 }
+        requires { IfSome channel (λ place. place < 30) }
     {
-        let leg = Leg {
-            at: caller,
-            state: State::Active,
-            reference: setup.reference,
-            side: Side::Caller,
-            peer: Peer::Room(room),
-        };
-        self.legs.push(leg)?;
+        let state = State::Active;
+        let peer = Peer::Room(room);
+        put_leg(
+            &mut self.legs,
+            Leg {
+                state,
+                peer,
+                ..caller
+            },
+        )?;
         sent.course = Course::Seated;
-        sent.moved = self.seat(alloc, caller, room)?;
-        send_with_channel(alloc, setup, CALL_PROCEEDING, caller, sent)?;
-        sent.tell(alloc, leg, CONNECT)
+        sent.moved = self.seat(alloc, caller.at, room)?;
+        tell_channel(alloc, caller, CALL_PROCEEDING, channel, sent)?;
+        sent.tell(alloc, caller, CONNECT)
     }
 }
 
-// A message of this type to the caller, with its channel.
-fn send_with_channel(
+// A message of this type to the caller, with this channel where there is one.
+fn tell_channel(
     alloc: Global,
-    setup: &Received,
+    caller: Leg,
     kind: u8,
-    caller: Slot,
+    channel: Option<u8>,
     sent: &mut Sent,
 ) -> Result<(), AllocError>
-    requires { caller.place < 30 }
+    requires { IfSome channel (λ place. place < 30) }
 {
-    let mut octets = bare_message(alloc, Side::Caller, setup.reference, kind)?;
-    add_channel(&mut octets, caller.place)?;
-    sent.send(caller.line, octets)
-}
-
-// SETUP to the called user: the number is whole; bearer and numbers as received, and the called user's
-// channel.
-fn offered_setup(
-    alloc: Global,
-    setup: &Received,
-    asked: Asked,
-    reference: u16,
-    place: u8,
-) -> Result<Vec<u8>, AllocError>
-    requires { place < 30 }
-{
-    let mut octets = bare_message(alloc, Side::Called, reference, SETUP)?;
-    octets.push(SENDING_COMPLETE)?;
-    pass_on(&mut octets, BEARER_CAPABILITY, Some(asked.bearer), 10)?;
-    add_channel(&mut octets, place)?;
-    for (code, longest) in [
-        (CALLING_PARTY_NUMBER, 22),
-        (CALLED_PARTY_NUMBER, 21),
-        (LOW_LAYER_COMPATIBILITY, 16),
-        (HIGH_LAYER_COMPATIBILITY, 3),
-    ] {
-        pass_on(&mut octets, code, setup.find(code), longest)?;
+    let mut octets = bare_message(alloc, caller.side, caller.reference, kind)?;
+    if let Some(place) = channel {
+        add_channel(&mut octets, place)?;
     }
-    Ok(octets)
-}
-
-// Passes an element on as it was received, unless it is empty or too long.
-fn pass_on(
-    octets: &mut Vec<u8>,
-    code: u8,
-    contents: Option<&[u8]>,
-    longest: u8,
-) -> Result<(), AllocError> {
-    match contents {
-        Some(contents) if !contents.is_empty() && contents.len() <= usize::from(longest) => {
-            add_element(octets, code, contents)
-        }
-        _ => Ok(()),
-    }
+    sent.send(caller.at.line, octets)
 }

@@ -25,6 +25,14 @@ pub enum Course {
     For(Act),
     /// It asked for a call whose number isn't whole yet: the caller is to send more digits.
     Overlap,
+    /// It had digits of a number that isn't whole yet, or none.
+    MoreDigits,
+    /// It had the last digits of a number of a line: the call is offered to the called user.
+    DialledLine,
+    /// It had the last digits of a room's number: the call is answered.
+    DialledRoom,
+    /// With what it had no call can be made: the caller is cleared.
+    GivenUp(Refusal),
     /// It asked for a call, which was refused.
     Refused(Refusal),
     /// It asked for a call to a line, which is offered to the called user.

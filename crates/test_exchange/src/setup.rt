@@ -2,12 +2,11 @@
 
 use crate::channels::place_of_channel;
 use crate::elements::Received;
-use crate::numbers::are_digits;
 use crate::types::{
     BEARER_CAPABILITY, CALLED_PARTY_NUMBER, CHANNEL_IDENTIFICATION, SENDING_COMPLETE,
 };
 
-/// Why a SETUP is refused; the first of these that holds.
+/// Why a SETUP is refused, or a caller is cleared who dials in parts; the first of these that holds.
 #[derive(Clone, Copy, PartialEq, Eq)]
 pub enum Refusal {
     /// There is no bearer capability.
@@ -91,10 +90,8 @@ pub(crate) fn read_setup<'a>(setup: &Received<'a>) -> Result<Asked<'a>, Refusal>
 // The octets of the digits of a called party number.
 fn digits_of(called: &[u8]) -> Result<&[u8], Refusal> {
     match called {
-        [_, dialled @ ..] if dialled.len() > 20 => Err(Refusal::NoNumber),
-        [_, dialled @ ..] if are_digits(dialled) => Ok(dialled),
-        [_, ..] => Err(Refusal::NoDigits),
-        [] => Err(Refusal::NoNumber),
+        [_, dialled @ ..] if dialled.len() <= 20 => Ok(dialled),
+        _ => Err(Refusal::NoNumber),
     }
 }
 

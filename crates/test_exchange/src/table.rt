@@ -3,8 +3,8 @@
 use crate::elements::Received;
 use crate::legs::State;
 use crate::types::{
-    ALERTING, CALL_PROCEEDING, CONNECT, CONNECT_ACKNOWLEDGE, DISCONNECT, FACILITY, NOTIFY,
-    PROGRESS, RELEASE, RELEASE_COMPLETE, SETUP, STATUS, STATUS_ENQUIRY, TEMPORARY_FAILURE,
+    ALERTING, CALL_PROCEEDING, CONNECT, CONNECT_ACKNOWLEDGE, DISCONNECT, FACILITY, INFORMATION,
+    NOTIFY, PROGRESS, RELEASE, RELEASE_COMPLETE, SETUP, STATUS, STATUS_ENQUIRY, TEMPORARY_FAILURE,
     USER_INFORMATION,
 };
 
@@ -23,6 +23,8 @@ pub enum Act {
     Alerting,
     /// The called user answers.
     Answer,
+    /// The caller sends more of the number.
+    Digits,
     /// The user asks for clearing.
     Disconnect,
     /// The user has given the channel up.
@@ -62,7 +64,17 @@ const NOT_RELEASING: &[State] = &[
 ];
 
 // This exchange's profile of basic call control; what isn't listed is unexpected.
-const TABLE: [Row; 15] = [
+const TABLE: [Row; 17] = [
+    Row {
+        kind: INFORMATION,
+        states: &[State::Overlap],
+        act: Act::Digits,
+    },
+    Row {
+        kind: INFORMATION,
+        states: &[State::CallProceeding, State::Delivered, State::Active],
+        act: Act::Nothing,
+    },
     Row {
         kind: CALL_PROCEEDING,
         states: &[State::Present],

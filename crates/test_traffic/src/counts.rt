@@ -6,17 +6,20 @@ use test_exchange::{Act, Course, Refusal};
 /// How often each course of a message came.
 #[derive(Clone, Copy)]
 pub struct Counts {
-    counts: [(Course, u32); 29],
+    counts: [(Course, u32); 38],
 }
 
 // Each course, not come yet.
-const NONE: [(Course, u32); 29] = [
+const NONE: [(Course, u32); 38] = [
     (Course::Discarded, 0),
     (Course::Unanswered, 0),
     (Course::NoLeg, 0),
     (Course::RestartedChannel, 0),
     (Course::RestartedLine, 0),
     (Course::Overlap, 0),
+    (Course::MoreDigits, 0),
+    (Course::DialledLine, 0),
+    (Course::DialledRoom, 0),
     (Course::Offered, 0),
     (Course::Seated, 0),
     (Course::For(Act::Nothing), 0),
@@ -40,6 +43,12 @@ const NONE: [(Course, u32); 29] = [
     (Course::Refused(Refusal::LineFull), 0),
     (Course::Refused(Refusal::CalledLineFull), 0),
     (Course::Refused(Refusal::NoPort), 0),
+    (Course::GivenUp(Refusal::NoNumber), 0),
+    (Course::GivenUp(Refusal::NoDigits), 0),
+    (Course::GivenUp(Refusal::UnknownNumber), 0),
+    (Course::GivenUp(Refusal::UnfinishedNumber), 0),
+    (Course::GivenUp(Refusal::CalledLineFull), 0),
+    (Course::GivenUp(Refusal::NoPort), 0),
 ];
 
 impl Counts {
@@ -91,10 +100,14 @@ fn words_for(course: Course) -> &'static str {
         Course::RestartedChannel => "channel restarted",
         Course::RestartedLine => "line restarted",
         Course::Overlap => "waiting for digits",
+        Course::MoreDigits => "waiting for more",
+        Course::DialledLine => "offered once dialled",
+        Course::DialledRoom => "seated once dialled",
         Course::Offered => "offered",
         Course::Seated => "seated",
         Course::For(act) => name_of(act),
         Course::Refused(refusal) => words_of(refusal),
+        Course::GivenUp(refusal) => words_of_clearing(refusal),
     }
 }
 
@@ -106,6 +119,7 @@ fn name_of(act: Act) -> &'static str {
         Act::Proceeding => "proceeding",
         Act::Alerting => "alerting",
         Act::Answer => "answer",
+        Act::Digits => "digits",
         Act::Disconnect => "disconnect",
         Act::Released => "released",
         Act::Gone => "gone",
@@ -126,5 +140,18 @@ fn words_of(refusal: Refusal) -> &'static str {
         Refusal::LineFull => "line full",
         Refusal::CalledLineFull => "called line full",
         Refusal::NoPort => "no port",
+    }
+}
+
+// Of a caller who is cleared for what it dialled.
+fn words_of_clearing(refusal: Refusal) -> &'static str {
+    match refusal {
+        Refusal::NoNumber => "cleared for too many octets or none",
+        Refusal::NoDigits => "cleared for no digits",
+        Refusal::UnknownNumber => "cleared for an unknown number",
+        Refusal::UnfinishedNumber => "cleared for an unfinished number",
+        Refusal::CalledLineFull => "cleared for a full line",
+        Refusal::NoPort => "cleared for want of a port",
+        _ => "cleared",
     }
 }

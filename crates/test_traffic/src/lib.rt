@@ -10,6 +10,7 @@
 #![tactic(auto)]
 
 mod counts;
+mod dialling;
 mod orders;
 mod random;
 mod script;

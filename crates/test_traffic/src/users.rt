@@ -2,14 +2,15 @@
 
 ghost use Rattle.std.specs.Prelude.{◌<◌};
 
+use crate::dialling::add_next_part;
 use crate::random::Random;
 use std::alloc::{AllocError, Global};
 use test_exchange::types::{
     ALERTING, BEARER_CAPABILITY, CALL_PROCEEDING, CALL_STATE, CALLED_PARTY_NUMBER,
     CALLING_PARTY_NUMBER, CAUSE, CHANNEL_IDENTIFICATION, CONNECT, CONNECT_ACKNOWLEDGE, DISCONNECT,
-    FACILITY, HIGH_LAYER_COMPATIBILITY, LOW_LAYER_COMPATIBILITY, NAMED_TYPES, NOTIFY, PROGRESS,
-    RELEASE, RELEASE_COMPLETE, RESTART, RESTART_INDICATOR, SENDING_COMPLETE, SETUP, STATUS,
-    STATUS_ENQUIRY, USER_INFORMATION,
+    FACILITY, HIGH_LAYER_COMPATIBILITY, INFORMATION, LOW_LAYER_COMPATIBILITY, NAMED_TYPES, NOTIFY,
+    PROGRESS, RELEASE, RELEASE_COMPLETE, RESTART, RESTART_INDICATOR, SENDING_COMPLETE, SETUP,
+    STATUS, STATUS_ENQUIRY, USER_INFORMATION,
 };
 use test_exchange::{Leg, PlainExchange, Side, State};
 
@@ -19,12 +20,20 @@ fn mostly_sent(state: State) -> &'static [u8] {
         State::CallProceeding | State::Delivered => &[
             STATUS_ENQUIRY,
             PROGRESS,
-            NOTIFY,
+            INFORMATION,
             SETUP,
             STATUS,
             DISCONNECT,
         ],
         State::Overlap => &[
+            INFORMATION,
+            INFORMATION,
+            INFORMATION,
+            INFORMATION,
+            INFORMATION,
+            INFORMATION,
+            INFORMATION,
+            INFORMATION,
             STATUS_ENQUIRY,
             SETUP,
             NOTIFY,
@@ -70,7 +79,7 @@ pub(crate) fn draw_message(
 ) -> Result<(u8, Vec<u8>), AllocError> {
     let line = random.below(exchange.external().max(1));
     match (random.below(12), draw_leg(random, exchange)) {
-        (0..=6, Some(leg)) => Ok((leg.at.line, message_to_leg(alloc, random, leg)?)),
+        (0..=6, Some(leg)) => Ok((leg.at.line, message_to_leg(alloc, random, exchange, leg)?)),
         (7, _) if random.once_in(5) => Ok((line, restart_message(alloc, random)?)),
         (7, _) => Ok((line, stray_message(alloc, random)?)),
         (8, _) if random.once_in(3) => Ok((line, noise(alloc, random)?)),
@@ -91,7 +100,12 @@ fn draw_leg(random: &mut Random, exchange: &PlainExchange) -> Option<Leg> {
 }
 
 // A message that is mostly expected of the leg's user.
-fn message_to_leg(alloc: Global, random: &mut Random, leg: Leg) -> Result<Vec<u8>, AllocError> {
+fn message_to_leg(
+    alloc: Global,
+    random: &mut Random,
+    exchange: &PlainExchange,
+    leg: Leg,
+) -> Result<Vec<u8>, AllocError> {
     let kind = if random.once_in(10) {
         draw_kind(random)
     } else {
@@ -99,7 +113,11 @@ fn message_to_leg(alloc: Global, random: &mut Random, leg: Leg) -> Result<Vec<u8
     };
     let flag = leg.side == Side::Called;
     let mut octets = header(alloc, flag, leg.reference, kind)?;
-    add_reply_elements(&mut octets, random)?;
+    if kind == INFORMATION {
+        add_next_part(&mut octets, random, exchange, leg.at)?;
+    } else {
+        add_reply_elements(&mut octets, random)?;
+    }
     damage(&mut octets, random);
     Ok(octets)
 }
@@ -318,7 +336,7 @@ fn add_called(
     } else {
         0
     };
-    let cut = if random.once_in(10) { 1 } else { 0 };
+    let cut = random.pick(&[0, 0, 0, 0, 0, 0, 0, 1, 2, 3]);
     let whole = digits.len().min(24) as u8;
     let length = (whole + extra).saturating_sub(cut);
     octets.extend_from_slice(&[CALLED_PARTY_NUMBER, length + 1, 0x80])?;

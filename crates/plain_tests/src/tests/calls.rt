@@ -263,6 +263,76 @@ fn more_digits_awaited(rt: HostRuntime) -> Result<(), Fail> {
 }
 
 #[test]
+fn a_number_in_parts(rt: HostRuntime) -> Result<(), Fail> {
+    let steps = [
+        Message(0, "0802000105040288906C0400803536700281317C0288907D029181"),
+        Message(0, "080200017B700180"),
+        Message(0, "080200017B6C0300803970028030"),
+        Message(0, "080200017BA17003803137"),
+        Message(0, "080200017B70028037"),
+        Message(1, "080280017B70028037"),
+        Message(0, "080200020504038090A3"),
+        Message(0, "080200027B7003803330"),
+        Message(0, "080200027B70028037"),
+    ];
+    let wanted = "1 message 0:080280010D1803A98381\n\
+        2 message\n\
+        3 message\n\
+        4 message 0:0802800102 1:0802000105A1040288901803A983816C0400803536\
+        700581313031377C0288907D029181\n\
+        5 message\n\
+        6 message 1:080200017D080282E5140106\n\
+        7 message 0:080280020D1803A98382\n\
+        8 message moved 0 0 0:0802800202 0:0802800207\n\
+        9 message\n";
+    assert!(rt; reports(rt.alloc(), 1, &steps, wanted)?);
+    Ok(())
+}
+
+// Callers who are cleared for what they dial: the SETUP, the INFORMATION, and what is sent. Line 1 is full,
+// and there is no port.
+const GIVEN_UP: [(&str, &str, &str); 9] = [
+    ("080200010504038090A3", "080200017B7000", "9C"),
+    (
+        "080200010504038090A3",
+        "080200017B70168031303131303131303131303131303131303131303131",
+        "9C",
+    ),
+    (
+        "080200010504038090A370028031",
+        "080200017B7015803031313031313031313031313031313031313031",
+        "9C",
+    ),
+    ("080200010504038090A370028031", "080200017BA17002802A", "9C"),
+    ("080200010504038090A370028031", "080200017B70028039", "81"),
+    ("080200010504038090A370028031", "080200017BA170028030", "9C"),
+    ("080200010504038090A370028031", "080200017BA1", "9C"),
+    ("080200010504038090A370028031", "080200017B7003803031", "A2"),
+    ("080200010504038090A370028033", "080200017B70028030", "AA"),
+];
+
+#[test]
+fn callers_are_cleared_for_what_they_dial(rt: HostRuntime) -> Result<(), Fail> {
+    let alloc = rt.alloc();
+    for (setup, information, cause) in GIVEN_UP {
+        let steps = [
+            Fill(1),
+            Message(0, setup),
+            Message(0, information),
+            Message(0, "080200014D"),
+        ];
+        let wanted = format!(in alloc;
+            "16 message 0:080280010D1803A98381\n\
+            17 message 0:0802800145080282{cause}\n\
+            18 message 0:080280015A\n"
+        )?;
+        let came = came_of(alloc, 0, false, &steps, wanted.as_str())?;
+        assert!(rt; came.is_reported && came.calls == 0 && came.legs == 0);
+    }
+    Ok(())
+}
+
+#[test]
 fn a_call_to_a_room(rt: HostRuntime) -> Result<(), Fail> {
     let setup = Message(0, "080200010504038090A37003803330");
     let seated = "1 message moved 0 0 0:08028001021803A98381 0:0802800107\n";

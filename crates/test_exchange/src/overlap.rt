@@ -1,0 +1,99 @@
+//! Numbers that are dialled in parts: overlap sending (ITU-T Q.931 (05/98), 5.1.3).
+
+use crate::elements::Received;
+use crate::exchange::PlainExchange;
+use crate::legs::Leg;
+use crate::new_call::Halt;
+use crate::numbers::Target;
+use crate::passed::Passed;
+use crate::sent::{Course, Sent};
+use crate::setup::Refusal;
+use crate::types::{CALLED_PARTY_NUMBER, SENDING_COMPLETE};
+use circuit_model::Slot;
+use std::alloc::{AllocError, Global};
+
+// What a caller in overlap sending sends.
+impl PlainExchange {
+    /// The contents of the called party number so far, from the caller at a slot of whom more digits are
+    /// awaited.
+    pub fn dialled(&self, at: Slot) -> Option<&[u8]> {
+        let passed = self.waiting.iter().find(|passed| passed.at == at)?;
+        Some(passed.called.as_slice())
+    }
+
+    /// Takes INFORMATION from a caller in overlap sending. With what is dialled then the call is made,
+    /// more digits are awaited, or the caller is cleared.
+    pub(crate) fn take_digits(
+        &mut self,
+        alloc: Global,
+        leg: Leg,
+        message: &Received,
+        sent: &mut Sent,
+    ) -> Result<(), AllocError> {
+        let place = self.waiting.iter().position(|passed| passed.at == leg.at);
+        let Some(place) = place else {
+            return Ok(());
+        };
+        let passed = self.waiting.swap_remove(place);
+        match self.dial(alloc, leg, passed, message, sent) {
+            Ok(()) => Ok(()),
+            Err(Halt::Memory(error)) => Err(error),
+            Err(Halt::Refused(refusal)) => {
+                sent.course = Course::GivenUp(refusal);
+                self.clear_leg(alloc, leg, refusal.cause(), sent)
+            }
+        }
+    }
+
+    /// Keeps what a caller said until the rest of its number comes.
+    pub(crate) fn keep(&mut self, passed: Passed) -> Result<(), AllocError> {
+        self.waiting.push(passed)?;
+        Ok(())
+    }
+
+    // Goes on with the digits of a message behind those before. The caller knows its channel already, so
+    // CALL PROCEEDING doesn't name it.
+    fn dial(
+        &mut self,
+        alloc: Global,
+        leg: Leg,
+        passed: Passed,
+        message: &Received,
+        sent: &mut Sent,
+    ) -> Result<(), Halt> {
+        let mut passed = passed;
+        if let Some(contents) = message.find(CALLED_PARTY_NUMBER) {
+            add_digits(&mut passed.called, contents)?;
+        }
+        let is_complete = message.find(SENDING_COMPLETE).is_some();
+        match self.target_of(passed.digits(), is_complete)? {
+            None => {
+                sent.course = Course::MoreDigits;
+                self.keep(passed)?;
+            }
+            Some(target) => {
+                self.lead(alloc, leg, &passed, target, None, sent)?;
+                sent.course = match target {
+                    Target::Line(_) => Course::DialledLine,
+                    Target::Room(_) => Course::DialledRoom,
+                };
+            }
+        }
+        Ok(())
+    }
+}
+
+// Adds the contents of a called party number to those before: whole where there are none, else without
+// the type octet.
+fn add_digits(called: &mut Vec<u8>, contents: &[u8]) -> Result<(), Halt> {
+    let more = match contents {
+        [] => return Err(Halt::Refused(Refusal::NoNumber)),
+        [_, digits @ ..] if !called.is_empty() => digits,
+        whole => whole,
+    };
+    if more.len() > 21usize.saturating_sub(called.len()) {
+        return Err(Halt::Refused(Refusal::NoNumber));
+    }
+    called.extend_from_slice(more)?;
+    Ok(())
+}

@@ -1,0 +1,93 @@
+//! What a caller says for the called user.
+
+ghost use Rattle.std.specs.Prelude.{◌<◌, length};
+
+use crate::elements::Received;
+use crate::legs::Side;
+use crate::types::{
+    BEARER_CAPABILITY, CALLED_PARTY_NUMBER, CALLING_PARTY_NUMBER, HIGH_LAYER_COMPATIBILITY,
+    LOW_LAYER_COMPATIBILITY, SENDING_COMPLETE, SETUP,
+};
+use crate::writing::{add_channel, add_element, bare_message};
+use circuit_model::Slot;
+use std::alloc::{AllocError, Global};
+
+/// The contents of the elements that are passed on from a caller to the called user, as they were
+/// received; none where there is no such element.
+#[derive(Drop)]
+pub(crate) struct Passed {
+    /// The caller's slot.
+    pub at: Slot,
+    pub bearer: Vec<u8>,
+    pub calling: Vec<u8>,
+    /// The type octet of the called party number, and its digits so far.
+    pub called: Vec<u8>,
+    pub low: Vec<u8>,
+    pub high: Vec<u8>,
+}
+
+impl Passed {
+    /// What a SETUP of the user at a slot says.
+    pub(crate) fn of(alloc: Global, at: Slot, setup: &Received) -> Result<Passed, AllocError> {
+        Ok(Passed {
+            at,
+            bearer: contents_of(alloc, setup, BEARER_CAPABILITY)?,
+            calling: contents_of(alloc, setup, CALLING_PARTY_NUMBER)?,
+            called: contents_of(alloc, setup, CALLED_PARTY_NUMBER)?,
+            low: contents_of(alloc, setup, LOW_LAYER_COMPATIBILITY)?,
+            high: contents_of(alloc, setup, HIGH_LAYER_COMPATIBILITY)?,
+        })
+    }
+
+    /// The octets of the digits so far.
+    pub(crate) fn digits(&self) -> &[u8] {
+        self.called.get(1..).unwrap_or(&[])
+    }
+
+    /// SETUP to the called user: the number is whole, what the caller said, and the called user's channel.
+    pub(crate) fn setup(
+        &self,
+        alloc: Global,
+        reference: u16,
+        place: u8,
+    ) -> Result<Vec<u8>, AllocError>
+        requires { place < 30 }
+    {
+        let mut octets = bare_message(alloc, Side::Called, reference, SETUP)?;
+        octets.push(SENDING_COMPLETE)?;
+        pass_on(&mut octets, BEARER_CAPABILITY, self.bearer.as_slice(), 10)?;
+        add_channel(&mut octets, place)?;
+        pass_on(
+            &mut octets,
+            CALLING_PARTY_NUMBER,
+            self.calling.as_slice(),
+            22,
+        )?;
+        pass_on(&mut octets, CALLED_PARTY_NUMBER, self.called.as_slice(), 21)?;
+        pass_on(
+            &mut octets,
+            LOW_LAYER_COMPATIBILITY,
+            self.low.as_slice(),
+            16,
+        )?;
+        pass_on(
+            &mut octets,
+            HIGH_LAYER_COMPATIBILITY,
+            self.high.as_slice(),
+            3,
+        )?;
+        Ok(octets)
+    }
+}
+
+fn contents_of(alloc: Global, setup: &Received, code: u8) -> Result<Vec<u8>, AllocError> {
+    Vec::from_slice(alloc, setup.find(code).unwrap_or(&[]))
+}
+
+// Passes an element on as it was received, unless it is empty or too long.
+fn pass_on(octets: &mut Vec<u8>, code: u8, contents: &[u8], longest: u8) -> Result<(), AllocError> {
+    if contents.is_empty() || contents.len() > usize::from(longest) {
+        return Ok(());
+    }
+    add_element(octets, code, contents)
+}
