@@ -1,7 +1,7 @@
 //! Whether a segment is worth threads.
 use std::cmp::{max, min};
 
-/// n events at least have to be done beside the largest part of a segment, for threads to pay
+/// How many events at least have to be done beside the largest part of a segment, for threads to pay
 /// (`bench/README.md` says where the number is measured).
 pub const FEWEST_BESIDE: u32 = 128;
 
