@@ -73,7 +73,7 @@ words_refusal = codes "refused words\n"
 
 -- ---- what is read
 
--- n bytes of an input are read at the most: as many as a trace may have, and one piece of 65,536 more
+-- how many bytes of an input are read at the most: as many as a trace may have, and one piece of 65,536 more
 abbrev pub most_read : ℕ
 most_read = most_bytes + 65536
 

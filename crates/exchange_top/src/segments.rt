@@ -34,7 +34,7 @@ use std::alloc::{AllocError, Global};
 use std::sync::Wait;
 use std::thread::Threads;
 
-// n bytes of a report are gathered before they are written, the lines of a segment together.
+// How many bytes of a report are gathered before they are written, the lines of a segment together.
 const PIECE: usize = 65_536;
 
 /// What goes from one segment to the next: the engine, the control memory of its next frame, and the

@@ -21,7 +21,7 @@ pub record SameHighwaySize (a b : Highways) : Type 0 where
 abbrev pub highways_with : Highways → List ℕ → Highways
 highways_with h ws = record { lines = h.lines; slots = h.slots; octets = take (length h.octets) (ws ++ drop (length ws) h.octets) }
 
--- n octets are the whole rows of some lines, from line `first` on, out of n lines with rows of m octets
+-- these octets are the whole rows of some lines, from line `first` on, out of n lines with rows of m octets
 pub record IsPart (lines width first octets : ℕ) : Type 0 where
   pub rows : ℕ
   pub whole : octets ≡ rows * width
@@ -31,13 +31,13 @@ pub record IsPart (lines width first octets : ℕ) : Type 0 where
 abbrev pub RowsHold : ℕ → (ℕ → ℕ → ℕ) → ℕ → List ℕ → Type 0
 RowsHold width octet first part = (row at : ℕ) → row * width < length part → at < width → slice_index part (row * width + at) ≡ octet (first + row) at
 
--- n octets are the whole rows of the lines from `first` up to `end`, out of n lines with rows of m octets
+-- these octets are the whole rows of the lines from `first` up to `end`, out of n lines with rows of m octets
 pub record AreRows (lines width first end octets : ℕ) : Type 0 where
   pub whole : octets ≡ (end - first) * width
   pub order : first ≤ end
   pub within : end ≤ lines
 
--- n octets, and each row of them holds these octets of its line
+-- there are n octets, and each row of them holds these octets of its line
 pub record AreFilled (width : ℕ) (octet : ℕ → ℕ → ℕ) (first octets : ℕ) (part : List ℕ) : Type 0 where
   pub size : length part ≡ octets
   pub rows : RowsHold width octet first part

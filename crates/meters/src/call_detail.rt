@@ -11,7 +11,7 @@ use std::alloc::{AllocError, Global};
 use std::collections::VecDeque;
 use std::marker::Model;
 
-/// Keeps the records of the last calls, n as it is made for.
+/// Keeps the records of the last calls, as many as it is made for.
 ///
 /// Its text has a line for each of them, the oldest first: `call CALLER CALLED FROM TO CAUSE`, where
 /// a slot is `L/C`, its line and its channel's number, and a room is `room R`.

@@ -40,7 +40,7 @@ impl Model for PathMemory {
 }
 
 impl PathMemory {
-    /// No path on n lines, external and bridge lines together, and n internal slots. The
+    /// No path on n lines, external and bridge lines together, and m internal slots. The
     /// only error is running out of memory.
     pub fn new(alloc: Global, lines: u8, slots: u8) -> Result<PathMemory, AllocError>
         requires lines { (0 < lines) × (lines ≤ 34) }

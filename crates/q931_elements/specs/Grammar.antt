@@ -5,7 +5,7 @@ use Rattle.std.specs.List.{AllByRecursion, flat_map}
 use Rattle.q931_elements.specs.InformationElement.{InformationElement}
 
 -- The two formats: a single octet, whose top bit is 1, and an identifier, whose top bit is 0, with a
--- length and n octets of contents (4.5.1).
+-- length and as many octets of contents (4.5.1).
 pub data Item : Type 0 where
   SingleOctet : ℕ → Item
   VariableLength : ℕ → List ℕ → Item

@@ -3,7 +3,7 @@ ghost use Rattle.std.specs.Prelude.{◌≤◌, ◌↔◌, IsTrue};
 ghost use Rattle.segment_run.specs.Choice.{events_beside};
 ghost use Rattle.segment_run.specs.declared.choice.TheConstants.{FEWEST_BESIDE};
 
-/// n events at least have to be done beside the largest part of a segment, for threads to pay
+/// How many events at least have to be done beside the largest part of a segment, for threads to pay
 /// (`bench/README.md` says where the number is measured).
 pub const FEWEST_BESIDE: u32 = 128;
 

@@ -16,7 +16,7 @@ sends control speech line slot = fetched (sent control line slot) (λ place. oct
 abbrev pub reads : Control → Highways → ℕ → ℕ → ℕ
 reads control crossed line place = fetched (read control line place) (octet_on crossed line)
 
--- n octets have in their rows, of n each, what the lines from `first` on send
+-- these octets have in their rows, of m each, what the lines from `first` on send
 abbrev pub AreSent : ℕ → Control → Speech → ℕ → ℕ → List ℕ → Type 0
 AreSent slots control speech first octets part = AreFilled slots (sends control speech) first octets part
 

@@ -10,7 +10,7 @@ use Rattle.trace_text.specs.declared.said.Said.TheVariants.{Nothing, Header, Num
 use Rattle.trace_text.specs.TraceGrammar.{events_in, open_segment_end, ends_after, segment_ends, changes_after, changes_in}
 use Rattle.exchange_events.specs.Sound.{last_of, AreSegments, AreChanges}
 
--- the ends of some segments, behind n events, of which n came before the first of these segments
+-- the ends of some segments, behind n events, of which m came before the first of these segments
 pub record AreEnds (begun last : ℕ) (ends : List ℕ) : Type 0 where
   pub above : All (λ n. begun < n) ends
   pub rising : AllPairs (λ m n. m < n) ends

@@ -100,7 +100,7 @@ timers_of given = fold with_timer no_timers given
 abbrev pub open_segment_end : ℕ → ℕ → List ℕ
 open_segment_end begun count = if begun == count then [] else count ∷ []
 
--- the numbers of the last events of the segments that have any. n events came before, and n before the segment that is open
+-- the numbers of the last events of the segments that have any. n events came before, and m before the segment that is open
 abbrev pub ends_after : ℕ → ℕ → List Said → List ℕ
 ends_after begun count [] = open_segment_end begun count
 ends_after begun count (Nothing ∷ others) = ends_after begun count others

@@ -18,7 +18,7 @@ event_count-append : (xs ys : List Line) → event_count (xs ++ ys) ≡ event_co
 event_count-append [] ys = omega arith
 event_count-append (x ∷ xs) ys = let rest = event_count-append xs ys in omega (arith, rest)
 
--- a list has n lines at most, and n events
+-- a list has n lines at most, and m events
 record Counts (lines : List Line) (most events : ℕ) : Type 0 where
   few : length lines ≤ most
   fewer : event_count lines ≤ events
