@@ -145,7 +145,16 @@ fn copy_row(to: &mut Vec<HeardWord>, from: &[HeardWord], line: u8)
     ensures others { (l place : ℕ) → (l ≡ line → ⊥) → place < 30 → heard_on to.new.items l place ≡ heard_on to.old.items l place }
 {
     let start = usize::from(PLACES) * usize::from(line);
-    for at in start..start + usize::from(PLACES) {
-        to[at] = from[at].copied();
+    let end = start + usize::from(PLACES);
+    copy_words(&mut to[start..end], &from[start..end]);
+}
+
+// Copies as many words.
+fn copy_words(to: &mut [HeardWord], from: &[HeardWord])
+    requires { length from.now ≡ length to.old }
+    ensures { to.new ≡ from.now }
+{
+    for (at, word) in to.iter_mut().enumerate() {
+        *word = from[at].copied();
     }
 }

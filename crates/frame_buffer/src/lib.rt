@@ -1,7 +1,7 @@
 //! Where the octets of a frame are between two steps: speech memories, highways, a delay line.
 //!
 //! - [`FrameBuffer`] has two halves: `get` reads the one that was filled before `swap`, and
-//!   `put_line` fills the other (`filled`) and leaves the first (`readable`).
+//!   `put_line` and `make_lines_idle` fill the other (`filled`) and leave the first (`readable`).
 //! - [`Highway`] and [`Crossed`] hold an octet for each line and internal slot: a write changes
 //!   that one alone (`here`, `others`).
 //! - `parts` and `filled` hand out the rows of all lines to be written, whole or in parts (`writes_back`).

@@ -1,0 +1,8 @@
+use Rattle.std.proofs.Common.{◌∙◌, sym, arith}
+use Rattle.std.proofs.lemmas.List.{ext_get_or}
+use Rattle.control_memory.specs.declared.heard.Heard.TheVariants.{Silent}
+use Rattle.control_memory.proofs.heard_table.copy_words.Goals as goal
+
+pub returns : goal.returns
+returns c =
+    ext_get_or Silent c.loop-at.to c.args.from.now (c.loop-at.auto.to ∙ sym c.requires) (λ k inside. c.loop-at.invariant k (omega (arith, inside, c.loop-at.auto, c.loop-at-test.false)))
