@@ -192,10 +192,10 @@ rows_text (suc k) rows (octet ∷ octets) all so_far found = by_row (rows_text k
 part_apart : (line : ℕ) (row rest : List ℕ) → is_idle row ≡ true → is_apart rest ≡ true → is_apart (part line row ++ rest) ≡ true
 part_apart line row rest idle apart = rw idle apart
 
-part_busy : (line : ℕ) (row : List ℕ) → is_idle row ≡ false → part line row ≡ on_line line row
+pub part_busy : (line : ℕ) (row : List ℕ) → is_idle row ≡ false → part line row ≡ on_line line row
 part_busy line row busy = rw busy refl
 
-part_idle : (line : ℕ) (row : List ℕ) → is_idle row ≡ true → part line row ≡ []
+pub part_idle : (line : ℕ) (row : List ℕ) → is_idle row ≡ true → part line row ≡ []
 part_idle line row idle = rw idle refl
 
 line_apart : (line : ℕ) (row rest : List ℕ) → is_apart (on_line line row ++ rest) ≡ true
