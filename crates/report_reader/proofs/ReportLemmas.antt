@@ -7,7 +7,7 @@ use Rattle.exchange_events.specs.declared.answer.Answer.{Answer}
 use Rattle.report_text.specs.Report.{answer_line}
 use Rattle.report_reader.specs.declared.report.ReportFault.{ReportFault}
 use Rattle.report_reader.specs.declared.report.ReportFault.TheVariants.{Memory, Line}
-use Rattle.report_reader.specs.Spelling.{is_unbroken, IsFault, IsFaultyAt, IsNormal, IsReport, Spells, lines_of}
+use Rattle.report_reader.specs.Spelling.{is_unbroken, IsFault, IsFaultyAt, IsNormal, IsReport, Spells, answer_lines}
 use Rattle.report_reader.specs.Reading.{reading}
 use Rattle.report_reader.proofs.FeedLemmas.{IsCut, broken, cut_of, same_line}
 use Rattle.report_reader.proofs.LineLemmas.{line_of, line_spells, line_unbroken, one_spelled, reading_spells, spelled}
@@ -25,14 +25,14 @@ record Starts (bytes : List ℕ) : Type 0 where
 line_before : (answer : Answer) (rest : List ℕ) → IsNormal answer → answer_line answer ++ rest ≡ line_of answer ++ 10 ∷ rest
 line_before answer rest normal = ap (λ (l : List ℕ). l ++ rest) (line_spells answer normal).printed ∙ append_assoc (line_of answer) (10 ∷ []) rest
 
-starts_with : (bytes rest : List ℕ) (answer : Answer) (answers : List Answer) → All IsNormal (answer ∷ answers) → bytes ≡ lines_of (answer ∷ answers) ++ rest → Starts bytes
+starts_with : (bytes rest : List ℕ) (answer : Answer) (answers : List Answer) → All IsNormal (answer ∷ answers) → bytes ≡ answer_lines (answer ∷ answers) ++ rest → Starts bytes
 starts_with bytes rest answer answers normal at =
     let here = All-head IsNormal answer answers normal in
     record {
       line = line_of answer;
-      rest = lines_of answers ++ rest;
+      rest = answer_lines answers ++ rest;
       answer = answer;
-      there = at ∙ append_assoc (answer_line answer) (lines_of answers) rest ∙ line_before answer (lines_of answers ++ rest) here;
+      there = at ∙ append_assoc (answer_line answer) (answer_lines answers) rest ∙ line_before answer (answer_lines answers ++ rest) here;
       spells = line_spells answer here;
     }
 
@@ -51,7 +51,7 @@ unfolding Meet
 meet_later x y xs ys r s same (inl equal) = inl (rw (same, equal.0) refl, equal.1)
 meet_later x y xs ys r s same (inr starts) = inr starts
 
-meet : (xs ys : List Answer) (r s : List ℕ) → All IsNormal xs → All IsNormal ys → lines_of xs ++ r ≡ lines_of ys ++ s → Meet xs ys r s
+meet : (xs ys : List Answer) (r s : List ℕ) → All IsNormal xs → All IsNormal ys → answer_lines xs ++ r ≡ answer_lines ys ++ s → Meet xs ys r s
 unfolding Meet
 meet [] [] r s first second same = inl (refl, same)
 meet [] (y ∷ ys) r s first second same = inr (inl (starts_with r s y ys second same))
@@ -59,9 +59,9 @@ meet (x ∷ xs) [] r s first second same = inr (inr (starts_with s r x xs first 
 meet (x ∷ xs) (y ∷ ys) r s first second same =
     let here = All-head IsNormal x xs first in
     let there = All-head IsNormal y ys second in
-    let bytes = sym (line_before x (lines_of xs ++ r) here) ∙ sym (append_assoc (answer_line x) (lines_of xs) r) ∙ same ∙ append_assoc (answer_line y) (lines_of ys) s
-      ∙ line_before y (lines_of ys ++ s) there in
-    let lines = same_line (line_of x) (line_of y) (lines_of xs ++ r) (lines_of ys ++ s) (line_unbroken (line_of x) x (line_spells x here)) (line_unbroken (line_of y) y (line_spells y there)) bytes in
+    let bytes = sym (line_before x (answer_lines xs ++ r) here) ∙ sym (append_assoc (answer_line x) (answer_lines xs) r) ∙ same ∙ append_assoc (answer_line y) (answer_lines ys) s
+      ∙ line_before y (answer_lines ys ++ s) there in
+    let lines = same_line (line_of x) (line_of y) (answer_lines xs ++ r) (answer_lines ys ++ s) (line_unbroken (line_of x) x (line_spells x here)) (line_unbroken (line_of y) y (line_spells y there)) bytes in
     let spells = line_spells y there in
     let equal : x ≡ y = one_spelled (line_of x) x y (line_spells x here) (rw lines.0 spells) in
     meet_later x y xs ys r s equal (meet xs ys r s (All-tail IsNormal x xs first) (All-tail IsNormal y ys second) lines.1)
@@ -74,7 +74,7 @@ no_start bytes n fault starts = fault.faulty starts.line starts.rest starts.answ
 pub one_report : (bytes : List ℕ) (xs ys : List Answer) → IsReport bytes xs → IsReport bytes ys → xs ≡ ys
 unfolding Meet
 one_report bytes xs ys first second =
-    by_case (meet xs ys [] [] first.normal second.normal (append-nil (lines_of xs) ∙ sym first.printed ∙ second.printed ∙ sym (append-nil (lines_of ys))))
+    by_case (meet xs ys [] [] first.normal second.normal (append-nil (answer_lines xs) ∙ sym first.printed ∙ second.printed ∙ sym (append-nil (answer_lines ys))))
   where
     by_case : Meet xs ys [] [] → xs ≡ ys
     by_case (inl same) = same.0
@@ -84,7 +84,7 @@ one_report bytes xs ys first second =
 pub never_both : (bytes : List ℕ) (answers : List Answer) (n : ℕ) → IsReport bytes answers → IsFaultyAt bytes n → ⊥
 unfolding Meet
 never_both bytes answers n report fault =
-    by_case (meet answers fault.before [] fault.behind report.normal fault.normal (append-nil (lines_of answers) ∙ sym report.printed ∙ fault.printed))
+    by_case (meet answers fault.before [] fault.behind report.normal fault.normal (append-nil (answer_lines answers) ∙ sym report.printed ∙ fault.printed))
   where
     by_case : Meet answers fault.before [] fault.behind → ⊥
     by_case (inl same) = let some = fault.some in let empty : 0 ≡ length fault.behind = ap length same.1 in absurd (omega arith)
@@ -103,13 +103,13 @@ one_fault bytes m n first second =
 
 -- ---- line by line
 
-lines_append : (xs ys : List Answer) → lines_of (xs ++ ys) ≡ lines_of xs ++ lines_of ys
+lines_append : (xs ys : List Answer) → answer_lines (xs ++ ys) ≡ answer_lines xs ++ answer_lines ys
 lines_append [] ys = refl
-lines_append (x ∷ xs) ys = ap (λ (l : List ℕ). answer_line x ++ l) (lines_append xs ys) ∙ sym (append_assoc (answer_line x) (lines_of xs) (lines_of ys))
+lines_append (x ∷ xs) ys = ap (λ (l : List ℕ). answer_line x ++ l) (lines_append xs ys) ∙ sym (append_assoc (answer_line x) (answer_lines xs) (answer_lines ys))
 
 -- the answers so far are those of the lines before the rest
 pub record HasRead (bytes : List ℕ) (answers : List Answer) (rest : List ℕ) : Type 0 where
-  pub printed : bytes ≡ lines_of answers ++ rest
+  pub printed : bytes ≡ answer_lines answers ++ rest
   pub normal : All IsNormal answers
   pub room : length answers + length rest ≤ length bytes
 
@@ -121,9 +121,9 @@ pub read_more : (bytes : List ℕ) (answers more : List Answer) (rest line other
 read_more bytes answers more rest line others answer so_far there spells pushed =
     let long = ap length there in
     rw pushed (record {
-      printed = so_far.printed ∙ ap (λ (l : List ℕ). lines_of answers ++ l) (there ∙ sym (append_assoc line (10 ∷ []) others) ∙ ap (λ (l : List ℕ). l ++ others) (sym spells.printed))
-        ∙ sym (append_assoc (lines_of answers) (answer_line answer) others)
-        ∙ ap (λ (l : List ℕ). l ++ others) (ap (λ (l : List ℕ). lines_of answers ++ l) (sym (append-nil (answer_line answer))) ∙ sym (lines_append answers (answer ∷ [])));
+      printed = so_far.printed ∙ ap (λ (l : List ℕ). answer_lines answers ++ l) (there ∙ sym (append_assoc line (10 ∷ []) others) ∙ ap (λ (l : List ℕ). l ++ others) (sym spells.printed))
+        ∙ sym (append_assoc (answer_lines answers) (answer_line answer) others)
+        ∙ ap (λ (l : List ℕ). l ++ others) (ap (λ (l : List ℕ). answer_lines answers ++ l) (sym (append-nil (answer_line answer))) ∙ sym (lines_append answers (answer ∷ [])));
       normal = All-push IsNormal answers answer so_far.normal spells.normal;
       room = omega (arith, so_far.room, long, length-append line (10 ∷ others), length-append answers (answer ∷ []));
     })
@@ -132,7 +132,7 @@ pub shorter : (rest line others : List ℕ) → rest ≡ line ++ 10 ∷ others �
 shorter rest line others there = let long = ap length there in omega (arith, long, length-append line (10 ∷ others))
 
 pub all_read : (bytes : List ℕ) (answers : List Answer) (rest : List ℕ) → HasRead bytes answers rest → length rest ≡ 0 → IsReport bytes answers
-all_read bytes answers [] so_far empty = record { printed = so_far.printed ∙ append-nil (lines_of answers); normal = so_far.normal }
+all_read bytes answers [] so_far empty = record { printed = so_far.printed ∙ append-nil (answer_lines answers); normal = so_far.normal }
 all_read bytes answers (octet ∷ rest) so_far empty = absurd (omega arith)
 
 -- no line feed ends the line

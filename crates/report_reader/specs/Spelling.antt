@@ -78,13 +78,13 @@ abbrev pub is_unbroken : List ℕ → Bool
 is_unbroken octets = list_all (λ octet. not (octet == 10)) octets
 
 -- the lines of answers, one after another
-abbrev pub lines_of : List Answer → List ℕ
-lines_of [] = []
-lines_of (answer ∷ answers) = answer_line answer ++ lines_of answers
+abbrev pub answer_lines : List Answer → List ℕ
+answer_lines [] = []
+answer_lines (answer ∷ answers) = answer_line answer ++ answer_lines answers
 
 -- bytes are a report: the lines of answers in normal form
 pub record IsReport (bytes : List ℕ) (answers : List Answer) : Type 0 where
-  pub printed : bytes ≡ lines_of answers
+  pub printed : bytes ≡ answer_lines answers
   pub normal : All IsNormal answers
 
 -- line n of bytes is the first that spells no answer or that no line feed ends: the lines before it are those of answers, and no line behind
@@ -92,7 +92,7 @@ pub record IsReport (bytes : List ℕ) (answers : List Answer) : Type 0 where
 pub record IsFaultyAt (bytes : List ℕ) (n : ℕ) : Type 0 where
   pub before : List Answer
   pub behind : List ℕ
-  pub printed : bytes ≡ lines_of before ++ behind
+  pub printed : bytes ≡ answer_lines before ++ behind
   pub normal : All IsNormal before
   pub number : n ≡ length before + 1
   pub some : 0 < length behind
