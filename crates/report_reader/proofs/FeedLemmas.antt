@@ -1,6 +1,5 @@
 -- Lines have no line feed in them.
-use Rattle.std.proofs.Common.{◌≡◌, ℕ, zero, suc, ◌+◌, ◌/◌, ◌%◌, ◌^◌, ◌<◌, ◌≤◌, Bool, true, false, not, ◌&&◌, eqb, ltb, cond, List, [], ◌∷◌, ◌++◌, length, get_or, take, drop, codes, decimal, ◌⊎◌, slice_index, All, Option, Some, None, IfSome, refl, sym, ap, ◌∙◌, arith, append_assoc, inl, inr}
-use Rattle.std.specs.List.{list_all}
+use Rattle.std.proofs.Common.{◌≡◌, ℕ, zero, suc, ◌+◌, ◌/◌, ◌%◌, ◌^◌, ◌<◌, ◌≤◌, Bool, true, not, eqb, List, [], ◌∷◌, ◌++◌, length, get_or, take, drop, codes, decimal, ◌⊎◌, slice_index, All, Option, Some, None, IfSome, refl, ap, ◌∙◌, arith, append_assoc, inl, inr}
 use Rattle.std.proofs.lemmas.Bool.{and_from, and_parts, cases_Bool, cases_eq, eq-eqb, eqb-true, ne_eqb}
 use Rattle.std.proofs.lemmas.List.{append-nil}
 use Rattle.std.proofs.lemmas.List.Folds.{list_all-append}
@@ -11,8 +10,8 @@ use Rattle.hex.specs.Hex.{encode_upper, encode_with, upper_digits}
 use Rattle.exchange_events.specs.declared.answer.Kept.{Kept}
 use Rattle.exchange_events.specs.declared.answer.Kept.TheVariants.{Granted, Busy, Seated, NoPort, Freed, NotNailed, Sent, Frame}
 use Rattle.exchange_events.specs.declared.signal.Signal.{Signal}
-use Rattle.report_text.specs.Report.{on_line, part, parts}
-use Rattle.report_reader.specs.Spelling.{AreRows, AreOctets, AreToldOctets, IsHeld, IsRow, IsSendable, IsToldReply, is_idle, is_unbroken}
+use Rattle.report_text.specs.Report.{on_line, parts}
+use Rattle.report_reader.specs.Spelling.{AreOctets, AreToldOctets, IsHeld, IsRow, IsSendable, IsToldReply, is_idle, is_unbroken}
 use Rattle.report_reader.proofs.OctetLemmas.{digit_plain}
 use Rattle.report_reader.proofs.SignalLemmas.{line_text, told}
 use Rattle.report_reader.proofs.RowLemmas.{part_busy, part_idle}

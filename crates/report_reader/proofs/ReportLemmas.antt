@@ -1,8 +1,8 @@
 -- Reports, line by line.
-use Rattle.std.proofs.Common.{◌≡◌, ℕ, zero, suc, ◌+◌, ◌<◌, ◌≤◌, true, List, [], ◌∷◌, ◌++◌, length, codes, All, ◌⊎◌, inl, inr, Option, Some, None, Result, Ok, Err, IfOk, IfErr, MatchOption, refl, sym, ap, ◌∙◌, arith, append_assoc, length-append}
+use Rattle.std.proofs.Common.{◌≡◌, ℕ, zero, suc, ◌+◌, ◌<◌, ◌≤◌, true, List, [], ◌∷◌, ◌++◌, length, All, ◌⊎◌, inl, inr, Option, Some, None, Result, Ok, Err, IfOk, IfErr, MatchOption, refl, sym, ap, ◌∙◌, arith, append_assoc, length-append}
 use Rattle.std.proofs.lemmas.Bool.{cases_lt}
 use Rattle.std.proofs.lemmas.List.{append-nil}
-use Rattle.std.proofs.lemmas.List.Elements.{All-nil, All-cons, All-head, All-tail, All-append, All-push}
+use Rattle.std.proofs.lemmas.List.Elements.{All-nil, All-head, All-tail, All-push}
 use Rattle.exchange_events.specs.declared.answer.Answer.{Answer}
 use Rattle.report_text.specs.Report.{answer_line}
 use Rattle.report_reader.specs.declared.report.ReportFault.{ReportFault}
@@ -10,7 +10,7 @@ use Rattle.report_reader.specs.declared.report.ReportFault.TheVariants.{Memory, 
 use Rattle.report_reader.specs.Spelling.{is_unbroken, IsFault, IsFaultyAt, IsNormal, IsReport, Spells, answer_lines}
 use Rattle.report_reader.specs.Reading.{reading}
 use Rattle.report_reader.proofs.FeedLemmas.{IsCut, broken, cut_of, same_line}
-use Rattle.report_reader.proofs.LineLemmas.{line_of, line_spells, line_unbroken, one_spelled, reading_spells, spelled}
+use Rattle.report_reader.proofs.LineLemmas.{line_of, line_spells, line_unbroken, one_spelled, spelled}
 
 -- ---- two lists of lines at the front of the same bytes
 
@@ -60,7 +60,7 @@ meet (x ∷ xs) (y ∷ ys) r s first second same =
     let here = All-head IsNormal x xs first in
     let there = All-head IsNormal y ys second in
     let bytes = sym (line_before x (answer_lines xs ++ r) here) ∙ sym (append_assoc (answer_line x) (answer_lines xs) r) ∙ same ∙ append_assoc (answer_line y) (answer_lines ys) s
-      ∙ line_before y (answer_lines ys ++ s) there in
+    ∙ line_before y (answer_lines ys ++ s) there in
     let lines = same_line (line_of x) (line_of y) (answer_lines xs ++ r) (answer_lines ys ++ s) (line_unbroken (line_of x) x (line_spells x here)) (line_unbroken (line_of y) y (line_spells y there)) bytes in
     let spells = line_spells y there in
     let equal : x ≡ y = one_spelled (line_of x) x y (line_spells x here) (rw lines.0 spells) in
@@ -122,8 +122,8 @@ read_more bytes answers more rest line others answer so_far there spells pushed 
     let long = ap length there in
     rw pushed (record {
       printed = so_far.printed ∙ ap (λ (l : List ℕ). answer_lines answers ++ l) (there ∙ sym (append_assoc line (10 ∷ []) others) ∙ ap (λ (l : List ℕ). l ++ others) (sym spells.printed))
-        ∙ sym (append_assoc (answer_lines answers) (answer_line answer) others)
-        ∙ ap (λ (l : List ℕ). l ++ others) (ap (λ (l : List ℕ). answer_lines answers ++ l) (sym (append-nil (answer_line answer))) ∙ sym (lines_append answers (answer ∷ [])));
+          ∙ sym (append_assoc (answer_lines answers) (answer_line answer) others)
+          ∙ ap (λ (l : List ℕ). l ++ others) (ap (λ (l : List ℕ). answer_lines answers ++ l) (sym (append-nil (answer_line answer))) ∙ sym (lines_append answers (answer ∷ [])));
       normal = All-push IsNormal answers answer so_far.normal spells.normal;
       room = omega (arith, so_far.room, long, length-append line (10 ∷ others), length-append answers (answer ∷ []));
     })
@@ -143,7 +143,7 @@ lost_end bytes answers rest n so_far some whole number = record {
   printed = so_far.printed;
   normal = so_far.normal;
   number = number;
-  some = elim (cases_lt 0 (length rest)) [ | inl more ↦ more | inr none ↦ absurd (some (omega arith)) ];
+  some = elim (cases_lt 0 (length rest)) [ inl more ↦ more | inr none ↦ absurd (some (omega arith)) ];
   faulty = λ line others answer there spells. broken line others (rw (there ∙ append_assoc line (10 ∷ []) others) at whole);
 }
 
@@ -160,8 +160,8 @@ lost_line bytes answers rest line others n so_far cut none number =
       number = number;
       some = omega (arith, less);
       faulty = λ other more answer there spells.
-        let same = same_line line other others more cut.first (line_unbroken other answer spells) (sym cut.there ∙ there ∙ append_assoc other (10 ∷ []) more) in
-        none answer (rw same.0 spells);
+          let same = same_line line other others more cut.first (line_unbroken other answer spells) (sym cut.there ∙ there ∙ append_assoc other (10 ∷ []) more) in
+          none answer (rw same.0 spells);
     }
 
 -- ---- each text has a reading
@@ -182,6 +182,7 @@ read_on (suc k) bytes answers (octet ∷ rest) enough so_far = by_cut (read_on k
     by_line later line others cut (Some answer) spells =
         let less = shorter (octet ∷ rest) line others cut.there in
         later (answers ++ answer ∷ []) others (omega arith) (read_more bytes answers (answers ++ answer ∷ []) (octet ∷ rest) line others answer so_far cut.there spells refl)
+
     by_cut : ((more : List Answer) (left : List ℕ) → length left < k → HasRead bytes more left → ((answers : List Answer) × IsReport bytes answers) ⊎ ((n : ℕ) × IsFaultyAt bytes n))
         → (is_unbroken (octet ∷ rest) ≡ true) ⊎ ((line : List ℕ) × (others : List ℕ) × IsCut (octet ∷ rest) line others)
         → ((answers : List Answer) × IsReport bytes answers) ⊎ ((n : ℕ) × IsFaultyAt bytes n)

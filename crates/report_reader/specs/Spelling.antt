@@ -1,5 +1,5 @@
 -- Which answers the lines of a report spell. Source: this exchange's own.
-use Rattle.std.specs.Prelude.{◌≡◌, ℕ, ◌+◌, ◌^◌, ◌<◌, ◌≤◌, ◌==◌, Bool, false, not, List, [], ◌∷◌, ◌++◌, length, codes, All, IfSome, Option, None, ⊤}
+use Rattle.std.specs.Prelude.{◌≡◌, ℕ, ◌+◌, ◌^◌, ◌<◌, ◌≤◌, ◌==◌, Bool, false, not, List, [], ◌∷◌, ◌++◌, length, codes, All, IfSome, None, ⊤}
 use Rattle.std.specs.List.{last_or, list_all}
 use Rattle.circuit_model.specs.FrameInput.{idle_octet}
 use Rattle.q931_elements.specs.Limits.{longest_message}

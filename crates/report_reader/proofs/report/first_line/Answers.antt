@@ -1,4 +1,4 @@
-use Rattle.std.proofs.Common.{◌≡◌, ◌+◌, List, ℕ, Some, None, length, take, drop, add-one, rules, true}
+use Rattle.std.proofs.Common.{◌≡◌, ◌+◌, add-one, rules, true}
 use Rattle.std.proofs.lemmas.List.{take_rest}
 use Rattle.report_reader.specs.Spelling.{is_unbroken}
 use Rattle.report_reader.proofs.FeedLemmas.{found_first, found_none}

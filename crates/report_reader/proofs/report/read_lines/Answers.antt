@@ -1,4 +1,4 @@
-use Rattle.std.proofs.Common.{◌≡◌, ◌+◌, ◌++◌, ◌∷◌, ℕ, List, Option, Some, None, MatchOption, length, arith}
+use Rattle.std.proofs.Common.{◌+◌, ℕ, List, arith}
 use Rattle.std.proofs.lemmas.Option.{MatchOption-at_none, MatchOption-at_some}
 use Rattle.exchange_events.specs.declared.answer.Answer.{Answer}
 use Rattle.report_reader.specs.Spelling.{Spells}

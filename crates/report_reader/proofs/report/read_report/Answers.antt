@@ -1,5 +1,3 @@
-use Rattle.std.proofs.Common.{Vec, List}
-use Rattle.exchange_events.specs.declared.answer.Answer.{Answer}
 use Rattle.report_reader.proofs.ReportLemmas.{reads_each, refused, refuses_each}
 use Rattle.report_reader.proofs.report.read_report.Goals as goal
 
