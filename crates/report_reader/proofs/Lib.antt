@@ -6,3 +6,5 @@ pub mod SignalLemmas
 pub mod RowLemmas
 pub mod ReplyLemmas
 pub mod LineLemmas
+pub mod FeedLemmas
+pub mod ReportLemmas

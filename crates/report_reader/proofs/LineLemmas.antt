@@ -1,22 +1,22 @@
 -- Lines of a report.
-use Rattle.std.proofs.Common.{◌≡◌, ℕ, suc, ◌+◌, ◌^◌, ◌<◌, ◌≤◌, Bool, true, false, leb, ◌&&◌, List, [], ◌∷◌, ◌++◌, length, codes, decimal, Option, Some, None, Result, Ok, Err, IfOk, MatchOption, refl, sym, ap, ◌∙◌, arith, append_assoc}
+use Rattle.std.proofs.Common.{◌≡◌, ℕ, ◌^◌, ◌<◌, true, false, leb, List, ◌++◌, length, codes, decimal, Option, Some, None, Result, Ok, Err, IfOk, MatchOption, refl, sym, ap, ◌∙◌, arith, append_assoc}
 use Rattle.std.proofs.lemmas.Bool.{and_parts, le-leb, leb-true}
-use Rattle.std.proofs.lemmas.List.{append-nil, append_cancel_right}
+use Rattle.std.proofs.lemmas.List.{append_cancel_right}
 use Rattle.std.proofs.lemmas.Option.{same_Some}
 use Rattle.circuit_model.specs.Channels.{between}
 use Rattle.exchange_events.specs.declared.answer.Answer.{Answer}
 use Rattle.exchange_events.specs.declared.answer.Kept.{Kept}
 use Rattle.exchange_events.specs.declared.answer.Kept.TheVariants.{Granted, Busy, Seated, NoPort, Freed, NotNailed, Sent, Frame}
-use Rattle.exchange_events.specs.declared.signal.Signal.{Signal}
-use Rattle.report_text.specs.Report.{answer_line, frame_messages, lines_sent, messages, moves, octet_of, parts, report_line}
+use Rattle.report_text.specs.Report.{answer_line, lines_sent, moves, octet_of, report_line}
 use Rattle.report_reader.specs.declared.word.Word.{Word}
-use Rattle.report_reader.specs.Spelling.{AreToldOctets, IsNormal, Spells}
-use Rattle.report_reader.specs.Reading.{number_at, passing, reading, told_of, word_at, ◌>>=◌}
+use Rattle.report_reader.specs.Spelling.{AreToldOctets, IsNormal, Spells, is_unbroken}
+use Rattle.report_reader.specs.Reading.{number_at, passing, reading, told_of, word_at}
 use Rattle.report_reader.proofs.StepLemmas.{both, passed}
 use Rattle.report_reader.proofs.NumberLemmas.{number_back, number_text, starts_digit}
-use Rattle.report_reader.proofs.SignalLemmas.{frame_messages_told, messages_told, told}
+use Rattle.report_reader.proofs.SignalLemmas.{frame_messages_told, messages_told}
 use Rattle.report_reader.proofs.RowLemmas.{rows_sent}
-use Rattle.report_reader.proofs.ReplyLemmas.{IsToldIn, body, moved_text, pair, told_back, told_text, word_back, word_of, word_text, word_there}
+use Rattle.report_reader.proofs.FeedLemmas.{event_unbroken, reply_unbroken}
+use Rattle.report_reader.proofs.ReplyLemmas.{IsToldIn, body, moved_text, told_back, told_text, word_back, word_of, word_text, word_there}
 
 -- a reply's word, and the text behind it
 abbrev pub reply_text : List (List ℕ) → Kept → List ℕ
@@ -111,3 +111,18 @@ pub spelled_ok : {E : Type 0} (line : List ℕ) (read : Result (Option Answer) E
     → IfOk read (λ found. MatchOption found ((answer : Answer) → Spells line answer → ⊥) (λ answer. Spells line answer))
 spelled_ok line (Ok found) is = spelled line found is
 spelled_ok line (Err e) is = tt
+
+-- the line of an answer, without the line feed that ends it
+abbrev pub line_of : Answer → List ℕ
+line_of answer = decimal answer.event ++ reply_text answer.octets answer.reply
+
+pub line_spells : (answer : Answer) → IsNormal answer → Spells (line_of answer) answer
+line_spells answer normal = record { printed = answer_is answer normal; normal = normal }
+
+-- a line that spells an answer has no line feed
+pub line_unbroken : (line : List ℕ) (answer : Answer) → Spells line answer → is_unbroken line ≡ true
+line_unbroken line answer spells =
+    let normal = spells.normal in
+    let rest : List ℕ = reply_text answer.octets answer.reply in
+    let text : line ≡ decimal answer.event ++ rest = append_cancel_right line (decimal answer.event ++ rest) (codes "\n") (sym spells.printed ∙ answer_is answer normal) in
+    rw text (event_unbroken answer.event rest (omega (arith, normal.event.1)) (reply_unbroken answer.reply answer.octets normal.reply normal.octets))

@@ -1,13 +1,12 @@
 -- Decimal numbers at the front of octets.
-use Rattle.std.proofs.Common.{◌≡◌, ℕ, zero, suc, ◌+◌, ◌-◌, ◌*◌, ◌/◌, ◌%◌, ◌^◌, ◌<◌, ◌≤◌, Bool, true, false, cond, ◌||◌, eqb, leb, List, [], ◌∷◌, ◌++◌, length, Option, Some, None, decimal, refl, sym, ap, ◌∙◌, arith, inl, inr, append_assoc}
+use Rattle.std.proofs.Common.{◌≡◌, ℕ, ◌+◌, ◌-◌, ◌*◌, ◌/◌, ◌%◌, ◌^◌, ◌<◌, ◌≤◌, Bool, true, false, cond, ◌||◌, eqb, leb, List, [], ◌∷◌, ◌++◌, length, Some, None, decimal, refl, sym, ap, ◌∙◌, arith, inl, inr, append_assoc}
 use Rattle.std.specs.Char.{is_ascii_digit}
-use Rattle.std.proofs.lemmas.Bool.{cases_Bool, cases_lt, cases_eq, eqb-true, eq-eqb, ne_eqb, le-leb, lt-leb, leb-true, leb-false}
+use Rattle.std.proofs.lemmas.Bool.{cases_Bool, cases_lt, cases_eq, eq-eqb, ne_eqb, le-leb, lt-leb}
 use Rattle.std.proofs.lemmas.Bool.Decides.{nat_tests}
 use Rattle.std.proofs.lemmas.Option.{cond_some, some_pair_parts}
 use Rattle.std.proofs.lemmas.Fmt.{decimal_by_steps, decimal_digit, decimal_step}
-use Rattle.std.proofs.lemmas.List.{append-nil}
-use Rattle.report_reader.specs.Reading.{behind, digit_at, number_at, number_from, passing, spaced_at, ◌>>=◌}
-use Rattle.report_reader.proofs.StepLemmas.{both, passed}
+use Rattle.report_reader.specs.Reading.{behind, digit_at, number_at, number_from, spaced_at}
+use Rattle.report_reader.proofs.StepLemmas.{both}
 use Rattle.report_reader.proofs.WordLemmas.{behind_text}
 
 -- the first octet is a digit, and others follow it
@@ -143,11 +142,11 @@ number_runs : (n : ℕ) → n < 2 ^ 32 → (rest : List ℕ) → number_at (deci
 number_runs n small = decimal_by_steps Runs
     (λ k low fits rest. rw (digit_found k rest low) refl)
     (λ k digits large earlier fits rest.
-      let last : k % 10 < 10 = omega arith in
-      let whole : k / 10 * 10 + k % 10 ≡ k = omega arith in
-      let some : k / 10 ≡ 0 → ⊥ = λ e. absurd (omega arith) in
-      rw (append_assoc digits ((48 + k % 10) ∷ []) rest) (earlier (omega arith) ((48 + k % 10) ∷ rest)
-      ∙ from_more (k / 10) (k % 10) ((48 + k % 10) ∷ rest) rest (digit_found (k % 10) rest last) some (omega (arith, whole)) ∙ ap (λ (m : ℕ). number_from m rest) whole))
+    let last : k % 10 < 10 = omega arith in
+    let whole : k / 10 * 10 + k % 10 ≡ k = omega arith in
+    let some : k / 10 ≡ 0 → ⊥ = λ e. absurd (omega arith) in
+    rw (append_assoc digits ((48 + k % 10) ∷ []) rest) (earlier (omega arith) ((48 + k % 10) ∷ rest)
+    ∙ from_more (k / 10) (k % 10) ((48 + k % 10) ∷ rest) rest (digit_found (k % 10) rest last) some (omega (arith, whole)) ∙ ap (λ (m : ℕ). number_from m rest) whole))
     n (omega arith) small
 
 pub number_back : (n : ℕ) (rest : List ℕ) → n < 2 ^ 32 → starts_digit rest ≡ false → number_at (decimal n ++ rest) ≡ Some (n, rest)

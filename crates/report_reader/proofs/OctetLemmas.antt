@@ -1,11 +1,11 @@
 -- Pairs of hexadecimal digits at the front of octets.
-use Rattle.std.proofs.Common.{◌≡◌, ℕ, zero, suc, ◌+◌, ◌-◌, ◌*◌, ◌/◌, ◌%◌, ◌<◌, ◌≤◌, Bool, true, false, List, [], ◌∷◌, ◌++◌, length, cond, eqb, ltb, inl, inr, Option, Some, None, option_map, refl, sym, ap, ◌∙◌, arith, append_assoc, length-append}
+use Rattle.std.proofs.Common.{◌≡◌, ℕ, ◌+◌, ◌-◌, ◌*◌, ◌/◌, ◌%◌, ◌<◌, ◌≤◌, Bool, true, List, [], ◌∷◌, ◌++◌, length, cond, eqb, ltb, inl, inr, Option, Some, None, option_map, refl, sym, ap, ◌∙◌, arith, append_assoc, length-append}
 use Rattle.std.specs.Prelude.{slice_index, unwrap_or}
 use Rattle.std.proofs.lemmas.Option.{some_pair_parts}
 use Rattle.hex.specs.Hex.{encode_upper, encode_with, upper_digits}
 use Rattle.report_reader.specs.Spelling.{AreOctets}
 use Rattle.report_reader.proofs.StepLemmas.{both}
-use Rattle.std.proofs.lemmas.Bool.{cases_Bool, le-leb, lt-leb, agree_below_at, eqb-true}
+use Rattle.std.proofs.lemmas.Bool.{cases_Bool, cases_lt, le-leb, lt-leb, agree_below_at, eqb-true}
 use Rattle.std.proofs.lemmas.Bool.Decides.{nat_tests}
 use Rattle.std.proofs.lemmas.List.Elements.{All-nil, All-cons, All-head, All-tail}
 use Rattle.std.proofs.lemmas.List.{append-nil}
@@ -109,6 +109,13 @@ digit_low v small = digit_is v (omega arith) ∙ grind (arith, nat_tests)
 
 digit_high : (v : ℕ) → 10 ≤ v → v < 16 → slice_index upper_digits v ≡ 55 + v
 digit_high v large small = digit_is v small ∙ grind (arith, nat_tests)
+
+-- a digit is no control character
+pub digit_plain : (v : ℕ) → v < 16 → 48 ≤ slice_index upper_digits v
+digit_plain v small = elim (cases_lt v 10) [
+  | inl low ↦ rw (digit_low v low) (omega arith)
+  | inr high ↦ rw (digit_high v high small) (omega arith)
+]
 
 -- the value of each digit
 some_value : (found : Option ℕ) (v : ℕ) → v < 16 → eqb (unwrap_or found 30) v ≡ true → found ≡ Some v

@@ -1,17 +1,17 @@
 -- The words of replies, and what stands behind them.
-use Rattle.std.proofs.Common.{◌≡◌, ℕ, zero, suc, ◌+◌, ◌^◌, ◌<◌, ◌≤◌, Bool, true, false, eqb, List, [], ◌∷◌, ◌++◌, length, codes, decimal, All, Option, Some, None, IfSome, refl, sym, ap, ◌∙◌, arith, append_assoc}
+use Rattle.std.proofs.Common.{◌≡◌, ℕ, suc, ◌+◌, ◌^◌, ◌<◌, true, false, List, [], ◌∷◌, ◌++◌, length, codes, decimal, All, Option, Some, None, IfSome, refl, sym, ap, ◌∙◌, arith, append_assoc}
 use Rattle.std.proofs.lemmas.Bool.{eqb-true}
 use Rattle.std.proofs.lemmas.List.{append-nil}
-use Rattle.std.proofs.lemmas.List.Elements.{All-head, All-nil}
-use Rattle.std.proofs.lemmas.Option.{some_pair_parts, same_Some}
+use Rattle.std.proofs.lemmas.List.Elements.{All-head}
+use Rattle.std.proofs.lemmas.Option.{some_pair_parts}
 use Rattle.exchange_events.specs.declared.answer.Kept.{Kept}
 use Rattle.exchange_events.specs.declared.answer.Kept.TheVariants.{Granted, Busy, Seated, NoPort, Freed, NotNailed, Sent, Frame}
 use Rattle.exchange_events.specs.declared.signal.Signal.{Signal}
-use Rattle.report_text.specs.Report.{moves, parts}
+use Rattle.report_text.specs.Report.{parts}
 use Rattle.report_reader.specs.declared.word.Word.{Word}
 use Rattle.report_reader.specs.declared.word.Word.TheVariants as word
 use Rattle.report_reader.specs.Spelling.{AreRows, AreToldOctets, IsHeld, IsSendable, IsToldReply}
-use Rattle.report_reader.specs.Reading.{behind, frame_of, is_empty, message_of, moves_at, moves_by, pair_at, pair_of, passing, reply_of, rows_of, signals_at, spaced_at, told_of, word_at, word_by, ◌>>=◌}
+use Rattle.report_reader.specs.Reading.{behind, frame_of, is_empty, message_of, moves_at, moves_by, pair_at, pair_of, passing, rows_of, signals_at, spaced_at, told_of, word_at, word_by, ◌>>=◌}
 use Rattle.report_reader.proofs.StepLemmas.{both, passed}
 use Rattle.hex.specs.Hex.{encode_upper}
 use Rattle.std.specs.Char.{is_ascii_digit}

@@ -1,17 +1,17 @@
 -- Rows at the front of octets, one after another.
-use Rattle.std.proofs.Common.{◌≡◌, ℕ, zero, suc, ◌+◌, ◌-◌, ◌<◌, ◌≤◌, Bool, true, false, not, cond, ltb, eqb, ◌&&◌, List, [], ◌∷◌, ◌++◌, length, replicate, get_or, slice_index, All, inl, inr, Option, Some, None, IfSome, decimal, refl, sym, ap, ◌∙◌, arith, append_assoc, length-append}
-use Rattle.std.specs.List.{last_or, list_all}
+use Rattle.std.proofs.Common.{◌≡◌, ℕ, zero, suc, ◌+◌, ◌-◌, ◌<◌, ◌≤◌, true, false, not, ltb, eqb, ◌&&◌, List, [], ◌∷◌, ◌++◌, length, replicate, get_or, All, inl, inr, Option, Some, None, IfSome, decimal, refl, sym, ap, ◌∙◌, arith, append_assoc, length-append}
+use Rattle.std.specs.List.{last_or}
 use Rattle.std.proofs.lemmas.Bool.{cases_Bool, lt-ltb, le-ltb, and_parts, eq-eqb, eqb-true, ltb-false, not-true}
 use Rattle.std.proofs.lemmas.List.{append-nil, length-replicate, replicate_more}
-use Rattle.std.proofs.lemmas.List.Elements.{All-nil, All-cons, All-head, All-tail, All-append, All-get_or, All-replicate, All-weaker}
+use Rattle.std.proofs.lemmas.List.Elements.{All-nil, All-cons, All-head, All-tail, All-append, All-get_or, All-replicate}
 use Rattle.std.proofs.lemmas.List.FromFn.{fill_by_all}
-use Rattle.std.proofs.lemmas.Option.{some_pair_parts, same_Some}
+use Rattle.std.proofs.lemmas.Option.{same_Some}
 use Rattle.circuit_model.specs.FrameInput.{idle_octet}
 use Rattle.report_text.specs.Report.{line_octets, lines_sent, octet_of, on_line, part, parts}
 use Rattle.report_text.proofs.Rows.{row_is, row_of}
 use Rattle.exchange_events.specs.declared.signal.Signal.{Signal}
-use Rattle.report_reader.specs.Spelling.{is_idle, AreOctets, AreRows, IsRow, IsSendable}
-use Rattle.report_reader.specs.Reading.{behind, passing, idle_row, row_at, rows_before, rows_of, rows_in, rows_step, signal_at, spaced_at, ◌>>=◌}
+use Rattle.report_reader.specs.Spelling.{is_idle, AreRows, IsRow}
+use Rattle.report_reader.specs.Reading.{behind, idle_row, row_at, rows_before, rows_of, rows_in, rows_step, signal_at, spaced_at, ◌>>=◌}
 use Rattle.report_reader.proofs.StepLemmas.{both, passed}
 use Rattle.hex.specs.Hex.{encode_upper}
 use Rattle.report_reader.proofs.NumberLemmas.{spaced_back}
@@ -155,7 +155,7 @@ rows_pushed line rows row so_far above below fine busy =
     record {
       few = omega (arith, length-append (rows_before line rows) (row ∷ []), length-append rows (replicate gap idle_row), length-replicate gap idle_row);
       each = All-append IsRow (rows_before line rows) (row ∷ []) (All-append IsRow rows (replicate gap idle_row) so_far.each (All-replicate IsRow gap idle_row idle_is_row))
-        (All-cons IsRow row [] fine (All-nil IsRow));
+          (All-cons IsRow row [] fine (All-nil IsRow));
       last = rw (last_pushed None (rows_before line rows) row) busy;
     }
 
@@ -192,10 +192,10 @@ rows_text (suc k) rows (octet ∷ octets) all so_far found = by_row (rows_text k
 part_apart : (line : ℕ) (row rest : List ℕ) → is_idle row ≡ true → is_apart rest ≡ true → is_apart (part line row ++ rest) ≡ true
 part_apart line row rest idle apart = rw idle apart
 
-part_busy : (line : ℕ) (row : List ℕ) → is_idle row ≡ false → part line row ≡ on_line line row
+pub part_busy : (line : ℕ) (row : List ℕ) → is_idle row ≡ false → part line row ≡ on_line line row
 part_busy line row busy = rw busy refl
 
-part_idle : (line : ℕ) (row : List ℕ) → is_idle row ≡ true → part line row ≡ []
+pub part_idle : (line : ℕ) (row : List ℕ) → is_idle row ≡ true → part line row ≡ []
 part_idle line row idle = rw idle refl
 
 line_apart : (line : ℕ) (row rest : List ℕ) → is_apart (on_line line row ++ rest) ≡ true

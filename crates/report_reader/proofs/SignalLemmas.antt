@@ -1,15 +1,15 @@
 -- Messages at the front of octets, one after another.
-use Rattle.std.proofs.Common.{◌≡◌, ℕ, zero, suc, ◌+◌, ◌^◌, ◌<◌, ◌≤◌, Bool, true, false, ltb, leb, List, [], ◌∷◌, ◌++◌, length, codes, Option, Some, None, IfSome, All, decimal, refl, sym, ap, ◌∙◌, arith, append_assoc, length-append}
-use Rattle.std.proofs.lemmas.Bool.{lt-ltb, ltb-true, le-leb, leb-true, and_parts}
+use Rattle.std.proofs.Common.{◌≡◌, ℕ, zero, suc, ◌+◌, ◌^◌, ◌<◌, ◌≤◌, true, ltb, leb, List, [], ◌∷◌, ◌++◌, length, codes, Option, Some, None, All, decimal, refl, sym, ap, ◌∙◌, arith, append_assoc, length-append}
+use Rattle.std.proofs.lemmas.Bool.{lt-ltb, ltb-true, leb-true, and_parts}
 use Rattle.std.proofs.lemmas.List.{append-nil}
-use Rattle.std.proofs.lemmas.List.Elements.{All-nil, All-cons, All-head, All-tail, All-append}
+use Rattle.std.proofs.lemmas.List.Elements.{All-nil, All-cons, All-head, All-tail}
 use Rattle.std.proofs.lemmas.Option.{some_pair_parts}
 use Rattle.circuit_model.specs.Channels.{between}
 use Rattle.hex.specs.Hex.{encode_upper}
 use Rattle.exchange_events.specs.declared.signal.Signal.{Signal}
 use Rattle.report_text.specs.Report.{frame_messages, messages, on_line}
-use Rattle.report_reader.specs.Spelling.{IsSendable, most_lines}
-use Rattle.report_reader.specs.Reading.{behind, octets_at, octets_front, passing, signal_at, signals_at, signals_in, signals_step, spaced_at, ◌>>=◌}
+use Rattle.report_reader.specs.Spelling.{IsSendable}
+use Rattle.report_reader.specs.Reading.{behind, octets_at, octets_front, passing, signal_at, signals_at, signals_in, signals_step, spaced_at}
 use Rattle.report_reader.proofs.StepLemmas.{both, passed}
 use Rattle.report_reader.proofs.WordLemmas.{behind_text, behind_word}
 use Rattle.report_reader.proofs.NumberLemmas.{spaced_back, spaced_text}
@@ -70,7 +70,7 @@ signal_back sent rest fine apart =
     let mark = behind_word (58 ∷ []) (encode_upper sent.octets ++ rest) in
     let front = front_back sent.octets rest fine.octets (apart_none rest apart) in
     let octets : octets_at (encode_upper sent.octets ++ rest) ≡ Some (sent.octets, rest) = by_count (octets_front (encode_upper sent.octets ++ rest)) sent.octets rest
-      (sym (ap (λ (f : List ℕ × List ℕ). f.0) front)) (sym (ap (λ (f : List ℕ × List ℕ). f.1) front)) fine.some fine.few in
+    (sym (ap (λ (f : List ℕ × List ℕ). f.0) front)) (sym (ap (λ (f : List ℕ × List ℕ). f.1) front)) fine.some fine.few in
     let below : ltb sent.line 32 ≡ true = lt-ltb sent.line 32 fine.line in
     rw (line_text sent.line sent.octets rest, line, below, mark, octets) refl
 
@@ -178,7 +178,7 @@ one_before mark octets sends all sent front others rest at signal later =
       more = sent ∷ later.more;
       whole = later.whole ∙ append_assoc sends (sent ∷ []) later.more;
       there = rw (at, text, behind) (sym (append_assoc mark (on_line sent.line sent.octets ++ told mark later.more) rest
-        ∙ ap (λ (l : List ℕ). mark ++ l) (append_assoc (on_line sent.line sent.octets) (told mark later.more) rest)));
+          ∙ ap (λ (l : List ℕ). mark ++ l) (append_assoc (on_line sent.line sent.octets) (told mark later.more) rest)));
       sendable = All-cons IsSendable sent later.more signal.sendable later.sendable;
     }
 

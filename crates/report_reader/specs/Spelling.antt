@@ -1,5 +1,5 @@
 -- Which answers the lines of a report spell. Source: this exchange's own.
-use Rattle.std.specs.Prelude.{◌≡◌, ℕ, ◌+◌, ◌^◌, ◌<◌, ◌≤◌, ◌==◌, Bool, false, List, [], ◌∷◌, ◌++◌, length, codes, All, IfSome, Option, None, ⊤}
+use Rattle.std.specs.Prelude.{◌≡◌, ℕ, ◌+◌, ◌^◌, ◌<◌, ◌≤◌, ◌==◌, Bool, false, not, List, [], ◌∷◌, ◌++◌, length, codes, All, IfSome, None, ⊤}
 use Rattle.std.specs.List.{last_or, list_all}
 use Rattle.circuit_model.specs.FrameInput.{idle_octet}
 use Rattle.q931_elements.specs.Limits.{longest_message}
@@ -9,6 +9,8 @@ use Rattle.exchange_events.specs.declared.answer.Kept.{Kept}
 use Rattle.exchange_events.specs.declared.answer.Kept.TheVariants.{Granted, Busy, Seated, NoPort, Freed, NotNailed, Sent, Frame}
 use Rattle.exchange_events.specs.declared.signal.Signal.{Signal}
 use Rattle.report_text.specs.Report.{answer_line}
+use Rattle.report_reader.specs.declared.report.ReportFault.{ReportFault}
+use Rattle.report_reader.specs.declared.report.ReportFault.TheVariants.{Memory, Line}
 
 -- how many external lines an exchange has at the most
 abbrev pub most_lines : ℕ
@@ -71,14 +73,18 @@ pub record Spells (line : List ℕ) (answer : Answer) : Type 0 where
   pub printed : answer_line answer ≡ line ++ codes "\n"
   pub normal : IsNormal answer
 
+-- no octet is a line feed
+abbrev pub is_unbroken : List ℕ → Bool
+is_unbroken octets = list_all (λ octet. not (octet == 10)) octets
+
 -- the lines of answers, one after another
-abbrev pub lines_of : List Answer → List ℕ
-lines_of [] = []
-lines_of (answer ∷ answers) = answer_line answer ++ lines_of answers
+abbrev pub answer_lines : List Answer → List ℕ
+answer_lines [] = []
+answer_lines (answer ∷ answers) = answer_line answer ++ answer_lines answers
 
 -- bytes are a report: the lines of answers in normal form
 pub record IsReport (bytes : List ℕ) (answers : List Answer) : Type 0 where
-  pub printed : bytes ≡ lines_of answers
+  pub printed : bytes ≡ answer_lines answers
   pub normal : All IsNormal answers
 
 -- line n of bytes is the first that spells no answer or that no line feed ends: the lines before it are those of answers, and no line behind
@@ -86,8 +92,13 @@ pub record IsReport (bytes : List ℕ) (answers : List Answer) : Type 0 where
 pub record IsFaultyAt (bytes : List ℕ) (n : ℕ) : Type 0 where
   pub before : List Answer
   pub behind : List ℕ
-  pub printed : bytes ≡ lines_of before ++ behind
+  pub printed : bytes ≡ answer_lines before ++ behind
   pub normal : All IsNormal before
   pub number : n ≡ length before + 1
   pub some : 0 < length behind
   pub faulty : (line rest : List ℕ) (answer : Answer) → behind ≡ line ++ codes "\n" ++ rest → Spells line answer → ⊥
+
+-- why bytes are no report, where it isn't for want of memory
+abbrev pub IsFault : List ℕ → ReportFault → Type 0
+IsFault bytes Memory = ⊤
+IsFault bytes (Line n) = IsFaultyAt bytes n

@@ -11,17 +11,17 @@
 //!   ([`no_line_feed`]). All bytes have one reading ([`one_reading`], [`some_reading`]).
 //!
 //! It stands on `circuit_model`, `q931_elements`, `exchange_events` and `report_text`, and on the kit's
-//! `arrayvec`, `memchr` and `thiserror`.
+//! `arrayvec` and `memchr`.
 #![tactic(auto)]
 
 mod cut;
 mod laws;
 mod line;
-//mod report;
+mod report;
 mod rows;
 mod signals;
 mod word;
 
-pub use laws::{one_spelling};
+pub use laws::{no_line_feed, one_reading, one_spelling, some_reading};
 pub use line::read_report_line;
-//pub use report::{ReportFault, read_report};
+pub use report::{ReportFault, read_report};

@@ -90,11 +90,7 @@ fn reply_of(alloc: Global, word: Word, octets: &[u8]) -> Result<Option<Kept>, Al
 }
 
 // A reply, and the octets beside it.
-fn told_of(
-    alloc: Global,
-    word: Word,
-    octets: &[u8],
-) -> Result<Option<(Kept, Rows)>, AllocError>
+fn told_of(alloc: Global, word: Word, octets: &[u8]) -> Result<Option<(Kept, Rows)>, AllocError>
     ensures { IfOk result (λ told. told ≡ told_of word octets.now) }
 {
     if let Word::Frame = word {

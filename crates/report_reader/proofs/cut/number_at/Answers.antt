@@ -1,5 +1,5 @@
-use Rattle.std.proofs.Common.{◌≡◌, ℕ, ◌+◌, ◌*◌, ◌^◌, ◌≤◌, ◌<◌, List, Option, Some, None, sym, ◌∙◌, rules, arith}
-use Rattle.report_reader.specs.Reading.{number_at, digit_at}
+use Rattle.std.proofs.Common.{◌≡◌, ◌+◌, ◌*◌, ◌^◌, ◌≤◌, ◌<◌, None, sym, ◌∙◌, rules, arith}
+use Rattle.report_reader.specs.Reading.{number_at}
 use Rattle.report_reader.proofs.NumberLemmas.{from_end, from_leading, from_large, from_more}
 use Rattle.report_reader.proofs.cut.number_at.Goals as goal
 

@@ -1,5 +1,4 @@
-use Rattle.std.proofs.Common.{◌≡◌, ℕ, ◌+◌, ◌-◌, ◌<◌, List, [], ◌∷◌, ◌++◌, length, replicate, ap, sym, ◌∙◌, arith, append_assoc, length-append}
-use Rattle.report_reader.specs.Reading.{idle_row, rows_before}
+use Rattle.std.proofs.Common.{◌∙◌, arith}
 use Rattle.report_reader.proofs.RowLemmas.{filled_more}
 use Rattle.report_reader.proofs.rows.fill_before.Goals as goal
 

@@ -1,4 +1,4 @@
-use Rattle.std.proofs.Common.{◌≡◌, length}
+use Rattle.std.proofs.Common.{length}
 use Rattle.report_reader.proofs.RowLemmas.{GoesOn}
 use Rattle.report_reader.proofs.rows.rows_of.Given as goal
 

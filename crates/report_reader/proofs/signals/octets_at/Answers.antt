@@ -1,4 +1,4 @@
-use Rattle.std.proofs.Common.{◌≡◌, ◌≤◌, ◌<◌, ◌++◌, ◌∷◌, [], length, sym, arith, refl}
+use Rattle.std.proofs.Common.{sym, arith}
 use Rattle.std.proofs.lemmas.Bool.Decides.{nat_tests}
 use Rattle.report_reader.proofs.OctetLemmas.{begun, read_more, too_many, none_read, all_read}
 use Rattle.report_reader.proofs.signals.octets_at.Goals as goal

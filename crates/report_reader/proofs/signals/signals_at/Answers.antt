@@ -1,6 +1,5 @@
-use Rattle.std.proofs.Common.{◌≡◌, ◌<◌, ℕ, Some, None, length, sym, rules, arith, refl, ◌∙◌}
+use Rattle.std.proofs.Common.{sym, arith}
 use Rattle.std.proofs.lemmas.Bool.Decides.{nat_tests}
-use Rattle.report_reader.specs.Reading.{signals_at}
 use Rattle.report_reader.proofs.SignalLemmas.{begun, front_shorter, signals_empty, signals_end, signals_more, signals_none}
 use Rattle.report_reader.proofs.signals.signals_at.Goals.{in-Some+then-is_empty, in_default}
 use Rattle.report_reader.proofs.signals.signals_at.Goals as goal

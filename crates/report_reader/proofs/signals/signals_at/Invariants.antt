@@ -1,4 +1,4 @@
-use Rattle.std.proofs.Common.{◌≡◌, length}
+use Rattle.std.proofs.Common.{length}
 use Rattle.report_reader.proofs.SignalLemmas.{GoesOn}
 use Rattle.report_reader.proofs.signals.signals_at.Given as goal
 
