@@ -62,7 +62,6 @@ pub(crate) enum Channel {
 /// What a SETUP asks for.
 #[derive(Clone, Copy)]
 pub(crate) struct Asked<'a> {
-    pub bearer: &'a [u8],
     pub channel: Channel,
     pub dialled: &'a [u8],
     /// Nothing more of the number comes.
@@ -71,7 +70,7 @@ pub(crate) struct Asked<'a> {
 
 /// Reads what a SETUP asks for.
 pub(crate) fn read_setup<'a>(setup: &Received<'a>) -> Result<Asked<'a>, Refusal> {
-    let bearer = bearer_asked(setup)?;
+    check_bearer(setup)?;
     let channel = channel_asked(setup)?;
     let is_complete = setup.find(SENDING_COMPLETE).is_some();
     let dialled = match setup.find(CALLED_PARTY_NUMBER) {
@@ -80,7 +79,6 @@ pub(crate) fn read_setup<'a>(setup: &Received<'a>) -> Result<Asked<'a>, Refusal>
         None => &[],
     };
     Ok(Asked {
-        bearer,
         channel,
         dialled,
         is_complete,
@@ -95,11 +93,11 @@ fn digits_of(called: &[u8]) -> Result<&[u8], Refusal> {
     }
 }
 
-fn bearer_asked<'a>(setup: &Received<'a>) -> Result<&'a [u8], Refusal> {
+fn check_bearer(setup: &Received) -> Result<(), Refusal> {
     match setup.find(BEARER_CAPABILITY) {
         None => Err(Refusal::NoBearer),
         Some(bearer) if bearer.len() < 2 || bearer.len() > 10 => Err(Refusal::BearerLength),
-        Some(bearer) if matches!(bearer, [0x80 | 0x88 | 0x90, 0x90, ..]) => Ok(bearer),
+        Some(bearer) if matches!(bearer, [0x80 | 0x88 | 0x90, 0x90, ..]) => Ok(()),
         Some(_) => Err(Refusal::BearerNotCarried),
     }
 }
