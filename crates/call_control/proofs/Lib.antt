@@ -8,6 +8,4 @@ pub mod AtWorkLemmas
 pub mod ActMakingLemmas
 pub mod SetupMakingLemmas
 pub mod RestartMakingLemmas
-pub mod LegKeyLemmas
-pub mod KeptNumberLemmas
-pub mod LegWordLemmas
+pub mod DigitsMakingLemmas

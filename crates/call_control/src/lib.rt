@@ -8,16 +8,16 @@
 //! - [`read_ahead`] reads of a message, before its turn, what its octets and the plan of numbers decide.
 //!
 //! It stands on `circuit_model`, `control_memory`, `circuit_map`, `q931_codec`, `call_states`,
-//! `clearing_rules`, `tone_rules`, `number_plan`, `exchange_events` and `call_profile`, and on the kit's
+//! `clearing_rules`, `tone_rules`, `number_plan`, `exchange_events`, `call_profile` and `leg_table`, and on the kit's
 //! `arrayvec`.
 #![tactic(auto)]
 
 mod acts;
 mod asked;
+mod digits;
 mod ended_calls;
-mod leg_keys;
-mod leg_table;
 mod messages;
+mod new_call;
 mod operations;
 mod reading_ahead;
 mod restarting;
@@ -25,6 +25,5 @@ mod sending;
 mod setup;
 mod setup_checks;
 
-pub use leg_table::LegTable;
 pub use operations::CallControl;
 pub use reading_ahead::{DialledNumber, ReadAhead, read_ahead};

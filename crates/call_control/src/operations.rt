@@ -14,11 +14,11 @@ ghost use Rattle.call_control.specs.Standing.{Holds};
 ghost use Rattle.exchange_events.specs.Sizes.{Dimensions};
 ghost use Rattle.call_profile.specs.World.{World, obey};
 
-use crate::leg_table::LegTable;
 use call_states::{Leg, Pending};
 use circuit_map::CircuitMap;
 use circuit_model::{Kind, Slot};
 use control_memory::PathMap;
+use leg_table::LegTable;
 
 /// The circuits that stand, with their paths and conference ports, and the legs of the calls: what
 /// call control works on. None of its operations takes memory.

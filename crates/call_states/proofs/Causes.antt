@@ -10,7 +10,7 @@ use Rattle.q931_codec.specs.Contents.{cause_value, cause_of, cause_after_recomme
 use Rattle.q931_codec.specs.Identifiers as identifier
 use Rattle.q931_elements.specs.InformationElement.{first_of}
 use Rattle.call_states.specs.Acts.{act_of, cause_of_act, clearing_cause, expected_in, is_among, before_release_request, every_state}
-use Rattle.q931_codec.specs.CallStates.{call_present, call_received, incoming_call_proceeding, active, release_request}
+use Rattle.q931_codec.specs.CallStates.{overlap_sending, outgoing_call_proceeding, call_delivered, call_present, call_received, incoming_call_proceeding, active, release_request}
 use Rattle.q931_codec.specs.Causes.{temporary_failure}
 
 abbrev pub Fits : Act → Type 0
@@ -24,6 +24,8 @@ row : (states : List ℕ) (state : ℕ) (a : Act) → Fits a → Fits (expected_
 row states state a p = either (is_among states state) a act.Unexpected p tt
 
 pub act_fits : (state : ℕ) (k : MessageKind) (cause : ℕ) (tells_null : Bool) → cause < 128 → Fits (act_of state k cause tells_null)
+act_fits state kind.Information cause tells_null small =
+    either (state == overlap_sending) act.Digits (expected_in (outgoing_call_proceeding ∷ call_delivered ∷ active ∷ []) state act.Nothing) tt (row (outgoing_call_proceeding ∷ call_delivered ∷ active ∷ []) state act.Nothing tt)
 act_fits state kind.CallProceeding cause tells_null small = row (call_present ∷ []) state act.Proceeding tt
 act_fits state kind.Alerting cause tells_null small = row (call_present ∷ incoming_call_proceeding ∷ []) state act.Alerting tt
 act_fits state kind.Connect cause tells_null small = row (call_present ∷ call_received ∷ incoming_call_proceeding ∷ []) state act.Answer tt
@@ -41,7 +43,6 @@ act_fits state kind.StatusEnquiry cause tells_null small = row every_state state
 act_fits state kind.SetupAcknowledge cause tells_null small = tt
 act_fits state kind.Restart cause tells_null small = tt
 act_fits state kind.RestartAcknowledge cause tells_null small = tt
-act_fits state kind.Information cause tells_null small = tt
 act_fits state (kind.Unknown octet) cause tells_null small = tt
 
 -- ---- the cause of a message

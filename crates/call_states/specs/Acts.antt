@@ -33,6 +33,7 @@ expected_in states state wanted = if is_among states state then wanted else act.
 
 -- the act of a message, from the leg's state, the message's type and cause, and whether a STATUS tells the null state
 abbrev pub act_of : ℕ → MessageKind → ℕ → Bool → Act
+act_of state kind.Information cause tells_null = if state == overlap_sending then act.Digits else expected_in (outgoing_call_proceeding ∷ call_delivered ∷ active ∷ []) state act.Nothing
 act_of state kind.CallProceeding cause tells_null = expected_in (call_present ∷ []) state act.Proceeding
 act_of state kind.Alerting cause tells_null = expected_in (call_present ∷ incoming_call_proceeding ∷ []) state act.Alerting
 act_of state kind.Connect cause tells_null = expected_in (call_present ∷ call_received ∷ incoming_call_proceeding ∷ []) state act.Answer
@@ -50,7 +51,6 @@ act_of state kind.StatusEnquiry cause tells_null = expected_in every_state state
 act_of state kind.SetupAcknowledge cause tells_null = act.Unexpected
 act_of state kind.Restart cause tells_null = act.Unexpected
 act_of state kind.RestartAcknowledge cause tells_null = act.Unexpected
-act_of state kind.Information cause tells_null = act.Unexpected
 act_of state (kind.Unknown octet) cause tells_null = act.Unexpected
 
 -- ---- what the table reads of a message

@@ -15,6 +15,8 @@ pub enum Act {
     Alerting,
     /// The called user has answered.
     Answer,
+    /// The user dials more of the number.
+    Digits,
     /// The user asks for the call to be cleared.
     Disconnect(u8),
     /// The user has released the channel, and waits for the exchange to do so.

@@ -1,5 +1,5 @@
 //! What is kept of a call whose number is dialled in parts, until the number is complete.
-ghost use Rattle.std.specs.Prelude.{◌≡◌, ◌≤◌, [], length};
+ghost use Rattle.std.specs.Prelude.{◌≡◌, ◌+◌, ◌++◌, ◌≤◌, [], length};
 
 use arrayvec::ArrayVec;
 use std::marker::Model;
@@ -24,12 +24,22 @@ impl<const MOST: usize> Contents<MOST> {
         requires { length octets.now ≤ MOST }
         ensures { result ≡ octets.now }
     {
-        let mut kept = ArrayVec::new();
-        match kept.try_extend_from_slice(octets) {
+        let mut contents = Contents {
+            octets: ArrayVec::new(),
+        };
+        contents.append(octets);
+        contents
+    }
+
+    /// Puts these octets behind those that are there.
+    pub fn append(&mut self, octets: &[u8])
+        requires { length self.old + length octets.now ≤ MOST }
+        ensures { self.new ≡ self.old ++ octets.now }
+    {
+        match self.octets.try_extend_from_slice(octets) {
             Ok(()) => {}
             Err(_) => unreachable!(),
         }
-        Contents { octets: kept }
     }
 
     /// The octets in the order in which they were received.

@@ -29,6 +29,11 @@ fn act_of(state: u8, kind: MessageKind, cause: u8, tells_null: bool) -> Act
     let before_release_request = is_before_release_request(state);
     let releasing = state == RELEASE_REQUEST;
     match kind {
+        MessageKind::Information if state == OVERLAP_SENDING => Act::Digits,
+        MessageKind::Information
+            if matches!(state, OUTGOING_CALL_PROCEEDING | CALL_DELIVERED | ACTIVE) => {
+            Act::Nothing
+        }
         MessageKind::CallProceeding if state == CALL_PRESENT => Act::Proceeding,
         MessageKind::Alerting if matches!(state, CALL_PRESENT | INCOMING_CALL_PROCEEDING) => {
             Act::Alerting

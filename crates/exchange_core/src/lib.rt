@@ -11,7 +11,7 @@
 //! `call_control`.
 //!
 //! It stands on `circuit_model`, `seat_history`, `control_memory`, `circuit_map`, `tone_rules`,
-//! `number_plan`, `exchange_events`, `call_profile` and `call_control`.
+//! `number_plan`, `exchange_events`, `call_profile`, `leg_table` and `call_control`.
 #![tactic(auto)]
 
 mod commands;

@@ -17,10 +17,11 @@ ghost use Rattle.exchange_events.specs.declared.trace.Event.TheVariants as event
 
 use crate::commands::{boundary, free, nail, seat};
 use crate::tool::Tool;
-use call_control::{CallControl, LegTable, ReadAhead};
+use call_control::{CallControl, ReadAhead};
 use circuit_map::CircuitMap;
 use control_memory::PathMap;
 use exchange_events::{Event, Outbox, Reply, Response, Trace};
+use leg_table::LegTable;
 use number_plan::Plan;
 use std::alloc::{AllocError, Global};
 use std::marker::Model;

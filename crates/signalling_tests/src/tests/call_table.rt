@@ -110,7 +110,7 @@ const TABLE: [Row; 23] = [
     },
     Row {
         octets: b"\x08\x02\x00\x01\x7B",
-        acts: &[],
+        acts: &[(&[2], Act::Digits), (&[3, 4, 10], Act::Nothing)],
     },
     Row {
         octets: b"\x08\x02\x00\x01\x3F",

@@ -1,5 +1,0 @@
-use Rattle.call_control.proofs.LegWordLemmas.{Uses}
-use Rattle.call_control.proofs.leg_keys.references_in.Given as goal
-
-abbrev pub invariant-loop-place : goal.invariant-loop-place
-invariant-loop-place l = Uses l.row l.place l.references

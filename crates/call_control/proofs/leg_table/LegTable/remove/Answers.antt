@@ -1,5 +1,0 @@
-use Rattle.call_control.proofs.KeptNumberLemmas.{kept_remove}
-use Rattle.call_control.proofs.leg_table.LegTable.remove.Goals as goal
-
-pub returns : goal.returns
-returns c = kept_remove c.self.inside.legs.items c.self.inside.numbers.items c.args.self.now c.self.view_is c.number.result c.args.x c.number.ensures

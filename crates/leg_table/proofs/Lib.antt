@@ -1,0 +1,3 @@
+pub mod LegKeyLemmas
+pub mod KeptNumberLemmas
+pub mod LegWordLemmas

@@ -1,0 +1,2 @@
+pub mod LegKeys
+pub mod KeptNumbers

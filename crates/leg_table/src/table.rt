@@ -1,0 +1,194 @@
+//! The legs of all calls, by the slots that they hold.
+ghost use Rattle.std.specs.Prelude.{◌≡◌, ◌≢◌, ◌+◌, ◌*◌, ◌<◌, ◌≤◌, length, slice_set, slice_index_or, All, IfOk, IfSome, None};
+ghost use Rattle.std.specs.Option.{option_copied};
+ghost use Rattle.control_memory.specs.Layout.{number_of};
+ghost use Rattle.q931_codec.specs.CallStates.{overlap_sending};
+ghost use Rattle.call_states.specs.Status.{FitsMessages};
+ghost use Rattle.leg_table.specs.KeptNumbers.{counting_all};
+ghost use Rattle.leg_table.specs.LegKeys.{IsRowOf};
+ghost use Rattle.call_profile.specs.Legs.{no_legs, leg_at, pending_at, with_leg, with_waiting, without_leg, leg_named, held_at, new_reference};
+
+use crate::leg_keys::{NO_KEY, ROW, key_named, key_of, places_with, references_in};
+use call_states::{Held, Leg, Pending};
+use circuit_model::{PLACES, Slot};
+use q931_codec::states::OVERLAP_SENDING;
+use std::alloc::{AllocError, Global};
+use std::marker::Model;
+
+/// The legs of all calls, by the slots that they hold. Contracts see for each external slot, by its
+/// number, the leg that holds it, and the number that is pending there.
+///
+/// Beside the legs stands a row of keys for each line, by which a message finds its leg in one pass
+/// without a branch, and for each slot room for a number that is pending.
+#[derive(Drop)]
+pub struct LegTable {
+    lines: u8,
+    legs: Vec<Option<Leg>>,
+    // The key of the leg at each place of each line.
+    keys: Vec<u32>,
+    // What is pending at each slot. It counts where the slot's leg is in overlap sending, so that nothing is
+    // cleared when the leg leaves that state.
+    numbers: Vec<Pending>,
+}
+
+impl Model for LegTable {
+    ghost use Rattle.leg_table.specs.KeptNumbers.{IsTable, legs_kept};
+    ghost use Rattle.call_profile.specs.Legs.{Legs};
+
+    ghost Value = { Legs };
+
+    ghost view = { λ t. legs_kept t.legs.items t.numbers.items };
+
+    ghost invariant = { λ t. IsTable t.lines t.legs.items t.keys.items t.numbers.items };
+}
+
+impl LegTable {
+    /// No legs on the slots of so many external lines.
+    pub fn new(alloc: Global, external: u8) -> Result<LegTable, AllocError>
+        ensures { IfOk result (λ t. t ≡ no_legs external) }
+    {
+        let lines = usize::from(external);
+        Ok(LegTable {
+            lines: external,
+            legs: vec![in alloc; None; usize::from(PLACES) * lines]?,
+            keys: vec![in alloc; NO_KEY; ROW * lines]?,
+            numbers: vec![in alloc; Pending::default(); usize::from(PLACES) * lines]?,
+        })
+    }
+
+    /// The leg that holds a slot.
+    pub fn at(&self, x: Slot) -> Option<Leg>
+        ensures found { result ≡ leg_at self.now x }
+        ensures inside { IfSome result (λ _. number_of x < length self.now.held) }
+        ensures told { IfSome result FitsMessages }
+    {
+        match self.legs.get(x.number()) {
+            Some(leg) => *leg,
+            None => None,
+        }
+    }
+
+    /// The number that is pending at a slot.
+    pub fn pending(&self, x: Slot) -> Option<&Pending>
+        ensures { option_copied result ≡ pending_at self.now x }
+    {
+        number_at(&self.legs, &self.numbers, x.number())
+    }
+
+    /// Lets a leg hold a slot, in place of any other; no number is pending there then.
+    pub fn put(&mut self, x: Slot, leg: Leg)
+        requires inside { number_of x < length self.old.held }
+        requires place { x.place < 30 }
+        requires told { FitsMessages leg }
+        requires state { leg.state ≢ overlap_sending }
+        ensures { self.new ≡ with_leg self.old x leg }
+    {
+        self.legs[x.number()] = Some(leg);
+        self.keys[key_index(x)] = key_of(leg);
+    }
+
+    /// Lets a leg hold a slot, in place of any other, and wait there with its number.
+    pub fn wait(&mut self, x: Slot, leg: Leg, pending: Pending)
+        requires inside { number_of x < length self.old.held }
+        requires place { x.place < 30 }
+        requires told { FitsMessages leg }
+        requires state { leg.state ≡ overlap_sending }
+        ensures { self.new ≡ with_waiting self.old x leg pending }
+    {
+        keep(&mut self.numbers, x, pending);
+        self.legs[x.number()] = Some(leg);
+        self.keys[key_index(x)] = key_of(leg);
+    }
+
+    /// Lets no leg hold a slot; no number is pending there then.
+    pub fn remove(&mut self, x: Slot)
+        requires inside { number_of x < length self.old.held }
+        requires place { x.place < 30 }
+        ensures { self.new ≡ without_leg self.old x }
+    {
+        self.legs[x.number()] = None;
+        self.keys[key_index(x)] = NO_KEY;
+    }
+
+    /// The leg of a line that a message with this flag and call reference value is for.
+    pub fn named(&self, line: u8, flag: bool, reference: u16) -> Option<Held>
+        requires line { 30 * line + 30 ≤ length self.now.held }
+        ensures { result ≡ leg_named self.now line flag reference }
+    {
+        let places = places_with(self.row(line), key_named(flag, reference));
+        if places == 0 {
+            return None;
+        }
+        let place = places.trailing_zeros() as u8;
+        self.held(Slot { line, place })
+    }
+
+    // The leg that holds a slot, with the slot.
+    fn held(&self, slot: Slot) -> Option<Held>
+        ensures { result ≡ held_at self.now slot }
+    {
+        let leg = self.at(slot)?;
+        Some(Held { slot, leg })
+    }
+
+    /// The call reference value of a new called leg of a line: the lowest from 1 up that none of the
+    /// line's called legs has.
+    pub fn new_reference(&self, line: u8) -> u16
+        requires line { 30 * line + 30 ≤ length self.now.held }
+        ensures reference { result ≡ new_reference self.now line }
+        ensures few { result ≤ 31 }
+    {
+        let used = references_in(self.row(line));
+        // No call has the value 0; and where the first thirty are used, it is the next.
+        (!(used | 1) | 1 << 31).trailing_zeros() as u16
+    }
+
+    // The keys of a line's legs.
+    fn row(&self, line: u8) -> &[u32]
+        requires { 30 * line + 30 ≤ length self.now.held }
+        ensures row { IsRowOf self.now line result.now }
+        ensures told { All (λ leg. IfSome leg FitsMessages) self.now.held }
+    {
+        let start = ROW * usize::from(line);
+        &self.keys[start..start + ROW]
+    }
+}
+
+// The leg of a slot with this number.
+fn leg_of(legs: &[Option<Leg>], number: usize) -> Option<Leg>
+    ensures found { result ≡ slice_index_or legs.now number None }
+    ensures inside { IfSome result (λ _. number < length legs.now) }
+{
+    match legs.get(number) {
+        Some(leg) => *leg,
+        None => None,
+    }
+}
+
+// What is pending at a slot with this number: what is kept there counts in overlap sending alone.
+fn number_at<'a>(legs: &[Option<Leg>], numbers: &'a [Pending], number: usize) -> Option<&'a Pending>
+    requires { length numbers.now ≡ length legs.now }
+    ensures { option_copied result ≡ slice_index_or (counting_all legs.now numbers.now) number None }
+{
+    let leg = leg_of(legs, number)?;
+    if leg.state != OVERLAP_SENDING {
+        return None;
+    }
+    Some(&numbers[number])
+}
+
+// Keeps a number at a slot.
+fn keep(numbers: &mut Vec<Pending>, x: Slot, pending: Pending)
+    requires { number_of x < length numbers.old.items }
+    ensures items { numbers.new.items ≡ slice_set numbers.old.items (number_of x) pending }
+    ensures count { length numbers.new.items ≡ length numbers.old.items }
+{
+    numbers[x.number()] = pending;
+}
+
+// Where the key of a slot stands.
+fn key_index(x: Slot) -> usize
+    ensures { result ≡ 32 * x.line + x.place }
+{
+    ROW * usize::from(x.line) + usize::from(x.place)
+}
