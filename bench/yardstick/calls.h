@@ -117,7 +117,8 @@ static void gone(Slot x, Cause cause) {
 
 // ---- SETUP
 
-// What a SETUP says, or INFORMATION: the first elements of the codes that count, by their order in the SETUP that goes out.
+// What a SETUP says, or INFORMATION: the first elements of the codes that count, by their order in the SETUP that goes
+// out.
 typedef enum { BEARER_SAID, CHANNEL_SAID, CALLING_SAID, CALLED_SAID, LOW_SAID, HIGH_SAID, SAID } Said;
 
 static const uint8_t one_more_than_said[128] = {
@@ -291,8 +292,9 @@ static int is_done(Slot x, const Message *m) {
     case PROGRESS: case NOTIFY: case FACILITY: case USER_INFORMATION: case SETUP: return 1;
     case CONNECT_ACKNOWLEDGE: return state == ACTIVE;
     case INFORMATION:
-        if (state == OVERLAP_SENDING) take_digits(x, m);
-        return state == OVERLAP_SENDING || state == OUTGOING_PROCEEDING || state == DELIVERED || state == ACTIVE;
+        if (state != OVERLAP_SENDING) return state == OUTGOING_PROCEEDING || state == DELIVERED || state == ACTIVE;
+        take_digits(x, m);
+        return 1;
     case CALL_PROCEEDING:
         if (state != PRESENT) return 0;
         leg(x)->state = INCOMING_PROCEEDING;
