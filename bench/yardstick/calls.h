@@ -271,10 +271,11 @@ static int is_added(uint8_t *number, Element *so_far, Element more) {
 
 static void take_digits(Slot x, const Message *m) {
     Element *said = dialled[x.line][x.place].said, more[SAID] = { 0 };
-    int complete = read_said(*m, more), is_more = more[CALLED_SAID].at != NULL;
+    int complete = read_said(*m, more);
+    Element part = more[CALLED_SAID];
     Route r = { .caller = x };
     Cause fault = 0;
-    if (is_more && !is_added(dialled[x.line][x.place].number, &said[CALLED_SAID], more[CALLED_SAID])) fault = INVALID_NUMBER;
+    if (part.at && !is_added(dialled[x.line][x.place].number, &said[CALLED_SAID], part)) fault = INVALID_NUMBER;
     if (!fault) fault = find_target(said[CALLED_SAID], complete, &r);
     if (!fault) fault = find_called(&r);
     if (fault) clear_leg(x, fault);
