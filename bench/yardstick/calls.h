@@ -117,7 +117,8 @@ static void gone(Slot x, Cause cause) {
 
 // ---- SETUP
 
-// What a SETUP says, or INFORMATION: the first elements of the codes that count, by their order in the SETUP that goes out.
+// What a SETUP says, or INFORMATION: the first elements of the codes that count, by their order in the SETUP that goes
+// out.
 typedef enum { BEARER_SAID, CHANNEL_SAID, CALLING_SAID, CALLED_SAID, LOW_SAID, HIGH_SAID, SAID } Said;
 
 static const uint8_t one_more_than_said[128] = {
@@ -270,10 +271,11 @@ static int is_added(uint8_t *number, Element *so_far, Element more) {
 
 static void take_digits(Slot x, const Message *m) {
     Element *said = dialled[x.line][x.place].said, more[SAID] = { 0 };
-    int complete = read_said(*m, more), is_more = more[CALLED_SAID].at != NULL;
+    int complete = read_said(*m, more);
+    Element part = more[CALLED_SAID];
     Route r = { .caller = x };
     Cause fault = 0;
-    if (is_more && !is_added(dialled[x.line][x.place].number, &said[CALLED_SAID], more[CALLED_SAID])) fault = INVALID_NUMBER;
+    if (part.at && !is_added(dialled[x.line][x.place].number, &said[CALLED_SAID], part)) fault = INVALID_NUMBER;
     if (!fault) fault = find_target(said[CALLED_SAID], complete, &r);
     if (!fault) fault = find_called(&r);
     if (fault) clear_leg(x, fault);
@@ -291,8 +293,9 @@ static int is_done(Slot x, const Message *m) {
     case PROGRESS: case NOTIFY: case FACILITY: case USER_INFORMATION: case SETUP: return 1;
     case CONNECT_ACKNOWLEDGE: return state == ACTIVE;
     case INFORMATION:
-        if (state == OVERLAP_SENDING) take_digits(x, m);
-        return state == OVERLAP_SENDING || state == OUTGOING_PROCEEDING || state == DELIVERED || state == ACTIVE;
+        if (state != OVERLAP_SENDING) return state == OUTGOING_PROCEEDING || state == DELIVERED || state == ACTIVE;
+        take_digits(x, m);
+        return 1;
     case CALL_PROCEEDING:
         if (state != PRESENT) return 0;
         leg(x)->state = INCOMING_PROCEEDING;
