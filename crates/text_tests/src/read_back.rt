@@ -5,7 +5,7 @@ use report_text::append_answer;
 use std::alloc::{AllocError, Global};
 use std::test::Fail;
 
-// A text in which `+` stands for twenty-eight idle octets.
+// A text in which `+` means twenty-eight idle octets.
 fn spelled(alloc: Global, text: &str) -> Result<Vec<u8>, AllocError> {
     let mut bytes = Vec::new(alloc);
     for byte in text.bytes() {
