@@ -1,6 +1,6 @@
 """Follows the calls and the taken slots of a run, event by event, in the order of its report.
 
-What a call is told by its messages: a SETUP that CALL PROCEEDING or SETUP ACKNOWLEDGE answers
+What its messages say of a call: a SETUP that CALL PROCEEDING or SETUP ACKNOWLEDGE answers
 begins a leg on the caller's line, and the SETUP that goes out for it begins the other, at once or
 after INFORMATION with the rest of the number. A leg ends with RELEASE, RELEASE COMPLETE or a STATUS
 of the null state from its user, with RELEASE COMPLETE to it, or by RESTART.
@@ -143,7 +143,7 @@ class Run:
         leg.dials = not sent
 
     def _restart(self, row, sent):
-        """A RESTART stands in the ladder of each call that it ends, with what was sent for it."""
+        """A RESTART is in the ladder of each call that it ends, with what was sent for it."""
         message = row.message
         channel = message.channel[0] if message.channel else None
         ended = [
@@ -207,7 +207,7 @@ def never_sent(event):
 
 
 def key(line, message, is_sent):
-    """The leg that a message names: who chose its reference is told by the flag and the direction."""
+    """The leg that a message names: who chose its reference follows from the flag and the direction."""
     return line, message.flag ^ is_sent, message.reference
 
 
@@ -219,7 +219,7 @@ def ends_leg(message):
 
 
 def clearing_cause(message):
-    """The cause that the other user is told; 16 where the message has no readable one."""
+    """The cause that the other user gets; 16 where the message has no readable one."""
     if message.kind == STATUS:
         return 41
     return 16 if message.cause is None else message.cause

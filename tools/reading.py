@@ -128,7 +128,7 @@ def below(word, bound, reason):
 
 
 def hexadecimal(word, least, most):
-    """The octets of a word with so many digits."""
+    """The octets of a word with n digits."""
     if not re.fullmatch(r"(?:[0-9A-Fa-f]{2})*", word):
         raise Fault("hex")
     if not least <= len(word) <= most:

@@ -285,7 +285,7 @@ static void take_digits(Slot x, const Message *m) {
 
 // ---- Messages to a leg
 
-// Answers whether the state of a leg allows the message, and then does what it asks for.
+// Answers whether the state of a leg allows the message, and then does its act.
 static int is_done(Slot x, const Message *m) {
     State state = leg(x)->state;
     Element e;

@@ -4,11 +4,11 @@ enum {
     CELLS = 32, // of a row: a power of two that has room for thirty and the idle one
     STRICT_SLOTS = 59, // internal slots of a line on which no path ever moves
     STRICT_CELLS = 64, // of a row of internal slots
-    EXTERNAL = 32, // at most so many external lines, and bridge lines
+    EXTERNAL = 32, // the most external lines, and bridge lines
     BRIDGES = 2,
     LINES = EXTERNAL + BRIDGES,
     ROOMS = 64,
-    TONE = 8000, // at most so many octets of a tone, and of a message
+    TONE = 8000, // the most octets of a tone, and of a message
     MESSAGE = 260,
     IDLE = 0xD5,
     MOST_EVENTS = 65535,
@@ -30,7 +30,7 @@ typedef uint8_t Row[CELLS]; // thirty octets or entries, and two idle ones behin
 typedef uint64_t Lines; // a bit for each of some lines
 
 static unsigned slots = PLACES; // internal slots of a line
-typedef uint8_t SlotRow[STRICT_CELLS]; // so many octets or entries, and idle ones behind them
+typedef uint8_t SlotRow[STRICT_CELLS]; // octets or entries, and idle ones behind them
 
 static const uint8_t idle_row[STRICT_CELLS] = {
     IDLE, IDLE, IDLE, IDLE, IDLE, IDLE, IDLE, IDLE, IDLE, IDLE, IDLE, IDLE, IDLE, IDLE, IDLE, IDLE,

@@ -63,7 +63,7 @@ static Path lift(unsigned i, unsigned s) {
     return p;
 }
 
-// A path that stands: its incoming line and its slot.
+// A live path: its incoming line and its slot.
 typedef struct { unsigned char line, slot; } Place;
 
 // Lists the chain of paths that starts with the one to outgoing line j in a and goes on in b, a, .. by

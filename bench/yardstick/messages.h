@@ -20,7 +20,7 @@ typedef enum {
     INVALID_CONTENTS = 100, WRONG_STATE = 101,
 } Cause;
 
-// The elements that aren't looked at yet stand from `at` up to `end`; Sending complete may be among the others.
+// The elements that aren't looked at yet are from `at` up to `end`; Sending complete may be among the others.
 typedef struct {
     uint8_t type, flag, complete;
     uint16_t reference;
@@ -78,7 +78,7 @@ static uint8_t cause_in(Message m) {
     return at < e.length ? e.at[at] & 0x7F : NORMAL_CLEARING;
 }
 
-// A channel that is named stands as its place.
+// A channel that is named is kept as its place.
 typedef struct { enum { NONE_NAMED, ANY, PREFERRED, EXCLUSIVE, INVALID } kind; uint8_t place; } Channel;
 
 static Channel channel_in(Element e) {

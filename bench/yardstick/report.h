@@ -12,7 +12,7 @@ static void flush(void) {
     out_len = 0;
 }
 
-static unsigned line_number; // of the trace's line that is read
+static unsigned line_number; // the line of the trace that is read
 
 static _Noreturn void refuse(const char *why) {
     printf("refused %u %s\n", line_number, why);

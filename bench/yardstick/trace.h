@@ -108,7 +108,7 @@ static const uint8_t one_more_than_value[256] = {
 // The value of a digit, above 15 where it is none.
 static unsigned digit_value(uint8_t c) { return one_more_than_value[c] - 1u; }
 
-// The octets that a word's digits write, at most so many; answers how many they are.
+// The octets that a word's digits write, at most n; answers how many they are.
 static unsigned read_hex(Word word, uint8_t *octets, size_t most) {
     size_t count = word.end - word.at;
     unsigned bad = count % 2;

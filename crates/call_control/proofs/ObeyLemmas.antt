@@ -1,4 +1,4 @@
--- What each command makes of the map of circuits is what it makes of the world, whatever legs stand beside it.
+-- What each command makes of the map of circuits is what it makes of the world, whatever legs are beside it.
 use Rattle.std.proofs.Common.{◌≡◌, ℕ, ◌*◌, ◌==◌, Bool, true, Option, Some, None, refl, ◌∙◌, ap, subst, arith}
 use Rattle.std.specs.Prelude.{count_by, option_map, IfSome}
 use Rattle.circuit_model.specs.declared.channel.Slot.{Slot}

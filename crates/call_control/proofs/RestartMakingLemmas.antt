@@ -1,4 +1,4 @@
--- What a restart makes, slot by slot, told by what the map and the legs hold.
+-- What a restart makes, slot by slot, by what the map and the legs hold.
 use Rattle.std.proofs.Common.{◌≡◌, ℕ, suc, ◌+◌, ◌<◌, List, [], ◌++◌, Option, Some, None, refl, sym, ◌∙◌, ap, subst, arith}
 use Rattle.std.specs.Prelude.{IfSome}
 use Rattle.circuit_model.specs.declared.channel.Slot.{Slot}

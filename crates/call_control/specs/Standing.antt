@@ -49,7 +49,7 @@ PerformsBy operations map legs out map' legs' out' =
     (d : Dimensions) (m : Making) → Makes d map legs out.sends out.moved m
     → Makes d map' legs' out'.sends out'.moved (making_after_all d m (operations m.world.legs))
 
--- so were these, of which nothing is sent or moved
+-- so were these, without anything sent or moved
 abbrev pub PerformsQuietly : List Operation → Connections → Legs → Connections → Legs → Type 0
 PerformsQuietly operations map legs map' legs' =
     (d : Dimensions) (m : Making) → Makes d map legs m.sends m.moves m

@@ -85,7 +85,7 @@ impl<P: PathMap> CallControl<P> {
     }
 }
 
-// The first frame that a circuit stands in.
+// The first frame that a circuit exists in.
 fn since(circuit: Circuit) -> u32
     ensures { result ≡ since_of circuit }
 {

@@ -1,4 +1,4 @@
--- A called user's progress towards an answer, and the answer, keep the legs standing.
+-- A called user's progress towards an answer, and the answer, keep the legs consistent.
 use Rattle.std.proofs.Common.{◌≡◌, ℕ, true, false, [], ◌∷◌, Option, Some, None, refl, sym, ◌∙◌, subst, arith, length-set}
 use Rattle.std.specs.Prelude.{IsTrue, ◌==◌}
 use Rattle.std.proofs.lemmas.Grind.{common_steps}

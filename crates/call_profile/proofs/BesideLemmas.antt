@@ -1,4 +1,4 @@
--- Legs stand as before where a message touches two slots alone.
+-- Legs are as before where a message touches two slots alone.
 use Rattle.std.proofs.Common.{◌≡◌, ℕ, ◌*◌, ◌⊎◌, inl, inr, length, Option, Some, None, refl, sym, ◌∙◌, ap, subst, arith, get_or-set_same, get_or-set_other, set-set}
 use Rattle.circuit_model.specs.declared.channel.Slot.{Slot}
 use Rattle.circuit_model.specs.Circuits.{heard_by, same_slot}
@@ -24,7 +24,7 @@ entry_here external legs x o size inside = get_or-set_same legs.held (number_of 
 pub entry_else : (external : ℕ) (legs : Legs) (x z : Slot) (o : Option Leg) → IsExternal external x → IsExternal external z → (z ≡ x → ⊥) → leg_at (with_entry legs x o) z ≡ leg_at legs z
 entry_else external legs x z o at_x at_z apart = get_or-set_other legs.held (number_of x) (number_of z) o None (λ e. apart (same_number z x at_z.1 at_x.1 e))
 
--- of two entries for one slot the second is left
+-- the second of two entries for one slot is left
 pub entry_twice : (legs : Legs) (x : Slot) (o p : Option Leg) → with_entry (with_entry legs x o) x p ≡ with_entry legs x p
 entry_twice legs x o p = λ i. record { held = set-set legs.held (number_of x) o p i; pending = set-set legs.pending (number_of x) None None i }
 
@@ -54,7 +54,7 @@ named_back external legs z p leg other is has at =
 
 -- ---- what is left as it was
 
--- of all slots but two the legs are as before, and hear what they heard; and the peers of these legs are none of the two
+-- the legs of all slots but two are as before, and hear what they heard; and the peers of these legs are none of the two
 pub record Beside (external : ℕ) (w v : World) (x y : Slot) : Type 0 where
   pub legs : (z : Slot) → IsExternal external z → (z ≡ x → ⊥) → (z ≡ y → ⊥) → leg_at v.legs z ≡ leg_at w.legs z
   pub heard : (z : Slot) (leg : Leg) → IsExternal external z → leg_at w.legs z ≡ Some leg → (z ≡ x → ⊥) → (z ≡ y → ⊥) → heard_by v.holding.circuits z ≡ heard_by w.holding.circuits z
@@ -77,7 +77,7 @@ module _ (external : ℕ) (tones : Tones) (w v : World) (x y : Slot) (beside : B
     hears = subst (MayHear tones leg) (sym (beside.heard z leg within at not_x not_y)) stands.hears;
   }
 
-  -- each leg stands where those of the two slots do
+  -- each leg is consistent where those of the two slots are
   pub each_stands : LegsStand external tones w → ((leg : Leg) → leg_at v.legs x ≡ Some leg → LegStands external tones v x leg) → ((leg : Leg) → leg_at v.legs y ≡ Some leg → LegStands external tones v y leg)
       → (z : Slot) (leg : Leg) → IsExternal external z → leg_at v.legs z ≡ Some leg → LegStands external tones v z leg
   each_stands stand at_x at_y z leg within at = elim (same_or_apart z x) [

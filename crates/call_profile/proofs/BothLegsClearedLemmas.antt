@@ -1,4 +1,4 @@
--- The legs stand after one leg of a call is released and the other is disconnected.
+-- The legs are consistent after one leg of a call is released and the other is disconnected.
 use Rattle.std.proofs.Common.{◌≡◌, ℕ, ◌<◌, true, inl, inr, length, Option, Some, None, refl, sym, ◌∙◌, ap, subst, length-set}
 use Rattle.circuit_model.specs.declared.channel.Slot.{Slot}
 use Rattle.circuit_model.specs.declared.circuit.Kind.{Kind}

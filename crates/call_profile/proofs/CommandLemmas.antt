@@ -1,4 +1,4 @@
--- Nails, seats, frees and frames keep the legs standing.
+-- Nails, seats, frees and frames keep the legs consistent.
 use Rattle.std.proofs.Common.{◌≡◌, ℕ, ◌*◌, ◌<◌, inl, inr, Bool, true, false, ◌&&◌, ◌==◌, length, Option, Some, None, refl, sym, ◌∙◌, ap, subst, arith}
 use Rattle.std.specs.Prelude.{is_none, not, count_by}
 use Rattle.std.proofs.lemmas.Grind.{common_steps}
@@ -36,7 +36,7 @@ pub is_empty : (o : Option Leg) → is_none o ≡ true → o ≡ None
 is_empty None e = refl
 is_empty (Some leg) e = absurd cc
 
--- a leg stands at another slot than one that none holds
+-- a leg is at another slot than one that none holds
 pub not_empty : (legs : Legs) (x z : Slot) (l : Leg) → leg_at legs x ≡ None → leg_at legs z ≡ Some l → z ≡ x → ⊥
 not_empty legs x z l none at same = let e : Some l ≡ None = sym at ∙ ap (leg_at legs) same ∙ none in cc
 

@@ -49,7 +49,7 @@ goes_on : (b a : Bool) → (b ≡ true → a ≡ true) → (b && not a) ≡ fals
 goes_on true a kept = rw (kept refl) refl
 goes_on false a kept = refl
 
--- a caller's leg that goes on calling isn't told
+-- a caller's leg that goes on calling isn't recorded
 untold : (before after : World) (cause : ℕ) (x : Slot) → (is_calling (leg_at before.legs x) ≡ true → is_calling (leg_at after.legs x) ≡ true) → record_at before after cause x ≡ None
 untold before after cause x kept = rw (goes_on (is_calling (leg_at before.legs x)) (is_calling (leg_at after.legs x)) kept) refl
 
@@ -61,7 +61,7 @@ told_where : (w : World) (cause : ℕ) (x : Slot) (leg : Leg) → leg_at w.legs 
     → (if is_calling (leg_at w.legs x) then option_and_then (record_of w cause) (held_at w.legs x) else None) ≡ record_calling w cause (record { slot = x; leg = leg })
 told_where w cause x leg at = rw at refl
 
--- one that stops is told
+-- one that stops is recorded
 told : (before after : World) (cause : ℕ) (x : Slot) (leg : Leg) → leg_at before.legs x ≡ Some leg → is_calling (leg_at after.legs x) ≡ false
     → record_at before after cause x ≡ record_calling before cause (record { slot = x; leg = leg })
 told before after cause x leg at over =
@@ -92,7 +92,7 @@ no_record_where_kept external before after cause size kept =
     no_record_where_calling external before after cause size
     (λ x within calls. still_there before.legs after.legs x (leg_at before.legs x) refl (λ leg at. kept x leg within at) calls)
 
--- where the caller's leg at one slot stops, and all others go on, its record is told alone
+-- where the caller's leg at one slot stops, and all others go on, its record is the only one
 pub one_record : (external : ℕ) (before after : World) (cause : ℕ) (x : Slot) (leg : Leg) → length before.legs.held ≡ 30 * external → IsExternal external x
     → leg_at before.legs x ≡ Some leg → is_calling (leg_at after.legs x) ≡ false
     → ((z : Slot) → IsExternal external z → (z ≡ x → ⊥) → GoesOn before.legs after.legs z)

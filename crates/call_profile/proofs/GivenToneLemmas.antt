@@ -30,7 +30,7 @@ module _ (tones : Tones) (circuits : List Circuit) (all : All (HasOctets tones) 
   served_given None e = absurd cc
   served_given (Some x) e = heard_given x (heard_by circuits x) refl e
 
--- where each tone that stands has octets, so has each that a control memory shows
+-- where each tone that exists has octets, so has each that a control memory shows
 pub sounds_given : (tones : Tones) (image : Control) (circuits : List Circuit) (ports : Ports) (f : ℕ) → All (HasOctets tones) circuits → Shows image circuits ports f
     → (at : Slot) → at.line < lines_of image → at.place < 30 → (kind : Kind) (since : ℕ) → heard_at image at ≡ Sounds kind since → IsGiven tones kind
 sounds_given tones image circuits ports f all shows at line place kind since e =

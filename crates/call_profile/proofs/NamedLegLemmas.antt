@@ -1,4 +1,4 @@
--- The leg that a message names stands at its slot.
+-- The leg that a message names is at its slot.
 use Rattle.std.proofs.Common.{◌≡◌, ℕ, zero, suc, ◌+◌, ◌<◌, ◌≤◌, ◌==◌, Bool, true, false, List, [], ◌∷◌, map, Option, Some, None, refl, subst, inl, inr, arith}
 use Rattle.std.specs.Prelude.{Result, Ok, Err, find, filter_map, option_map, if◌then◌else◌}
 use Rattle.std.specs.List.{range_with_len, cons_option, AllByRecursion}
@@ -26,7 +26,7 @@ pub slots_on : (line : ℕ) → AllByRecursion (IsOn line) (slots_of line)
 unfolding slots_of
 slots_on line = all_on line 0 30 (omega arith)
 
--- a leg that is found stands at its slot, passes the test, and its slot is one of those that were looked at
+-- a leg that is found is at its slot, passes the test, and its slot is one of those that were looked at
 pub record Stands (legs : Legs) (p : Held → Bool) (Q : Slot → Type 0) (h : Held) : Type 0 where
   pub at : leg_at legs h.slot ≡ Some h.leg
   pub passes : p h ≡ true
@@ -79,7 +79,7 @@ for_named : (m : Message) (o : Option Held) (h : Held) (n : Message) → with_le
 for_named m None h n e = absurd (not_for_leg m h n e)
 for_named m (Some g) h n e = (cc, cc)
 
--- the leg that a message is for stands on the message's line
+-- the leg that a message is for is on the message's line
 pub named_from : (legs : Legs) (line : ℕ) (r : Result Message Discard) (h : Held) (m : Message) → request_read legs line r ≡ For_leg h m
     → Stands legs (is_for m.flag m.reference) (IsOn line) h
 named_from legs line (Err why) h m e = absurd cc

@@ -1,4 +1,4 @@
--- The legs stand after one of a call is released and the other is told so.
+-- The legs are consistent after one of a call is released and the other is cleared.
 use Rattle.std.proofs.Common.{◌≡◌, ℕ, ◌<◌, ◌⊎◌, inl, inr, length, Option, Some, None, refl, sym, ◌∙◌, ap, subst, length-set}
 use Rattle.circuit_model.specs.declared.channel.Slot.{Slot}
 use Rattle.circuit_model.specs.Circuits.{heard_by, unless_naming}
@@ -17,7 +17,7 @@ use Rattle.call_profile.proofs.AnsweringLemmas.{cleared_by}
 use Rattle.call_profile.proofs.BesideLemmas.{entry_here, entry_else, same_or_apart, named_back, Beside, each_stands, SameReferences, still_one}
 use Rattle.call_profile.proofs.HearingLemmas.{IsStrange, clear_keeps}
 
--- ---- what stands alone
+-- ---- what is alone
 
 -- a slot that was cleared hears nothing, whatever is cleared then
 pub deaf_once : (bridges : ℕ) (h : Holding) (x : Slot) → Valid bridges h → heard_by (after h (Clear x)).circuits x ≡ None
@@ -26,7 +26,7 @@ deaf_once bridges h x valid = heard_by-clear h.circuits x x (valid.standing x) �
 pub deaf_still : (bridges : ℕ) (h : Holding) (x y : Slot) → Valid bridges h → heard_by h.circuits x ≡ None → heard_by (after h (Clear y)).circuits x ≡ None
 deaf_still bridges h x y valid deaf = heard_by-clear h.circuits y x (valid.standing x) ∙ ap (unless_naming y) deaf
 
--- a leg that was released stands alone in silence, and one that was disconnected with a cause where it hears what it may
+-- a leg that was released is alone in silence, and one that was disconnected with a cause where it hears what it may
 pub released_stands : (external : ℕ) (tones : Tones) (w v : World) (x : Slot) (leg : Leg) → LegStands external tones w x leg → heard_by v.holding.circuits x ≡ None → LegStands external tones v x (in_release_request leg)
 released_stands external tones w v x leg stands deaf = record {
   state = refl;

@@ -1,4 +1,4 @@
--- A restart keeps the legs standing, slot by slot.
+-- A restart keeps the legs consistent, slot by slot.
 use Rattle.std.proofs.Common.{◌≡◌, ℕ, ◌*◌, ◌<◌, ◌≤◌, Bool, true, List, [], ◌∷◌, inl, inr, length, Option, Some, None, refl, sym, ◌∙◌, ap, arith, length-set}
 use Rattle.std.specs.Prelude.{filter, not, option_map, option_and_then}
 use Rattle.std.specs.List.{cons_option}
@@ -89,7 +89,7 @@ module _ (d : Dimensions) (tones : Tones) (r : Restart) (m : Making) (x : Slot) 
   pub leg_kept : Kept d tones (making_after_all d m (restart_leg tones r m.world.legs (Some held))).world
   leg_kept = peer_kept leg.peer refl (kept.1.each x leg within at).peer
 
-  -- the record of its call is told, where its clearing hadn't begun
+  -- its call is recorded, where its clearing hadn't begun
   told_by : (p : Peer) → leg.peer ≡ p → HasPeer d.external m.world.legs x leg p
       → records m.world (making_after_all d gone (with_peer (peer_of m.world.legs p) (restart_peer tones r x.line))).world temporary_failure
       ≡ cons_option (option_and_then (record_calling m.world temporary_failure) (caller_in leg.side held (peer_of m.world.legs p))) []
@@ -160,7 +160,7 @@ pub below_kept : (d : Dimensions) (tones : Tones) (r : Restart) (line : ℕ) (w 
 below_kept d tones r line w below kept =
     each_below d tones r line w (λ a. Kept d tones a.making.world) kept (λ a place small k. slot_kept d tones r a.making (record { line = line; place = place }) k (below, small))
 
--- ---- what is told of a slot
+-- ---- what is recorded of a slot
 
 pub slot_is : (r : Restart) (w : World) (x : Slot) (leg : Leg) → is_restarted r x.place ≡ true → leg_at w.legs x ≡ Some leg
     → slot_records r w x ≡ cons_option (record_ended w (record { slot = x; leg = leg }) temporary_failure) []

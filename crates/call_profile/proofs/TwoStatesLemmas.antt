@@ -1,4 +1,4 @@
--- The legs stand after the two of a call have gone to other states.
+-- The legs are consistent after the two of a call have gone to other states.
 use Rattle.std.proofs.Common.{◌≡◌, ℕ, ◌*◌, true, inl, inr, length, Some, refl, sym, ◌∙◌, ap, subst}
 use Rattle.circuit_model.specs.declared.channel.Slot.{Slot}
 use Rattle.circuit_model.specs.Circuits.{heard_by}

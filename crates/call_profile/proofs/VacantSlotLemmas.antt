@@ -68,7 +68,7 @@ none_step legs p x rest (Some leg) at e =
       )
     ]
 
--- no leg that stands at the slot passes the test
+-- no leg at the slot passes the test
 abbrev Fails : Legs → (Held → Bool) → Slot → Type 0
 Fails legs p x = (l : Leg) → leg_at legs x ≡ Some l → p (record { slot = x; leg = l }) ≡ false
 

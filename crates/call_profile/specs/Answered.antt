@@ -22,7 +22,7 @@ pub record AreConnected (bridges : ℕ) (before afterwards : World) (caller call
   pub there : Contains afterwards.holding.circuits (Pair caller called before.holding.next)
   pub back : Contains afterwards.holding.circuits (Pair called caller before.holding.next)
 
--- a message answers the call of a leg: circuits and legs stand as they must, and the leg is asked for that act
+-- a message answers the call of a leg: circuits and legs are consistent, and the leg is asked for that act
 pub record IsAnswered (s : Setting) (w : World) (line : ℕ) (octets : List ℕ) (h : Held) : Type 0 where
   pub valid : Valid s.dimensions.bridges w.holding
   pub legs_stand : LegsStand s.dimensions.external s.tones w

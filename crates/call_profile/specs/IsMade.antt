@@ -15,14 +15,14 @@ abbrev pub ports_after_all : Ports → List Command → Ports
 ports_after_all ports [] = ports
 ports_after_all ports (c ∷ cs) = ports_after_all (ports_after ports c) cs
 
--- a tone that stands is one that the trace gives: it has octets
+-- a tone that exists is one that the trace gives: it has octets
 abbrev pub HasOctets : Tones → Circuit → Type 0
 HasOctets tones (Pair from to since) = Unit {0}
 HasOctets tones (Member room at since) = Unit {0}
 HasOctets tones (Tone kind to since) = IsGiven tones kind
 
 -- a list of allowed commands and boundaries, which name slots of external lines alone, made the circuits and the ports of the world and of
--- each frame so far; and each tone that stands has octets
+-- each frame so far; and each tone that exists has octets
 pub record IsMade (d : Dimensions) (tones : Tones) (w : World) : Type 0 where
   pub commands : List Command
   pub within : AreWithin d.external commands

@@ -1,4 +1,4 @@
--- How the legs of a world stand. Source: this exchange's own; the states are those of ITU-T Q.931 (05/98), 2.1.2.
+-- When the legs of a world are consistent. Source: this exchange's own; the states are those of ITU-T Q.931 (05/98), 2.1.2.
 use Rattle.std.specs.Prelude.{◌≡◌, ◌≢◌, ℕ, ◌*◌, ◌^◌, ◌<◌, ◌≤◌, ◌&&◌, ◌||◌, ◌==◌, Bool, IsTrue, List, [], ◌∷◌, length, Option, Some, None}
 use Rattle.circuit_model.specs.declared.channel.Slot.{Slot}
 use Rattle.circuit_model.specs.declared.circuit.Circuit.{Circuit}
@@ -39,7 +39,7 @@ abbrev pub IsInCall : Side → Slot → Leg → Slot → Leg → Type 0
 IsInCall Caller x leg y other = AreOneCall x leg y other
 IsInCall Called x leg y other = AreOneCall y other x leg
 
--- the states in which a leg stands alone
+-- the states in which a leg is alone
 abbrev pub alone : List ℕ
 alone = overlap_sending ∷ disconnect_indication ∷ release_request ∷ []
 
@@ -64,14 +64,14 @@ pub record LegStands (external : ℕ) (tones : Tones) (w : World) (x : Slot) (le
   pub peer : HasPeer external w.legs x leg leg.peer
   pub hears : MayHear tones leg (heard_by w.holding.circuits x)
 
--- each leg stands rightly, and no two called legs of a line, and no two callers' legs of a line, have one call reference
+-- each leg is consistent, and no two called legs of a line, and no two callers' legs of a line, have one call reference
 pub record LegsStand (external : ℕ) (tones : Tones) (w : World) : Type 0 where
   pub count : length w.legs.held ≡ 30 * external
   pub each : (x : Slot) (leg : Leg) → IsExternal external x → leg_at w.legs x ≡ Some leg → LegStands external tones w x leg
   pub one : (x y : Slot) (a b : Leg) → IsExternal external x → IsExternal external y → leg_at w.legs x ≡ Some a → leg_at w.legs y ≡ Some b
       → x.line ≡ y.line → a.side ≡ b.side → a.reference ≡ b.reference → x ≡ y
 
--- each slot stands in one way, the legs stand, and numbers are pending where legs wait for the rest of them
+-- each slot is in one state, the legs are consistent, and numbers are pending where legs wait for the rest of them
 pub record CallsStand (s : Setting) (w : World) : Type 0 where
   pub circuits : Valid s.dimensions.bridges w.holding
   pub legs : LegsStand s.dimensions.external s.tones w

@@ -5,7 +5,7 @@ use Rattle.call_states.specs.Status.{FitsMessages}
 use Rattle.circuit_map.specs.Connections.{Connections, hears_at}
 use Rattle.call_states.specs.declared.leg.Held.{Held}
 
--- a leg of an external slot that can be told
+-- a leg of an external slot, to which messages can be sent
 pub record IsThere (external : ℕ) (h : Held) : Type 0 where
   pub within : IsExternal external h.slot
   pub told : FitsMessages h.leg

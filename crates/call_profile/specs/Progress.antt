@@ -1,4 +1,4 @@
--- Where a user is told that there is something to be heard. Source: ITU-T Q.931 (05/98), 4.5.23.
+-- Where a user learns that there is something to be heard. Source: ITU-T Q.931 (05/98), 4.5.23.
 use Rattle.std.specs.Prelude.{◌≡◌, ℕ, List, filter_map, Option, Some, None, if◌then◌else◌}
 use Rattle.call_profile.specs.Operations.{Operation, Sound, Send}
 

@@ -1,4 +1,4 @@
--- The calls that a message ends, told by the legs before and after it. Source: this exchange's own.
+-- The calls that a message ends, by the legs before and after it. Source: this exchange's own.
 use Rattle.std.specs.Prelude.{◌≡◌, ℕ, ◌<◌, nat_lt, true, false, List, AllPairs, Contains, Option, Some, None, if◌then◌else◌}
 use Rattle.circuit_model.specs.Extent.{IsExternal}
 use Rattle.q931_codec.specs.Causes.{temporary_failure}
@@ -18,7 +18,7 @@ use Rattle.call_profile.specs.Legs.{leg_at}
 use Rattle.call_profile.specs.Restarts.{restarts_slot}
 use Rattle.call_profile.specs.World.{World}
 
--- the octets come on a line of an exchange in which circuits and legs stand as they must
+-- the octets come on a line of an exchange in which circuits and legs are consistent
 pub record Arrive (s : Setting) (w : World) (line : ℕ) (octets : List ℕ) : Type 0 where
   pub planned : IsPlanned s
   pub fits : Fits s.dimensions.external (event.Message line octets)

@@ -16,7 +16,7 @@ use Rattle.call_profile.specs.Restarts.{restarts_slot}
 use Rattle.exchange_events.specs.Sizes.{Setting}
 use Rattle.call_profile.specs.World.{World}
 
--- the octets are a RESTART that is taken, on a line of an exchange in which circuits and legs stand as they must
+-- the octets are a RESTART that is taken, on a line of an exchange in which circuits and legs are consistent
 pub record IsRestart (s : Setting) (w : World) (line : ℕ) (octets : List ℕ) (r : Restart) : Type 0 where
   pub stands : CallsStand s w
   pub line_exists : line < s.dimensions.external

@@ -1,4 +1,4 @@
--- The exchange as a machine: what each event makes of what stands, and what it is answered. Source: this exchange's own.
+-- The exchange as a machine: what each event makes of the world, and what it is answered. Source: this exchange's own.
 use Rattle.std.specs.Prelude.{ℕ, ◌≤◌, ◌&&◌, not, Bool, List, [], ◌∷◌, filter_map, IfSome, if◌then◌else◌}
 use Rattle.circuit_model.specs.declared.channel.Slot.{Slot}
 use Rattle.circuit_model.specs.Holding.{Connect, Seat as Take_seat, Clear}
@@ -43,7 +43,7 @@ next s w (Free x) = if is_nailed w x then obey s.dimensions w (Clear x) else w
 next s w (Message line octets) = after_message s w line octets
 next s w (Frame input) = pass w input
 
--- an answer tells of so many moved paths at the most, each way
+-- an answer says that at most n paths moved, each way
 abbrev pub MovesAtMost : ℕ → Reply → Type 0
 MovesAtMost n (Granted a b) = (a ≤ n) × (b ≤ n)
 MovesAtMost n Busy = Unit {0}

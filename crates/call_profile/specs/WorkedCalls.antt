@@ -241,7 +241,7 @@ own_line = record {
   tones = silent;
 }
 
--- the interface is restarted, and with it both legs of the call: nobody is told
+-- the interface is restarted, and with it both legs of the call: nobody gets a message
 abbrev pub restart_of_both : List Event
 restart_of_both =
     Message 0 (0x08 ∷ 0x02 ∷ 0x00 ∷ 0x01 ∷ 0x05 ∷ 0x04 ∷ 0x03 ∷ 0x80 ∷ 0x90 ∷ 0xA3 ∷ 0x70 ∷ 0x03 ∷ 0x80 ∷ 0x31 ∷ 0x30 ∷ [])
@@ -257,7 +257,7 @@ restart_of_both_answered =
     ∷ records_reply (to 0 (0x08 ∷ 0x02 ∷ 0x80 ∷ 0x00 ∷ 0x4E ∷ 0x79 ∷ 0x01 ∷ 0x86 ∷ []) ∷ []) (record { caller = at 0 0; called = party.Line (at 0 1); answered = false; from = 0; to = 0; cause = 41 })
     ∷ []
 
--- the caller's channel alone is restarted: the called user is told
+-- the caller's channel alone is restarted: the called user gets a message
 abbrev pub restart_of_one : List Event
 restart_of_one =
     Message 0 (0x08 ∷ 0x02 ∷ 0x00 ∷ 0x01 ∷ 0x05 ∷ 0x04 ∷ 0x03 ∷ 0x80 ∷ 0x90 ∷ 0xA3 ∷ 0x70 ∷ 0x03 ∷ 0x80 ∷ 0x31 ∷ 0x30 ∷ [])
@@ -276,7 +276,7 @@ restart_of_one_answered =
 abbrev pub sounding_lines : Setting
 sounding_lines = record two_lines { tones = record { ringback = 0x11 ∷ 0x22 ∷ 0x33 ∷ []; busy = 0x44 ∷ [] } }
 
--- the circuits that stand once these events have happened
+-- the circuits that exist once these events have happened
 abbrev pub circuits_after : Setting → List Event → List Circuit
 circuits_after s events = (world_after_all s (start s.dimensions) events).holding.circuits
 
@@ -318,7 +318,7 @@ found_gone_answered =
 abbrev pub found_there : List Event
 found_there = rings ++ Message 1 (0x08 ∷ 0x02 ∷ 0x80 ∷ 0x01 ∷ 0x07 ∷ []) ∷ []
 
--- what stands in each case: a tone since the next frame, or the connection alone
+-- what exists in each case: a tone since the next frame, or the connection alone
 abbrev pub ringing_tone : List Circuit
 ringing_tone = Tone Ringback (at 0 0) 0 ∷ []
 

@@ -70,7 +70,7 @@ null_status_answered =
     ∷ records_reply [] (room_record 41)
     ∷ []
 
--- RELEASE meets RELEASE: the leg is gone, nothing is sent, and no record is told again; the call reference is then one of no call
+-- RELEASE meets RELEASE: the leg is gone, nothing is sent, and nothing is recorded again; the call reference is then one of no call
 abbrev pub release_collision : List Event
 release_collision =
     room_called

@@ -17,7 +17,7 @@ use Rattle.exchange_events.specs.declared.reply.Reply.TheVariants.{Granted, Seat
 abbrev pub exchange_lines : Dimensions → ℕ
 exchange_lines d = d.external + d.bridges
 
--- what the exchange holds: the circuits that stand, the legs of the calls, the member of each conference port and the layout of the paths;
+-- what the exchange holds: the live circuits, the legs of the calls, the member of each conference port and the layout of the paths;
 -- and of each frame so far its input, and the circuits and ports at its boundary
 pub record World : Type 0 where
   pub holding : Holding

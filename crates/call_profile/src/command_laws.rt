@@ -13,7 +13,7 @@ ghost use Rattle.call_profile.specs.Step.{reply, next};
 ghost use Rattle.call_profile.specs.World.{World, is_full};
 
 /// A command that is answered by a refusal makes nothing of the world: no slot, no leg and no path is
-/// another afterwards. For want of a port a seat is refused exactly where the slot is idle and there are
+/// another afterwards. For lack of a port a seat is refused exactly where the slot is idle and there are
 /// as many members as ports, which is where each port has a member, in every world that events make.
 pub fn law_of_refusals()
     ensures world { (s : Setting) (w : World) (e : Event) → refuses (reply s w e) ≡ true → next s w e ≡ w }

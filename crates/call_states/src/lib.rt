@@ -9,7 +9,7 @@
 //!
 //! [`Pending`] is what is kept of a call whose number is dialled in parts. Nothing here allocates.
 //!
-//! It stands on `circuit_model`, `q931_elements` and `q931_codec`, and on the kit's `arrayvec`.
+//! It uses `circuit_model`, `q931_elements` and `q931_codec`, and the kit's `arrayvec`.
 #![tactic(auto)]
 
 mod act;

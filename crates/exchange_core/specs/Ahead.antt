@@ -8,7 +8,7 @@ use Rattle.call_control.specs.declared.reading_ahead.ReadAhead.{ReadAhead}
 use Rattle.call_control.specs.Ahead.{IsReadAhead, is_message}
 use Rattle.exchange_core.specs.Working.{IsNumbered}
 
--- of a message it is what its octets and the plan say, and no other event asks for it
+-- it is what the octets of a message and the plan say, and no other event asks for it
 abbrev pub IsReadOf : List Number → Event → ReadAhead → Type 0
 IsReadOf plan (Message line octets) known = IsReadAhead plan octets known
 IsReadOf plan _ known = Unit {0}

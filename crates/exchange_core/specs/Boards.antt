@@ -1,4 +1,4 @@
--- What a switchboard does, and what it answers at a history. A seat is the right to do so many events of a trace; all seats of a board share one
+-- What a switchboard does, and what it answers at a history. A seat is the right to do a number of events of a trace; all seats of a board share one
 -- history. Source: this exchange's own.
 use Rattle.std.specs.Prelude.{◌≡◌, ℕ, List, length}
 use Rattle.circuit_model.specs.FrameInput.{Input}

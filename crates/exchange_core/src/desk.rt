@@ -7,7 +7,7 @@ use call_control::{ReadAhead, read_ahead};
 use exchange_events::{Event, Outbox, Trace};
 use number_plan::Plan;
 
-/// What a step is lent: the control memory of a frame, what was read of the event ahead, and the outbox
+/// What a step gets: the control memory of a frame, what was read of the event ahead, and the outbox
 /// for what is sent and recorded. A worker keeps one for all its events.
 #[derive(Drop)]
 pub struct Desk {

@@ -15,14 +15,14 @@ use exchange_events::{Reply, Response};
 use std::sync::Wait;
 
 /// An exchange at which many callers do the events of one trace, each in its turn. All that is done
-/// stands in one history.
+/// is in one history.
 ///
-/// A caller has a seat, with a number and so many turns. Seat 0 makes other seats, and joins them
+/// A caller has a seat, with a number and a count of turns. Seat 0 makes other seats, and joins them
 /// again. A seat knows a beginning of the history, which is what it has seen, and its own entries.
 /// Frames are done by the seat that holds the baton alone, which has seen every frame before. No call
 /// takes memory.
 pub trait Switchboard: Sync {
-    /// The right to do so many events.
+    /// The right to do a number of events.
     type Seat: Send + Drop;
 
     /// The trace and its fabric.
@@ -83,7 +83,7 @@ pub trait Switchboard: Sync {
         ensures tool { IsToolAt (board self.now) event tool.new };
 
     /// The same as [`handle`](Switchboard::handle), with a desk in place of the tool: what is sent and
-    /// told is put into its outbox, in place of what it held, so that no event pays for that room. What
+    /// recorded is put into its outbox, in place of what it held, so that no event pays for that room. What
     /// was read of the event ahead is taken from the desk, and is not read again in the turn.
     fn work<R: Wait>(
         &self,

@@ -64,7 +64,7 @@ impl FrameBuffer {
         put_row(&mut self.filled, line, octets);
     }
 
-    /// Writes the idle octet over all places of so many lines, from line 0 on, in the half that is filled.
+    /// Writes the idle octet over all places of n lines, from line 0 on, in the half that is filled.
     pub fn make_lines_idle(&mut self, lines: u8)
         requires { lines ≤ self.old.lines }
         ensures lines { self.new.lines ≡ self.old.lines }
@@ -130,7 +130,7 @@ fn put_row(octets: &mut [u8], line: u8, row: &[u8; 30])
     octets[start..start + usize::from(PLACES)].copy_from_slice(row);
 }
 
-// Writes the idle octet over the rows of so many lines, from the first on.
+// Writes the idle octet over the rows of n lines, from the first on.
 fn make_rows_idle(octets: &mut [u8], lines: u8)
     requires { lines * 30 ≤ length octets.old }
     ensures size { length octets.new ≡ length octets.old }

@@ -7,7 +7,7 @@ ghost use Rattle.frame_buffer.specs.Speech.{octet_in_half};
 
 use frame_buffer::FrameBuffer;
 
-// Takes the octets of so many external lines in, the idle octet for a line that sends nothing. The
+// Takes the octets of n external lines in, the idle octet for a line that sends nothing. The
 // lines behind them stay.
 pub(crate) fn take_in(input: &[Option<[u8; 30]>], external: u8, speech: &mut FrameBuffer)
     requires input { length input.now ≡ external }

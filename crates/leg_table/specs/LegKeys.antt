@@ -33,7 +33,7 @@ key_on keys line place = slice_index_or keys (32 * line + place) no_key
 abbrev pub leg_on : List (Option Leg) → ℕ → ℕ → Option Leg
 leg_on legs line place = slice_index_or legs (30 * line + place) None
 
--- so many lines have thirty slots each, whose legs have numbers that a message can carry; and each line has the keys of its thirty slots, with two
+-- n lines have thirty slots each, whose legs have numbers that a message can carry; and each line has the keys of its thirty slots, with two
 -- places behind them that have no leg's
 pub record AreKeysOf (lines : ℕ) (legs : List (Option Leg)) (keys : List ℕ) : Type 0 where
   pub slots : length legs ≡ 30 * lines

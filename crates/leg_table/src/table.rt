@@ -18,7 +18,7 @@ use std::marker::Model;
 /// The legs of all calls, by the slots that they hold. Contracts see for each external slot, by its
 /// number, the leg that holds it, and the number that is pending there.
 ///
-/// Beside the legs stands a row of keys for each line, by which a message finds its leg in one pass
+/// Beside the legs is a row of keys for each line, by which a message finds its leg in one pass
 /// without a branch, and for each slot room for a number that is pending.
 #[derive(Drop)]
 pub struct LegTable {
@@ -43,7 +43,7 @@ impl Model for LegTable {
 }
 
 impl LegTable {
-    /// No legs on the slots of so many external lines.
+    /// No legs on the slots of n external lines.
     pub fn new(alloc: Global, external: u8) -> Result<LegTable, AllocError>
         ensures { IfOk result (λ t. t ≡ no_legs external) }
     {
@@ -186,7 +186,7 @@ fn keep(numbers: &mut Vec<Pending>, x: Slot, pending: Pending)
     numbers[x.number()] = pending;
 }
 
-// Where the key of a slot stands.
+// Where the key of a slot is.
 fn key_index(x: Slot) -> usize
     ensures { result ≡ 32 * x.line + x.place }
 {

@@ -31,7 +31,7 @@ pub trait Plain {
     /// Takes an event.
     fn take(&mut self, alloc: Global, event: &PlainEvent) -> Result<(), AllocError>;
 
-    /// The report. `_ _` stands in it for two numbers of moved paths that the program doesn't know.
+    /// The report. `_ _` is in it in place of two numbers of moved paths that the program doesn't know.
     fn text(&self) -> &str;
 
     /// Appends a line for each call that ended, in order, as a meter of call details does.
@@ -113,7 +113,7 @@ impl Gate for Apart {
     fn after_crossing(&self, _frame: u32) {}
 }
 
-/// Runs a trace through the exchange at a gate, on a strict fabric or on the other. What is told of the
+/// Runs a trace through the exchange at a gate, on a strict fabric or on the other. What is said of the
 /// order of its report, where that has the events in a lawful order, and says of each what the plain
 /// program says that takes them in that order, from nothing, where on a strict fabric each number of moved
 /// paths is 0, and where two meters kept just the calls that ended in that run.
@@ -141,7 +141,7 @@ pub fn agreed<S: Setting, G: Gate, R: Threads + Wait + Sync>(
     }
 }
 
-// What is told of the order of a report, where it is lawful, and where the plain program says the same
+// What is said of the order of a report, where it is lawful, and where the plain program says the same
 // and the same calls.
 fn compared<S: Setting>(
     alloc: Global,

@@ -36,7 +36,7 @@ impl Orders {
         self.apart = self.apart.saturating_add(decided.apart);
     }
 
-    /// Whether all of so many traces were counted, threads took another order than the file's in some,
+    /// Whether all of n traces were counted, threads took another order than the file's in some,
     /// and the program did segments both ways.
     pub fn is_whole(&self, traces: u32) -> bool {
         self.traces == traces && self.others > 0 && self.alone > 0 && self.apart > 0

@@ -16,7 +16,7 @@
 //! output says in how many traces threads took another order than the file's, and the status is 1
 //! where that is none. It is proved safe; what it compares is tested, not proved.
 //!
-//! It stands on `ex_io`, `circuit_model`, `frame_buffer`, `plain_model`, `test_exchange`,
+//! It uses `ex_io`, `circuit_model`, `frame_buffer`, `plain_model`, `test_exchange`,
 //! `test_traffic`, `frame_engine`, `meters`, `gate`, `segment_run` and `exchange_top`.
 #![tactic(auto)]
 
@@ -47,7 +47,7 @@ const EVENTS: u32 = 250;
 /// Runs a trace in threads in any case, as the program decides, and in threads on a strict fabric, and
 /// counts it where each report is that of the plain program. Whether they are.
 ///
-/// No run leaves more than what is told of its order, so that there is nothing to drop where memory runs
+/// No run leaves more than what is said of its order, so that there is nothing to drop where memory runs
 /// out in the next.
 fn run_each_way<S: Setting, R: Threads + Wait + Sync>(
     rt: &R,
@@ -83,7 +83,7 @@ fn run_one<R: Threads + Wait + Sync>(
     run_each_way(rt, alloc, &trial.script, &trial.lines, orders)
 }
 
-/// Runs so many traces of a kind and prints what they came to. Whether all reports were the wanted
+/// Runs n traces of a kind and prints what they came to. Whether all reports were the wanted
 /// ones.
 fn run<R: Print + Eprint + Threads + Wait + Sync>(
     rt: &R,
@@ -125,7 +125,7 @@ fn run_one_of_calls<R: Threads + Wait + Sync>(
     run_each_way(rt, alloc, &drawn.script, &drawn.setting, orders)
 }
 
-/// Runs so many traces of calls and prints what they came to. Whether all reports were those of the
+/// Runs n traces of calls and prints what they came to. Whether all reports were those of the
 /// plain program, and each act, each cause of a refusal, each tone and each chain of moved paths came.
 fn run_calls<R: Print + Eprint + Threads + Wait + Sync>(
     rt: &R,

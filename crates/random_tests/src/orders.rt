@@ -3,7 +3,7 @@ use std::alloc::{AllocError, Global};
 use std::cmp::{max, min};
 use test_traffic::{MOST_WORKERS, Post, of_event};
 
-/// What is told of the order that a run took its events in.
+/// What is said of the order that a run took its events in.
 #[derive(Clone, Copy)]
 pub struct Taken {
     /// Whether it is the order of the file.
@@ -17,7 +17,7 @@ pub struct Taken {
 }
 
 impl Taken {
-    /// What is told of a lawful order of these events.
+    /// What is said of a lawful order of these events.
     pub fn of(alloc: Global, posts: &[Post], order: &[u32]) -> Result<Taken, AllocError> {
         let few = few_beside(alloc, posts)?;
         let alone = u32::try_from(few.iter().filter(|few| **few).count()).unwrap_or(u32::MAX);
@@ -50,7 +50,7 @@ pub fn numbered(line: &str) -> Option<(u32, &str)> {
     Some((number.parse::<u32>().ok()?, words))
 }
 
-// Of each segment, whether all workers but the busiest have too few events for threads.
+// Whether all workers but the busiest of each segment have too few events for threads.
 fn few_beside(alloc: Global, posts: &[Post]) -> Result<Vec<bool>, AllocError> {
     let mut few = Vec::new(alloc);
     let mut loads = [0u32; MOST_WORKERS];

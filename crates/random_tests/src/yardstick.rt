@@ -47,7 +47,7 @@ impl Nail {
     }
 }
 
-/// A plain reading of the events, which reports all but the numbers of moved paths; `_ _` stands for
+/// A plain reading of the events, which reports all but the numbers of moved paths; `_ _` means
 /// them.
 ///
 /// It lists who is connected with whom and since when, and who has a seat.

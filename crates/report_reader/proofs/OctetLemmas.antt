@@ -1,4 +1,4 @@
--- Pairs of hexadecimal digits at the front of octets.
+-- Pairs of hexadecimal digits at the beginning of octets.
 use Rattle.std.proofs.Common.{◌≡◌, ℕ, ◌+◌, ◌-◌, ◌*◌, ◌/◌, ◌%◌, ◌<◌, ◌≤◌, Bool, true, List, [], ◌∷◌, ◌++◌, length, cond, eqb, ltb, inl, inr, Option, Some, None, option_map, refl, sym, ap, ◌∙◌, arith, append_assoc, length-append}
 use Rattle.std.specs.Prelude.{slice_index, unwrap_or}
 use Rattle.std.proofs.lemmas.Option.{some_pair_parts}
@@ -33,7 +33,7 @@ pair_there (high ∷ low ∷ octets) others octet found = by_case (octet_of high
 pub pair_shorter : (octets others : List ℕ) (octet : ℕ) → octet_at octets ≡ Some (octet, others) → length others < length octets
 pair_shorter octets others octet found = let there = pair_there octets others octet found in let long = ap length there.there in omega (arith, long)
 
--- one octet more at the front
+-- one octet more at the beginning
 pub front_more : (octets others : List ℕ) (octet : ℕ) → octet_at octets ≡ Some (octet, others)
     → octets_front octets ≡ (octet ∷ (octets_front others).0, (octets_front others).1)
 unfolding octets_front
@@ -41,7 +41,7 @@ front_more octets others octet found =
     let there = pair_there octets others octet found in
     rw (there.there, there.value) refl
 
--- no octet at the front
+-- no octet at the beginning
 pub front_none : (octets : List ℕ) → octet_at octets ≡ None → octets_front octets ≡ ([], octets)
 unfolding octets_front
 front_none [] none = refl
@@ -53,7 +53,7 @@ front_none (high ∷ low ∷ octets) none = by_case (octet_of high low) refl non
     by_case None is none = rw is refl
     by_case (Some v) is none = absurd cc
 
--- some octets were read, and what is at the front now comes behind them
+-- some octets were read, and what is at the beginning now comes after them
 pub record HasRead (all read rest : List ℕ) : Type 0 where
   pub few : length read ≤ 112
   pub behind : read ++ (octets_front rest).0 ≡ (octets_front all).0

@@ -1,4 +1,4 @@
--- The words of replies, and what stands behind them.
+-- The words of replies, and what comes after them.
 use Rattle.std.proofs.Common.{◌≡◌, ℕ, suc, ◌+◌, ◌^◌, ◌<◌, true, false, List, [], ◌∷◌, ◌++◌, length, codes, decimal, All, Option, Some, None, IfSome, refl, sym, ap, ◌∙◌, arith, append_assoc}
 use Rattle.std.proofs.lemmas.Bool.{eqb-true}
 use Rattle.std.proofs.lemmas.List.{append-nil}
@@ -64,7 +64,7 @@ word_there octets w rest found =
     first_there word.Message octets (behind (codes " message") octets) _ w rest refl f (λ f.
     first_there word.Frame octets (behind (codes " frame") octets) _ w rest refl f (λ f. absurd cc))))))))
 
--- ---- what stands behind them
+-- ---- what comes after them
 
 abbrev pub word_of : Kept → Word
 word_of (Granted a b) = word.Granted
@@ -229,13 +229,13 @@ frame_back n sends rows held fine are =
     let signals = signals_back (length rest + 1) (codes " send") (parts 0 rows) [] sends stops apart send_apart fine (omega arith) in
     rw (number, signals, rows_of_parts rows are) refl
 
--- ---- what is read is told
+-- ---- what is read is what a line says
 
--- a reply that no octets stand beside
+-- a reply without octets beside it
 abbrev alone : Kept → Option (Kept × List (List ℕ))
 alone reply = Some (reply, [])
 
--- a reply of this word is told there
+-- a reply of this word is what a line says there
 pub record IsToldIn (w : Word) (octets : List ℕ) (reply : Kept) (rows : List (List ℕ)) : Type 0 where
   pub named : word_of reply ≡ w
   pub there : octets ≡ body rows reply
@@ -320,7 +320,7 @@ told_text word.Message octets reply rows found =
     told_alone read.here reply rows (message_told octets read.here read.is) read.later
 told_text word.Frame octets reply rows found = frame_told octets reply rows found
 
--- ---- what is told is read
+-- ---- what a line says is read
 
 pub told_back : (reply : Kept) (rows : List (List ℕ)) → IsToldReply reply → AreToldOctets reply rows → told_of (word_of reply) (body rows reply) ≡ Some (reply, rows)
 told_back (Granted a b) rows fine beside = rw (beside, pair_whole a b fine.0 fine.1) refl

@@ -12,7 +12,7 @@ use Rattle.report_reader.specs.Reading.{reading}
 use Rattle.report_reader.proofs.FeedLemmas.{IsCut, broken, cut_of, same_line}
 use Rattle.report_reader.proofs.LineLemmas.{line_of, line_spells, line_unbroken, one_spelled, spelled}
 
--- ---- two lists of lines at the front of the same bytes
+-- ---- two lists of lines at the beginning of the same bytes
 
 -- the first line of bytes spells an answer
 record Starts (bytes : List ℕ) : Type 0 where

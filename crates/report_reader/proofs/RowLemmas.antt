@@ -1,4 +1,4 @@
--- Rows at the front of octets, one after another.
+-- Rows at the beginning of octets, one after another.
 use Rattle.std.proofs.Common.{◌≡◌, ℕ, zero, suc, ◌+◌, ◌-◌, ◌<◌, ◌≤◌, true, false, not, ltb, eqb, ◌&&◌, List, [], ◌∷◌, ◌++◌, length, replicate, get_or, All, inl, inr, Option, Some, None, IfSome, decimal, refl, sym, ap, ◌∙◌, arith, append_assoc, length-append}
 use Rattle.std.specs.List.{last_or}
 use Rattle.std.proofs.lemmas.Bool.{cases_Bool, lt-ltb, le-ltb, and_parts, eq-eqb, eqb-true, ltb-false, not-true}
@@ -51,7 +51,7 @@ pub record GoesOn (all : List ℕ) (rows : List (List ℕ)) (rest : List ℕ) : 
 pub begun : (all : List ℕ) (rows : List (List ℕ)) → rows ≡ [] → GoesOn all rows all
 begun all rows none = rw none (record { rounds = length all + 1; enough = omega arith; same = refl })
 
--- a step by the row at the front
+-- a step by the row at the beginning
 step_by : (k : ℕ) (rows : List (List ℕ)) (octet : ℕ) (rest : List ℕ) (found : Option (Signal × List ℕ)) → row_at (octet ∷ rest) ≡ found
     → rows_in (suc k) rows (octet ∷ rest) ≡ (found >>= λ read. rows_step rows read (rows_in k))
 unfolding rows_in

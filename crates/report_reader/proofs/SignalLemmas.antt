@@ -1,4 +1,4 @@
--- Messages at the front of octets, one after another.
+-- Messages at the beginning of octets, one after another.
 use Rattle.std.proofs.Common.{◌≡◌, ℕ, zero, suc, ◌+◌, ◌^◌, ◌<◌, ◌≤◌, true, ltb, leb, List, [], ◌∷◌, ◌++◌, length, codes, Option, Some, None, All, decimal, refl, sym, ap, ◌∙◌, arith, append_assoc, length-append}
 use Rattle.std.proofs.lemmas.Bool.{lt-ltb, ltb-true, leb-true, and_parts}
 use Rattle.std.proofs.lemmas.List.{append-nil}
@@ -87,7 +87,7 @@ pub record GoesOn (mark all : List ℕ) (sends : List Signal) (rest : List ℕ) 
   pub enough : length rest < rounds
   pub same : signals_in rounds mark sends rest ≡ signals_at mark all
 
--- a step by what stands behind the word
+-- a step by what comes after the word
 pub step_by : (k : ℕ) (mark : List ℕ) (sends : List Signal) (rest : List ℕ) (found : Option (List ℕ)) → behind mark rest ≡ found
     → signals_in (suc k) mark sends rest ≡ signals_step found sends rest (signals_in k mark)
 unfolding signals_in
@@ -96,7 +96,7 @@ step_by k mark sends rest found is = rw is refl
 pub begun : (mark all : List ℕ) (sends : List Signal) → sends ≡ [] → GoesOn mark all sends all
 begun mark all sends none = rw none (record { rounds = length all + 1; enough = omega arith; same = refl })
 
--- no word is at the front, or nothing follows it
+-- no word is at the beginning, or nothing follows it
 pub signals_end : (mark all rest : List ℕ) (sends : List Signal) → GoesOn mark all sends rest → (behind mark rest ≡ None) → signals_at mark all ≡ Some (sends, rest)
 signals_end mark all rest sends goes none = by_rounds goes.rounds goes.enough goes.same
   where
@@ -206,7 +206,7 @@ stopped : (k : ℕ) (mark rest : List ℕ) (sends : List Signal) → Stops mark 
 stopped k mark rest sends (No_word none) = step_by k mark sends rest None none
 stopped k mark rest sends (No_more none) = step_by k mark sends rest (Some []) none
 
--- what stands behind a message is apart from it
+-- what follows a message is apart from it
 pub told_apart : (mark rest : List ℕ) (sends : List Signal) → is_apart rest ≡ true → ((line : ℕ) (octets more : List ℕ) → is_apart (mark ++ (on_line line octets ++ more)) ≡ true)
     → is_apart (told mark sends ++ rest) ≡ true
 told_apart mark rest [] apart spaced = apart

@@ -1,4 +1,4 @@
--- How the line of a report is read, from its front on. Source: this exchange's own.
+-- How the line of a report is read, from its beginning on. Source: this exchange's own.
 use Rattle.std.specs.Prelude.{ℕ, zero, suc, ◌+◌, ◌-◌, ◌*◌, ◌^◌, ◌==◌, ◌&&◌, ◌||◌, not, nat_lt, nat_le, Bool, List, [], ◌∷◌, ◌++◌, length, replicate, codes, Option, Some, None, option_map, option_and_then, if◌then◌else◌}
 use Rattle.std.specs.Char.{is_ascii_digit}
 use Rattle.circuit_model.specs.FrameInput.{idle_octet}
@@ -22,13 +22,13 @@ found >>= step = option_and_then step found
 abbrev pub passing : {A : Type 0} → Bool → A → Option A
 passing test found = if test then Some found else None
 
--- what stands behind a word, where octets begin with it
+-- what comes after a word, where octets begin with it
 unfoldable pub behind : List ℕ → List ℕ → Option (List ℕ)
 behind [] octets = Some octets
 behind (mark ∷ marks) [] = None
 behind (mark ∷ marks) (octet ∷ octets) = if octet == mark then behind marks octets else None
 
--- the decimal digit at the front, and what follows it
+-- the decimal digit at the beginning, and what follows it
 abbrev pub digit_at : List ℕ → Option (ℕ × List ℕ)
 digit_at [] = None
 digit_at (octet ∷ octets) = passing (is_ascii_digit octet) (octet - 48, octets)
@@ -40,19 +40,19 @@ number_from n (octet ∷ octets) =
     if is_ascii_digit octet then (if n == 0 || nat_le (2 ^ 32) (n * 10 + (octet - 48)) then None else number_from (n * 10 + (octet - 48)) octets)
     else Some (n, octet ∷ octets)
 
--- the number at the front, and what follows it
+-- the number at the beginning, and what follows it
 abbrev pub number_at : List ℕ → Option (ℕ × List ℕ)
 number_at octets = do
   first ← digit_at octets
   number_from first.0 first.1
 
--- the number at the front, behind a space
+-- the number at the beginning, behind a space
 abbrev pub spaced_at : List ℕ → Option (ℕ × List ℕ)
 spaced_at octets = do
   rest ← behind (codes " ") octets
   number_at rest
 
--- two numbers at the front, each behind a space
+-- two numbers at the beginning, each behind a space
 abbrev pub pair_at : List ℕ → Option ((ℕ × ℕ) × List ℕ)
 pair_at octets = do
   a ← spaced_at octets
@@ -83,7 +83,7 @@ abbrev pub onto : Option ℕ → List ℕ → List ℕ × List ℕ → List ℕ 
 onto None octets read = ([], octets)
 onto (Some octet) octets read = (octet ∷ read.0, read.1)
 
--- the octets that pairs of digits write at the front, as many as there are, and what follows them
+-- the octets that pairs of digits write at the beginning, as many as there are, and what follows them
 unfoldable pub octets_front : List ℕ → List ℕ × List ℕ
 octets_front [] = ([], [])
 octets_front (high ∷ []) = ([], high ∷ [])
@@ -102,7 +102,7 @@ signal_at octets = do
   read ← octets_at rest
   Some (record { line = line.0; octets = read.0 }, read.1)
 
--- one message more, where one follows the word at the front
+-- one message more, where one follows the word at the beginning
 abbrev pub signals_step : Option (List ℕ) → List Signal → List ℕ → (List Signal → List ℕ → Option (List Signal × List ℕ)) → Option (List Signal × List ℕ)
 signals_step None sends octets next = Some (sends, octets)
 signals_step (Some []) sends octets next = Some (sends, octets)
@@ -110,12 +110,12 @@ signals_step (Some (octet ∷ rest)) sends octets next = do
   read ← signal_at (octet ∷ rest)
   next (sends ++ read.0 ∷ []) read.1
 
--- the messages at the front behind some others, each behind a word, in fewer rounds than are given, and what follows them
+-- the messages at the beginning behind some others, each behind a word, in fewer rounds than are given, and what follows them
 unfoldable pub signals_in : ℕ → List ℕ → List Signal → List ℕ → Option (List Signal × List ℕ)
 signals_in zero mark sends octets = None
 signals_in (suc k) mark sends octets = signals_step (behind mark octets) sends octets (signals_in k mark)
 
--- the messages at the front, each behind a word, and what follows them; each takes an octet at least
+-- the messages at the beginning, each behind a word, and what follows them; each takes an octet at least
 abbrev pub signals_at : List ℕ → List ℕ → Option (List Signal × List ℕ)
 signals_at mark octets = signals_in (length octets + 1) mark [] octets
 
@@ -150,7 +150,7 @@ rows_of octets = rows_in (length octets + 1) [] octets
 abbrev pub is_empty : List ℕ → Bool
 is_empty octets = length octets == 0
 
--- how many live paths were moved, where that is told, and what follows
+-- how many live paths were moved, where that is said, and what follows
 abbrev pub moves_by : List ℕ → Option (List ℕ) → Option (Option (ℕ × ℕ) × List ℕ)
 moves_by octets None = Some (None, octets)
 moves_by octets (Some rest) = do
@@ -160,14 +160,14 @@ moves_by octets (Some rest) = do
 abbrev pub moves_at : List ℕ → Option (Option (ℕ × ℕ) × List ℕ)
 moves_at octets = moves_by octets (behind (codes " moved") octets)
 
--- what stands behind `message`
+-- what comes after `message`
 abbrev pub message_of : List ℕ → Option Kept
 message_of octets = do
   moved ← moves_at octets
   sends ← signals_at [] moved.1
   passing (is_empty sends.1) (Sent sends.0 moved.0 [])
 
--- what stands behind `frame`
+-- what comes after `frame`
 abbrev pub frame_of : List ℕ → Option (Kept × List (List ℕ))
 frame_of octets = do
   n ← spaced_at octets
@@ -181,7 +181,7 @@ pair_of octets = do
   both ← pair_at octets
   passing (is_empty both.1) both.0
 
--- what stands behind the word of a reply that isn't a frame's
+-- what comes after the word of a reply that isn't a frame's
 abbrev pub reply_of : Word → List ℕ → Option Kept
 reply_of word.Granted octets = pair_of octets >>= λ both. Some (Granted both.0 both.1)
 reply_of word.Busy octets = passing (is_empty octets) Busy

@@ -98,7 +98,7 @@ pub record IsFaultyAt (bytes : List ℕ) (n : ℕ) : Type 0 where
   pub some : 0 < length behind
   pub faulty : (line rest : List ℕ) (answer : Answer) → behind ≡ line ++ codes "\n" ++ rest → Spells line answer → ⊥
 
--- why bytes are no report, where it isn't for want of memory
+-- why bytes are no report, unless memory ran out
 abbrev pub IsFault : List ℕ → ReportFault → Type 0
 IsFault bytes Memory = ⊤
 IsFault bytes (Line n) = IsFaultyAt bytes n

@@ -1,15 +1,15 @@
-// Words, numbers and octets, cut from the front of borrowed octets.
+// Words, numbers and octets, cut from the beginning of borrowed octets.
 ghost use Rattle.std.specs.Prelude.{◌≡◌, option_map};
 ghost use Rattle.report_reader.specs.Reading.{behind, digit_at, digit_value, number_at, octet_at, octet_of, pair_at, pair_of, spaced_at};
 
-/// What stands behind a word, where octets begin with it.
+/// What comes after a word, where octets begin with it.
 pub(crate) fn behind<'a>(word: &[u8], octets: &'a [u8]) -> Option<&'a [u8]>
     ensures { option_map (λ rest. rest.now) result ≡ behind word.now octets.now }
 {
     octets.strip_prefix(word)
 }
 
-// The decimal digit at the front, and what follows it.
+// The decimal digit at the beginning, and what follows it.
 fn digit_at(octets: &[u8]) -> Option<(u32, &[u8])>
     ensures { option_map (λ cut. (cut.0, cut.1.now)) result ≡ digit_at octets.now }
 {
@@ -22,7 +22,7 @@ fn digit_at(octets: &[u8]) -> Option<(u32, &[u8])>
     Some((u32::from(*octet - b'0'), rest))
 }
 
-/// The number at the front, and what follows it. A numeral has no leading zero, and its number has
+/// The number at the beginning, and what follows it. A numeral has no leading zero, and its number has
 /// 32 bits.
 pub(crate) fn number_at(octets: &[u8]) -> Option<(u32, &[u8])>
     ensures { option_map (λ cut. (cut.0, cut.1.now)) result ≡ number_at octets.now }
@@ -38,14 +38,14 @@ pub(crate) fn number_at(octets: &[u8]) -> Option<(u32, &[u8])>
     Some((number, rest))
 }
 
-/// The number at the front, behind a space, and what follows it.
+/// The number at the beginning, behind a space, and what follows it.
 pub(crate) fn spaced_at(octets: &[u8]) -> Option<(u32, &[u8])>
     ensures { option_map (λ cut. (cut.0, cut.1.now)) result ≡ spaced_at octets.now }
 {
     number_at(behind(b" ", octets)?)
 }
 
-/// Two numbers at the front, each behind a space, and what follows them.
+/// Two numbers at the beginning, each behind a space, and what follows them.
 pub(crate) fn pair_at(octets: &[u8]) -> Option<((u32, u32), &[u8])>
     ensures { option_map (λ cut. (cut.0, cut.1.now)) result ≡ pair_at octets.now }
 {

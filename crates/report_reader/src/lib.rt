@@ -10,7 +10,7 @@
 //! - A line spells at most one answer ([`one_spelling`]), and has no line feed in it
 //!   ([`no_line_feed`]). All bytes have one reading ([`one_reading`], [`some_reading`]).
 //!
-//! It stands on `circuit_model`, `q931_elements`, `exchange_events` and `report_text`, and on the kit's
+//! It uses `circuit_model`, `q931_elements`, `exchange_events` and `report_text`, and the kit's
 //! `arrayvec` and `memchr`.
 #![tactic(auto)]
 

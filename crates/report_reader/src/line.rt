@@ -14,7 +14,7 @@ use std::alloc::{AllocError, Global};
 /// How many events a trace has at most.
 const MOST_EVENTS: u32 = 65_535;
 
-// How many live paths were moved, where that is told, and what follows.
+// How many live paths were moved, where that is said, and what follows.
 fn moves_at(octets: &[u8]) -> Option<(Option<(u32, u32)>, &[u8])>
     ensures { option_map (λ cut. (cut.0, cut.1.now)) result ≡ moves_at octets.now }
 {
@@ -25,7 +25,7 @@ fn moves_at(octets: &[u8]) -> Option<(Option<(u32, u32)>, &[u8])>
     Some((Some(both), rest))
 }
 
-// What stands behind `message`.
+// What comes after `message`.
 fn message_of(alloc: Global, octets: &[u8]) -> Result<Option<Kept>, AllocError>
     ensures { IfOk result (λ reply. reply ≡ message_of octets.now) }
 {
@@ -45,7 +45,7 @@ fn message_of(alloc: Global, octets: &[u8]) -> Result<Option<Kept>, AllocError>
     }))
 }
 
-// What stands behind `frame`.
+// What comes after `frame`.
 fn frame_of(alloc: Global, octets: &[u8]) -> Result<Option<(Kept, Rows)>, AllocError>
     ensures { IfOk result (λ told. told ≡ frame_of octets.now) }
 {
@@ -73,7 +73,7 @@ fn at_end(reply: Kept, octets: &[u8]) -> Option<Kept>
     if octets.is_empty() { Some(reply) } else { None }
 }
 
-// What stands behind the word of a reply that isn't a frame's.
+// What comes after the word of a reply that isn't a frame's.
 fn reply_of(alloc: Global, word: Word, octets: &[u8]) -> Result<Option<Kept>, AllocError>
     ensures { IfOk result (λ reply. reply ≡ reply_of word octets.now) }
 {
@@ -131,7 +131,7 @@ fn answer_of(alloc: Global, line: &[u8]) -> Result<Option<Answer>, AllocError>
 ///
 /// # Errors
 ///
-/// [`AllocError`] for want of memory.
+/// [`AllocError`] where memory runs out.
 pub fn read_report_line(alloc: Global, line: &[u8]) -> Result<Option<Answer>, AllocError>
     ensures spelled { IfOk result (λ found. MatchOption found ((answer : Answer) → Spells line.now answer → ⊥) (λ answer. Spells line.now answer)) }
 {

@@ -80,7 +80,7 @@ fn read_lines(alloc: Global, bytes: &[u8]) -> Result<Vec<Answer>, ReportFault>
 /// # Errors
 ///
 /// [`ReportFault::Line`] with the number of the first line that spells no answer or that no line feed
-/// ends, and [`ReportFault::Memory`] for want of memory.
+/// ends, and [`ReportFault::Memory`] where memory runs out.
 pub fn read_report(alloc: Global, bytes: &[u8]) -> Result<Vec<Answer>, ReportFault>
     requires { length bytes.now < 2 ^ 32 }
     // What is read is what the lines spell.

@@ -10,7 +10,7 @@ use std::alloc::{AllocError, Global};
 /// How many external lines an exchange has at most.
 const MOST_LINES: u32 = 32;
 
-// The octets that pairs of digits write at the front, where they are as many as a message may have,
+// The octets that pairs of digits write at the beginning, where they are as many as a message may have,
 // and what follows them.
 fn octets_at(octets: &[u8]) -> Option<(Encoded, &[u8])>
     ensures { option_map (λ cut. (cut.0, cut.1.now)) result ≡ octets_at octets.now }
@@ -44,7 +44,7 @@ pub(crate) fn signal_at(octets: &[u8]) -> Option<(Signal, &[u8])>
     Some((Signal { line, octets }, rest))
 }
 
-/// The messages at the front, each behind a word, and what follows them.
+/// The messages at the beginning, each behind a word, and what follows them.
 pub(crate) fn signals_at<'a>(
     alloc: Global,
     word: &[u8],

@@ -17,7 +17,7 @@ pub enum Word {
     Frame,
 }
 
-/// The word of a reply at the front, behind a space, and what follows it.
+/// The word of a reply at the beginning, behind a space, and what follows it.
 pub(crate) fn word_at(octets: &[u8]) -> Option<(Word, &[u8])>
     ensures { option_map (λ cut. (cut.0, cut.1.now)) result ≡ word_at octets.now }
 {

@@ -15,7 +15,7 @@ use std::alloc::{AllocError, Global};
 
 // What the table asks for a message to a leg.
 impl PlainExchange {
-    /// Does what a message asks of its leg, and tells the cause with which it clears a call.
+    /// Acts on a message to a leg, and returns the cause with which it clears a call.
     pub(crate) fn act(
         &mut self,
         alloc: Global,
@@ -60,7 +60,7 @@ impl PlainExchange {
         }
     }
 
-    // The called user is alerted; the caller is told so, and hears it where there is a tone for that.
+    // The called user is alerted; the caller gets that, and hears it where there is a tone for that.
     fn alert(&mut self, alloc: Global, leg: Leg, sent: &mut Sent) -> Result<(), AllocError> {
         self.set_state(leg, State::Alerted);
         if let Some(caller) = self.peer_of(leg) {
@@ -75,7 +75,7 @@ impl PlainExchange {
         Ok(())
     }
 
-    // The called user answers: both are connected, and both are told so.
+    // The called user answers: both are connected, and both get that.
     fn answer(&mut self, alloc: Global, leg: Leg, sent: &mut Sent) -> Result<(), AllocError> {
         self.set_state(leg, State::Active);
         sent.tell(alloc, leg, CONNECT_ACKNOWLEDGE)?;

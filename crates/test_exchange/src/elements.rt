@@ -30,7 +30,7 @@ pub(crate) fn receive(octets: &[u8]) -> Option<Received<'_>> {
     }
 }
 
-// What stands at the front of octets, and what comes after it.
+// What is at the beginning of octets, and what comes after it.
 #[derive(Clone, Copy)]
 struct Piece<'a> {
     code: u8,

@@ -54,7 +54,7 @@ impl PlainTones {
 }
 
 impl PlainExchange {
-    /// An exchange with so many internal slots, external and bridge lines, this number plan and these
+    /// An exchange with the given numbers of internal slots, external and bridge lines, this number plan and these
     /// tones, before its first event.
     pub fn new(
         alloc: Global,
@@ -246,7 +246,7 @@ impl PlainExchange {
         self.ports.give(x);
     }
 
-    // The circuit that names a slot. A circuit between two slots stands both ways, so each that is named
+    // The circuit that names a slot. A circuit between two slots goes both ways, so each that is named
     // hears something.
     fn circuit_of(&self, x: Slot) -> Option<Circuit> {
         find_heard(self.circuits.circuits(), x)

@@ -9,7 +9,7 @@
 //!
 //! It is proved safe, and each call returns. No clause says what it returns: that is compared.
 //!
-//! It stands on `circuit_model` and `plain_model`.
+//! It uses `circuit_model` and `plain_model`.
 #![tactic(auto)]
 
 mod acts;

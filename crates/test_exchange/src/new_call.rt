@@ -55,7 +55,7 @@ impl PlainExchange {
         sent.send(line, octets)
     }
 
-    // Makes the call, or awaits more digits, if nothing stands against it.
+    // Makes the call, or awaits more digits, if nothing is against it.
     fn call(
         &mut self,
         alloc: Global,
@@ -158,7 +158,7 @@ impl PlainExchange {
             .ok_or(Refusal::CalledLineFull)
     }
 
-    // The caller is told its channel, and to send the rest of the number.
+    // The caller learns its channel, and is to send the rest of the number.
     fn wait_for_digits(
         &mut self,
         alloc: Global,
@@ -180,7 +180,7 @@ impl PlainExchange {
         )
     }
 
-    // The caller is told to wait, and the call is offered to the called user.
+    // The caller gets CALL PROCEEDING, and the call is offered to the called user.
     fn offer(
         &mut self,
         alloc: Global,
@@ -216,7 +216,7 @@ impl PlainExchange {
         sent.send(called.line, passed.setup(alloc, reference, called.place)?)
     }
 
-    // The caller is seated, and told that the room has answered.
+    // The caller is seated, and learns that the room has answered.
     fn answer_by_room(
         &mut self,
         alloc: Global,

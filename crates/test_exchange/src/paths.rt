@@ -51,7 +51,7 @@ impl Chains {
         self.longest = self.longest.max(other.longest);
     }
 
-    // Counts a chain that was taken, of so many paths from the incoming line and to the outgoing line.
+    // Counts a chain that was taken, of n paths from the incoming line and m to the outgoing line.
     fn count(&mut self, incoming: usize, outgoing: usize) {
         let taken = if incoming < outgoing {
             &mut self.incoming
@@ -67,7 +67,7 @@ impl Chains {
 }
 
 impl Paths {
-    /// No path, on so many internal slots.
+    /// No path, on n internal slots.
     pub(crate) fn new(alloc: Global, slots: u8) -> Paths {
         Paths {
             slots,

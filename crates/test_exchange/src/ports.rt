@@ -22,7 +22,7 @@ pub(crate) struct Ports {
 }
 
 impl Ports {
-    /// Every port of so many lines is free.
+    /// Every port of n lines is free.
     pub(crate) fn new(alloc: Global, first_line: u8, lines: u8) -> Ports {
         Ports {
             first_line,

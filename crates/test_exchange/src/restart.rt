@@ -88,7 +88,7 @@ impl PlainExchange {
         sent.send(line, octets)
     }
 
-    // A leg is gone whose slot is restarted. Its call is told of at the first of its legs.
+    // A leg is gone whose slot is restarted. Its call is recorded at the first of its legs.
     fn restart_leg(
         &mut self,
         alloc: Global,

@@ -59,7 +59,7 @@ pub enum Party {
     Room(u8),
 }
 
-/// What is told of a call whose clearing begins.
+/// What is recorded of a call whose clearing begins.
 #[derive(Clone, Copy, PartialEq, Eq)]
 pub struct CallRecord {
     /// The caller's slot.

@@ -143,7 +143,7 @@ fn words_of(refusal: Refusal) -> &'static str {
     }
 }
 
-// Of a caller who is cleared for what it dialled.
+// What is counted for a caller who is cleared for what it dialled.
 fn words_of_clearing(refusal: Refusal) -> &'static str {
     match refusal {
         Refusal::NoNumber => "cleared for too many octets or none",

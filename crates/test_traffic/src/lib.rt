@@ -6,7 +6,7 @@
 //! at all. [`Counts`] tells how often each course of a message came, and [`is_lawful`] which orders the
 //! events of a trace may take. It is proved safe; no clause says what is drawn.
 //!
-//! It stands on `circuit_model` and `test_exchange`.
+//! It uses `circuit_model` and `test_exchange`.
 #![tactic(auto)]
 
 mod counts;

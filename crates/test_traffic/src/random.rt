@@ -4,8 +4,8 @@ ghost use Rattle.std.specs.Prelude.{◌<◌, length, IfSome};
 
 use circuit_model::{PLACES, Slot};
 
-/// A linear congruential generator of 64 bits, with the numbers of D. E. Knuth's MMIX. Of each state
-/// the high bits are used, since the low ones repeat soon.
+/// A linear congruential generator of 64 bits, with the numbers of D. E. Knuth's MMIX. The high
+/// bits of each state are used, since the low ones repeat soon.
 #[derive(Drop)]
 pub struct Random {
     state: u64,
@@ -38,7 +38,7 @@ impl Random {
         (self.next_bits() % 256) as u8
     }
 
-    /// True once in so many times.
+    /// True once in n times.
     pub fn once_in(&mut self, times: u8) -> bool
         requires { 0 < times }
     {
@@ -54,7 +54,7 @@ impl Random {
         octets[place as usize]
     }
 
-    /// A slot of one of so many lines.
+    /// A slot of one of n lines.
     pub fn slot(&mut self, lines: u8) -> Slot
         requires { 0 < lines }
         ensures line { result.line < lines }

@@ -99,7 +99,7 @@ fn append_tone(text: &mut String, name: &str, octets: &[u8]) -> Result<(), Alloc
     text.push_str("\n")
 }
 
-/// How often segments end: after an event once in so many times. With 1 each event has a segment of
+/// How often segments end: after an event once in n times. With 1 each event has a segment of
 /// its own, and with 255 most traces are one segment.
 pub fn draw_pace(random: &mut Random) -> u8
     ensures { 0 < result }
@@ -153,7 +153,7 @@ impl Setting {
         (self.tones.ringback.len(), self.tones.busy.len())
     }
 
-    // The lines of the trace before its first event, for so many call processors.
+    // The lines of the trace before its first event, for n call processors.
     fn header(&self, alloc: Global, processors: u8) -> Result<String, AllocError> {
         let (external, bridges) = (self.external, self.bridges);
         let mut text = format!(in alloc; "exchange 1 {external} {bridges} {processors}\n")?;
@@ -179,7 +179,7 @@ impl Setting {
     }
 }
 
-/// Draws a trace of so many events, for one to eight call processors: calls on several lines with the
+/// Draws a trace of n events, for one to eight call processors: calls on several lines with the
 /// replies of both sides, beside nails, seats, frees and frames. Some traces begin with a line that is all
 /// but full, or with many nails; some give tones. The users are those of file order.
 pub fn draw_traffic(alloc: Global, random: &mut Random, events: u32) -> Result<Drawn, AllocError> {
@@ -207,7 +207,7 @@ pub fn draw_traffic(alloc: Global, random: &mut Random, events: u32) -> Result<D
     })
 }
 
-// The next event, after so many.
+// The next event, after n.
 fn draw_next(
     alloc: Global,
     random: &mut Random,

@@ -14,7 +14,7 @@ use test_exchange::types::{
 };
 use test_exchange::{Leg, PlainExchange, Side, State};
 
-// What a user mostly sends in a state: each type as often as it stands here.
+// What a user mostly sends in a state: each type as often as it is here.
 fn mostly_sent(state: State) -> &'static [u8] {
     match state {
         State::CallProceeding | State::Delivered => &[

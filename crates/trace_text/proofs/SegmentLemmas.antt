@@ -73,7 +73,7 @@ segments_sound told =
 abbrev is_place : List ℕ → ℕ → Bool
 is_place places count = list_any (λ place. place == count) places
 
--- places behind so many events, each of which is the end of a segment, or the place at which the first of them begins
+-- places after that many events, each of which is the end of a segment, or the place at which the first of them begins
 record ArePlaces (begun count : ℕ) (ends places : List ℕ) : Type 0 where
   from : All (λ n. count ≤ n) places
   rising : AllPairs (λ m n. m ≤ n) places

@@ -136,7 +136,7 @@ changes_both count (Change ∷ told) more = ap (λ (ns : List ℕ). count ∷ ns
 pub changes-append : (told more : List Said) → changes_in (told ++ more) ≡ changes_in told ++ changes_after (length (events_in told)) more
 changes-append told more = let none : 0 + length (events_in told) ≡ length (events_in told) = omega arith in changes_both 0 told more ∙ ap (λ n. changes_in told ++ changes_after n more) none
 
--- what is no change adds none
+-- a line that says anything else adds none
 pub changes_stay : (told : List Said) (said : Said) → changes_after (length (events_in told)) (said ∷ []) ≡ [] → changes_in told ≡ changes_in (told ++ said ∷ [])
 changes_stay told said none = sym (changes-append told (said ∷ []) ∙ ap (λ (ns : List ℕ). changes_in told ++ ns) none ∙ append-nil (changes_in told))
 
