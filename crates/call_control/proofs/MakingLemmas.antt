@@ -1,4 +1,4 @@
--- What each operation makes of a world in the making, told by what it makes of map and legs.
+-- What each operation makes of a world in the making, by what it makes of map and legs.
 use Rattle.std.proofs.Common.{◌≡◌, ℕ, List, [], ◌∷◌, ◌++◌, Option, refl, sym, ◌∙◌, ap, subst}
 use Rattle.circuit_model.specs.declared.channel.Slot.{Slot}
 use Rattle.circuit_model.specs.declared.circuit.Kind.{Kind}

@@ -1,4 +1,4 @@
--- What an accepted SETUP makes, told by what the map and the legs hold.
+-- What an accepted SETUP makes, by what the map and the legs hold.
 use Rattle.std.proofs.Common.{◌≡◌, ℕ, ◌+◌, ◌*◌, ◌<◌, ◌≤◌, length, arith, List, [], Option, Some, None, sym, subst}
 use Rattle.std.specs.Prelude.{IsTrue, IfSome}
 use Rattle.circuit_model.specs.declared.channel.Slot.{Slot}

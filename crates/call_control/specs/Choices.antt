@@ -21,7 +21,7 @@ use Rattle.call_profile.specs.Permitted.{CanSeat}
 use Rattle.call_control.specs.Standing.{Holds}
 use Rattle.call_profile.specs.World.{World}
 
--- a line that is called is one of so many
+-- a line that is called is one of n
 abbrev pub IsReached : ℕ → Found → Type 0
 IsReached external (Line line) = line < external
 IsReached external (Room room) = Unit {0}

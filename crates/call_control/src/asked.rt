@@ -8,7 +8,7 @@ use call_states::{Contents, Pending};
 use q931_codec::Message;
 
 /// What a call is made from: the contents of the elements that are passed on to the called user. No octets
-/// stand for no element.
+/// mean no element.
 #[derive(Clone, Copy)]
 pub(crate) struct Asked<'a> {
     /// The bearer capability (ITU-T Q.931 (05/98), 4.5.5).

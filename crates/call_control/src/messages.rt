@@ -21,7 +21,7 @@ use q931_codec::{Message, MessageKind, read};
 use tone_rules::Tones;
 
 impl<P: PathMap> CallControl<P> {
-    /// Does what the octets that the user of a line has sent ask for, and records the calls that they begin
+    /// Acts on the octets that the user of a line has sent, and records the calls that they begin
     /// to clear. Octets that are no message have no effect. What was read of them ahead is not read again.
     pub fn message(
         &mut self,
@@ -75,7 +75,7 @@ impl<P: PathMap> CallControl<P> {
         }
     }
 
-    // Does what a message asks for, and records the calls that it begins to clear: one to a
+    // Acts on a message, and records the calls that it begins to clear: one to a
     // leg what the leg's state says, a SETUP from the side that chose the call reference a new call.
     fn receive(
         &mut self,
@@ -104,7 +104,7 @@ impl<P: PathMap> CallControl<P> {
         }
     }
 
-    // Does what a message that names no leg asks for, and records the calls that it ends:
+    // Acts on a message that names no leg, and records the calls that it ends:
     // a RESTART on the global call reference, a SETUP from the side that chose the call reference, or one
     // that is answered there.
     fn answer_without_leg(
@@ -141,7 +141,7 @@ impl<P: PathMap> CallControl<P> {
         out.records.clear();
     }
 
-    // Does what a message on the global call reference asks for, which a RESTART alone does.
+    // Acts on a message on the global call reference, which a RESTART alone does.
     fn restart_if_asked(&mut self, out: &mut Outbox, tones: &Tones, line: u8, message: &Message)
         requires work { (s : Setting) × (w : World) × (s.tones ≡ tones.now) × IsAtWork s self.old.map self.old.legs w }
         requires line { line < self.old.map.external }

@@ -20,7 +20,7 @@ use circuit_model::{Kind, Slot};
 use control_memory::PathMap;
 use leg_table::LegTable;
 
-/// The circuits that stand, with their paths and conference ports, and the legs of the calls: what
+/// The live circuits, with their paths and conference ports, and the legs of the calls: what
 /// call control works on. None of its operations takes memory.
 #[derive(Drop)]
 pub struct CallControl<P: PathMap> {

@@ -23,7 +23,7 @@ use number_plan::{Found, Plan};
 use q931_codec::Message;
 
 impl<P: PathMap> CallControl<P> {
-    /// Does what a SETUP asks for: refuses it with the cause of its first check that fails, or makes the
+    /// Acts on a SETUP: refuses it with the cause of its first check that fails, or makes the
     /// legs of its call. What it dials may have been looked up ahead.
     pub(crate) fn setup(
         &mut self,

@@ -1,4 +1,4 @@
--- The acts that begin to clear a call keep the legs standing.
+-- The acts that begin to clear a call keep the legs consistent.
 use Rattle.std.proofs.Common.{◌≡◌, ℕ, ◌<◌, inl, inr, Option, Some, None, refl, sym, ◌∙◌, ap, subst}
 use Rattle.circuit_model.specs.declared.channel.Slot.{Slot}
 use Rattle.circuit_model.specs.Extent.{IsExternal}
@@ -26,7 +26,7 @@ use Rattle.call_profile.proofs.OneLegClearedLemmas.{IsLeft, alone_left}
 use Rattle.call_profile.proofs.BothLegsClearedLemmas.{ArePeers, both_cleared}
 use Rattle.call_profile.proofs.ToneLemmas.{cleared_is_idle, sounding_valid}
 
--- what a message is to keep: each slot stands in one way, and the legs stand
+-- what a message is to keep: each slot is in one state, and the legs are consistent
 abbrev pub Kept : Dimensions → Tones → World → Type 0
 Kept d tones w = Valid d.bridges w.holding × LegsStand d.external tones w
 

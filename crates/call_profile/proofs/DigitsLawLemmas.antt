@@ -1,4 +1,4 @@
--- Which slot a call gets whose number is dialled on, and for want of what it is refused.
+-- Which slot a call gets whose number is dialled on, and for lack of what it is refused.
 use Rattle.std.proofs.Common.{◌≡◌, ℕ, Bool, true, false, ◌&&◌, inl, inr, List, [], ◌∷◌, Option, Some, None, refl, sym, ◌∙◌, ap, subst, arith}
 use Rattle.std.specs.Prelude.{find, is_none, not}
 use Rattle.circuit_model.specs.declared.channel.Slot.{Slot}

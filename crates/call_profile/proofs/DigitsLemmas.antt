@@ -1,4 +1,4 @@
--- More digits of a number that is dialled in parts: a leg that waits on, is cleared, or whose call is accepted keeps the legs standing.
+-- More digits of a number that is dialled in parts: a leg that waits on, is cleared, or whose call is accepted keeps the legs consistent.
 use Rattle.std.proofs.Common.{◌≡◌, ℕ, ◌<◌, ◌≤◌, ◌||◌, Bool, true, false, inl, inr, List, ◌∷◌, length, Option, Some, None, refl, sym, ◌∙◌, ap, subst, arith, length-set}
 use Rattle.std.specs.Prelude.{nat_lt}
 use Rattle.std.proofs.lemmas.Bool.Decides.{nat_tests}

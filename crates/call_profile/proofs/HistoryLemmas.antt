@@ -172,7 +172,7 @@ made_performed_all d tones plan m (o ∷ os) may made = made_performed_all d ton
 -- ---- a world after a message
 
 module _ (s : Setting) (w : World) (line : ℕ) (octets : List ℕ) (planned : IsPlanned s) (fits : Fits s.dimensions.external (Message line octets)) (stands : CallsStand s w) (made : IsMade s.dimensions s.tones w) where
-  -- each slot that is restarted keeps the legs standing, so that the next one can be
+  -- each slot that is restarted keeps the legs consistent, so that the next one can be
   abbrev restarts : Restart → MessageOutcome
   restarts r = outcome_below s.dimensions s.tones r line w 30
 

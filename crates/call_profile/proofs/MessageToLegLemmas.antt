@@ -1,4 +1,4 @@
--- A message to a leg keeps the legs standing.
+-- A message to a leg keeps the legs consistent.
 use Rattle.std.proofs.Common.{◌≡◌, ℕ, ◌<◌, Bool, true, false, List, [], ◌∷◌, Some, None, refl, sym, subst, arith, eqb-true, if◌then◌else◌}
 use Rattle.std.specs.Prelude.{◌==◌}
 use Rattle.std.proofs.lemmas.Grind.{common_steps}

@@ -1,4 +1,4 @@
--- An accepted SETUP keeps the legs standing.
+-- An accepted SETUP keeps the legs consistent.
 use Rattle.std.proofs.Common.{◌≡◌, ℕ, ◌*◌, ◌^◌, ◌<◌, ◌≤◌, inl, inr, Bool, true, false, length, Some, None, refl, sym, ◌∙◌, ap, subst, arith, length-set}
 use Rattle.std.specs.Prelude.{is_none}
 use Rattle.circuit_model.specs.declared.channel.Slot.{Slot}
@@ -30,7 +30,7 @@ use Rattle.call_profile.proofs.CommandLemmas.{both_true, is_empty, not_full, str
 use Rattle.call_profile.proofs.VacantSlotLemmas.{none_named}
 use Rattle.call_profile.proofs.LegTableLemmas.{both_size, both_else, both_first, both_second}
 
--- ---- one leg a call reference, once a new leg stands
+-- ---- one leg a call reference, once there is a new leg
 
 -- no two legs of a line and a side have one call reference
 abbrev Distinct : ℕ → Legs → Type 0
@@ -75,7 +75,7 @@ module _ (external : ℕ) (legs : Legs) (x : Slot) (new : Leg) (size : length le
 -- ---- a call to a line
 
 -- what is needed of the caller's slot before a call is accepted: it hears nothing, no leg names it as its peer, and no other leg of its line and
--- side has the caller's call reference. So it is of an idle slot, and of one whose leg waits for the rest of its number
+-- side has the caller's call reference. So it is for an idle slot, and for one whose leg waits for the rest of its number
 pub record MayCall (d : Dimensions) (tones : Tones) (w : World) (own : ℕ) (x : Slot) : Type 0 where
   pub valid : Valid d.bridges w.holding
   pub stand : LegsStand d.external tones w

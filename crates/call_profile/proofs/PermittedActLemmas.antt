@@ -43,7 +43,7 @@ use Rattle.call_profile.proofs.ClearingLemmas.{held_there, peers_apart}
 use Rattle.call_profile.proofs.MessageToLegLemmas.{Asked, asked, two_ring}
 use Rattle.call_profile.proofs.ToneLemmas.{cleared_is_idle, tone_octets}
 
--- ---- what a leg can be told
+-- ---- what can be sent to a leg
 
 told_state : (state : ℕ) → is_among every_state state ≡ true → state < 64
 told_state state among = grind (arith, common_steps, among)

@@ -1,4 +1,4 @@
--- The records of what an act ends: of an act that clears a call the one of its caller, of any other none.
+-- The records of what an act ends: that of the caller for an act that clears a call, none for any other.
 use Rattle.std.proofs.Common.{◌≡◌, ℕ, ◌*◌, Bool, true, false, ◌&&◌, inl, inr, List, [], length, Option, Some, None, refl, sym, ◌∙◌, ap, subst, eqb-true}
 use Rattle.std.specs.Prelude.{option_and_then, unwrap_or}
 use Rattle.std.specs.List.{cons_option}
@@ -44,7 +44,7 @@ use Rattle.call_profile.proofs.LegTableLemmas.{both_else, both_first, both_secon
 abbrev pub records_of_act : World → Held → Act → List CallRecord
 records_of_act w h a = cons_option (record_of_act w h a) []
 
--- the cause of an act that clears a call; for any other act, of which there are no records, any cause would do
+-- the cause of an act that clears a call; any cause would do for another act, which has no records
 abbrev pub told_cause : Act → ℕ
 told_cause a = unwrap_or (cause_of_act a) 0
 
@@ -60,7 +60,7 @@ called_silent legs after x leg at is calls =
     let f = not_called leg is in
     absurd cc
 
--- nor does one that stands alone
+-- nor does one that is alone
 and_false : (b : Bool) → (b && false) ≡ false
 and_false true = refl
 and_false false = refl

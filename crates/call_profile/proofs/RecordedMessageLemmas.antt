@@ -40,7 +40,7 @@ use Rattle.call_profile.proofs.RestartedSlotLemmas.{below_none, below_more}
 
 -- ---- records that are those of the calls that ended
 
--- of each call that ended between two worlds the record is there, with one cause, and no other
+-- the record of each call that ended between two worlds is there, with one cause, and no other
 pub record AreOfEnded (external : ℕ) (before afterwards : World) (cause : ℕ) (told : List CallRecord) : Type 0 where
   pub ends : (c : CallRecord) → Contains told c → EndsWith external before afterwards cause c
   pub recorded : (h : Held) (c : CallRecord) → HasEnded external before afterwards h → record_of before cause h ≡ Some c → Contains told c
@@ -242,7 +242,7 @@ module _ (s : Setting) (w : World) (line : ℕ) (octets : List ℕ) (may : Arriv
         ],
       )
 
-  -- no call ended, and none is told
+  -- no call ended, and none is recorded
   none_accounted : (v : World) (given : Option ℕ) → records w v 0 ≡ [] → IsAccounted s.dimensions.external w v given []
   none_accounted v given none = (0, subst (AreOfEnded s.dimensions.external w v 0) none (of_records s.dimensions.external w v 0 size), inr refl)
 

@@ -32,7 +32,7 @@ use Rattle.call_profile.specs.Step.{reply, next, may_nail}
 use Rattle.call_profile.specs.World.{World, is_full, nail_reply, seat_reply}
 use Rattle.call_profile.proofs.RestartedSlotLemmas.{below_none, below_more}
 
--- ---- what is told where nothing has changed
+-- ---- what is recorded where nothing has changed
 
 none_left : (b : Bool) → (b && not b) ≡ false
 none_left true = refl

@@ -1,4 +1,4 @@
--- Whatever a SETUP is answered, the legs stand afterwards.
+-- Whatever a SETUP is answered, the legs are consistent afterwards.
 use Rattle.std.proofs.Common.{◌≡◌, ℕ, zero, suc, drop, ◌-◌, ◌^◌, ◌<◌, ◌≤◌, ◌⊎◌, inl, inr, Bool, true, false, ◌&&◌, ◌==◌, List, [], ◌∷◌, Option, Some, None, refl, sym, ◌∙◌, ap, subst, arith}
 use Rattle.std.specs.Prelude.{Result, Ok, Err, is_none, not, option_map, option_and_then}
 use Rattle.std.specs.List.{AllByRecursion}

@@ -37,7 +37,7 @@ with_progress tone message = record message { progress = is_some tone }
 abbrev pub in_state : ℕ → Leg → Leg
 in_state state leg = record leg { state = state }
 
--- a leg that is being cleared stands alone
+-- a leg that is being cleared is alone
 abbrev pub in_release_request : Leg → Leg
 in_release_request leg = record leg { state = release_request; peer = peer.Alone }
 

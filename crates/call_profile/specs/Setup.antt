@@ -172,7 +172,7 @@ first_cause ((fails, cause) ∷ others) = if fails then Some cause else first_ca
 abbrev pub refusal : Setting → World → ℕ → Message → Option ℕ
 refusal s w line m = first_cause (checks s w line m)
 
--- ---- what an accepted call makes. A caller is told its channel in the first answer to its SETUP (5.1.2, 5.1.3), and in no later one
+-- ---- what an accepted call makes. A caller learns its channel in the first answer to its SETUP (5.1.2, 5.1.3), and in no later one
 
 -- a leg of a new call
 abbrev pub caller_leg : ℕ → ℕ → Peer → Leg

@@ -58,7 +58,7 @@ pub fn law_of_refused_calls()
 {}
 
 /// What the fabric looks like decides nothing: with its paths laid in another way a message is answered
-/// by the same messages and records, and leaves the same circuits, ports and legs. Moved paths are told in
+/// by the same messages and records, and leaves the same circuits, ports and legs. Moved paths are shown in
 /// both cases or in neither, and how many they are alone may differ.
 pub fn law_of_paths()
     ensures sends { (s : Setting) (w : World) (layout : Layout) (line : ℕ) (octets : List ℕ)
@@ -75,14 +75,14 @@ pub fn law_of_paths()
         → is_some (answer_to s (with_layout w layout) line octets).moved ≡ is_some (answer_to s w line octets).moved }
 {}
 
-/// A call that is answered always gets both paths: whatever else stands, its two slots are silent once
+/// A call that is answered always gets both paths: whatever else exists, its two slots are silent once
 /// the caller's is cleared, so that they can be connected, and then they are.
 pub fn law_of_answered_calls()
     ensures { (s : Setting) (w : World) (line : ℕ) (octets : List ℕ) (h : Held) → IsAnswered s w line octets h → GetsBothPaths s w line octets h }
 {}
 
-/// How legs stand is kept by every event: peers name each other, in states that go together, each slot
-/// hears by what its leg's state says, and call references name one leg. So it stands in every run. A leg in
+/// Every event keeps the legs consistent: peers name each other, in states that go together, each slot
+/// hears by what its leg's state says, and call references name one leg. So it is in every run. A leg in
 /// overlap sending is then a caller's and alone, its slot hears nothing, and its number is pending, whose
 /// digits so far are the beginning of a number of the plan; in no other state a number is pending.
 pub fn law_of_legs()
@@ -96,7 +96,7 @@ pub fn law_of_legs()
 {}
 
 /// The slot that a call gets whose number is dialled on is the called line's lowest idle one, as for a SETUP, since a
-/// slot with a leg isn't idle; it is refused with cause 34 for want of such a slot alone, and with 42 for want of a
+/// slot with a leg isn't idle; it is refused with cause 34 for lack of such a slot alone, and with 42 for lack of a
 /// port alone. More digits end no call, so that nothing is recorded.
 pub fn law_of_digits()
     ensures choice { (w : World) (x : Slot) (leg : Leg) (line : ℕ) → leg_at w.legs x ≡ Some leg → lowest_idle_beside w x line ≡ lowest_idle w line }

@@ -1,4 +1,4 @@
-//! Laws of legs: their call references, what their users are told, and what becomes of them.
+//! Laws of legs: their call references, what their users get, and what becomes of them.
 ghost use Rattle.std.specs.Prelude.{◌<◌, ◌≤◌, ℕ, List, length, Contains};
 ghost use Rattle.circuit_model.specs.declared.channel.Slot.{Slot};
 ghost use Rattle.q931_codec.specs.declared.message.Message.{Message};
@@ -49,7 +49,7 @@ pub fn law_of_restarts()
 {}
 
 /// An answer has the record of a call exactly where a caller's leg left states 3, 4 and 10 by the message,
-/// with the cause that the message gives. That is every such leg, so none of them stands without the other
+/// with the cause that the message gives. That is every such leg, so none of them is without the other
 /// party of its call. The records of a RESTART come by the place of the first restarted leg of their call,
 /// each once; any other message has one record at the most.
 pub fn law_of_records()

@@ -1,20 +1,20 @@
 //! The rules of calls, as definitions that are read from top to bottom: `Step` says what each event is
 //! answered and makes of the world, `Calls` what a message asks for, `ActCourse`, `Digits`, `Setup` and `Restarts` what
-//! is then done, one operation after another (`Operations`). But for [`is_for`], its functions are laws of these:
+//! is then done, one operation after another (`Operations`). Except [`is_for`], its functions are laws of these:
 //!
-//! - Every event keeps the legs standing, and a number pending where a leg waits for the rest of it
+//! - Every event keeps the legs consistent, and a number pending where a leg waits for the rest of it
 //!   ([`law_of_legs`]). A refused command changes nothing
 //!   ([`law_of_refusals`]), nor does a refused SETUP ([`law_of_refused_calls`]).
-//! - A number that is dialled on is refused for want of a slot or a port alone, and of it nothing is recorded
+//! - A number that is dialled on is refused for lack of a slot or a port alone, and nothing is recorded of it
 //!   ([`law_of_digits`]).
 //! - What is sent does not depend on the layout ([`law_of_paths`]); an answered call and a granted nail get
 //!   both paths ([`law_of_answered_calls`], [`law_of_granted_nails`]).
-//! - Which calls are recorded, which reference a new leg gets, what a RESTART leaves, when a user is told of
+//! - Which calls are recorded, which reference a new leg gets, what a RESTART leaves, when a user learns of
 //!   a tone ([`law_of_records`], [`law_of_references`], [`law_of_restarts`], [`law_of_progress`]).
 //! - Allowed commands made the circuits of each frame ([`worlds_are_made`]), and later events change nothing
 //!   of it ([`later_frames_change_nothing`]).
 //!
-//! It stands on `circuit_model`, `control_memory`, `circuit_map`, `q931_elements`, `q931_codec`,
+//! It uses `circuit_model`, `control_memory`, `circuit_map`, `q931_elements`, `q931_codec`,
 //! `call_states`, `clearing_rules`, `tone_rules`, `number_plan` and `exchange_events`.
 #![tactic(auto)]
 

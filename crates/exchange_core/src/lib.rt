@@ -4,13 +4,13 @@
 //!   that world the next one (`world`), and add their entry to the journal (`journal`). A frame's control
 //!   memory shows the world before it (`shows`). No live path is moved but as few as the fabric promises
 //!   (`few`). After each step the paths join exactly the circuits that are there (`laid`, `joins`).
-//! - [`Switchboard`] is the interface of an exchange that many callers share, each of whom may lend a
+//! - [`Switchboard`] is the interface of an exchange that many callers share, each of whom may hand in a
 //!   [`Desk`]; `shared_exchange` implements it. At a desk a message is read before its turn (`look_ahead`).
 //!
-//! What the events are is told by `exchange_events`, the rules of calls by `call_profile`; their code is in
+//! What the events are is said by `exchange_events`, the rules of calls by `call_profile`; their code is in
 //! `call_control`.
 //!
-//! It stands on `circuit_model`, `seat_history`, `control_memory`, `circuit_map`, `tone_rules`,
+//! It uses `circuit_model`, `seat_history`, `control_memory`, `circuit_map`, `tone_rules`,
 //! `number_plan`, `exchange_events`, `call_profile`, `leg_table` and `call_control`.
 #![tactic(auto)]
 

@@ -27,11 +27,11 @@ use std::alloc::{AllocError, Global};
 use std::marker::Model;
 use tone_rules::Tones;
 
-/// The exchange without its octets, at work on a trace: the circuits that stand with their live paths and
+/// The exchange without its octets, at work on a trace: the live circuits with their paths and
 /// conference ports, the legs of the calls, and the journal of the events that were done.
 ///
 /// Contracts see the trace, how many internal slots the fabric has, how many live paths a new one moves at
-/// the most, and the journal; `world_of` says what stands. No call but `new` takes memory.
+/// the most, and the journal; `world_of` says what exists. No call but `new` takes memory.
 #[derive(Drop)]
 pub struct Core<'t, P: PathMap> {
     trace: &'t Trace,
@@ -110,7 +110,7 @@ impl<'t, P: PathMap> Core<'t, P> {
         response.with(out)
     }
 
-    /// The same as [`step`](Core::step), with what is sent and recorded put into an outbox that is lent, in
+    /// The same as [`step`](Core::step), with what is sent and recorded put into a given outbox, in
     /// place of what it held. What was read of the event ahead is not read again.
     pub fn work(
         &mut self,

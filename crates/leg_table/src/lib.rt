@@ -6,7 +6,7 @@
 //!   reference of a new called leg: each in one pass over a row of keys (`LegKeys`), without a branch.
 //! - `pending` is the number of a leg in overlap sending. None of these takes memory: `new` made the room.
 //!
-//! It stands on `circuit_model`, `control_memory`, `q931_codec`, `call_states` and `call_profile`.
+//! It uses `circuit_model`, `control_memory`, `q931_codec`, `call_states` and `call_profile`.
 #![tactic(auto)]
 
 mod leg_keys;
