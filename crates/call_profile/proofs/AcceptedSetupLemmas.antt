@@ -7,34 +7,26 @@ use Rattle.circuit_model.specs.Circuits.{is_idle}
 use Rattle.circuit_model.specs.Extent.{IsExternal}
 use Rattle.q931_codec.specs.declared.message.Message.{Message}
 use Rattle.q931_codec.specs.Contents.{channel_in}
-use Rattle.number_plan.specs.declared.target.Found.TheVariants.{Line, Room, More, Nothing}
+use Rattle.call_states.specs.declared.pending.Pending.{Pending}
+use Rattle.number_plan.specs.declared.target.Found.TheVariants.{Line, Room}
 use Rattle.call_profile.specs.IdleSlots.{lowest_idle_beside}
 use Rattle.call_profile.specs.LegStanding.{CallsStand}
 use Rattle.call_profile.specs.Legs.{Legs, leg_at, new_reference}
 use Rattle.call_profile.specs.Permitted.{CanSeat}
 use Rattle.exchange_events.specs.Sizes.{Setting, Dimensions}
-use Rattle.call_profile.specs.Setup.{Check, checks, first_cause, refusal, caller_slot, called_slot, target_of, call, call_asked, call_line, call_room, await_digits, accept, is_room_full}
+use Rattle.call_profile.specs.Setup.{Check, checks, first_cause, refusal, caller_slot, target_of, call, call_line, accept, is_room_full}
 use Rattle.call_profile.specs.World.{World, is_full}
 use Rattle.call_profile.proofs.CommandLemmas.{both_true, not_full}
 use Rattle.call_profile.proofs.SetupLemmas.{all_pass, all_from, caller_is}
 
 -- ---- the operations
 
-module _ (s : Setting) (w : World) (m : Message) (x : Slot) where
-  pub accepts_line : (line : ℕ) (y : Slot) → target_of s m ≡ Line line → lowest_idle_beside w x line ≡ Some y → accept s w m (Some x) ≡ call_line m.reference (call_asked m) x y (new_reference w.legs line)
-  accepts_line line y is chosen = ap (λ t. call w m x t (called_slot w x t)) is ∙ ap (λ o. call w m x (Line line) o) chosen
+module _ (w : World) (first : Bool) (own : ℕ) (asked : Pending) (x : Slot) where
+  pub accepts_line : (line : ℕ) (y : Slot) → lowest_idle_beside w x line ≡ Some y → accept first w own asked x (Line line) ≡ call_line first own asked x y (new_reference w.legs line)
+  accepts_line line y chosen = ap (λ o. call first w own asked x (Line line) o) chosen
 
-  pub accepts_full_line : (line : ℕ) → target_of s m ≡ Line line → lowest_idle_beside w x line ≡ None → accept s w m (Some x) ≡ []
-  accepts_full_line line is none = ap (λ t. call w m x t (called_slot w x t)) is ∙ ap (λ o. call w m x (Line line) o) none
-
-  pub accepts_room : (room : ℕ) → target_of s m ≡ Room room → accept s w m (Some x) ≡ call_room m.reference x room
-  accepts_room room is = ap (λ t. call w m x t (called_slot w x t)) is
-
-  pub accepts_more : target_of s m ≡ More → accept s w m (Some x) ≡ await_digits m.reference (call_asked m) x
-  accepts_more is = ap (λ t. call w m x t (called_slot w x t)) is
-
-  pub accepts_nothing : target_of s m ≡ Nothing → accept s w m (Some x) ≡ []
-  accepts_nothing is = ap (λ t. call w m x t (called_slot w x t)) is
+  pub accepts_full_line : (line : ℕ) → lowest_idle_beside w x line ≡ None → accept first w own asked x (Line line) ≡ []
+  accepts_full_line line none = ap (λ o. call first w own asked x (Line line) o) none
 
 -- ---- a call to a room can be seated
 
@@ -56,14 +48,14 @@ can_still d w x legs can = record { within = can.within; idle = can.idle; free =
 -- ---- a cause can be sent
 
 -- each check's cause is below 128
-abbrev SmallCauses : List Check → Type 0
+abbrev pub SmallCauses : List Check → Type 0
 SmallCauses cs = AllByRecursion (λ (c : Check). c.1 < 128) cs
 
 small_step : (fails : Bool) (cause : ℕ) (cs : List Check) (why : ℕ) → cause < 128 → (first_cause cs ≡ Some why → why < 128) → first_cause ((fails, cause) ∷ cs) ≡ Some why → why < 128
 small_step true cause cs why small later e = let f : Some cause ≡ Some why = e in let same : cause ≡ why = cc in subst (λ n. n < 128) same small
 small_step false cause cs why small later e = later e
 
-small_cause : (cs : List Check) (why : ℕ) → SmallCauses cs → first_cause cs ≡ Some why → why < 128
+pub small_cause : (cs : List Check) (why : ℕ) → SmallCauses cs → first_cause cs ≡ Some why → why < 128
 small_cause [] why small e = absurd cc
 small_cause ((fails, cause) ∷ cs) why small e = small_step fails cause cs why small.0 (small_cause cs why small.1) e
 

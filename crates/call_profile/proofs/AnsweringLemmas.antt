@@ -27,7 +27,8 @@ use Rattle.call_states.specs.declared.leg.Side.TheVariants.{Caller, Called}
 use Rattle.tone_rules.specs.declared.tones.Tones.{Tones}
 use Rattle.call_profile.specs.LegStanding.{LegsStand, HasPeer, MayHear, IsInCall, AreOneCall}
 use Rattle.call_states.specs.declared.leg.Held.{Held}
-use Rattle.call_profile.specs.Acts.{course_of, on_connect}
+use Rattle.call_profile.specs.ActCourse.{course_of}
+use Rattle.call_profile.specs.Acts.{on_connect}
 use Rattle.call_profile.specs.Answered.{AreConnected}
 use Rattle.call_profile.specs.Calls.{Request, For_leg, request_of, outcome_for, after_message}
 use Rattle.call_profile.specs.Legs.{Legs, leg_at, held_at}
@@ -45,6 +46,11 @@ ringing = call_present ∷ call_received ∷ incoming_call_proceeding ∷ []
 not_answer : (b : Bool) (a : Act) → (a ≡ act.Answer → ⊥) → (if b then a else act.Unexpected) ≡ act.Answer → ⊥
 not_answer true a other e = other e
 not_answer false a other e = cc
+
+not_dialled : (b c : Bool) → (if b then act.Digits else (if c then act.Nothing else act.Unexpected)) ≡ act.Answer → ⊥
+not_dialled true c e = cc
+not_dialled false true e = cc
+not_dialled false false e = cc
 
 answer_among : (b : Bool) → (if b then act.Answer else act.Unexpected) ≡ act.Answer → b ≡ true
 answer_among true e = refl
@@ -78,7 +84,7 @@ answers_among state kind.StatusEnquiry cause b e = absurd (not_answer _ act.Enqu
 answers_among state kind.SetupAcknowledge cause b e = absurd cc
 answers_among state kind.Restart cause b e = absurd cc
 answers_among state kind.RestartAcknowledge cause b e = absurd cc
-answers_among state kind.Information cause b e = absurd cc
+answers_among state kind.Information cause b e = absurd (not_dialled _ _ e)
 answers_among state (kind.Unknown octet) cause b e = absurd cc
 
 -- ---- a leg that may be answered
@@ -128,9 +134,9 @@ silent_idle bridges h x y valid silent =
 held_there : (legs : Legs) (y : Slot) (other : Leg) → leg_at legs y ≡ Some other → held_at legs y ≡ Some (record { slot = y; leg = other })
 held_there legs y other e = rw e refl
 
-answer_operations : (tones : Tones) (legs : Legs) (h : Held) (k : MessageKind) (y : Slot) (other : Leg) → h.leg.peer ≡ peer.Leg y → leg_at legs y ≡ Some other
-    → (course_of tones legs h k act.Answer).operations ≡ on_connect h (record { slot = y; leg = other })
-answer_operations tones legs h k y other is at = rw (is, held_there legs y other at) refl
+answer_operations : (s : Setting) (w : World) (h : Held) (m : Message) (y : Slot) (other : Leg) → h.leg.peer ≡ peer.Leg y → leg_at w.legs y ≡ Some other
+    → (course_of s w h m act.Answer).operations ≡ on_connect h (record { slot = y; leg = other })
+answer_operations s w h m y other is at = rw (is, held_there w.legs y other at) refl
 
 pub pair_there : (circuits : List Circuit) (a b : Circuit) → Contains (circuits ++ a ∷ b ∷ []) a × Contains (circuits ++ a ∷ b ∷ []) b
 pair_there circuits a b = (
@@ -159,7 +165,7 @@ answered_by s w line r h m valid stand e at within answers =
     let other = c.3.0 in
     let silent = silent_by external s.tones w h.slot h.leg ringing_state (heard_by w.holding.circuits h.slot) stands.hears in
     let done : (outcome_for s w line r).making.world ≡ (making_after_all s.dimensions (making_at w) (on_connect h (record { slot = y; leg = other }))).world =
-    rw (e, answers) (ap (λ (os : List Operation). (making_after_all s.dimensions (making_at w) os).world) (answer_operations s.tones w.legs h m.kind y other c.1 c.3.1)) in
+    rw (e, answers) (ap (λ (os : List Operation). (making_after_all s.dimensions (making_at w) os).world) (answer_operations s w h m y other c.1 c.3.1)) in
     let two = pair_there (after w.holding (Clear y)).circuits (Pair y h.slot w.holding.next) (Pair h.slot y w.holding.next) in (
       y,
       c.1,

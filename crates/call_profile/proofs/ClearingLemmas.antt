@@ -4,7 +4,7 @@ use Rattle.circuit_model.specs.declared.channel.Slot.{Slot}
 use Rattle.circuit_model.specs.Extent.{IsExternal}
 use Rattle.circuit_model.specs.Holding.{Holding, Clear as Clear_slot, after, Valid}
 use Rattle.circuit_model.proofs.Validity.{valid-clear}
-use Rattle.q931_codec.specs.declared.kind.MessageKind.{MessageKind}
+use Rattle.q931_codec.specs.declared.message.Message.{Message}
 use Rattle.call_states.specs.declared.act.Act.TheVariants as act
 use Rattle.call_states.specs.declared.leg.Leg.{Leg}
 use Rattle.call_states.specs.declared.leg.Peer.{Peer}
@@ -13,7 +13,8 @@ use Rattle.call_states.specs.declared.leg.Side.{Side}
 use Rattle.call_states.specs.declared.leg.Side.TheVariants.{Caller, Called}
 use Rattle.tone_rules.specs.declared.tones.Tones.{Tones}
 use Rattle.call_states.specs.declared.leg.Held.{Held}
-use Rattle.call_profile.specs.Acts.{course_of, in_release_request, in_disconnect_indication, tone_of, peer_of, with_peer, clear_with, on_disconnect, on_release, remove_leg}
+use Rattle.call_profile.specs.ActCourse.{course_of}
+use Rattle.call_profile.specs.Acts.{in_release_request, in_disconnect_indication, tone_of, peer_of, with_peer, clear_with, on_disconnect, on_release, remove_leg}
 use Rattle.call_profile.specs.Calls.{making_by}
 use Rattle.call_profile.specs.LegStanding.{LegsStand, HasPeer, IsInCall}
 use Rattle.call_profile.specs.Legs.{Legs, leg_at, held_at, with_entry}
@@ -87,13 +88,13 @@ module _ (d : Dimensions) (tones : Tones) (w : World) (x : Slot) (leg : Leg) (o 
 
 -- ---- the three acts
 
-module _ (s : Setting) (w : World) (h : Held) (k : MessageKind) (cause : ℕ) (small : cause < 128) (valid : Valid s.dimensions.bridges w.holding) (stand : LegsStand s.dimensions.external s.tones w)
+module _ (s : Setting) (w : World) (h : Held) (m : Message) (cause : ℕ) (small : cause < 128) (valid : Valid s.dimensions.bridges w.holding) (stand : LegsStand s.dimensions.external s.tones w)
     (within : IsExternal s.dimensions.external h.slot) (at : leg_at w.legs h.slot ≡ Some h.leg) where
-  pub disconnect_kept : Kept s.dimensions s.tones (making_by s w (course_of s.tones w.legs h k (act.Disconnect cause))).world
+  pub disconnect_kept : Kept s.dimensions s.tones (making_by s w (course_of s w h m (act.Disconnect cause))).world
   disconnect_kept = clearing_kept s.dimensions s.tones w h.slot h.leg (Some (in_release_request h.leg)) cause small valid stand within at (inr refl) (making_after_all s.dimensions (making_at w) (on_disconnect h)) refl refl
 
-  pub released_kept : Kept s.dimensions s.tones (making_by s w (course_of s.tones w.legs h k (act.Release cause))).world
+  pub released_kept : Kept s.dimensions s.tones (making_by s w (course_of s w h m (act.Release cause))).world
   released_kept = clearing_kept s.dimensions s.tones w h.slot h.leg None cause small valid stand within at (inl refl) (making_after_all s.dimensions (making_at w) (on_release h)) refl refl
 
-  pub gone_kept : Kept s.dimensions s.tones (making_by s w (course_of s.tones w.legs h k (act.ReleaseComplete cause))).world
+  pub gone_kept : Kept s.dimensions s.tones (making_by s w (course_of s w h m (act.ReleaseComplete cause))).world
   gone_kept = clearing_kept s.dimensions s.tones w h.slot h.leg None cause small valid stand within at (inl refl) (making_after_all s.dimensions (making_at w) (remove_leg h)) refl refl

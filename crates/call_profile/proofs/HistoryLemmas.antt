@@ -22,7 +22,7 @@ use Rattle.call_states.specs.Acts.{act_on}
 use Rattle.clearing_rules.specs.declared.scope.Restart.{Restart}
 use Rattle.clearing_rules.specs.UnknownReference.{answer_without_call}
 use Rattle.number_plan.specs.declared.plan.Number.{Number}
-use Rattle.call_profile.specs.Acts.{course_of}
+use Rattle.call_profile.specs.ActCourse.{course_of}
 use Rattle.call_profile.specs.Calls.{Request, For_leg, New_call, On_no_call, Restarts, Unanswered, request_of, answer_back, outcome_for}
 use Rattle.call_profile.specs.IdleSlots.{idle, is_nailed}
 use Rattle.call_profile.specs.LegStanding.{CallsStand}
@@ -184,7 +184,7 @@ module _ (s : Setting) (w : World) (line : ℕ) (octets : List ℕ) (planned : I
       )) 30 (omega arith)).0
 
   made_received : (r : Request) → request_of w.legs line octets ≡ r → IsMade s.dimensions s.tones (outcome_for s w line r).making.world
-  made_received (For_leg h m) is = made_performed_all s.dimensions s.tones s.plan (making_at w) (course_of s.tones w.legs h m.kind (act_on h.leg.state m)).operations (act_may s w line octets planned fits stands h m is) made
+  made_received (For_leg h m) is = made_performed_all s.dimensions s.tones s.plan (making_at w) (course_of s w h m (act_on h.leg.state m)).operations (act_may s w line octets planned fits stands h m is) made
   made_received (New_call m) is = made_performed_all s.dimensions s.tones s.plan (making_at w) (course_of_setup s w line m).operations (call_may s w line octets planned fits stands m is) made
   made_received (On_no_call m) is = made_performed_all s.dimensions s.tones s.plan (making_at w) (answer_back line (answer_without_call m)) (answer_may s w line octets planned fits stands m is) made
   made_received (Restarts r) is = made_restarted r

@@ -46,3 +46,7 @@ pub mod RecordedMessageLemmas
 pub mod FullPortLemmas
 pub mod QuietEventLemmas
 pub mod RunLemmas
+pub mod DigitsLemmas
+pub mod DigitsRecordLemmas
+pub mod PermittedDigitsLemmas
+pub mod DigitsLawLemmas

@@ -1,5 +1,5 @@
 -- A message to a leg keeps the legs standing.
-use Rattle.std.proofs.Common.{◌≡◌, ℕ, ◌<◌, Bool, true, false, List, [], ◌∷◌, Some, None, refl, sym, subst, arith, if◌then◌else◌}
+use Rattle.std.proofs.Common.{◌≡◌, ℕ, ◌<◌, Bool, true, false, List, [], ◌∷◌, Some, None, refl, sym, subst, arith, eqb-true, if◌then◌else◌}
 use Rattle.std.specs.Prelude.{◌==◌}
 use Rattle.std.proofs.lemmas.Grind.{common_steps}
 use Rattle.circuit_model.specs.declared.channel.Slot.{Slot}
@@ -9,7 +9,7 @@ use Rattle.circuit_model.specs.Holding.{Valid}
 use Rattle.q931_codec.specs.declared.kind.MessageKind.{MessageKind}
 use Rattle.q931_codec.specs.declared.kind.MessageKind.TheVariants as kind
 use Rattle.q931_codec.specs.declared.message.Message.{Message}
-use Rattle.q931_codec.specs.CallStates.{call_present, incoming_call_proceeding, active, release_request}
+use Rattle.q931_codec.specs.CallStates.{overlap_sending, outgoing_call_proceeding, call_delivered, call_present, incoming_call_proceeding, active, release_request}
 use Rattle.q931_codec.specs.Causes.{temporary_failure}
 use Rattle.q931_codec.specs.Contents.{call_state_in}
 use Rattle.call_states.specs.Acts.{act_of, act_on, clearing_cause, expected_in, is_among, is_null, every_state, before_release_request}
@@ -21,9 +21,11 @@ use Rattle.call_states.specs.declared.leg.Peer.TheVariants as peer
 use Rattle.call_states.specs.declared.leg.Side.{Side}
 use Rattle.call_states.proofs.Causes.{cause_fits}
 use Rattle.call_states.specs.declared.leg.Held.{Held}
-use Rattle.call_profile.specs.Acts.{course_of, peer_of, with_peer, on_alerting, on_connect}
+use Rattle.call_profile.specs.ActCourse.{course_of}
+use Rattle.call_profile.specs.Acts.{peer_of, with_peer, on_alerting, on_connect}
 use Rattle.call_profile.specs.Calls.{making_by}
-use Rattle.call_profile.specs.LegStanding.{LegsStand, IsInCall, AreOneCall}
+use Rattle.call_profile.specs.LegStanding.{CallsStand, LegsStand, IsInCall, AreOneCall}
+use Rattle.exchange_events.specs.Sound.{IsPlanned}
 use Rattle.call_profile.specs.Legs.{Legs, leg_at}
 use Rattle.call_profile.specs.Operations.{Operation, making_at, making_after_all}
 use Rattle.exchange_events.specs.Sizes.{Setting}
@@ -31,6 +33,7 @@ use Rattle.call_profile.specs.World.{World}
 use Rattle.call_profile.proofs.AlertingLemmas.{proceeding_kept, alerting_kept, answer_kept}
 use Rattle.call_profile.proofs.AnsweringLemmas.{ringing, silent_by, caller_of}
 use Rattle.call_profile.proofs.BothLegsClearedLemmas.{ArePeers}
+use Rattle.call_profile.proofs.DigitsLemmas.{digits_kept}
 use Rattle.call_profile.proofs.ClearingLemmas.{Kept, held_there, peers_of, disconnect_kept, released_kept, gone_kept}
 
 -- ---- what is known of a leg in whose state an act was asked, and of the act's cause
@@ -42,6 +45,7 @@ Asked state act.Enquiry = Unit {0}
 Asked state act.Proceeding = is_among (call_present ∷ []) state ≡ true
 Asked state act.Alerting = is_among (call_present ∷ incoming_call_proceeding ∷ []) state ≡ true
 Asked state act.Answer = is_among ringing state ≡ true
+Asked state act.Digits = (state == overlap_sending) ≡ true
 Asked state (act.Disconnect cause) = cause < 128
 Asked state (act.Release cause) = cause < 128
 Asked state (act.ReleaseComplete cause) = cause < 128
@@ -53,6 +57,10 @@ expected false state a asked = tt
 either : (b : Bool) (state : ℕ) (a c : Act) → Asked state a → Asked state c → Asked state (if b then a else c)
 either true state a c p q = p
 either false state a c p q = q
+
+dialled : (b : Bool) (state : ℕ) (a : Act) → (state == overlap_sending) ≡ b → Asked state a → Asked state (if b then act.Digits else a)
+dialled true state a is p = is
+dialled false state a is p = p
 
 pub asked : (state : ℕ) (k : MessageKind) (cause : ℕ) (tells_null : Bool) → cause < 128 → Asked state (act_of state k cause tells_null)
 asked state kind.CallProceeding cause tells_null small = expected (is_among (call_present ∷ []) state) state act.Proceeding (λ among. among)
@@ -74,7 +82,9 @@ asked state kind.StatusEnquiry cause tells_null small = expected (is_among every
 asked state kind.SetupAcknowledge cause tells_null small = tt
 asked state kind.Restart cause tells_null small = tt
 asked state kind.RestartAcknowledge cause tells_null small = tt
-asked state kind.Information cause tells_null small = tt
+asked state kind.Information cause tells_null small =
+    dialled (state == overlap_sending) state (expected_in (outgoing_call_proceeding ∷ call_delivered ∷ active ∷ []) state act.Nothing) refl
+    (expected (is_among (outgoing_call_proceeding ∷ call_delivered ∷ active ∷ []) state) state act.Nothing (λ among. tt))
 asked state (kind.Unknown octet) cause tells_null small = tt
 
 pub two_ring : (state : ℕ) → is_among (call_present ∷ incoming_call_proceeding ∷ []) state ≡ true → is_among ringing state ≡ true
@@ -89,8 +99,14 @@ pub with_caller : (legs : Legs) (p : Peer) (y : Slot) (other : Leg) (does : Held
     → with_peer (peer_of legs p) does ≡ does (record { slot = y; leg = other })
 with_caller legs p y other does is at = rw (is, held_there legs y other at) refl
 
-module _ (s : Setting) (w : World) (h : Held) (valid : Valid s.dimensions.bridges w.holding) (stand : LegsStand s.dimensions.external s.tones w)
+module _ (s : Setting) (w : World) (h : Held) (planned : IsPlanned s) (stands : CallsStand s w)
     (within : IsExternal s.dimensions.external h.slot) (at : leg_at w.legs h.slot ≡ Some h.leg) where
+  abbrev valid : Valid s.dimensions.bridges w.holding
+  valid = stands.circuits
+
+  abbrev stand : LegsStand s.dimensions.external s.tones w
+  stand = stands.legs
+
   ringing_kept : is_among ringing h.leg.state ≡ true
       → (os : Held → List Operation)
       → ((y : Slot) (other : Leg) → ArePeers s.dimensions.external w h.slot y h.leg other → AreOneCall y other h.slot h.leg → Kept s.dimensions s.tones (making_after_all s.dimensions (making_at w) (os (record { slot = y; leg = other }))).world)
@@ -106,24 +122,25 @@ module _ (s : Setting) (w : World) (h : Held) (valid : Valid s.dimensions.bridge
   silent rings = silent_by s.dimensions.external s.tones w h.slot h.leg rings (heard_by w.holding.circuits h.slot) (stand.each h.slot h.leg within at).hears
 
   -- what an act that was asked makes
-  act_kept : (k : MessageKind) (a : Act) → Asked h.leg.state a → Kept s.dimensions s.tones (making_by s w (course_of s.tones w.legs h k a)).world
-  act_kept k act.Nothing asks = (valid, stand)
-  act_kept k act.Unexpected asks = (valid, stand)
-  act_kept k act.Enquiry asks = (valid, stand)
-  act_kept k act.Proceeding asks =
+  act_kept : (m : Message) (a : Act) → Asked h.leg.state a → Kept s.dimensions s.tones (making_by s w (course_of s w h m a)).world
+  act_kept m act.Nothing asks = (valid, stand)
+  act_kept m act.Unexpected asks = (valid, stand)
+  act_kept m act.Enquiry asks = (valid, stand)
+  act_kept m act.Proceeding asks =
       let external = s.dimensions.external in
       let rings = one_rings h.leg.state asks in
       let c = caller_of external s.tones w h.slot h.leg rings h.leg.peer (stand.each h.slot h.leg within at).peer in
       let in_call : IsInCall h.leg.side h.slot h.leg c.0 c.3.0 = subst (λ (side : Side). IsInCall side h.slot h.leg c.0 c.3.0) (sym c.3.2.is_called) c.3.2 in
       let peers = peers_of external w h.slot c.0 h.leg c.3.0 within c.2 at c.3.1 in_call in
       proceeding_kept s.dimensions s.tones w h.slot c.0 h.leg c.3.0 valid stand peers c.3.2 (silent rings) asks
-  act_kept k act.Alerting asks =
+  act_kept m act.Alerting asks =
       let rings = two_ring h.leg.state asks in
       ringing_kept rings (on_alerting s.tones h) (λ y other peers call. alerting_kept s.dimensions s.tones w h.slot y h.leg other valid stand peers call (silent rings) asks)
-  act_kept k act.Answer asks = ringing_kept asks (on_connect h) (λ y other peers call. answer_kept s.dimensions s.tones w h.slot y h.leg other valid stand peers call (silent asks))
-  act_kept k (act.Disconnect cause) asks = disconnect_kept s w h k cause asks valid stand within at
-  act_kept k (act.Release cause) asks = released_kept s w h k cause asks valid stand within at
-  act_kept k (act.ReleaseComplete cause) asks = gone_kept s w h k cause asks valid stand within at
+  act_kept m act.Answer asks = ringing_kept asks (on_connect h) (λ y other peers call. answer_kept s.dimensions s.tones w h.slot y h.leg other valid stand peers call (silent asks))
+  act_kept m act.Digits asks = digits_kept s w h m planned stands within at (eqb-true h.leg.state overlap_sending asks)
+  act_kept m (act.Disconnect cause) asks = disconnect_kept s w h m cause asks valid stand within at
+  act_kept m (act.Release cause) asks = released_kept s w h m cause asks valid stand within at
+  act_kept m (act.ReleaseComplete cause) asks = gone_kept s w h m cause asks valid stand within at
 
-  pub leg_kept : (m : Message) → Kept s.dimensions s.tones (making_by s w (course_of s.tones w.legs h m.kind (act_on h.leg.state m))).world
-  leg_kept m = act_kept m.kind (act_on h.leg.state m) (asked h.leg.state m.kind (clearing_cause m.elements) (is_null (call_state_in m.elements)) (cause_fits m.elements))
+  pub leg_kept : (m : Message) → Kept s.dimensions s.tones (making_by s w (course_of s w h m (act_on h.leg.state m))).world
+  leg_kept m = act_kept m (act_on h.leg.state m) (asked h.leg.state m.kind (clearing_cause m.elements) (is_null (call_state_in m.elements)) (cause_fits m.elements))

@@ -1,5 +1,5 @@
 -- An accepted SETUP keeps the legs standing.
-use Rattle.std.proofs.Common.{◌≡◌, ℕ, ◌*◌, ◌^◌, ◌<◌, ◌≤◌, inl, inr, true, false, length, Some, None, refl, sym, ◌∙◌, ap, subst, arith, length-set}
+use Rattle.std.proofs.Common.{◌≡◌, ℕ, ◌*◌, ◌^◌, ◌<◌, ◌≤◌, inl, inr, Bool, true, false, length, Some, None, refl, sym, ◌∙◌, ap, subst, arith, length-set}
 use Rattle.std.specs.Prelude.{is_none}
 use Rattle.circuit_model.specs.declared.channel.Slot.{Slot}
 use Rattle.circuit_model.specs.declared.circuit.Circuit.TheVariants.{Member}
@@ -19,7 +19,7 @@ use Rattle.tone_rules.specs.declared.tones.Tones.{Tones}
 use Rattle.call_profile.specs.IdleSlots.{idle}
 use Rattle.call_profile.specs.LegStanding.{LegStands, LegsStand, MayHear, AreOneCall}
 use Rattle.call_profile.specs.Legs.{Legs, leg_at, leg_named, with_entry}
-use Rattle.call_profile.specs.Operations.{making_at, making_after_all}
+use Rattle.call_profile.specs.Operations.{Wait, making_at, making_after, making_after_all}
 use Rattle.call_profile.specs.Setup.{caller_leg, called_leg, call_line, call_room, await_digits}
 use Rattle.exchange_events.specs.Sizes.{Dimensions}
 use Rattle.call_profile.specs.World.{World, is_full}
@@ -112,7 +112,7 @@ idle_may d tones w own x valid stand in_x idle_x small unused = record {
   unused = λ z l in_z apart at line side same. none_named w.legs x.line false own unused z l (line, in_z.1) at side same;
 }
 
-module _ (d : Dimensions) (tones : Tones) (w : World) (own : ℕ) (asked : Pending) (x y : Slot) (reference : ℕ) (may : MayCall d tones w own x) (offer : MayOffer d w x y reference) where
+module _ (d : Dimensions) (tones : Tones) (w : World) (first : Bool) (own : ℕ) (asked : Pending) (x y : Slot) (reference : ℕ) (may : MayCall d tones w own x) (offer : MayOffer d w x y reference) where
   abbrev caller : Leg
   caller = caller_leg outgoing_call_proceeding own (peer.Leg y)
 
@@ -120,7 +120,7 @@ module _ (d : Dimensions) (tones : Tones) (w : World) (own : ℕ) (asked : Pendi
   called = called_leg reference x
 
   abbrev after_call : World
-  after_call = (making_after_all d (making_at w) (call_line own asked x y reference)).world
+  after_call = (making_after_all d (making_at w) (call_line first own asked x y reference)).world
 
   at_caller : leg_at after_call.legs x ≡ Some caller
   at_caller = both_first d.external w.legs x y (Some caller) (Some called) may.stand.count may.in_x offer.in_y offer.apart
@@ -178,7 +178,7 @@ module _ (d : Dimensions) (tones : Tones) (w : World) (own : ℕ) (asked : Pendi
     | inr other ↦ none_named w.legs y.line true reference offer.free z l (line, in_z.1) (else_is d.external w.legs x caller may.stand.count may.in_x z l in_z other at) side same
   ]
 
-  pub line_call_kept : Kept d tones (making_after_all d (making_at w) (call_line own asked x y reference)).world
+  pub line_call_kept : Kept d tones (making_after_all d (making_at w) (call_line first own asked x y reference)).world
   line_call_kept = (
     may.valid,
     record {
@@ -191,12 +191,12 @@ module _ (d : Dimensions) (tones : Tones) (w : World) (own : ℕ) (asked : Pendi
 
 -- ---- a call to a room
 
-module _ (d : Dimensions) (tones : Tones) (w : World) (own : ℕ) (x : Slot) (room : ℕ) (may : MayCall d tones w own x) (free : is_full d w ≡ false) where
+module _ (d : Dimensions) (tones : Tones) (w : World) (first : Bool) (own : ℕ) (x : Slot) (room : ℕ) (may : MayCall d tones w own x) (free : is_full d w ≡ false) where
   abbrev member : Leg
   member = caller_leg active own (peer.Room room)
 
   abbrev after_seat : World
-  after_seat = (making_after_all d (making_at w) (call_room own x room)).world
+  after_seat = (making_after_all d (making_at w) (call_room first own x room)).world
 
   at_member : leg_at after_seat.legs x ≡ Some member
   at_member = entry_here d.external w.legs x (Some member) may.stand.count may.in_x
@@ -231,7 +231,7 @@ module _ (d : Dimensions) (tones : Tones) (w : World) (own : ℕ) (x : Slot) (ro
   none_member : HasNone d.external w.legs x member
   none_member = may.unused
 
-  pub room_call_kept : Kept d tones (making_after_all d (making_at w) (call_room own x room)).world
+  pub room_call_kept : Kept d tones (making_after_all d (making_at w) (call_room first own x room)).world
   room_call_kept = (
     valid-seat d.bridges w.holding x room may.valid idle_member (not_full d.bridges w.holding may.valid free),
     record {
@@ -248,7 +248,7 @@ module _ (d : Dimensions) (tones : Tones) (w : World) (own : ℕ) (asked : Pendi
   waiting = caller_leg overlap_sending own peer.Alone
 
   abbrev after_wait : World
-  after_wait = (making_after_all d (making_at w) (await_digits own asked x)).world
+  after_wait = (making_after d (making_at w) (Wait x waiting asked)).world
 
   at_waiting : leg_at after_wait.legs x ≡ Some waiting
   at_waiting = entry_here d.external w.legs x (Some waiting) may.stand.count may.in_x
@@ -277,8 +277,8 @@ module _ (d : Dimensions) (tones : Tones) (w : World) (own : ℕ) (asked : Pendi
   none_waiting : HasNone d.external w.legs x waiting
   none_waiting = may.unused
 
-  pub waiting_kept : Kept d tones (making_after_all d (making_at w) (await_digits own asked x)).world
-  waiting_kept = (
+  wait_kept : Kept d tones after_wait
+  wait_kept = (
     may.valid,
     record {
       count = length-set w.legs.held (number_of x) (Some waiting) ∙ may.stand.count;
@@ -286,3 +286,8 @@ module _ (d : Dimensions) (tones : Tones) (w : World) (own : ℕ) (asked : Pendi
       one = distinct_with d.external w.legs x waiting may.stand.count may.in_x may.stand.one none_waiting;
     },
   )
+
+  -- whether it is asked for the rest of the number or not
+  pub waiting_kept : (first : Bool) → Kept d tones (making_after_all d (making_at w) (await_digits first own asked x)).world
+  waiting_kept true = wait_kept
+  waiting_kept false = wait_kept

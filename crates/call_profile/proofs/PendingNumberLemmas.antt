@@ -16,7 +16,7 @@ use Rattle.exchange_events.specs.declared.trace.Event.{Event}
 use Rattle.exchange_events.specs.declared.trace.Event.TheVariants.{Nail, Seat, Free, Message, Frame}
 use Rattle.exchange_events.specs.Sizes.{Setting, Dimensions}
 use Rattle.exchange_events.specs.Sound.{Fits, IsPlanned}
-use Rattle.call_profile.specs.Acts.{course_of}
+use Rattle.call_profile.specs.ActCourse.{course_of}
 use Rattle.call_profile.specs.Calls.{Request, For_leg, New_call, On_no_call, Restarts, Unanswered, request_of, answer_back, outcome_for}
 use Rattle.call_profile.specs.IdleSlots.{is_nailed}
 use Rattle.call_profile.specs.Legs.{Legs, leg_at, pending_at, no_legs}
@@ -85,7 +85,7 @@ module _ (s : Setting) (w : World) (line : ℕ) (octets : List ℕ) (planned : I
 
   received : (r : Request) → request_of w.legs line octets ≡ r → Pend (outcome_for s w line r).making.world
   received (For_leg h m) is =
-      performed_all s.dimensions s.tones s.plan (making_at w) (course_of s.tones w.legs h m.kind (act_on h.leg.state m)).operations (act_may s w line octets planned fits stands h m is) stands.numbers
+      performed_all s.dimensions s.tones s.plan (making_at w) (course_of s w h m (act_on h.leg.state m)).operations (act_may s w line octets planned fits stands h m is) stands.numbers
   received (New_call m) is = performed_all s.dimensions s.tones s.plan (making_at w) (course_of_setup s w line m).operations (call_may s w line octets planned fits stands m is) stands.numbers
   received (On_no_call m) is = performed_all s.dimensions s.tones s.plan (making_at w) (answer_back line (answer_without_call m)) (answer_may s w line octets planned fits stands m is) stands.numbers
   received (Restarts r) is = (each_below s.dimensions s.tones r line w (λ a. Pend a.making.world × Kept s.dimensions s.tones a.making.world) (stands.numbers, (stands.circuits, stands.legs)) (λ a place small k.

@@ -1,6 +1,6 @@
 -- What an act does for a message to a leg is permitted.
 use Rattle.std.proofs.Common.{◌≡◌, ℕ, ◌≢◌, ◌<◌, true, List, [], ◌∷◌, Option, Some, None, refl, sym, subst, arith}
-use Rattle.std.specs.Prelude.{IfSome}
+use Rattle.std.specs.Prelude.{IfSome, ◌==◌}
 use Rattle.std.proofs.lemmas.Grind.{common_steps}
 use Rattle.circuit_model.specs.declared.channel.Slot.{Slot}
 use Rattle.circuit_model.specs.declared.circuit.Kind.{Kind}
@@ -26,7 +26,9 @@ use Rattle.call_states.specs.declared.leg.Peer.{Peer}
 use Rattle.call_states.specs.declared.leg.Peer.TheVariants as peer
 use Rattle.call_states.proofs.Causes.{cause_fits}
 use Rattle.call_states.specs.declared.leg.Held.{Held}
-use Rattle.call_profile.specs.Acts.{with_progress, course_of, peer_of, tone_of, with_peer, clear_with, in_state, in_release_request, in_disconnect_indication, message_to, disconnect, on_alerting, on_connect}
+use Rattle.call_profile.specs.ActCourse.{course_of}
+use Rattle.call_profile.specs.Digits.{on_digits}
+use Rattle.call_profile.specs.Acts.{with_progress, peer_of, tone_of, with_peer, clear_with, in_state, in_release_request, in_disconnect_indication, message_to, disconnect, on_alerting, on_connect}
 use Rattle.call_profile.specs.LegStanding.{CallsStand, LegStands, LegsStand, HasPeer}
 use Rattle.call_profile.specs.Legs.{Legs, leg_at}
 use Rattle.call_profile.specs.Operations.{Making, making_at}
@@ -217,23 +219,27 @@ module _ (s : Setting) (w : World) (h : Held) (stand : CallsStand s w) (within :
   each_idle None deaf = tt
   each_idle (Some c) deaf = deaf_is_idle w.holding.circuits c.slot (stand.circuits.standing c.slot) deaf
 
-  asked_permitted : (k : MessageKind) (a : Act) → Asked h.leg.state a → ArePermitted d tones s.plan (making_at w) (course_of s.tones w.legs h k a).operations
-  asked_permitted k act.Nothing asks = tt
-  asked_permitted k act.Unexpected asks = ((within.0, status_writable h.leg (unexpected_cause k) there.told (unexpected_fits k)), tt)
-  asked_permitted k act.Enquiry asks = ((within.0, status_writable h.leg response_to_status_enquiry there.told (omega arith)), tt)
-  asked_permitted k act.Proceeding asks = ((within, in_state_told h.leg incoming_call_proceeding there.told (omega arith), λ e. absurd cc), tt)
-  asked_permitted k act.Alerting asks =
+  -- what is done for more digits being permitted
+  asked_permitted : (m : Message) (a : Act) → Asked h.leg.state a → (Asked h.leg.state act.Digits → ArePermitted d tones s.plan (making_at w) (on_digits s w h m))
+      → ArePermitted d tones s.plan (making_at w) (course_of s w h m a).operations
+  asked_permitted m act.Nothing asks digits = tt
+  asked_permitted m act.Unexpected asks digits = ((within.0, status_writable h.leg (unexpected_cause m.kind) there.told (unexpected_fits m.kind)), tt)
+  asked_permitted m act.Enquiry asks digits = ((within.0, status_writable h.leg response_to_status_enquiry there.told (omega arith)), tt)
+  asked_permitted m act.Proceeding asks digits = ((within, in_state_told h.leg incoming_call_proceeding there.told (omega arith), λ e. absurd cc), tt)
+  asked_permitted m act.Alerting asks digits =
       alerting_permitted d tones s.plan (making_at w) h there (peer_of w.legs h.leg.peer) peer_too
       (each_idle (peer_of w.legs h.leg.peer) (caller_silent d.external tones w h stand.legs within at asks))
-  asked_permitted k act.Answer asks = answer_permitted (rings_silent d.external tones w h stand.legs within at asks) (peer_of w.legs h.leg.peer) peer_too
-  asked_permitted k (act.Disconnect cause) asks =
+  asked_permitted m act.Answer asks digits = answer_permitted (rings_silent d.external tones w h stand.legs within at asks) (peer_of w.legs h.leg.peer) peer_too
+  asked_permitted m act.Digits asks digits = digits asks
+  asked_permitted m (act.Disconnect cause) asks digits =
       let sends : Sends d h (message_to h.leg kind.Release) = (within.0, message_writable h.leg kind.Release there.told tt) in
       let goes : Puts d h (in_release_request h.leg) = (within, record { state = omega arith; reference = there.told.reference }, λ e. absurd cc) in
       (within, (goes, (sends, peer_permitted d tones s.plan _ h cause (peer_of w.legs h.leg.peer) peer_too asks)))
-  asked_permitted k (act.Release cause) asks =
+  asked_permitted m (act.Release cause) asks digits =
       let sends : Sends d h (message_to h.leg kind.ReleaseComplete) = (within.0, message_writable h.leg kind.ReleaseComplete there.told tt) in
       (within, (within, (sends, peer_permitted d tones s.plan _ h cause (peer_of w.legs h.leg.peer) peer_too asks)))
-  asked_permitted k (act.ReleaseComplete cause) asks = (within, (within, peer_permitted d tones s.plan _ h cause (peer_of w.legs h.leg.peer) peer_too asks))
+  asked_permitted m (act.ReleaseComplete cause) asks digits = (within, (within, peer_permitted d tones s.plan _ h cause (peer_of w.legs h.leg.peer) peer_too asks))
 
-  pub act_permitted : (m : Message) → ArePermitted s.dimensions s.tones s.plan (making_at w) (course_of s.tones w.legs h m.kind (act_on h.leg.state m)).operations
-  act_permitted m = asked_permitted m.kind (act_on h.leg.state m) (asked h.leg.state m.kind (clearing_cause m.elements) (is_null (call_state_in m.elements)) (cause_fits m.elements))
+  pub act_permitted : (m : Message) → ((h.leg.state == overlap_sending) ≡ true → ArePermitted d tones s.plan (making_at w) (on_digits s w h m))
+      → ArePermitted s.dimensions s.tones s.plan (making_at w) (course_of s w h m (act_on h.leg.state m)).operations
+  act_permitted m digits = asked_permitted m (act_on h.leg.state m) (asked h.leg.state m.kind (clearing_cause m.elements) (is_null (call_state_in m.elements)) (cause_fits m.elements)) digits

@@ -1,5 +1,7 @@
 -- Whatever a message asks for, each operation that is done for it is permitted.
-use Rattle.std.proofs.Common.{◌≡◌, ℕ, ◌<◌, List, sym, subst}
+use Rattle.std.proofs.Common.{◌≡◌, ℕ, ◌<◌, List, sym, subst, eqb-true}
+use Rattle.circuit_model.specs.Extent.{IsExternal}
+use Rattle.q931_codec.specs.CallStates.{overlap_sending}
 use Rattle.clearing_rules.specs.UnknownReference.{answer_without_call}
 use Rattle.q931_codec.specs.declared.message.Message.{Message as Q931}
 use Rattle.q931_codec.specs.Reading.{reading}
@@ -7,7 +9,7 @@ use Rattle.q931_codec.proofs.Messages.{read_message}
 use Rattle.exchange_events.specs.declared.trace.Event.TheVariants.{Message}
 use Rattle.call_states.specs.Acts.{act_on}
 use Rattle.call_states.specs.declared.leg.Held.{Held}
-use Rattle.call_profile.specs.Acts.{course_of}
+use Rattle.call_profile.specs.ActCourse.{course_of}
 use Rattle.call_profile.specs.Calls.{For_leg, New_call, On_no_call, request_of, answer_back}
 use Rattle.call_profile.specs.LegStanding.{CallsStand}
 use Rattle.call_profile.specs.Operations.{making_at}
@@ -22,14 +24,16 @@ use Rattle.clearing_rules.proofs.AnswerFacts.{answer_writable}
 use Rattle.call_profile.proofs.NoCallAnswerLemmas.{back_permitted}
 use Rattle.call_profile.proofs.NamedLegLemmas.{received_stands}
 use Rattle.call_profile.proofs.PermittedSetupLemmas.{setup_permitted}
+use Rattle.call_profile.proofs.PermittedDigitsLemmas.{digits_permitted}
 use Rattle.call_profile.proofs.SetupLemmas.{new_from, no_call_read}
 
 module _ (s : Setting) (w : World) (line : ℕ) (octets : List ℕ) (planned : IsPlanned s) (fits : Fits s.dimensions.external (Message line octets)) (stands : CallsStand s w) where
-  pub act_may : (h : Held) (m : Q931) → request_of w.legs line octets ≡ For_leg h m → ArePermitted s.dimensions s.tones s.plan (making_at w) (course_of s.tones w.legs h m.kind (act_on h.leg.state m)).operations
+  pub act_may : (h : Held) (m : Q931) → request_of w.legs line octets ≡ For_leg h m → ArePermitted s.dimensions s.tones s.plan (making_at w) (course_of s w h m (act_on h.leg.state m)).operations
   act_may h m is =
       let named = received_stands w.legs line octets h m is in
       let on = named.among in
-      act_permitted s w h stands (subst (λ n. n < s.dimensions.external) (sym on.0) fits.0, on.1) named.at m
+      let within : IsExternal s.dimensions.external h.slot = (subst (λ n. n < s.dimensions.external) (sym on.0) fits.0, on.1) in
+      act_permitted s w h stands within named.at m (λ waits. digits_permitted s w h m planned stands within named.at (eqb-true h.leg.state overlap_sending waits))
 
   pub call_may : (m : Q931) → request_of w.legs line octets ≡ New_call m → ArePermitted s.dimensions s.tones s.plan (making_at w) (course_of_setup s w line m).operations
   call_may m is =

@@ -1,5 +1,5 @@
 -- What a SETUP does is permitted.
-use Rattle.std.proofs.Common.{◌≡◌, ℕ, ◌<◌, ◌≤◌, ◌^◌, ◌||◌, inl, inr, true, false, List, [], length, Option, Some, None, refl, sym, ap, subst, arith}
+use Rattle.std.proofs.Common.{◌≡◌, ℕ, ◌<◌, ◌≤◌, ◌^◌, ◌||◌, inl, inr, Bool, true, false, List, [], length, Option, Some, None, refl, sym, ap, subst, arith}
 use Rattle.std.specs.Prelude.{nat_lt, nat_le, is_none, unwrap_or, option_map}
 use Rattle.std.proofs.lemmas.Grind.{common_steps}
 use Rattle.std.proofs.lemmas.Bool.Decides.{nat_tests}
@@ -7,7 +7,7 @@ use Rattle.circuit_model.specs.declared.channel.Slot.{Slot}
 use Rattle.circuit_model.specs.Channels.{channel_at}
 use Rattle.circuit_model.specs.Extent.{IsExternal}
 use Rattle.circuit_model.proofs.Slots.{true_or_false}
-use Rattle.q931_codec.specs.Contents.{is_bearer_channel, bearer_in, bearer_of, channel_in, contents_in, contents_passed_on}
+use Rattle.q931_codec.specs.Contents.{is_bearer_channel, bearer_in, bearer_of, called_in, channel_in, contents_in, contents_passed_on}
 use Rattle.q931_codec.specs.Identifiers as identifier
 use Rattle.q931_codec.specs.Outgoing.{IsWritable, bare}
 use Rattle.q931_codec.specs.declared.kind.MessageKind.TheVariants as kind
@@ -18,7 +18,8 @@ use Rattle.call_states.specs.Pending.{FitsElements}
 use Rattle.call_states.specs.Status.{FitsMessages}
 use Rattle.number_plan.specs.declared.plan.Number.{Number}
 use Rattle.number_plan.specs.Plan.{found_for}
-use Rattle.q931_codec.specs.CallStates.{overlap_sending}
+use Rattle.q931_codec.specs.CallStates.{overlap_sending, outgoing_call_proceeding, active}
+use Rattle.call_states.specs.declared.leg.Peer.{Peer}
 use Rattle.call_states.specs.declared.leg.Peer.TheVariants as peer
 use Rattle.number_plan.specs.declared.target.Found.{Found}
 use Rattle.number_plan.specs.declared.target.Found.TheVariants.{Line, Room, More, Nothing}
@@ -28,7 +29,8 @@ use Rattle.call_profile.specs.Operations.{making_at}
 use Rattle.call_profile.specs.Permitted.{CanSeat}
 use Rattle.call_profile.proofs.Permitted.{ArePermitted}
 use Rattle.exchange_events.specs.Sizes.{Setting}
-use Rattle.call_profile.specs.Setup.{bearer_asked, checks, refusal, call_asked, setup, accept, call, call_line, call_room, await_digits, caller_leg, digits_in, setup_acknowledge, call_proceeding, offer, caller_slot, called_slot, target_of, is_unreadable, course_of_setup}
+use Rattle.call_profile.specs.Acts.{message_to}
+use Rattle.call_profile.specs.Setup.{bearer_asked, checks, refusal, call_asked, setup, accept, accept_at, call, call_line, call_room, await_digits, caller_leg, digits_in, with_channel, setup_acknowledge, call_proceeding, offer, caller_slot, called_slot, target_of, is_unreadable, course_of_setup}
 use Rattle.exchange_events.specs.Sound.{IsPlanned}
 use Rattle.call_profile.specs.Waiting.{IsWaiting}
 use Rattle.call_profile.specs.World.{World}
@@ -79,8 +81,8 @@ refusal_writable reference cause small few = record {
   high = omega arith;
 }
 
-proceeding_writable : (x : Slot) (leg : Leg) → x.place < 30 → FitsMessages leg → IsWritable (call_proceeding x leg)
-proceeding_writable x leg within told = record {
+channel_writable : (x : Slot) (leg : Leg) → x.place < 30 → FitsMessages leg → IsWritable (with_channel x (message_to leg kind.CallProceeding))
+channel_writable x leg within told = record {
   reference = told.reference;
   kind = tt;
   bearer = omega arith;
@@ -92,6 +94,10 @@ proceeding_writable x leg within told = record {
   low = omega arith;
   high = omega arith;
 }
+
+proceeding_writable : (first : Bool) (x : Slot) (leg : Leg) → x.place < 30 → FitsMessages leg → IsWritable (call_proceeding first x leg)
+proceeding_writable true x leg within told = channel_writable x leg within told
+proceeding_writable false x leg within told = message_writable leg kind.CallProceeding told tt
 
 acknowledge_writable : (x : Slot) (leg : Leg) → x.place < 30 → FitsMessages leg → IsWritable (setup_acknowledge x leg)
 acknowledge_writable x leg within told = record {
@@ -123,70 +129,105 @@ offer_writable p y leg within told fits = record {
 
 -- ---- the digits so far, where the plan finds that more are to come
 
-begun : (plan : List Number) (o : Option (List ℕ)) → is_none o ≡ false → found_for plan (unwrap_or o []) ≡ More → option_map (found_for plan) o ≡ Some More
+pub begun : (plan : List Number) (o : Option (List ℕ)) → is_none o ≡ false → found_for plan (unwrap_or o []) ≡ More → option_map (found_for plan) o ≡ Some More
 begun plan None some is = absurd cc
 begun plan (Some digits) some is = ap (λ t. Some t) is
 
--- ---- what is done
+-- ---- what is done, by a SETUP or for more digits
 
-module _ (s : Setting) (w : World) (line : ℕ) (m : Message) (planned : IsPlanned s) (stands : CallsStand s w) (below : line < s.dimensions.external) (own : (1 ≤ m.reference) × (m.reference < 2 ^ 15)) where
-  line_permitted : (x y : Slot) (reference : ℕ) → IsExternal s.dimensions.external x → IsExternal s.dimensions.external y → reference < 2 ^ 15 → is_unreadable (option_map bearer_of (bearer_in m.elements)) ≡ false
-      → ArePermitted s.dimensions s.tones s.plan (making_at w) (call_line m.reference (call_asked m) x y reference)
-  line_permitted x y reference in_x in_y small readable =
-      let caller : FitsMessages _ = record { state = omega arith; reference = own.1 } in
-      let called : FitsMessages _ = record { state = omega arith; reference = small } in (
+-- the leg that waits for the rest of a number
+abbrev pub waiting_leg : ℕ → Leg
+waiting_leg own = caller_leg overlap_sending own peer.Alone
+
+-- what is passed on fits a message; and what a call asks for whose number leads there
+pub record CanAccept (s : Setting) (w : World) (own : ℕ) (asked : Pending) (x : Slot) (t : Found) : Type 0 where
+  pub within : IsExternal s.dimensions.external x
+  pub small : own < 2 ^ 15
+  pub fits : FitsElements asked
+  pub line : (line : ℕ) → t ≡ Line line → line < s.dimensions.external
+  pub room : (room : ℕ) → t ≡ Room room → CanSeat s.dimensions w x
+  pub more : t ≡ More → IsWaiting s.plan (waiting_leg own) asked
+
+module _ (s : Setting) (w : World) (first : Bool) (own : ℕ) (asked : Pending) (x : Slot) where
+  told : own < 2 ^ 15 → (state : ℕ) (p : Peer) → state < 64 → FitsMessages (caller_leg state own p)
+  told small state p few = record { state = few; reference = small }
+
+  line_permitted : (y : Slot) (reference : ℕ) → IsExternal s.dimensions.external x → own < 2 ^ 15 → FitsElements asked → IsExternal s.dimensions.external y → reference < 2 ^ 15
+      → ArePermitted s.dimensions s.tones s.plan (making_at w) (call_line first own asked x y reference)
+  line_permitted y reference in_x small fits in_y few =
+      let caller : FitsMessages _ = told small outgoing_call_proceeding (peer.Leg y) (omega arith) in
+      let called : FitsMessages _ = record { state = omega arith; reference = few } in (
         (in_x, caller, λ e. absurd cc),
         (
           (in_y, called, λ e. absurd cc),
           (
-            (in_x.0, proceeding_writable x _ in_x.1 caller),
-            ((in_y.0, offer_writable (call_asked m) y _ in_y.1 called (asked_fits m readable)), tt),
+            (in_x.0, proceeding_writable first x _ in_x.1 caller),
+            ((in_y.0, offer_writable asked y _ in_y.1 called fits), tt),
           ),
         ),
       )
 
-  room_permitted : (x : Slot) (room : ℕ) → IsExternal s.dimensions.external x → CanSeat s.dimensions w x → ArePermitted s.dimensions s.tones s.plan (making_at w) (call_room m.reference x room)
-  room_permitted x room in_x can =
-      let told : FitsMessages _ = record { state = omega arith; reference = own.1 } in (
-        (in_x, told, λ e. absurd cc),
+  room_permitted : (room : ℕ) → IsExternal s.dimensions.external x → own < 2 ^ 15 → CanSeat s.dimensions w x → ArePermitted s.dimensions s.tones s.plan (making_at w) (call_room first own x room)
+  room_permitted room in_x small can =
+      let member : FitsMessages _ = told small active (peer.Room room) (omega arith) in (
+        (in_x, member, λ e. absurd cc),
         (
           can_still s.dimensions w x _ can,
           (
-            (in_x.0, proceeding_writable x _ in_x.1 told),
-            ((in_x.0, message_writable _ kind.Connect told tt), tt),
+            (in_x.0, proceeding_writable first x _ in_x.1 member),
+            ((in_x.0, message_writable _ kind.Connect member tt), tt),
           ),
         ),
       )
 
-  waiting_permitted : (x : Slot) → IsExternal s.dimensions.external x → refusal s w line m ≡ None → target_of s m ≡ More
-      → ArePermitted s.dimensions s.tones s.plan (making_at w) (await_digits m.reference (call_asked m) x)
-  waiting_permitted x in_x accepted is =
-      let told : FitsMessages _ = record { state = omega arith; reference = own.1 } in
+waiting_permitted : (s : Setting) (w : World) (first : Bool) (own : ℕ) (asked : Pending) (x : Slot) → IsExternal s.dimensions.external x → own < 2 ^ 15 → IsWaiting s.plan (waiting_leg own) asked
+    → ArePermitted s.dimensions s.tones s.plan (making_at w) (await_digits first own asked x)
+waiting_permitted s w true own asked x in_x small waits =
+    let leg = told s w true own asked x small overlap_sending peer.Alone (omega arith) in
+    ((in_x, leg, waits), ((in_x.0, acknowledge_writable x _ in_x.1 leg), tt))
+waiting_permitted s w false own asked x in_x small waits = ((in_x, told s w false own asked x small overlap_sending peer.Alone (omega arith), waits), tt)
+
+module _ (s : Setting) (w : World) (first : Bool) (own : ℕ) (asked : Pending) (x : Slot) where
+  call_permitted : (t : Found) (o : Option Slot) → called_slot w x t ≡ o → CanAccept s w own asked x t → ArePermitted s.dimensions s.tones s.plan (making_at w) (call first w own asked x t o)
+  call_permitted (Line l) (Some y) chosen can =
+      let may = offered s w x l y (can.line l refl) chosen in
+      line_permitted s w first own asked x y (new_reference w.legs l) can.within can.small can.fits may.in_y may.small.1
+  call_permitted (Line l) None chosen can = tt
+  call_permitted (Room room) o chosen can = room_permitted s w first own asked x room can.within can.small (can.room room refl)
+  call_permitted More o chosen can = waiting_permitted s w first own asked x can.within can.small (can.more refl)
+  call_permitted Nothing o chosen can = tt
+
+  pub accepted_permitted : (t : Found) → CanAccept s w own asked x t → ArePermitted s.dimensions s.tones s.plan (making_at w) (accept first w own asked x t)
+  accepted_permitted t can = call_permitted t (called_slot w x t) refl can
+
+-- ---- what a SETUP does
+
+module _ (s : Setting) (w : World) (line : ℕ) (m : Message) (planned : IsPlanned s) (stands : CallsStand s w) (below : line < s.dimensions.external) (own : (1 ≤ m.reference) × (m.reference < 2 ^ 15)) where
+  waits : refusal s w line m ≡ None → target_of s m ≡ More → IsWaiting s.plan (waiting_leg m.reference) (call_asked m)
+  waits accepted is =
       let passed = all_pass (checks s w line m) accepted in
-      let waits : IsWaiting s.plan (caller_leg overlap_sending m.reference peer.Alone) (call_asked m) = record {
+      record {
         state = refl;
         calls = refl;
         alone = refl;
         dialled = begun s.plan (digits_in m) (all_from 5 (checks s w line m) passed).0 is;
         fits = asked_fits m passed.1.0;
-      } in
-      ((in_x, told, waits), ((in_x.0, acknowledge_writable x _ in_x.1 told), tt))
+      }
 
-  call_permitted : (x : Slot) → refusal s w line m ≡ None → caller_slot w line (channel_in m.elements) ≡ Some x → IsExternal s.dimensions.external x → (t : Found) (o : Option Slot) → target_of s m ≡ t → called_slot w x t ≡ o
-      → ArePermitted s.dimensions s.tones s.plan (making_at w) (call w m x t o)
-  call_permitted x accepted at in_x (Line l) (Some y) is chosen =
-      let may = offered s w x l y (reached s m l planned is) chosen in
-      line_permitted x y (new_reference w.legs l) in_x may.in_y may.small.1 (all_pass (checks s w line m) accepted).1.0
-  call_permitted x accepted at in_x (Line l) None is chosen = tt
-  call_permitted x accepted at in_x (Room room) o is chosen = room_permitted x room in_x (can_seat s w line m x room stands in_x accepted at is)
-  call_permitted x accepted at in_x More o is chosen = waiting_permitted x in_x accepted is
-  call_permitted x accepted at in_x Nothing o is chosen = tt
-
-  accept_permitted : (o : Option Slot) → refusal s w line m ≡ None → caller_slot w line (channel_in m.elements) ≡ o → ArePermitted s.dimensions s.tones s.plan (making_at w) (accept s w m o)
+  accept_permitted : (o : Option Slot) → refusal s w line m ≡ None → caller_slot w line (channel_in m.elements) ≡ o → ArePermitted s.dimensions s.tones s.plan (making_at w) (accept_at s w m o)
   accept_permitted None accepted at = tt
   accept_permitted (Some x) accepted at =
       let on = caller_is w line (channel_in m.elements) x at in
-      call_permitted x accepted at (subst (λ n. n < s.dimensions.external) (sym on.1.0) below, on.1.1) (target_of s m) (called_slot w x (target_of s m)) refl refl
+      let in_x : IsExternal s.dimensions.external x = (subst (λ n. n < s.dimensions.external) (sym on.1.0) below, on.1.1) in
+      let can : CanAccept s w m.reference (call_asked m) x (target_of s m) = record {
+        within = in_x;
+        small = own.1;
+        fits = asked_fits m (all_pass (checks s w line m) accepted).1.0;
+        line = λ l is. reached s (called_in m.elements) l planned is;
+        room = λ room is. can_seat s w line m x room stands in_x accepted at is;
+        more = waits accepted;
+      } in
+      accepted_permitted s w true m.reference (call_asked m) x (target_of s m) can
 
   setup_by : (o : Option ℕ) → refusal s w line m ≡ o → ArePermitted s.dimensions s.tones s.plan (making_at w) (setup s w line m o)
   setup_by (Some cause) is = ((below, refusal_writable m.reference cause own.1 (refusal_small s w line m cause is)), tt)

@@ -19,13 +19,16 @@ use Rattle.number_plan.specs.declared.target.Found.{Found}
 use Rattle.number_plan.specs.declared.target.Found.TheVariants.{Line, Room, More, Nothing}
 use Rattle.tone_rules.specs.declared.tones.Tones.{Tones}
 use Rattle.exchange_events.specs.Sizes.{Setting}
-use Rattle.call_profile.specs.Acts.{course_of, in_state, in_disconnect_indication, tone_of, message_to, disconnect, with_progress, peer_of, with_peer, clear_with, on_alerting, on_connect, remove_leg}
+use Rattle.call_profile.specs.ActCourse.{course_of}
+use Rattle.call_profile.specs.Acts.{in_state, in_disconnect_indication, tone_of, message_to, disconnect, with_progress, peer_of, with_peer, clear_with, on_alerting, on_connect, remove_leg}
 use Rattle.call_profile.specs.Calls.{answer_back}
-use Rattle.call_profile.specs.Legs.{Legs, held_at}
+use Rattle.call_profile.specs.Legs.{Legs, held_at, pending_at}
 use Rattle.call_profile.specs.Operations.{Operation, Sound, Send}
 use Rattle.call_profile.specs.Progress.{TellsOfTones}
 use Rattle.call_profile.specs.Restarts.{restarts_slot, restart_peer, restart_leg, restart_slot}
-use Rattle.call_profile.specs.Setup.{target_of, caller_slot, called_slot, call, accept, setup, refusal, course_of_setup}
+use Rattle.call_states.specs.declared.pending.Pending.{Pending}
+use Rattle.call_profile.specs.Digits.{asked_with, digits_refusal, dial_on, with_pending}
+use Rattle.call_profile.specs.Setup.{target_of, target_dialled, caller_slot, called_slot, call, call_asked, accept_at, setup, refusal, course_of_setup}
 use Rattle.call_profile.specs.World.{World}
 
 -- ---- the other leg of a call
@@ -49,32 +52,49 @@ peer_tells : (tones : Tones) (cause : ℕ) (o : Option Held) → TellsOfTones (w
 peer_tells tones cause None = refl
 peer_tells tones cause (Some other) = cleared_tells tones cause other
 
+-- ---- a new call
+
+call_tells : (first : Bool) (w : World) (own : ℕ) (asked : Pending) (x : Slot) (t : Found) (o : Option Slot) → TellsOfTones (call first w own asked x t o)
+call_tells true w own asked x (Line l) (Some y) = refl
+call_tells false w own asked x (Line l) (Some y) = refl
+call_tells first w own asked x (Line l) None = refl
+call_tells true w own asked x (Room room) o = refl
+call_tells false w own asked x (Room room) o = refl
+call_tells true w own asked x More o = refl
+call_tells false w own asked x More o = refl
+call_tells first w own asked x Nothing o = refl
+
+-- ---- more digits
+
+dialling_tells : (s : Setting) (w : World) (h : Held) (asked : Pending) (o : Option ℕ) → TellsOfTones (dial_on s w h asked o)
+dialling_tells s w h asked (Some cause) = cleared_tells s.tones cause h
+dialling_tells s w h asked None =
+    call_tells false w h.leg.reference asked h.slot (target_dialled s.plan asked.called) (called_slot w h.slot (target_dialled s.plan asked.called))
+
+digits_tell : (s : Setting) (w : World) (h : Held) (m : Message) (o : Option Pending) → TellsOfTones (with_pending s w h m o)
+digits_tell s w h m None = refl
+digits_tell s w h m (Some p) = dialling_tells s w h (asked_with p m) (digits_refusal s w h.slot p.called m)
+
 -- ---- the acts
 
-pub act_tells : (tones : Tones) (legs : Legs) (h : Held) (type : MessageKind) (a : Act) → TellsOfTones (course_of tones legs h type a).operations
-act_tells tones legs h type act.Nothing = refl
-act_tells tones legs h type act.Unexpected = refl
-act_tells tones legs h type act.Enquiry = refl
-act_tells tones legs h type act.Proceeding = refl
-act_tells tones legs h type act.Alerting = alerting_tells tones h (peer_of legs h.leg.peer)
-act_tells tones legs h type act.Answer = answering_tells h (peer_of legs h.leg.peer)
-act_tells tones legs h type (act.Disconnect cause) = peer_tells tones cause (peer_of legs h.leg.peer)
-act_tells tones legs h type (act.Release cause) = peer_tells tones cause (peer_of legs h.leg.peer)
-act_tells tones legs h type (act.ReleaseComplete cause) = peer_tells tones cause (peer_of legs h.leg.peer)
+pub act_tells : (s : Setting) (w : World) (h : Held) (m : Message) (a : Act) → TellsOfTones (course_of s w h m a).operations
+act_tells s w h m act.Nothing = refl
+act_tells s w h m act.Unexpected = refl
+act_tells s w h m act.Enquiry = refl
+act_tells s w h m act.Proceeding = refl
+act_tells s w h m act.Alerting = alerting_tells s.tones h (peer_of w.legs h.leg.peer)
+act_tells s w h m act.Answer = answering_tells h (peer_of w.legs h.leg.peer)
+act_tells s w h m act.Digits = digits_tell s w h m (pending_at w.legs h.slot)
+act_tells s w h m (act.Disconnect cause) = peer_tells s.tones cause (peer_of w.legs h.leg.peer)
+act_tells s w h m (act.Release cause) = peer_tells s.tones cause (peer_of w.legs h.leg.peer)
+act_tells s w h m (act.ReleaseComplete cause) = peer_tells s.tones cause (peer_of w.legs h.leg.peer)
 
 -- ---- a SETUP
 
 module _ (s : Setting) (w : World) (line : ℕ) (m : Message) where
-  call_tells : (x : Slot) (t : Found) (o : Option Slot) → TellsOfTones (call w m x t o)
-  call_tells x (Line l) (Some y) = refl
-  call_tells x (Line l) None = refl
-  call_tells x (Room room) o = refl
-  call_tells x More o = refl
-  call_tells x Nothing o = refl
-
-  accept_tells : (o : Option Slot) → TellsOfTones (accept s w m o)
+  accept_tells : (o : Option Slot) → TellsOfTones (accept_at s w m o)
   accept_tells None = refl
-  accept_tells (Some x) = call_tells x (target_of s m) (called_slot w x (target_of s m))
+  accept_tells (Some x) = call_tells true w m.reference (call_asked m) x (target_of s m) (called_slot w x (target_of s m))
 
   by_refusal : (o : Option ℕ) → TellsOfTones (setup s w line m o)
   by_refusal None = accept_tells (caller_slot w line (channel_in m.elements))

@@ -6,7 +6,7 @@ use Rattle.exchange_events.specs.declared.trace.Event.{Event}
 use Rattle.exchange_events.specs.declared.trace.Event.TheVariants.{Nail, Seat, Free, Message, Frame}
 use Rattle.call_states.specs.Acts.{act_on}
 use Rattle.clearing_rules.specs.UnknownReference.{answer_without_call}
-use Rattle.call_profile.specs.Acts.{course_of}
+use Rattle.call_profile.specs.ActCourse.{course_of}
 use Rattle.call_profile.specs.Calls.{Request, For_leg, New_call, On_no_call, Restarts, Unanswered, request_of, answer_back, outcome_for}
 use Rattle.call_profile.specs.IdleSlots.{is_nailed}
 use Rattle.call_profile.specs.Operations as op
@@ -54,7 +54,7 @@ pub then_same : (u v w : World) → SameFrames u v → SameFrames v w → SameFr
 then_same u v w one rest = record { inputs = rest.inputs ∙ one.inputs; held = rest.held ∙ one.held; seated = rest.seated ∙ one.seated; next = rest.next ∙ one.next }
 
 received_same : (s : Setting) (w : World) (line : ℕ) (r : Request) → SameFrames w (outcome_for s w line r).making.world
-received_same s w line (For_leg h m) = performed_all_same s.dimensions (making_at w) (course_of s.tones w.legs h m.kind (act_on h.leg.state m)).operations
+received_same s w line (For_leg h m) = performed_all_same s.dimensions (making_at w) (course_of s w h m (act_on h.leg.state m)).operations
 received_same s w line (New_call m) = performed_all_same s.dimensions (making_at w) (course_of_setup s w line m).operations
 received_same s w line (On_no_call m) = performed_all_same s.dimensions (making_at w) (answer_back line (answer_without_call m))
 received_same s w line (Restarts r) =

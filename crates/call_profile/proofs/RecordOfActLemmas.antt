@@ -1,12 +1,11 @@
 -- The records of what an act ends: of an act that clears a call the one of its caller, of any other none.
-use Rattle.std.proofs.Common.{◌≡◌, ℕ, ◌*◌, Bool, true, false, ◌&&◌, inl, inr, List, [], length, Option, Some, None, refl, sym, ◌∙◌, ap, subst}
+use Rattle.std.proofs.Common.{◌≡◌, ℕ, ◌*◌, Bool, true, false, ◌&&◌, inl, inr, List, [], length, Option, Some, None, refl, sym, ◌∙◌, ap, subst, eqb-true}
 use Rattle.std.specs.Prelude.{option_and_then, unwrap_or}
 use Rattle.std.specs.List.{cons_option}
 use Rattle.circuit_model.specs.declared.channel.Slot.{Slot}
 use Rattle.circuit_model.specs.Extent.{IsExternal}
-use Rattle.q931_codec.specs.declared.kind.MessageKind.{MessageKind}
 use Rattle.q931_codec.specs.declared.message.Message.{Message}
-use Rattle.q931_codec.specs.CallStates.{call_delivered, call_received, incoming_call_proceeding, active}
+use Rattle.q931_codec.specs.CallStates.{overlap_sending, call_delivered, call_received, incoming_call_proceeding, active}
 use Rattle.q931_codec.specs.Contents.{call_state_in}
 use Rattle.call_states.specs.Acts.{act_of, act_on, cause_of_act, clearing_cause, is_null, is_among}
 use Rattle.call_states.specs.declared.act.Act.{Act}
@@ -20,11 +19,13 @@ use Rattle.call_states.proofs.Causes.{cause_fits}
 use Rattle.tone_rules.specs.declared.tones.Tones.{Tones}
 use Rattle.call_states.specs.declared.leg.Held.{Held}
 use Rattle.exchange_events.specs.declared.record.CallRecord.{CallRecord}
-use Rattle.call_profile.specs.Acts.{course_of, in_release_request, in_disconnect_indication, in_state, peer_of, with_peer, clear_with, on_disconnect, on_release, remove_leg, on_alerting, on_connect}
+use Rattle.call_profile.specs.ActCourse.{course_of}
+use Rattle.call_profile.specs.Acts.{in_release_request, in_disconnect_indication, in_state, peer_of, with_peer, clear_with, on_disconnect, on_release, remove_leg, on_alerting, on_connect}
 use Rattle.call_profile.specs.CallRecords.{is_calling, records, records_by}
 use Rattle.call_profile.specs.Calls.{making_by}
 use Rattle.call_profile.specs.EndedCalls.{caller_in, record_calling, record_ended, record_of_act}
-use Rattle.call_profile.specs.LegStanding.{LegsStand, HasPeer, IsInCall, AreOneCall}
+use Rattle.call_profile.specs.LegStanding.{CallsStand, LegsStand, HasPeer, IsInCall, AreOneCall}
+use Rattle.exchange_events.specs.Sound.{IsPlanned}
 use Rattle.call_profile.specs.Legs.{Legs, leg_at, with_entry}
 use Rattle.call_profile.specs.Operations.{Operation, Making, making_at, making_after_all}
 use Rattle.exchange_events.specs.Sizes.{Setting, Dimensions}
@@ -33,6 +34,7 @@ use Rattle.call_profile.proofs.AnsweringLemmas.{ringing, caller_of}
 use Rattle.call_profile.proofs.BesideLemmas.{entry_here, entry_else, same_or_apart}
 use Rattle.call_profile.proofs.OneLegClearedLemmas.{IsLeft}
 use Rattle.call_profile.proofs.ClearingLemmas.{held_there, peers_apart}
+use Rattle.call_profile.proofs.DigitsRecordLemmas.{digits_end_none}
 use Rattle.call_profile.proofs.EndedCallLemmas.{GoesOn, no_record_where_calling, one_record}
 use Rattle.call_profile.proofs.MessageToLegLemmas.{Asked, asked, two_ring, one_rings, with_caller}
 use Rattle.call_profile.proofs.RefusalLemmas.{no_records}
@@ -186,8 +188,11 @@ active_calls leg is = rw is refl
 
 -- ---- the acts
 
-module _ (s : Setting) (w : World) (h : Held) (k : MessageKind) (stand : LegsStand s.dimensions.external s.tones w)
+module _ (s : Setting) (w : World) (h : Held) (m : Message) (planned : IsPlanned s) (stands : CallsStand s w)
     (within : IsExternal s.dimensions.external h.slot) (at : leg_at w.legs h.slot ≡ Some h.leg) where
+  abbrev stand : LegsStand s.dimensions.external s.tones w
+  stand = stands.legs
+
   abbrev caller_there : Type 0
   caller_there = (y : Slot) × (h.leg.peer ≡ peer.Leg y) × IsExternal s.dimensions.external y × ((other : Leg) × (leg_at w.legs y ≡ Some other) × AreOneCall y other h.slot h.leg)
 
@@ -203,13 +208,13 @@ module _ (s : Setting) (w : World) (h : Held) (k : MessageKind) (stand : LegsSta
   progress_records os c none =
       ap (λ (list : List Operation). records w (making_after_all s.dimensions (making_at w) list).world 0) (with_caller w.legs h.leg.peer c.0 c.3.0 os c.1 c.3.1) ∙ none
 
-  act_records : (a : Act) → Asked h.leg.state a → records w (making_by s w (course_of s.tones w.legs h k a)).world (told_cause a) ≡ records_of_act w h a
+  act_records : (a : Act) → Asked h.leg.state a → records w (making_by s w (course_of s w h m a)).world (told_cause a) ≡ records_of_act w h a
   act_records act.Nothing asks = no_records w 0
   act_records act.Unexpected asks = no_records w 0
   act_records act.Enquiry asks = no_records w 0
   act_records act.Proceeding asks =
       let c = has_caller (one_rings h.leg.state asks) in
-      called_alone s.dimensions.external w (making_by s w (course_of s.tones w.legs h k act.Proceeding)).world h.slot c.0 h.leg c.3.0 0 stand.count within at c.3.2.is_called
+      called_alone s.dimensions.external w (making_by s w (course_of s w h m act.Proceeding)).world h.slot c.0 h.leg c.3.0 0 stand.count within at c.3.2.is_called
       (Some (in_state incoming_call_proceeding h.leg)) refl
   act_records act.Alerting asks =
       let c = has_caller (two_ring h.leg.state asks) in
@@ -225,6 +230,7 @@ module _ (s : Setting) (w : World) (h : Held) (k : MessageKind) (stand : LegsSta
       progress_records (on_connect h) c
       (caller_too s.dimensions.external w (making_after_all s.dimensions (making_at w) (on_connect h (record { slot = y; leg = other }))).world h.slot y h.leg other 0 stand.count within at c.3.2.is_called
       (Some (in_state active h.leg)) (in_state active other) c.2 (apart_from c) (active_calls other c.3.2.calls) refl)
+  act_records act.Digits asks = digits_end_none s w h m planned stands within at (eqb-true h.leg.state overlap_sending asks)
   act_records (act.Disconnect cause) asks =
       clearing_records s.dimensions s.tones w h.slot h.leg (Some (in_release_request h.leg)) cause stand within at (inr refl) (making_after_all s.dimensions (making_at w) (on_disconnect h)) refl
   act_records (act.Release cause) asks =
@@ -232,29 +238,30 @@ module _ (s : Setting) (w : World) (h : Held) (k : MessageKind) (stand : LegsSta
   act_records (act.ReleaseComplete cause) asks =
       clearing_records s.dimensions s.tones w h.slot h.leg None cause stand within at (inl refl) (making_after_all s.dimensions (making_at w) (remove_leg h)) refl
 
-  given_records : (a : Act) → Asked h.leg.state a → records_by w (making_by s w (course_of s.tones w.legs h k a)).world (course_of s.tones w.legs h k a).cause ≡ records_of_act w h a
+  given_records : (a : Act) → Asked h.leg.state a → records_by w (making_by s w (course_of s w h m a)).world (course_of s w h m a).cause ≡ records_of_act w h a
   given_records act.Nothing asks = refl
   given_records act.Unexpected asks = refl
   given_records act.Enquiry asks = refl
   given_records act.Proceeding asks = refl
   given_records act.Alerting asks = refl
   given_records act.Answer asks = refl
+  given_records act.Digits asks = refl
   given_records (act.Disconnect cause) asks = act_records (act.Disconnect cause) asks
   given_records (act.Release cause) asks = act_records (act.Release cause) asks
   given_records (act.ReleaseComplete cause) asks = act_records (act.ReleaseComplete cause) asks
 
-  asked_by : (m : Message) → Asked h.leg.state (act_of h.leg.state k (clearing_cause m.elements) (is_null (call_state_in m.elements)))
-  asked_by m = asked h.leg.state k (clearing_cause m.elements) (is_null (call_state_in m.elements)) (cause_fits m.elements)
+  asked_by : Asked h.leg.state (act_of h.leg.state m.kind (clearing_cause m.elements) (is_null (call_state_in m.elements)))
+  asked_by = asked h.leg.state m.kind (clearing_cause m.elements) (is_null (call_state_in m.elements)) (cause_fits m.elements)
 
 -- what a message to a leg ends is what its act ends
-module _ (s : Setting) (w : World) (h : Held) (m : Message) (stand : LegsStand s.dimensions.external s.tones w)
+module _ (s : Setting) (w : World) (h : Held) (m : Message) (planned : IsPlanned s) (stands : CallsStand s w)
     (within : IsExternal s.dimensions.external h.slot) (at : leg_at w.legs h.slot ≡ Some h.leg) where
   abbrev asked_act : Act
   asked_act = act_on h.leg.state m
 
-  pub leg_records : records_by w (making_by s w (course_of s.tones w.legs h m.kind asked_act)).world (course_of s.tones w.legs h m.kind asked_act).cause ≡ records_of_act w h asked_act
-  leg_records = given_records s w h m.kind stand within at asked_act (asked_by s w h m.kind stand within at m)
+  pub leg_records : records_by w (making_by s w (course_of s w h m asked_act)).world (course_of s w h m asked_act).cause ≡ records_of_act w h asked_act
+  leg_records = given_records s w h m planned stands within at asked_act (asked_by s w h m planned stands within at)
 
   -- and no other call ends by it
-  pub leg_ends : records w (making_by s w (course_of s.tones w.legs h m.kind asked_act)).world (told_cause asked_act) ≡ records_of_act w h asked_act
-  leg_ends = act_records s w h m.kind stand within at asked_act (asked_by s w h m.kind stand within at m)
+  pub leg_ends : records w (making_by s w (course_of s w h m asked_act)).world (told_cause asked_act) ≡ records_of_act w h asked_act
+  leg_ends = act_records s w h m planned stands within at asked_act (asked_by s w h m planned stands within at)

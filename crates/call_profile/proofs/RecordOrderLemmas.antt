@@ -248,7 +248,7 @@ by_request : (s : Setting) (w : World) (line : ℕ) (octets : List ℕ) → Arri
 by_request s w line octets may (For_leg h m) is other =
     let named = received_stands w.legs line octets h m is in
     let within : IsExternal s.dimensions.external h.slot = (subst (λ n. n < s.dimensions.external) (sym named.among.0) may.fits.0, named.among.1) in
-    subst (λ (told : List CallRecord). length told ≤ 1) (sym (leg_records s w h m may.stands.legs within named.at)) (few (record_of_act w h (act_on h.leg.state m)))
+    subst (λ (told : List CallRecord). length told ≤ 1) (sym (leg_records s w h m may.planned may.stands within named.at)) (few (record_of_act w h (act_on h.leg.state m)))
 by_request s w line octets may (New_call m) is other = omega arith
 by_request s w line octets may (On_no_call m) is other = omega arith
 by_request s w line octets may (Restarts r) is other = absurd (other r refl)

@@ -216,6 +216,7 @@ act_clears w h act.Enquiry = inr refl
 act_clears w h act.Proceeding = inr refl
 act_clears w h act.Alerting = inr refl
 act_clears w h act.Answer = inr refl
+act_clears w h act.Digits = inr refl
 act_clears w h (act.Disconnect cause) = inl refl
 act_clears w h (act.Release cause) = inl refl
 act_clears w h (act.ReleaseComplete cause) = inl refl
@@ -232,9 +233,9 @@ module _ (s : Setting) (w : World) (line : ℕ) (octets : List ℕ) (may : Arriv
       let within : IsExternal s.dimensions.external h.slot = (subst (λ n. n < s.dimensions.external) (sym on.0) may.fits.0, on.1) in
       let v = (making_by s w (course_on s w h m)).world in
       let cause = told_cause (act_on h.leg.state m) in
-      let told = leg_records s w h m may.stands.legs within named.at in (
+      let told = leg_records s w h m may.planned may.stands within named.at in (
         cause,
-        subst (AreOfEnded s.dimensions.external w v cause) (leg_ends s w h m may.stands.legs within named.at ∙ sym told) (of_records s.dimensions.external w v cause size),
+        subst (AreOfEnded s.dimensions.external w v cause) (leg_ends s w h m may.planned may.stands within named.at ∙ sym told) (of_records s.dimensions.external w v cause size),
         elim (act_clears w h (act_on h.leg.state m)) [
           | inl clears ↦ inl clears
           | inr none ↦ inr (told ∙ none)

@@ -14,7 +14,7 @@ use Rattle.clearing_rules.specs.declared.scope.Restart.{Restart}
 use Rattle.clearing_rules.specs.Restarting.{acknowledgement}
 use Rattle.clearing_rules.specs.UnknownReference.{answer_without_call}
 use Rattle.exchange_events.specs.declared.record.CallRecord.{CallRecord}
-use Rattle.call_profile.specs.Acts.{course_of}
+use Rattle.call_profile.specs.ActCourse.{course_of}
 use Rattle.call_profile.specs.CallRecords.{record_at, records, records_by, is_ended, is_calling}
 use Rattle.call_profile.specs.Calls.{Request, For_leg, New_call, On_no_call, Restarts, Unanswered, request_of, answer_back, outcome_for, outcome_of_octets, after_message}
 use Rattle.call_profile.specs.Legs.{leg_at}
@@ -206,7 +206,7 @@ module _ (s : Setting) (w : World) (layout : Layout) where
       }
 
   received_alike : (line : ℕ) (r : Request) → DoneAlike (outcome_for s other line r) (outcome_for s w line r)
-  received_alike line (For_leg h m) = operations_alike (course_of s.tones w.legs h m.kind (act_on h.leg.state m)).cause (course_of s.tones w.legs h m.kind (act_on h.leg.state m)).operations
+  received_alike line (For_leg h m) = operations_alike (course_of s w h m (act_on h.leg.state m)).cause (course_of s w h m (act_on h.leg.state m)).operations
   received_alike line (New_call m) = operations_alike None (course_of_setup s w line m).operations
   received_alike line (On_no_call m) = operations_alike None (answer_back line (answer_without_call m))
   received_alike line (Restarts r) = restarted_alike r line

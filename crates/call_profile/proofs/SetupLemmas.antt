@@ -13,7 +13,7 @@ use Rattle.q931_codec.specs.declared.contents.ChannelIdentification.{ChannelIden
 use Rattle.q931_codec.specs.declared.contents.ChannelIdentification.TheVariants.{Any, Preferred, Exclusive, Invalid}
 use Rattle.q931_codec.specs.declared.message.Discard.{Discard}
 use Rattle.q931_codec.specs.declared.message.Message.{Message}
-use Rattle.q931_codec.specs.Contents.{channel_in}
+use Rattle.q931_codec.specs.Contents.{channel_in, called_in}
 use Rattle.number_plan.specs.declared.target.Found.{Found}
 use Rattle.number_plan.specs.declared.target.Found.TheVariants.{Line, Room, More, Nothing}
 use Rattle.number_plan.specs.declared.target.Target.TheVariants as target
@@ -27,7 +27,8 @@ use Rattle.exchange_events.specs.Sound.{IsPlanned, is_reached}
 use Rattle.call_profile.specs.Legs.{Legs, leg_named, new_reference}
 use Rattle.call_profile.specs.Operations.{making_at, making_after_all}
 use Rattle.exchange_events.specs.Sizes.{Setting}
-use Rattle.call_profile.specs.Setup.{Check, checks, is_room_full, first_cause, refusal, call_asked, setup, accept, call, slot_asked, if_idle, caller_slot, called_slot, target_of, course_of_setup}
+use Rattle.call_states.specs.declared.pending.Pending.{Pending}
+use Rattle.call_profile.specs.Setup.{Check, checks, is_room_full, first_cause, refusal, call_asked, setup, accept, accept_at, call, target_dialled, slot_asked, if_idle, caller_slot, called_slot, target_of, course_of_setup}
 use Rattle.call_profile.specs.World.{World, is_full}
 use Rattle.call_profile.proofs.ClearingLemmas.{Kept}
 use Rattle.call_profile.proofs.CommandLemmas.{both_true}
@@ -132,21 +133,28 @@ offered s w x line y below e =
       free = subst (λ n. leg_named w.legs n true (new_reference w.legs line) ≡ None) (sym is.2.0) (none_of (leg_named w.legs line true (new_reference w.legs line)) unused.0);
     }
 
-pub reached : (s : Setting) (m : Message) (line : ℕ) → IsPlanned s → target_of s m ≡ Line line → line < s.dimensions.external
-reached s m line planned is =
+pub reached : (s : Setting) (called : List ℕ) (line : ℕ) → IsPlanned s → target_dialled s.plan called ≡ Line line → line < s.dimensions.external
+reached s called line planned is =
     let passes = found_passes (is_reached s.dimensions.external) s.plan _ (target.Line line) planned is in
     grind (arith, nat_tests, passes)
 
--- ---- what is done
+-- ---- what is done, by a SETUP or for more digits
 
-module _ (s : Setting) (w : World) (m : Message) (x : Slot) (planned : IsPlanned s) (may : MayCall s.dimensions s.tones w m.reference x) where
-  call_kept : (t : Found) (called : Option Slot) → target_of s m ≡ t → called_slot w x t ≡ called → ((room : ℕ) → t ≡ Room room → is_full s.dimensions w ≡ false)
-      → Kept s.dimensions s.tones (making_after_all s.dimensions (making_at w) (call w m x t called)).world
-  call_kept (Line line) (Some y) is chosen free = line_call_kept s.dimensions s.tones w m.reference (call_asked m) x y (new_reference w.legs line) may (offered s w x line y (reached s m line planned is) chosen)
-  call_kept (Line line) None is chosen free = (may.valid, may.stand)
-  call_kept (Room room) called is chosen free = room_call_kept s.dimensions s.tones w m.reference x room may (free room refl)
-  call_kept More called is chosen free = waiting_kept s.dimensions s.tones w m.reference (call_asked m) x may
-  call_kept Nothing called is chosen free = (may.valid, may.stand)
+-- a line that the number leads to is one of the exchange's, and a room that it leads to has a free port
+pub record CanReach (s : Setting) (w : World) (t : Found) : Type 0 where
+  pub line : (line : ℕ) → t ≡ Line line → line < s.dimensions.external
+  pub room : (room : ℕ) → t ≡ Room room → is_full s.dimensions w ≡ false
+
+module _ (s : Setting) (w : World) (first : Bool) (own : ℕ) (asked : Pending) (x : Slot) (may : MayCall s.dimensions s.tones w own x) where
+  call_kept : (t : Found) (called : Option Slot) → called_slot w x t ≡ called → CanReach s w t → Kept s.dimensions s.tones (making_after_all s.dimensions (making_at w) (call first w own asked x t called)).world
+  call_kept (Line line) (Some y) chosen can = line_call_kept s.dimensions s.tones w first own asked x y (new_reference w.legs line) may (offered s w x line y (can.line line refl) chosen)
+  call_kept (Line line) None chosen can = (may.valid, may.stand)
+  call_kept (Room room) called chosen can = room_call_kept s.dimensions s.tones w first own x room may (can.room room refl)
+  call_kept More called chosen can = waiting_kept s.dimensions s.tones w own asked x may first
+  call_kept Nothing called chosen can = (may.valid, may.stand)
+
+  pub accepted_kept : (t : Found) → CanReach s w t → Kept s.dimensions s.tones (making_after_all s.dimensions (making_at w) (accept first w own asked x t)).world
+  accepted_kept t can = call_kept t (called_slot w x t) refl can
 
 -- a SETUP with a call reference that nobody has
 pub record IsNew (s : Setting) (w : World) (line : ℕ) (m : Message) : Type 0 where
@@ -158,14 +166,18 @@ pub record IsNew (s : Setting) (w : World) (line : ℕ) (m : Message) : Type 0 w
   pub unused : leg_named w.legs line false m.reference ≡ None
 
 module _ (s : Setting) (w : World) (line : ℕ) (m : Message) (new : IsNew s w line m) where
-  accept_kept : (o : Option Slot) → caller_slot w line (channel_in m.elements) ≡ o → refusal s w line m ≡ None → Kept s.dimensions s.tones (making_after_all s.dimensions (making_at w) (accept s w m o)).world
+  accept_kept : (o : Option Slot) → caller_slot w line (channel_in m.elements) ≡ o → refusal s w line m ≡ None → Kept s.dimensions s.tones (making_after_all s.dimensions (making_at w) (accept_at s w m o)).world
   accept_kept None is accepted = (new.valid, new.stand)
   accept_kept (Some x) is accepted =
       let at = caller_is w line (channel_in m.elements) x is in
       let may = idle_may s.dimensions s.tones w m.reference x new.valid new.stand (subst (λ n. n < s.dimensions.external) (sym at.1.0) new.below, at.1.1) at.0 new.own
       (subst (λ n. leg_named w.legs n false m.reference ≡ None) (sym at.1.0) new.unused) in
       let passed = all_pass (checks s w line m) accepted in
-      call_kept s w m x new.planned may (target_of s m) (called_slot w x (target_of s m)) refl refl (λ room is_room. sym (ap (is_room_full s.dimensions w) is_room) ∙ (all_from 11 (checks s w line m) passed).0)
+      let can : CanReach s w (target_of s m) = record {
+        line = λ l is_line. reached s (called_in m.elements) l new.planned is_line;
+        room = λ room is_room. sym (ap (is_room_full s.dimensions w) is_room) ∙ (all_from 11 (checks s w line m) passed).0;
+      } in
+      accepted_kept s w true m.reference (call_asked m) x may (target_of s m) can
 
   setup_by : (o : Option ℕ) → refusal s w line m ≡ o → Kept s.dimensions s.tones (making_after_all s.dimensions (making_at w) (setup s w line m o)).world
   setup_by (Some cause) is = (new.valid, new.stand)

@@ -3,7 +3,6 @@ use Rattle.std.proofs.Common.{◌≡◌, ℕ, zero, suc, ◌*◌, ◌<◌, List,
 use Rattle.std.specs.Prelude.{All, replicate}
 use Rattle.std.proofs.lemmas.List.{length-replicate}
 use Rattle.circuit_model.specs.declared.channel.Slot.{Slot}
-use Rattle.circuit_model.specs.Holding.{Valid}
 use Rattle.circuit_model.proofs.Validity.{valid-empty}
 use Rattle.q931_codec.specs.Outgoing.{OutgoingMessage}
 use Rattle.q931_codec.specs.Reading.{reading}
@@ -15,7 +14,7 @@ use Rattle.exchange_events.specs.declared.trace.Event.{Event}
 use Rattle.exchange_events.specs.declared.trace.Event.TheVariants.{Nail, Seat, Free, Message, Frame}
 use Rattle.exchange_events.specs.Sound.{Fits, IsPlanned}
 use Rattle.call_profile.specs.Step.{next, world_after_all}
-use Rattle.call_profile.specs.LegStanding.{LegsStand, CallsStand}
+use Rattle.call_profile.specs.LegStanding.{CallsStand}
 use Rattle.control_memory.specs.Layout.{number_of}
 use Rattle.call_states.specs.declared.leg.Leg.{Leg}
 use Rattle.call_profile.specs.Legs.{leg_at, no_legs}
@@ -39,27 +38,26 @@ kept_without s w line (Some message) kept = kept
 kept_stands : (s : Setting) (v : World) → Kept s.dimensions s.tones v → NumbersPend s.dimensions.external s.plan v.legs → CallsStand s v
 kept_stands s v kept numbers = record { circuits = kept.0; legs = kept.1; numbers = numbers }
 
-module _ (s : Setting) (w : World) (line : ℕ) (octets : List ℕ) (planned : IsPlanned s) (can : Fits s.dimensions.external (Message line octets)) (valid : Valid s.dimensions.bridges w.holding)
-    (stand : LegsStand s.dimensions.external s.tones w) where
+module _ (s : Setting) (w : World) (line : ℕ) (octets : List ℕ) (planned : IsPlanned s) (can : Fits s.dimensions.external (Message line octets)) (stands : CallsStand s w) where
   received_kept : (r : Request) → request_of w.legs line octets ≡ r → Kept s.dimensions s.tones (outcome_for s w line r).making.world
   received_kept (For_leg h m) is =
       let named = received_stands w.legs line octets h m is in
       let on = named.among in
-      leg_kept s w h valid stand (subst (λ n. n < s.dimensions.external) (sym on.0) can.0, on.1) named.at m
+      leg_kept s w h planned stands (subst (λ n. n < s.dimensions.external) (sym on.0) can.0, on.1) named.at m
   received_kept (New_call m) is =
       let new = new_from w.legs line (reading octets) m is in
       let message = read_message octets m (octets_small octets can.1) new.0 in
-      setup_kept s w line m (record { planned = planned; valid = valid; stand = stand; below = can.0; own = (new.1, message.value); unused = new.2 })
-  received_kept (On_no_call m) is = kept_without s w line (answer_without_call m) (valid, stand)
-  received_kept (Restarts r) is = below_kept s.dimensions s.tones r line w can.0 (valid, stand) 30 (omega arith)
-  received_kept Unanswered is = (valid, stand)
+      setup_kept s w line m (record { planned = planned; valid = stands.circuits; stand = stands.legs; below = can.0; own = (new.1, message.value); unused = new.2 })
+  received_kept (On_no_call m) is = kept_without s w line (answer_without_call m) (stands.circuits, stands.legs)
+  received_kept (Restarts r) is = below_kept s.dimensions s.tones r line w can.0 (stands.circuits, stands.legs) 30 (omega arith)
+  received_kept Unanswered is = (stands.circuits, stands.legs)
 
 pub happened_kept : (s : Setting) (w : World) (e : Event) → IsPlanned s → Fits s.dimensions.external e → CallsStand s w → CallsStand s (next s w e)
 happened_kept s w (Nail x y) planned fits stands = kept_stands s (next s w (Nail x y)) (nail_kept s w stands.circuits stands.legs x y fits) (numbers_happened s w (Nail x y) planned fits stands)
 happened_kept s w (Seat x room) planned fits stands = kept_stands s (next s w (Seat x room)) (seat_kept s w stands.circuits stands.legs x room fits) (numbers_happened s w (Seat x room) planned fits stands)
 happened_kept s w (Free x) planned fits stands = kept_stands s (next s w (Free x)) (free_kept s w stands.circuits stands.legs x fits) (numbers_happened s w (Free x) planned fits stands)
 happened_kept s w (Message line octets) planned fits stands =
-    kept_stands s (next s w (Message line octets)) (received_kept s w line octets planned fits stands.circuits stands.legs (request_of w.legs line octets) refl)
+    kept_stands s (next s w (Message line octets)) (received_kept s w line octets planned fits stands (request_of w.legs line octets) refl)
     (numbers_happened s w (Message line octets) planned fits stands)
 happened_kept s w (Frame input) planned fits stands = kept_stands s (next s w (Frame input)) (frame_kept s w stands.circuits stands.legs input) (numbers_happened s w (Frame input) planned fits stands)
 

@@ -1,22 +1,18 @@
 -- What each act does with the leg that a message is for, and with its peer. Which message is sent when is this exchange's own profile of
 -- basic call control (ITU-T Q.931 (05/98), 5.1 to 5.3).
-use Rattle.std.specs.Prelude.{ℕ, List, [], ◌∷◌, ◌++◌, Option, Some, None, is_some}
+use Rattle.std.specs.Prelude.{ℕ, List, [], ◌∷◌, Option, Some, None, is_some}
 use Rattle.circuit_model.specs.declared.circuit.Kind.{Kind}
 use Rattle.q931_codec.specs.declared.kind.MessageKind.{MessageKind}
 use Rattle.q931_codec.specs.declared.kind.MessageKind.TheVariants as kind
-use Rattle.q931_codec.specs.CallStates.{call_delivered, call_received, incoming_call_proceeding, active, disconnect_indication, release_request}
-use Rattle.q931_codec.specs.Causes.{response_to_status_enquiry}
+use Rattle.q931_codec.specs.CallStates.{call_delivered, call_received, active, disconnect_indication, release_request}
 use Rattle.q931_codec.specs.Outgoing.{OutgoingMessage, bare}
-use Rattle.call_states.specs.declared.act.Act.{Act}
-use Rattle.call_states.specs.declared.act.Act.TheVariants as act
 use Rattle.call_states.specs.declared.leg.Leg.{Leg}
 use Rattle.call_states.specs.declared.leg.Peer.{Peer}
 use Rattle.call_states.specs.declared.leg.Peer.TheVariants as peer
-use Rattle.call_states.specs.Status.{flag_to, status, unexpected_cause}
+use Rattle.call_states.specs.Status.{flag_to}
 use Rattle.tone_rules.specs.declared.tones.Tones.{Tones}
 use Rattle.tone_rules.specs.CallTones.{tone_given}
 use Rattle.call_states.specs.declared.leg.Held.{Held}
-use Rattle.call_profile.specs.Course.{Course, only, nothing}
 use Rattle.call_profile.specs.Legs.{Legs, held_at}
 use Rattle.call_profile.specs.Operations.{Operation, Clear, Pair, Sound, Put, Remove, Send}
 
@@ -123,15 +119,3 @@ remove_leg h =
 -- the user of the leg has released its call reference
 abbrev pub on_release_complete : Held → List Operation
 on_release_complete h = remove_leg h
-
--- what an act does for a message of this type
-abbrev pub course_of : Tones → Legs → Held → MessageKind → Act → Course
-course_of tones legs h type act.Nothing = nothing
-course_of tones legs h type act.Unexpected = only (send_to h (status h.leg (unexpected_cause type)) ∷ [])
-course_of tones legs h type act.Enquiry = only (send_to h (status h.leg response_to_status_enquiry) ∷ [])
-course_of tones legs h type act.Proceeding = only (Put h.slot (in_state incoming_call_proceeding h.leg) ∷ [])
-course_of tones legs h type act.Alerting = only (with_peer (peer_of legs h.leg.peer) (on_alerting tones h))
-course_of tones legs h type act.Answer = only (with_peer (peer_of legs h.leg.peer) (on_connect h))
-course_of tones legs h type (act.Disconnect cause) = record { operations = on_disconnect h ++ with_peer (peer_of legs h.leg.peer) (clear_with tones cause); cause = Some cause }
-course_of tones legs h type (act.Release cause) = record { operations = on_release h ++ with_peer (peer_of legs h.leg.peer) (clear_with tones cause); cause = Some cause }
-course_of tones legs h type (act.ReleaseComplete cause) = record { operations = on_release_complete h ++ with_peer (peer_of legs h.leg.peer) (clear_with tones cause); cause = Some cause }

@@ -13,7 +13,7 @@ use Rattle.clearing_rules.specs.UnknownReference.{answer_without_call}
 use Rattle.exchange_events.specs.declared.record.CallRecord.{CallRecord}
 use Rattle.exchange_events.specs.declared.signal.Signal.{Signal}
 use Rattle.call_states.specs.declared.leg.Held.{Held}
-use Rattle.call_profile.specs.Acts.{course_of}
+use Rattle.call_profile.specs.ActCourse.{course_of}
 use Rattle.call_profile.specs.CallRecords.{records_by}
 use Rattle.call_profile.specs.Course.{Course, only, nothing}
 use Rattle.call_profile.specs.Legs.{Legs, leg_named}
@@ -81,7 +81,7 @@ answer_back line (Some message) = Send line message ∷ []
 
 -- what a message to a leg asks for in the leg's state
 abbrev pub course_on : Setting → World → Held → Message → Course
-course_on s w h m = course_of s.tones w.legs h m.kind (act_on h.leg.state m)
+course_on s w h m = course_of s w h m (act_on h.leg.state m)
 
 abbrev pub outcome_for : Setting → World → ℕ → Request → MessageOutcome
 outcome_for s w line (For_leg h m) = outcome_by s w (course_on s w h m)

@@ -8,6 +8,8 @@ pub mod Acts
 pub mod CallRecords
 pub mod Restarts
 pub mod Setup
+pub mod Digits
+pub mod ActCourse
 pub mod Calls
 pub mod Waiting
 pub mod LegStanding
@@ -24,4 +26,5 @@ pub mod Restarted
 pub mod Recorded
 pub mod WorkedMessages
 pub mod WorkedOverlap
+pub mod WorkedDigits
 pub mod CallsTold

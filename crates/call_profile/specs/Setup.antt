@@ -19,6 +19,7 @@ use Rattle.call_states.specs.declared.leg.Peer.{Peer}
 use Rattle.call_states.specs.declared.leg.Peer.TheVariants as peer
 use Rattle.call_states.specs.declared.leg.Side.TheVariants.{Caller, Called}
 use Rattle.call_states.specs.declared.pending.Pending.{Pending}
+use Rattle.number_plan.specs.declared.plan.Number.{Number}
 use Rattle.number_plan.specs.declared.target.Found.{Found}
 use Rattle.number_plan.specs.declared.target.Found.TheVariants.{Line, Room, More, Nothing}
 use Rattle.number_plan.specs.Plan.{found_for}
@@ -39,9 +40,12 @@ bearer_asked m = option_map bearer_of (bearer_in m.elements)
 abbrev pub digits_in : Message → Option (List ℕ)
 digits_in m = dialled_digits (called_in m.elements)
 
--- what the plan knows of them
+-- what the plan knows of the digits of a called party number
+abbrev pub target_dialled : List Number → List ℕ → Found
+target_dialled plan called = found_for plan (unwrap_or (dialled_digits called) [])
+
 abbrev pub target_of : Setting → Message → Found
-target_of s m = found_for s.plan (unwrap_or (digits_in m) [])
+target_of s m = target_dialled s.plan (called_in m.elements)
 
 -- what a call is made from: the contents of the elements that are passed on to the called user
 abbrev pub call_asked : Message → Pending
@@ -141,15 +145,20 @@ abbrev pub is_room_full : Dimensions → World → Found → Bool
 is_room_full d w (Room room) = is_full d w
 is_room_full d w _ = false
 
+-- whether there is a slot for the called side, or a port
+abbrev pub called_checks : Dimensions → World → Option Slot → Found → List Check
+called_checks d w caller target =
+    (is_line_full w caller target, no_channel_available)
+    ∷ (is_room_full d w target, switching_equipment_congestion)
+    ∷ []
+
 -- whether there are slots for the call, and a port
 abbrev pub slot_checks : Dimensions → World → ℕ → Option ChannelIdentification → Found → List Check
 slot_checks d w line channel target =
     let caller = caller_slot w line channel in
     (is_taken w line channel, requested_channel_not_available)
     ∷ (is_none caller, no_channel_available)
-    ∷ (is_line_full w caller target, no_channel_available)
-    ∷ (is_room_full d w target, switching_equipment_congestion)
-    ∷ []
+    ∷ called_checks d w caller target
 
 -- the twelve checks in their order
 abbrev pub checks : Setting → World → ℕ → Message → List Check
@@ -163,7 +172,7 @@ first_cause ((fails, cause) ∷ others) = if fails then Some cause else first_ca
 abbrev pub refusal : Setting → World → ℕ → Message → Option ℕ
 refusal s w line m = first_cause (checks s w line m)
 
--- ---- what a SETUP makes
+-- ---- what an accepted call makes. A caller is told its channel in the first answer to its SETUP (5.1.2, 5.1.3), and in no later one
 
 -- a leg of a new call
 abbrev pub caller_leg : ℕ → ℕ → Peer → Leg
@@ -172,19 +181,13 @@ caller_leg state reference peer = record { state = state; reference = reference;
 abbrev pub called_leg : ℕ → Slot → Leg
 called_leg reference caller = record { state = call_present; reference = reference; side = Called; peer = peer.Leg caller; cause = 0 }
 
--- RELEASE COMPLETE, to the side that chose the call reference
-abbrev pub release_complete : ℕ → ℕ → OutgoingMessage
-release_complete reference cause = record (bare true reference kind.ReleaseComplete) { cause = Some cause }
-
-abbrev pub refuse : ℕ → ℕ → ℕ → List Operation
-refuse line reference cause = Send line (release_complete reference cause) ∷ []
-
 -- a message that tells the user the channel of its call
 abbrev pub with_channel : Slot → OutgoingMessage → OutgoingMessage
 with_channel x message = record message { channel = Some (channel_at x.place) }
 
-abbrev pub call_proceeding : Slot → Leg → OutgoingMessage
-call_proceeding x leg = with_channel x (message_to leg kind.CallProceeding)
+-- first: whether this answers the SETUP
+abbrev pub call_proceeding : Bool → Slot → Leg → OutgoingMessage
+call_proceeding first x leg = if first then with_channel x (message_to leg kind.CallProceeding) else message_to leg kind.CallProceeding
 
 -- SETUP ACKNOWLEDGE: the caller is asked for the rest of the number
 abbrev pub setup_acknowledge : Slot → Leg → OutgoingMessage
@@ -203,48 +206,64 @@ offer asked y leg = record (message_to leg kind.Setup) {
 }
 
 -- a call to a line: the caller waits, and the called user is offered the call
-abbrev pub call_line : ℕ → Pending → Slot → Slot → ℕ → List Operation
-call_line own asked x y reference =
+abbrev pub call_line : Bool → ℕ → Pending → Slot → Slot → ℕ → List Operation
+call_line first own asked x y reference =
     let caller = caller_leg outgoing_call_proceeding own (peer.Leg y) in
     let called = called_leg reference x in
     Put x caller
     ∷ Put y called
-    ∷ Send x.line (call_proceeding x caller)
+    ∷ Send x.line (call_proceeding first x caller)
     ∷ Send y.line (offer asked y called)
     ∷ []
 
 -- a call to a room is answered at once
-abbrev pub call_room : ℕ → Slot → ℕ → List Operation
-call_room own x room =
+abbrev pub call_room : Bool → ℕ → Slot → ℕ → List Operation
+call_room first own x room =
     let caller = caller_leg active own (peer.Room room) in
     Put x caller
     ∷ Seat x room
-    ∷ Send x.line (call_proceeding x caller)
+    ∷ Send x.line (call_proceeding first x caller)
     ∷ Send x.line (message_to caller kind.Connect)
     ∷ []
 
--- a number that isn't complete: the caller's leg waits for the rest of it
-abbrev pub await_digits : ℕ → Pending → Slot → List Operation
-await_digits own asked x =
+-- a number that isn't complete: the caller's leg waits for the rest of it, which it is asked for once
+abbrev pub ask_for_digits : Bool → Slot → Leg → List Operation
+ask_for_digits true x leg = Send x.line (setup_acknowledge x leg) ∷ []
+ask_for_digits false x leg = []
+
+abbrev pub await_digits : Bool → ℕ → Pending → Slot → List Operation
+await_digits first own asked x =
     let caller = caller_leg overlap_sending own peer.Alone in
     Wait x caller asked
-    ∷ Send x.line (setup_acknowledge x caller)
-    ∷ []
+    ∷ ask_for_digits first x caller
 
-abbrev pub call : World → Message → Slot → Found → Option Slot → List Operation
-call w m x (Line line) (Some y) = call_line m.reference (call_asked m) x y (new_reference w.legs line)
-call w m x (Room room) called = call_room m.reference x room
-call w m x More called = await_digits m.reference (call_asked m) x
-call w m x _ _ = []
+abbrev pub call : Bool → World → ℕ → Pending → Slot → Found → Option Slot → List Operation
+call first w own asked x (Line line) (Some y) = call_line first own asked x y (new_reference w.legs line)
+call first w own asked x (Room room) called = call_room first own x room
+call first w own asked x More called = await_digits first own asked x
+call first w own asked x _ _ = []
+
+-- the call of a caller at a slot, which is made from this and leads there
+abbrev pub accept : Bool → World → ℕ → Pending → Slot → Found → List Operation
+accept first w own asked x target = call first w own asked x target (called_slot w x target)
+
+-- ---- what a SETUP makes
+
+-- RELEASE COMPLETE, to the side that chose the call reference
+abbrev pub release_complete : ℕ → ℕ → OutgoingMessage
+release_complete reference cause = record (bare true reference kind.ReleaseComplete) { cause = Some cause }
+
+abbrev pub refuse : ℕ → ℕ → ℕ → List Operation
+refuse line reference cause = Send line (release_complete reference cause) ∷ []
 
 -- an accepted SETUP has a slot for the caller
-abbrev pub accept : Setting → World → Message → Option Slot → List Operation
-accept s w m None = []
-accept s w m (Some x) = call w m x (target_of s m) (called_slot w x (target_of s m))
+abbrev pub accept_at : Setting → World → Message → Option Slot → List Operation
+accept_at s w m None = []
+accept_at s w m (Some x) = accept true w m.reference (call_asked m) x (target_of s m)
 
 abbrev pub setup : Setting → World → ℕ → Message → Option ℕ → List Operation
 setup s w line m (Some cause) = refuse line m.reference cause
-setup s w line m None = accept s w m (caller_slot w line (channel_in m.elements))
+setup s w line m None = accept_at s w m (caller_slot w line (channel_in m.elements))
 
 abbrev pub course_of_setup : Setting → World → ℕ → Message → Course
 course_of_setup s w line m = only (setup s w line m (refusal s w line m))

@@ -1,8 +1,16 @@
 //! Laws of calls, and worked calls.
-ghost use Rattle.std.specs.Prelude.{◌≡◌, [], ℕ, List, All, is_some};
+ghost use Rattle.std.specs.Prelude.{◌≡◌, [], ℕ, List, All, Some, is_some};
+ghost use Rattle.circuit_model.specs.declared.channel.Slot.{Slot};
+ghost use Rattle.q931_codec.specs.Causes.{no_channel_available, switching_equipment_congestion};
+ghost use Rattle.call_states.specs.Acts.{act_on};
+ghost use Rattle.call_states.specs.declared.act.Act.TheVariants as act;
+ghost use Rattle.call_states.specs.declared.leg.Leg.{Leg};
+ghost use Rattle.call_profile.specs.Digits.{called_with, digits_refusal, WantsSlot, WantsPort};
+ghost use Rattle.call_profile.specs.IdleSlots.{lowest_idle, lowest_idle_beside};
+ghost use Rattle.call_profile.specs.Legs.{leg_at};
 ghost use Rattle.control_memory.specs.Layout.{Layout};
 ghost use Rattle.call_profile.specs.Answered.{IsAnswered, GetsBothPaths, with_layout};
-ghost use Rattle.call_profile.specs.Calls.{after_message, answer_to};
+ghost use Rattle.call_profile.specs.Calls.{For_leg, after_message, answer_to, outcome_for};
 ghost use Rattle.q931_codec.specs.declared.message.Message.{Message};
 ghost use Rattle.exchange_events.specs.declared.trace.Event.{Event};
 ghost use Rattle.exchange_events.specs.declared.trace.Event.TheVariants as event;
@@ -85,4 +93,17 @@ pub fn law_of_legs()
         → CallsStand s (world_after_all s (start s.dimensions) es) }
     ensures waiting { (s : Setting) (w : World) → CallsStand s w → EachWaits s w }
     ensures pending { (s : Setting) (w : World) → CallsStand s w → NoneElsePends s w }
+{}
+
+/// The slot that a call gets whose number is dialled on is the called line's lowest idle one, as for a SETUP, since a
+/// slot with a leg isn't idle; it is refused with cause 34 for want of such a slot alone, and with 42 for want of a
+/// port alone. More digits end no call, so that nothing is recorded.
+pub fn law_of_digits()
+    ensures choice { (w : World) (x : Slot) (leg : Leg) (line : ℕ) → leg_at w.legs x ≡ Some leg → lowest_idle_beside w x line ≡ lowest_idle w line }
+    ensures no_slot { (s : Setting) (w : World) (h : Held) (called : List ℕ) (m : Message) → leg_at w.legs h.slot ≡ Some h.leg
+        → digits_refusal s w h.slot called m ≡ Some no_channel_available → WantsSlot s w (called_with called m) }
+    ensures no_port { (s : Setting) (w : World) (x : Slot) (called : List ℕ) (m : Message)
+        → digits_refusal s w x called m ≡ Some switching_equipment_congestion → WantsPort s w (called_with called m) }
+    ensures unrecorded { (s : Setting) (w : World) (line : ℕ) (h : Held) (m : Message) → act_on h.leg.state m ≡ act.Digits
+        → (outcome_for s w line (For_leg h m)).recorded ≡ [] }
 {}

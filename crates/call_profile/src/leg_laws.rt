@@ -1,7 +1,6 @@
 //! Laws of legs: their call references, what their users are told, and what becomes of them.
 ghost use Rattle.std.specs.Prelude.{◌<◌, ◌≤◌, ℕ, List, length, Contains};
 ghost use Rattle.circuit_model.specs.declared.channel.Slot.{Slot};
-ghost use Rattle.q931_codec.specs.declared.kind.MessageKind.{MessageKind};
 ghost use Rattle.q931_codec.specs.declared.message.Message.{Message};
 ghost use Rattle.call_states.specs.declared.act.Act.{Act};
 ghost use Rattle.call_states.specs.declared.leg.Held.{Held};
@@ -10,7 +9,7 @@ ghost use Rattle.clearing_rules.specs.UnknownReference.{answer_without_call};
 ghost use Rattle.tone_rules.specs.declared.tones.Tones.{Tones};
 ghost use Rattle.exchange_events.specs.declared.record.CallRecord.{CallRecord};
 ghost use Rattle.exchange_events.specs.Sizes.{Setting};
-ghost use Rattle.call_profile.specs.Acts.{course_of};
+ghost use Rattle.call_profile.specs.ActCourse.{course_of};
 ghost use Rattle.call_profile.specs.Calls.{after_message, answer_back, answer_to};
 ghost use Rattle.call_profile.specs.Legs.{Legs, new_reference};
 ghost use Rattle.call_profile.specs.Progress.{TellsOfTones};
@@ -31,8 +30,7 @@ pub fn law_of_references()
 /// A user is sent a progress indicator exactly where its slot gets a tone in the same step: by an act, by a
 /// SETUP, by the restart of a slot, and by the answer to a message on no call, which gives none.
 pub fn law_of_progress()
-    ensures acts { (tones : Tones) (legs : Legs) (h : Held) (kind : MessageKind) (a : Act)
-        → TellsOfTones (course_of tones legs h kind a).operations }
+    ensures acts { (s : Setting) (w : World) (h : Held) (m : Message) (a : Act) → TellsOfTones (course_of s w h m a).operations }
     ensures setups { (s : Setting) (w : World) (line : ℕ) (m : Message) → TellsOfTones (course_of_setup s w line m).operations }
     ensures restarts { (tones : Tones) (r : Restart) (legs : Legs) (x : Slot) → TellsOfTones (restart_slot tones r legs x) }
     ensures answers { (line : ℕ) (m : Message) → TellsOfTones (answer_back line (answer_without_call m)) }

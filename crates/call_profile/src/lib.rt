@@ -1,10 +1,12 @@
 //! The rules of calls, as definitions that are read from top to bottom: `Step` says what each event is
-//! answered and makes of the world, `Calls` what a message asks for, `Acts`, `Setup` and `Restarts` what is
-//! then done, one operation after another (`Operations`). But for [`is_for`], its functions are laws of these:
+//! answered and makes of the world, `Calls` what a message asks for, `ActCourse`, `Digits`, `Setup` and `Restarts` what
+//! is then done, one operation after another (`Operations`). But for [`is_for`], its functions are laws of these:
 //!
 //! - Every event keeps the legs standing, and a number pending where a leg waits for the rest of it
 //!   ([`law_of_legs`]). A refused command changes nothing
 //!   ([`law_of_refusals`]), nor does a refused SETUP ([`law_of_refused_calls`]).
+//! - A number that is dialled on is refused for want of a slot or a port alone, and of it nothing is recorded
+//!   ([`law_of_digits`]).
 //! - What is sent does not depend on the layout ([`law_of_paths`]); an answered call and a granted nail get
 //!   both paths ([`law_of_answered_calls`], [`law_of_granted_nails`]).
 //! - Which calls are recorded, which reference a new leg gets, what a RESTART leaves, when a user is told of
@@ -24,10 +26,11 @@ mod legs;
 mod worked;
 
 pub use call_laws::{
-    law_of_answered_calls, law_of_legs, law_of_paths, law_of_refused_calls, worked_calls,
+    law_of_answered_calls, law_of_digits, law_of_legs, law_of_paths, law_of_refused_calls,
+    worked_calls,
 };
 pub use command_laws::{law_of_granted_nails, law_of_refusals};
 pub use laws::{later_frames_change_nothing, worlds_are_made};
 pub use leg_laws::{law_of_progress, law_of_records, law_of_references, law_of_restarts};
 pub use legs::is_for;
-pub use worked::{worked_messages, worked_overlap};
+pub use worked::{worked_digits, worked_messages, worked_overlap};

@@ -1,7 +1,8 @@
 //! Worked messages.
 ghost use Rattle.std.specs.Prelude.{◌≡◌, None};
-ghost use Rattle.call_profile.specs.WorkedCalls.{two_lines, one_line, answers};
+ghost use Rattle.call_profile.specs.WorkedCalls.{two_lines, one_line, own_line, answers};
 ghost use Rattle.call_profile.specs.WorkedMessages.{refused_by_element, refused_by_element_answered, unreadable_cause, unreadable_cause_answered, null_status_received, null_status_answered, release_collision, release_collision_answered, reference_given_again, reference_given_again_answered, compatibility, compatibility_answered};
+ghost use Rattle.call_profile.specs.WorkedDigits.{begun_later, ended_later, ended_later_answered, faulty_digits, faulty_digits_answered, in_other_states, in_other_states_answered, in_three_messages, in_three_messages_answered, line_full_later, line_full_later_answered, longest_numbers, longest_numbers_answered, no_port_later_answered, own_line_later, own_line_later_answered, passed_on_later, passed_on_later_answered, room_later, room_later_answered, two_digits, wrong_digit, wrong_digit_answered};
 ghost use Rattle.call_profile.specs.WorkedOverlap.{dialled_in_part, dialled_in_part_answered, pending_after, first_digit, refused_at_once, refused_at_once_answered, no_numbers, dials_nothing, dials_nothing_answered, given_up, given_up_answered};
 
 /// The definitions of what is done for messages, evaluated on more of them.
@@ -22,4 +23,21 @@ pub fn worked_overlap()
     ensures no_plan { answers no_numbers dials_nothing ≡ dials_nothing_answered }
     ensures unrecorded { answers two_lines given_up ≡ given_up_answered }
     ensures dropped { pending_after given_up 0 ≡ None }
+{}
+
+/// The definitions evaluated on calls whose number is dialled on.
+pub fn worked_digits()
+    ensures in_three { answers two_lines in_three_messages ≡ in_three_messages_answered }
+    ensures dropped { pending_after in_three_messages 0 ≡ None }
+    ensures wrong { answers two_lines wrong_digit ≡ wrong_digit_answered }
+    ensures faulty { answers two_lines faulty_digits ≡ faulty_digits_answered }
+    ensures longest { answers two_lines longest_numbers ≡ longest_numbers_answered }
+    ensures begun { pending_after begun_later 0 ≡ two_digits }
+    ensures ended { answers two_lines ended_later ≡ ended_later_answered }
+    ensures passed_on { answers two_lines passed_on_later ≡ passed_on_later_answered }
+    ensures full { answers two_lines line_full_later ≡ line_full_later_answered }
+    ensures own_line { answers own_line own_line_later ≡ own_line_later_answered }
+    ensures room { answers (one_line 1) room_later ≡ room_later_answered }
+    ensures no_port { answers (one_line 0) room_later ≡ no_port_later_answered }
+    ensures others { answers two_lines in_other_states ≡ in_other_states_answered }
 {}
