@@ -1,5 +1,5 @@
 -- What is known of an exchange at work when a message to a leg comes.
-use Rattle.std.proofs.Common.{◌≡◌, ℕ, ◌+◌, ◌*◌, ◌<◌, ◌≤◌, length, Option, Some, None, sym, ◌∙◌, ap, subst, arith}
+use Rattle.std.proofs.Common.{◌≡◌, ℕ, ◌+◌, ◌*◌, ◌<◌, ◌≤◌, length, Option, Some, None, sym, ◌∙◌, ap, subst, arith, eqb-true}
 use Rattle.std.specs.Prelude.{IfSome}
 use Rattle.circuit_model.specs.declared.channel.Slot.{Slot}
 use Rattle.circuit_model.specs.Circuits.{heard_by, unless_naming}
@@ -8,10 +8,12 @@ use Rattle.circuit_map.specs.Connections.{Connections, hears_at}
 use Rattle.q931_codec.specs.declared.message.Message.{Message}
 use Rattle.call_states.specs.Acts.{act_on, clearing_cause, is_null}
 use Rattle.call_states.proofs.Causes.{cause_fits}
+use Rattle.q931_codec.specs.CallStates.{overlap_sending}
 use Rattle.q931_codec.specs.Contents.{call_state_in}
 use Rattle.call_states.specs.declared.act.Act.TheVariants as act
 use Rattle.call_states.specs.declared.leg.Held.{Held}
-use Rattle.call_profile.specs.Acts.{course_of, peer_of}
+use Rattle.call_profile.specs.ActCourse.{course_of}
+use Rattle.call_profile.specs.Acts.{peer_of}
 use Rattle.call_control.specs.AtWork.{IsAtWork}
 use Rattle.call_profile.specs.Calls.{outcome_by}
 use Rattle.call_profile.proofs.RecordOfActLemmas.{records_of_act}
@@ -37,6 +39,11 @@ silent_on_map : (map : Connections) (w : World) → ((x : Slot) → hears_at map
     → IfSome o (λ c. heard_by w.holding.circuits c.slot ≡ None) → IsSilent map o
 silent_on_map map w same None deaf = tt
 silent_on_map map w same (Some c) deaf = same c.slot ∙ deaf
+
+-- a leg that is asked for more digits is in overlap sending
+pub digits_state : (state : ℕ) (m : Message) → act_on state m ≡ act.Digits → state ≡ overlap_sending
+digits_state state m dials =
+    eqb-true state overlap_sending (subst (Asked state) dials (asked state m.kind (clearing_cause m.elements) (is_null (call_state_in m.elements)) (cause_fits m.elements)))
 
 -- a line has a place for each of its thirty legs
 pub row_inside : (s : Setting) (map : Connections) (legs : Legs) (w : World) (line : ℕ) → IsAtWork s map legs w → line < map.external → 30 * line + 30 ≤ length legs.held
@@ -76,5 +83,5 @@ module _ (s : Setting) (map : Connections) (legs : Legs) (w : World) (work : IsA
       let same : peer_of w.legs h.leg.peer ≡ o = sym (is ∙ ap (λ ls. peer_of ls h.leg.peer) work.holds.legs_are) in
       silent_on_map map w work.holds.circuits.holds.heard o (subst (λ (p : Option Held). IfSome p (λ c. heard_by w.holding.circuits c.slot ≡ None)) same deaf)
 
-  pub known_records : (m : Message) → records_of_act w h (act_on h.leg.state m) ≡ (outcome_by s w (course_of s.tones w.legs h m.kind (act_on h.leg.state m))).recorded
-  known_records m = sym (leg_records s w h m work.stands.legs in_world at_world)
+  pub known_records : (m : Message) → records_of_act w h (act_on h.leg.state m) ≡ (outcome_by s w (course_of s w h m (act_on h.leg.state m))).recorded
+  known_records m = sym (leg_records s w h m work.planned work.stands in_world at_world)

@@ -8,3 +8,4 @@ pub mod AtWorkLemmas
 pub mod ActMakingLemmas
 pub mod SetupMakingLemmas
 pub mod RestartMakingLemmas
+pub mod DigitsMakingLemmas

@@ -56,3 +56,7 @@ module _ (d : Dimensions) (map map' : Connections) (legs legs' : Legs) (sends se
     sent = more ∙ ap (λ (k : OutgoingMessage). sends ++ record { line = line; octets = encoding k } ∷ []) is ∙ ap (λ ss. ss ++ record { line = line; octets = encoding named } ∷ []) makes.sent;
     moves = same ∙ makes.moves;
   }
+
+  pub makes_sent : (line : ℕ) (message : OutgoingMessage) → sends' ≡ sends ++ record { line = line; octets = encoding message } ∷ [] → moved' ≡ moved
+      → Makes d map legs sends' moved' (making_after d m (Send line message))
+  makes_sent line message more same = makes_send line message message refl more same

@@ -12,9 +12,9 @@ use Rattle.number_plan.specs.declared.target.Found.TheVariants.{Line, Room, More
 use Rattle.number_plan.specs.declared.target.Target.TheVariants as target
 use Rattle.number_plan.specs.Plan.{found_for, all_targets}
 use Rattle.number_plan.proofs.Meanings.{found_passes}
-use Rattle.call_control.specs.Choices.{IsReached, called_checks}
+use Rattle.call_control.specs.Choices.{IsReached}
 use Rattle.exchange_events.specs.Sizes.{Setting, Dimensions}
-use Rattle.call_profile.specs.Setup.{Check, first_cause, digits_in, target_of, caller_slot, is_taken, element_checks, number_checks, slot_checks, refusal}
+use Rattle.call_profile.specs.Setup.{Check, first_cause, called_checks, digits_in, target_of, caller_slot, is_taken, element_checks, number_checks, slot_checks, refusal}
 use Rattle.exchange_events.specs.Sound.{is_reached}
 use Rattle.call_profile.specs.World.{World}
 
@@ -39,7 +39,7 @@ some_fails ((fails, cause) ∷ a) b why e = some_step fails cause a b why (some_
 -- ---- the checks of slots
 
 pub slot_causes : (d : Dimensions) (w : World) (line : ℕ) (channel : Option ChannelIdentification) (target : Found) (x : Slot) → is_taken w line channel ≡ false → caller_slot w line channel ≡ Some x
-    → first_cause (called_checks d w x target) ≡ first_cause (slot_checks d w line channel target)
+    → first_cause (called_checks d w (Some x) target) ≡ first_cause (slot_checks d w line channel target)
 slot_causes d w line channel target x taken is = rw (taken, is) refl
 
 -- ---- a line that is found exists, where those of the plan do

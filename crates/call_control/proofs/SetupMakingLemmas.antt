@@ -1,5 +1,5 @@
 -- What an accepted SETUP makes, told by what the map and the legs hold.
-use Rattle.std.proofs.Common.{◌≡◌, ℕ, List, [], Option, Some, None, sym, subst}
+use Rattle.std.proofs.Common.{◌≡◌, ℕ, ◌+◌, ◌*◌, ◌<◌, ◌≤◌, length, arith, List, [], Option, Some, None, sym, subst}
 use Rattle.std.specs.Prelude.{IsTrue, IfSome}
 use Rattle.circuit_model.specs.declared.channel.Slot.{Slot}
 use Rattle.circuit_model.specs.Extent.{IsExternal}
@@ -44,3 +44,7 @@ external_by s map x sizes within = subst (λ (d : Dimensions). IsExternal d.exte
 
 pub chosen_external : (external : ℕ) (o : Option Slot) (x : Slot) → o ≡ Some x → IfSome o (IsExternal external) → IsExternal external x
 chosen_external external o x is within = subst (λ (p : Option Slot). IfSome p (IsExternal external)) is within
+
+-- a line has a place for each of its thirty legs
+pub row_of : (map : Connections) (legs : Legs) (line : ℕ) → length legs.held ≡ 30 * map.external → line < map.external → 30 * line + 30 ≤ length legs.held
+row_of map legs line count within = omega (arith, within, count)

@@ -5,8 +5,9 @@ ghost use Rattle.circuit_map.specs.Connections.{SameSizes, hears_at};
 ghost use Rattle.q931_codec.specs.Outgoing.{outgoing_of};
 ghost use Rattle.call_states.specs.Acts.{cause_of_act};
 ghost use Rattle.call_states.specs.declared.act.Act.TheVariants as asked;
-ghost use Rattle.call_profile.specs.Acts.{with_progress, course_of, peer_of, with_peer, disconnect, in_disconnect_indication, in_state, tone_of, on_alerting, on_connect, on_disconnect, on_release, remove_leg, clear_with};
-ghost use Rattle.call_control.specs.AtWork.{IsAtWork, EachWithTones};
+ghost use Rattle.call_profile.specs.ActCourse.{course_of};
+ghost use Rattle.call_profile.specs.Acts.{with_progress, peer_of, with_peer, disconnect, in_disconnect_indication, in_state, tone_of, on_alerting, on_connect, on_disconnect, on_release, remove_leg, clear_with};
+ghost use Rattle.call_control.specs.AtWork.{IsAtWork, EachAtWork};
 ghost use Rattle.call_profile.specs.Calls.{making_by, outcome_by, course_on};
 ghost use Rattle.call_profile.specs.Legs.{leg_at};
 ghost use Rattle.exchange_events.specs.Limits.{most_sends};
@@ -22,6 +23,7 @@ use call_states::{Act, Held, Leg, Peer, on_message, status, unexpected};
 use circuit_model::{Kind, Slot};
 use control_memory::PathMap;
 use exchange_events::Outbox;
+use number_plan::Plan;
 use q931_codec::causes::RESPONSE_TO_STATUS_ENQUIRY;
 use q931_codec::states::{
     ACTIVE, CALL_DELIVERED, CALL_RECEIVED, DISCONNECT_INDICATION, INCOMING_CALL_PROCEEDING,
@@ -32,12 +34,19 @@ use tone_rules::{Tones, tone_given};
 
 impl<P: PathMap> CallControl<P> {
     /// Does with a leg what a message to it asks for, and records the call that this begins to clear.
-    pub(crate) fn act(&mut self, out: &mut Outbox, tones: &Tones, held: Held, message: &Message)
-        requires work { (s : Setting) × (w : World) × IsAtWork s self.old.map self.old.legs w }
+    pub(crate) fn act(
+        &mut self,
+        out: &mut Outbox,
+        plan: &Plan,
+        tones: &Tones,
+        held: Held,
+        message: &Message,
+    )
+        requires work { (s : Setting) × (w : World) × (s.plan ≡ plan.now) × (s.tones ≡ tones.now) × IsAtWork s self.old.map self.old.legs w }
         requires external { IsExternal self.old.map.external held.slot }
         requires held { leg_at self.old.legs held.slot ≡ Some held.leg }
         requires fresh { (out.old.sends ≡ []) × (out.old.moved ≡ None) }
-        ensures makes { EachWithTones tones.now self.old.map self.old.legs (λ s w.
+        ensures makes { EachAtWork plan.now tones.now self.old.map self.old.legs (λ s w.
             HasMade s self.new.map self.new.legs out.new (making_by s w (course_on s w held message.now))) }
         ensures records { (s : Setting) (w : World) → IsAtWork s self.old.map self.old.legs w
             → out.new.records ≡ (outcome_by s w (course_on s w held message.now)).recorded }
@@ -47,7 +56,10 @@ impl<P: PathMap> CallControl<P> {
         let act = on_message(&held.leg, message);
         let peer = self.peer_of(held.leg.peer);
         let call = self.record_of_act(held, peer, act);
-        self.perform(out, tones, held, peer, act, message);
+        match act {
+            Act::Digits => self.on_digits(out, plan, tones, held, message),
+            _ => self.perform(out, tones, held, peer, act, message),
+        }
         record_only(&mut out.records, call);
     }
 
@@ -64,7 +76,7 @@ impl<P: PathMap> CallControl<P> {
         }
     }
 
-    // Does what an act is.
+    // Does what an act is that the leg, its peer and the message decide: any but more digits.
     fn perform(
         &mut self,
         out: &mut Outbox,
@@ -75,6 +87,7 @@ impl<P: PathMap> CallControl<P> {
         message: &Message,
     )
         requires work { (d : Dimensions) × (w : World) × Holds d self.old.map self.old.legs w }
+        requires other { act ≢ asked.Digits }
         requires there { IsThere self.old.map.external held }
         requires count { length self.old.legs.held ≡ 30 * self.old.map.external }
         requires peer { peer ≡ peer_of self.old.legs held.leg.peer }
@@ -83,13 +96,13 @@ impl<P: PathMap> CallControl<P> {
         requires silent { act ≡ asked.Answer → hears_at self.old.map held.slot ≡ None }
         requires waiting { act ≡ asked.Alerting → IsSilent self.old.map peer }
         requires fresh { (out.old.sends ≡ []) × (out.old.moved ≡ None) }
-        ensures makes { Performs (course_of tones.now self.old.legs held message.now.kind act).operations
-            self.old.map self.old.legs out.old self.new.map self.new.legs out.new }
+        ensures makes { (s : Setting) (w : World) → s.tones ≡ tones.now → w.legs ≡ self.old.legs
+            → Performs (course_of s w held message.now act).operations self.old.map self.old.legs out.old self.new.map self.new.legs out.new }
         ensures few { IfSome out.new.moved (λ moves. (moves.0 ≤ self.old.map.bound) × (moves.1 ≤ self.old.map.bound)) }
         ensures sizes { SameSizes self.old.map self.new.map }
     {
         match act {
-            Act::Nothing => {}
+            Act::Nothing | Act::Digits => {}
             Act::Unexpected => send(out, held.slot.line, &unexpected(&held.leg, message)),
             Act::Enquiry => {
                 send(
@@ -231,8 +244,7 @@ impl<P: PathMap> CallControl<P> {
         self.remove(held.slot);
     }
 
-    /// The other leg of a call is cleared with a cause, and its user hears why where the trace gives that
-    /// tone.
+    /// The other leg of a call, where there is one, is cleared with a cause.
     pub(crate) fn clear_peer(
         &mut self,
         out: &mut Outbox,
@@ -249,16 +261,29 @@ impl<P: PathMap> CallControl<P> {
         ensures moved { out.new.moved ≡ out.old.moved }
         ensures sizes { SameSizes self.old.map self.new.map }
     {
-        let Some(other) = peer else {
-            return;
-        };
-        let alone = in_disconnect_indication(cause, other.leg);
+        if let Some(other) = peer {
+            self.clear_leg(out, tones, other, cause);
+        }
+    }
+
+    /// A leg is cleared with a cause, and its user hears why where the trace gives that tone.
+    pub(crate) fn clear_leg(&mut self, out: &mut Outbox, tones: &Tones, held: Held, cause: u8)
+        requires there { IsThere self.old.map.external held }
+        requires count { length self.old.legs.held ≡ 30 * self.old.map.external }
+        requires room { length out.old.sends < most_sends }
+        requires cause { cause < 128 }
+        ensures makes { Performs (clear_with tones.now cause held) self.old.map self.old.legs out.old self.new.map self.new.legs out.new }
+        ensures few { length out.new.sends ≤ length out.old.sends + 1 }
+        ensures moved { out.new.moved ≡ out.old.moved }
+        ensures sizes { SameSizes self.old.map self.new.map }
+    {
+        let alone = in_disconnect_indication(cause, held.leg);
         let tone = tone_of(tones, alone);
-        self.clear(other.slot);
-        self.put(other.slot, alone);
-        self.sound(other.slot, tone);
-        let disconnect = disconnect_message(&other.leg, cause);
-        send(out, other.slot.line, &with_progress(tone, disconnect));
+        self.clear(held.slot);
+        self.put(held.slot, alone);
+        self.sound(held.slot, tone);
+        let disconnect = disconnect_message(&held.leg, cause);
+        send(out, held.slot.line, &with_progress(tone, disconnect));
     }
 }
 

@@ -36,6 +36,20 @@ pub(crate) fn asked_by<'a>(message: &Message<'a>) -> Asked<'a>
     }
 }
 
+/// What the call is made from whose number is dialled in parts.
+pub(crate) fn asked_in(number: &Pending) -> Asked<'_>
+    ensures asked { asked_of result ≡ number.now }
+    ensures fits { FitsElements (asked_of result) }
+{
+    Asked {
+        bearer: number.bearer.as_slice(),
+        calling: number.calling.as_slice(),
+        called: number.called.as_slice(),
+        low: number.low.as_slice(),
+        high: number.high.as_slice(),
+    }
+}
+
 /// The same as it is kept until the number is complete.
 pub(crate) fn pending_of(asked: &Asked) -> Pending
     requires { FitsElements (asked_of asked.now) }

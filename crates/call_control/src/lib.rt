@@ -14,8 +14,10 @@
 
 mod acts;
 mod asked;
+mod digits;
 mod ended_calls;
 mod messages;
+mod new_call;
 mod operations;
 mod reading_ahead;
 mod restarting;

@@ -99,7 +99,7 @@ impl<P: PathMap> CallControl<P> {
         ensures sizes { SameSizes self.old.map self.new.map }
     {
         match self.legs.named(line, message.flag, message.reference) {
-            Some(held) => self.act(out, tones, held, message),
+            Some(held) => self.act(out, plan, tones, held, message),
             None => self.answer_without_leg(out, plan, tones, line, message, ahead),
         }
     }

@@ -1,13 +1,13 @@
 //! What is read of a message before its turn: all that its octets and the plan of numbers decide.
-ghost use Rattle.std.specs.Prelude.{◌≡◌, ◌≤◌, [], IfSome, is_some, length, option_map, unwrap_or};
+ghost use Rattle.std.specs.Prelude.{◌≡◌, ◌≤◌, [], IfSome, is_some, length, unwrap_or};
 ghost use Rattle.number_plan.specs.Plan.{found_for};
-ghost use Rattle.call_profile.specs.Setup.{digits_in};
+ghost use Rattle.q931_codec.specs.Contents.{dialled_digits};
+ghost use Rattle.call_profile.specs.Setup.{digits_in, target_dialled};
 ghost use Rattle.call_control.specs.Ahead.{IsDialled, IsReadAhead, is_message, message_ahead};
 
 use crate::messages::asks_for_call;
-use arrayvec::ArrayVec;
 use number_plan::{Found, Plan};
-use q931_codec::{MOST_DIGITS, Message, MessageKind, dialled_digits, read};
+use q931_codec::{Message, MessageKind, dialled_digits, read};
 use q931_elements::Elements;
 
 /// The number that a SETUP dials. It is read once, however many checks ask for it.
@@ -57,7 +57,7 @@ fn number_ahead(plan: &Plan, message: &Message) -> Option<DialledNumber>
     if !asks_for_call(message) {
         return None;
     }
-    Some(look_up(plan, message))
+    Some(look_up(plan, message.called_number()))
 }
 
 /// The message of which this was read ahead.
@@ -81,16 +81,17 @@ pub(crate) fn dialled(plan: &Plan, message: &Message, ahead: Option<DialledNumbe
 {
     match ahead {
         Some(number) => number,
-        None => look_up(plan, message),
+        None => look_up(plan, message.called_number()),
     }
 }
 
-// What the plan knows of the digits that a SETUP dials.
-fn look_up(plan: &Plan, message: &Message) -> DialledNumber
-    ensures readable { result.is_readable ≡ is_some (digits_in message.now) }
-    ensures target { result.target ≡ found_for plan.now (unwrap_or (digits_in message.now) []) }
+/// What the plan knows of the digits of a called party number with these contents.
+pub(crate) fn look_up(plan: &Plan, called: &[u8]) -> DialledNumber
+    requires { length called.now ≤ 21 }
+    ensures readable { result.is_readable ≡ is_some (dialled_digits called.now) }
+    ensures target { result.target ≡ target_dialled plan.now called.now }
 {
-    match digits_in(message) {
+    match dialled_digits(called) {
         Some(digits) => DialledNumber {
             is_readable: true,
             target: plan.look(&digits),
@@ -100,11 +101,4 @@ fn look_up(plan: &Plan, message: &Message) -> DialledNumber
             target: plan.look(&[]),
         },
     }
-}
-
-// The digits that a SETUP dials, `None` where one of them isn't a digit.
-fn digits_in(message: &Message) -> Option<ArrayVec<u8, MOST_DIGITS>>
-    ensures { option_map (λ digits. digits.items) result ≡ digits_in message.now }
-{
-    dialled_digits(message.called_number())
 }

@@ -1,9 +1,9 @@
 //! The checks of a SETUP: what it asks for, which slots its call gets, and the cause with which it is refused.
-ghost use Rattle.std.specs.Prelude.{◌≡◌, ◌<◌, is_some, IfSome};
-ghost use Rattle.call_profile.specs.Setup.{digits_in, lacks_number, slot_of, slot_asked, element_checks, number_checks, first_cause, caller_slot, is_taken, slot_checks, refusal, target_of};
+ghost use Rattle.std.specs.Prelude.{◌≡◌, ◌<◌, Some, is_some, IfSome};
+ghost use Rattle.call_profile.specs.Setup.{digits_in, lacks_number, slot_of, slot_asked, element_checks, number_checks, first_cause, caller_slot, is_taken, slot_checks, called_checks, refusal, target_of};
 ghost use Rattle.q931_codec.specs.Contents.{called_received, complete_in};
 ghost use Rattle.circuit_model.specs.Extent.{IsExternal};
-ghost use Rattle.call_control.specs.Choices.{IsReached, idle_beside, called_checks};
+ghost use Rattle.call_control.specs.Choices.{IsReached, idle_beside};
 ghost use Rattle.call_profile.specs.IdleSlots.{lowest_idle, lowest_idle_beside};
 ghost use Rattle.exchange_events.specs.Sizes.{Setting, Dimensions};
 ghost use Rattle.call_control.specs.Standing.{Holds};
@@ -111,11 +111,11 @@ impl<P: PathMap> CallControl<P> {
         self.called_side_cause(caller, target)
     }
 
-    // The cause where the called line has no idle slot beside the caller's, or where every conference
-    // port is taken.
-    fn called_side_cause(&self, caller: Slot, target: Found) -> Option<u8>
+    /// The cause where the called line has no idle slot beside the caller's, or where every conference
+    /// port is taken.
+    pub(crate) fn called_side_cause(&self, caller: Slot, target: Found) -> Option<u8>
         requires reached { IsReached self.now.map.external target }
-        ensures { (d : Dimensions) (w : World) → Holds d self.now.map self.now.legs w → result ≡ first_cause (called_checks d w caller target) }
+        ensures { (d : Dimensions) (w : World) → Holds d self.now.map self.now.legs w → result ≡ first_cause (called_checks d w (Some caller) target) }
     {
         match target {
             Found::Line(line) => match self.lowest_idle_beside(caller, line) {
@@ -200,8 +200,8 @@ fn lacks_number(message: &Message) -> bool
     }
 }
 
-// The cause of the first check of its number that a SETUP fails, given what the number leads to.
-fn number_cause(target: Found, message: &Message) -> Option<u8>
+/// The cause of the first check of its number that a message fails, given what the number leads to.
+pub(crate) fn number_cause(target: Found, message: &Message) -> Option<u8>
     ensures { result ≡ first_cause (number_checks target (complete_in message.now.elements)) }
 {
     match target {

@@ -6,7 +6,7 @@ use Rattle.call_profile.specs.Acts.{message_to}
 use Rattle.call_profile.specs.Operations.{Seat, Put, Send, making_after, making_after_all}
 use Rattle.call_profile.specs.Setup.{call_proceeding}
 use Rattle.call_control.specs.Standing.{Makes}
-use Rattle.call_control.proofs.MakingLemmas.{holds_with, makes_put, makes_seat, makes_send}
+use Rattle.call_control.proofs.MakingLemmas.{holds_with, makes_put, makes_seat, makes_sent, makes_send}
 use Rattle.call_profile.proofs.AcceptedSetupLemmas.{can_still}
 use Rattle.call_control.proofs.operations.CallControl.call_room.Goals as goal
 
@@ -17,14 +17,15 @@ seat-requires g c =
         can.0,
         record can.1 { legs = c.put.new.self.legs },
         holds_with can.0 c.args.self.now.map c.put.new.self.map c.args.self.now.legs c.put.new.self.legs can.1 can.2 c.put.ensures.map,
-        can_still can.0 can.1 c.args.x c.put.new.self.legs can.3,
+        can_still can.0 can.1 c.args.caller.slot c.put.new.self.legs can.3,
       );
     }
 
 pub returns-clause-makes : goal.returns-clause-makes
 returns-clause-makes g c d m makes =
-    let leg = c.caller_leg-caller.result in
-    let x = c.args.x in
+    let leg = c.caller_leg-calling.result in
+    let x = c.args.caller.slot in
+    let told = call_proceeding c.args.caller.first x leg in
     let out = c.args.out.now in
     let held = makes_put d c.args.self.now.map c.put.new.self.map c.args.self.now.legs c.put.new.self.legs out.sends out.sends out.moved out.moved m makes x leg c.put.ensures.map c.put.ensures.legs in
     let m1 = making_after d m (Put x leg) in
@@ -32,7 +33,7 @@ returns-clause-makes g c d m makes =
     let m2 = making_after d m1 (Seat x c.args.room) in
     let map = c.seat.new.self.map in
     let legs = c.seat.new.self.legs in
-    let first = makes_send d map map legs legs out.sends c.send.new.out.sends (Some c.seat.result) c.send.new.out.moved m2 seated x.line (outgoing_of c.call_proceeding.result) (call_proceeding x leg) c.call_proceeding.ensures c.send.ensures.sends c.send.ensures.moved in
-    let m3 = making_after d m2 (Send x.line (call_proceeding x leg)) in
-    let second = makes_send d map map legs legs c.send.new.out.sends c.send-2.new.out.sends c.send.new.out.moved c.send-2.new.out.moved m3 first x.line (outgoing_of c.message_to.result) (message_to leg kind.Connect) c.message_to.ensures c.send-2.ensures.sends c.send-2.ensures.moved in
-    subst (λ (l : Leg). Makes d map legs c.send-2.new.out.sends c.send-2.new.out.moved (making_after_all d m (Put x l ∷ Seat x c.args.room ∷ Send x.line (call_proceeding x l) ∷ Send x.line (message_to l kind.Connect) ∷ []))) c.caller_leg-caller.ensures second
+    let first = makes_sent d map map legs legs out.sends c.send_proceeding.new.out.sends (Some c.seat.result) c.send_proceeding.new.out.moved m2 seated x.line told c.send_proceeding.ensures.sends c.send_proceeding.ensures.moved in
+    let m3 = making_after d m2 (Send x.line told) in
+    let second = makes_send d map map legs legs c.send_proceeding.new.out.sends c.send.new.out.sends c.send_proceeding.new.out.moved c.send.new.out.moved m3 first x.line (outgoing_of c.message_to.result) (message_to leg kind.Connect) c.message_to.ensures c.send.ensures.sends c.send.ensures.moved in
+    subst (λ (l : Leg). Makes d map legs c.send.new.out.sends c.send.new.out.moved (making_after_all d m (Put x l ∷ Seat x c.args.room ∷ Send x.line (call_proceeding c.args.caller.first x l) ∷ Send x.line (message_to l kind.Connect) ∷ []))) c.caller_leg-calling.ensures second

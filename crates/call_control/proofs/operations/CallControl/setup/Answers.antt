@@ -13,8 +13,8 @@ refusal-requires-clause-reached g c =
     let work = c.requires.work in
     number_reaches work.0 c.args.plan.now c.args.self.now.map (unwrap_or (digits_in c.args.message.now) []) c.dialled-number.result.target work.2 work.3.holds.sizes work.3.planned c.dialled-number.ensures.target
 
-pub accept-requires-clause-reached : goal.accept-requires-clause-reached
-accept-requires-clause-reached g c =
+pub accept_setup-requires-clause-reached : goal.accept_setup-requires-clause-reached
+accept_setup-requires-clause-reached g c =
     let work = c.requires.work in
     number_reaches work.0 c.args.plan.now c.args.self.now.map (unwrap_or (digits_in c.args.message.now) []) c.dialled-number.result.target work.2 work.3.holds.sizes work.3.planned c.dialled-number.ensures.target
 
@@ -33,8 +33,8 @@ returns-in-Some-clause-makes g c s w plan work =
     makes_same s.dimensions c.args.self.now.map c.args.self.now.legs c.refuse.new.out.sends c.refuse.new.out.moved (making_at w) (refuse c.args.line m.reference cause) (setup s w c.args.line m (refusal s w c.args.line m)) (ap (setup s w c.args.line m) refused)
     (c.refuse.ensures.makes c.args.self.now.map c.args.self.now.legs s.dimensions (making_at w) (makes_begun s.dimensions c.args.self.now.map c.args.self.now.legs c.args.out.now.sends c.args.out.now.moved w work.holds c.requires.fresh))
 
-pub accept-requires-clause-work : goal.accept-requires-clause-work
-accept-requires-clause-work g c =
+pub accept_setup-requires-clause-work : goal.accept_setup-requires-clause-work
+accept_setup-requires-clause-work g c =
     let work = c.requires.work in
     let leads = same_target work.0 c.args.message.now c.args.plan.now c.dialled-number.result.target work.2 c.dialled-number.ensures.target in
     (work.0, work.1, record { work = work.3; leads = leads; passes = sym (c.refusal.ensures work.0 work.1 leads work.3.holds) ∙ c.in-None.is })
@@ -44,5 +44,5 @@ returns-in-None-clause-makes g c s w plan work =
     let m = c.args.message.now in
     let leads = same_target s m c.args.plan.now c.dialled-number.result.target plan c.dialled-number.ensures.target in
     let passes = sym (c.refusal.ensures s w leads work.holds) ∙ c.in-None.is in
-    makes_same s.dimensions c.accept.new.self.map c.accept.new.self.legs c.accept.new.out.sends c.accept.new.out.moved (making_at w) (accept_setup s w c.args.line m) (setup s w c.args.line m (refusal s w c.args.line m)) (ap (setup s w c.args.line m) passes)
-    (c.accept.ensures.makes s w leads work)
+    makes_same s.dimensions c.accept_setup.new.self.map c.accept_setup.new.self.legs c.accept_setup.new.out.sends c.accept_setup.new.out.moved (making_at w) (accept_setup s w c.args.line m) (setup s w c.args.line m (refusal s w c.args.line m)) (ap (setup s w c.args.line m) passes)
+    (c.accept_setup.ensures.makes s w leads work)

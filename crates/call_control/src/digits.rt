@@ -1,0 +1,138 @@
+//! More digits of a number that is dialled in parts.
+ghost use Rattle.std.specs.Prelude.{◌≡◌, ◌≤◌, ◌+◌, ◌++◌, [], None, Some, IfSome, is_none, length};
+ghost use Rattle.circuit_map.specs.Connections.{SameSizes};
+ghost use Rattle.circuit_model.specs.Extent.{IsExternal};
+ghost use Rattle.q931_codec.specs.CallStates.{overlap_sending};
+ghost use Rattle.q931_codec.specs.Contents.{called_received};
+ghost use Rattle.call_states.specs.Pending.{FitsElements};
+ghost use Rattle.exchange_events.specs.Sizes.{Setting, Dimensions};
+ghost use Rattle.call_profile.specs.Digits.{octets_added, adds_wrongly, asked_with, on_digits};
+ghost use Rattle.call_profile.specs.Legs.{leg_at};
+ghost use Rattle.call_profile.specs.Operations.{making_at, making_after_all};
+ghost use Rattle.call_profile.specs.Setup.{first_cause};
+ghost use Rattle.call_profile.specs.World.{World};
+ghost use Rattle.call_control.specs.AtWork.{IsAtWork, EachAtWork};
+ghost use Rattle.call_control.specs.Choices.{IsReached, dialled_checks};
+ghost use Rattle.call_control.specs.Standing.{Holds, HasMade};
+
+use crate::asked::asked_in;
+use crate::new_call::Caller;
+use crate::operations::CallControl;
+use crate::reading_ahead::{DialledNumber, look_up};
+use crate::setup_checks::number_cause;
+use call_states::{Contents, Held, Pending};
+use circuit_model::Slot;
+use control_memory::PathMap;
+use exchange_events::Outbox;
+use number_plan::Plan;
+use q931_codec::Message;
+use q931_codec::causes::INVALID_NUMBER_FORMAT;
+use tone_rules::Tones;
+
+/// How many octets the contents of a called party number have at most.
+const MOST_CALLED: usize = 21;
+
+impl<P: PathMap> CallControl<P> {
+    /// Adds what a caller in overlap sending has dialled to its number: its leg waits on, or its call is
+    /// accepted; where a check fails, it is cleared with the cause of that check.
+    pub(crate) fn on_digits(
+        &mut self,
+        out: &mut Outbox,
+        plan: &Plan,
+        tones: &Tones,
+        held: Held,
+        message: &Message,
+    )
+        requires work { (s : Setting) × (w : World) × (s.plan ≡ plan.now) × (s.tones ≡ tones.now) × IsAtWork s self.old.map self.old.legs w }
+        requires external { IsExternal self.old.map.external held.slot }
+        requires held { leg_at self.old.legs held.slot ≡ Some held.leg }
+        requires waits { held.leg.state ≡ overlap_sending }
+        requires fresh { (out.old.sends ≡ []) × (out.old.moved ≡ None) }
+        ensures makes { EachAtWork plan.now tones.now self.old.map self.old.legs (λ s w.
+            HasMade s self.new.map self.new.legs out.new (making_after_all s.dimensions (making_at w) (on_digits s w held message.now))) }
+        ensures few { IfSome out.new.moved (λ moves. (moves.0 ≤ self.old.map.bound) × (moves.1 ≤ self.old.map.bound)) }
+        ensures sizes { SameSizes self.old.map self.new.map }
+    {
+        let Some(number) = self.legs.pending(held.slot) else {
+            return;
+        };
+        let Some(number) = dialled_on(number, message) else {
+            self.clear_leg(out, tones, held, INVALID_NUMBER_FORMAT);
+            return;
+        };
+        let dialled = look_up(plan, number.called.as_slice());
+        match self.digits_cause(held.slot, message, dialled) {
+            Some(cause) => self.clear_leg(out, tones, held, cause),
+            None => {
+                let caller = Caller {
+                    slot: held.slot,
+                    reference: held.leg.reference,
+                    first: false,
+                };
+                self.accept(out, caller, &asked_in(&number), dialled.target);
+            }
+        }
+    }
+
+    // The cause of the first check that fails of a number which is dialled on.
+    fn digits_cause(&self, x: Slot, message: &Message, dialled: DialledNumber) -> Option<u8>
+        requires reached { IsReached self.now.map.external dialled.target }
+        ensures { (d : Dimensions) (w : World) → Holds d self.now.map self.now.legs w
+            → result ≡ first_cause (dialled_checks d w x message.now dialled.is_readable dialled.target) }
+    {
+        if !dialled.is_readable {
+            return Some(INVALID_NUMBER_FORMAT);
+        }
+        match number_cause(dialled.target, message) {
+            Some(cause) => Some(cause),
+            None => self.called_side_cause(x, dialled.target),
+        }
+    }
+}
+
+// What is pending once the octets of a message are added; `None` where its called party number has none, or
+// there would be too many.
+fn dialled_on(number: &Pending, message: &Message) -> Option<Pending>
+    requires { FitsElements number.now }
+    ensures none { is_none result ≡ adds_wrongly number.now.called message.now }
+    ensures added { IfSome result (λ p. p ≡ asked_with number.now message.now) }
+    ensures few { IfSome result (λ p. length p.called ≤ 21) }
+{
+    if matches!(message.called_contents(), Some([])) {
+        return None;
+    }
+    let called = number.called.as_slice();
+    let more = octets_added(called, message);
+    if called.len() + more.len() > MOST_CALLED {
+        return None;
+    }
+    Some(Pending {
+        bearer: Contents::of(number.bearer.as_slice()),
+        calling: Contents::of(number.calling.as_slice()),
+        called: joined(called, more),
+        low: Contents::of(number.low.as_slice()),
+        high: Contents::of(number.high.as_slice()),
+    })
+}
+
+// The octets that a message adds to a called party number.
+fn octets_added<'a>(called: &[u8], message: &Message<'a>) -> &'a [u8]
+    ensures { result.now ≡ octets_added called.now (called_received message.now.elements) }
+{
+    match (message.called_contents(), called) {
+        (None, _) => &[],
+        (Some(contents), []) => contents,
+        (Some([_, digits @ ..]), _) => digits,
+        (Some([]), _) => &[],
+    }
+}
+
+// The second octets behind the first.
+fn joined(first: &[u8], second: &[u8]) -> Contents<MOST_CALLED>
+    requires { length first.now + length second.now ≤ 21 }
+    ensures { result ≡ first.now ++ second.now }
+{
+    let mut contents = Contents::of(first);
+    contents.append(second);
+    contents
+}

@@ -1,0 +1,219 @@
+//! A call that is accepted, by a SETUP or once its number is complete: its legs are made, and their users are sent what
+//! comes of it.
+ghost use Rattle.std.specs.Prelude.{◌≡◌, ◌+◌, ◌*◌, ◌<◌, ◌≤◌, ◌^◌, ◌++◌, [], ◌∷◌, None, IfSome, length};
+ghost use Rattle.circuit_map.specs.Connections.{SameSizes};
+ghost use Rattle.circuit_model.specs.Extent.{IsExternal};
+ghost use Rattle.number_plan.specs.declared.target.Found.TheVariants.{Room};
+ghost use Rattle.q931_codec.specs.Outgoing.{outgoing_of};
+ghost use Rattle.call_states.specs.Pending.{FitsElements};
+ghost use Rattle.call_states.specs.Status.{FitsMessages};
+ghost use Rattle.exchange_events.specs.Limits.{most_sends};
+ghost use Rattle.exchange_events.specs.Sizes.{Dimensions};
+ghost use Rattle.call_profile.specs.Operations.{making_at, making_after_all};
+ghost use Rattle.call_profile.specs.Permitted.{CanSeat};
+ghost use Rattle.call_profile.specs.Setup.{accept, caller_leg, called_leg, with_channel, setup_acknowledge, offer, call_line, call_room, await_digits};
+ghost use Rattle.call_profile.specs.World.{World};
+ghost use Rattle.call_control.specs.Asked.{asked_of};
+ghost use Rattle.call_control.specs.Choices.{IsReached, SeatsInRoom, proceeding_sent};
+ghost use Rattle.call_control.specs.Standing.{Holds, Makes, Performs};
+
+use crate::asked::{Asked, pending_of};
+use crate::operations::CallControl;
+use crate::sending::{message_to, send};
+use call_states::{Leg, Peer, Side};
+use circuit_model::{Slot, channel_of};
+use control_memory::PathMap;
+use exchange_events::Outbox;
+use number_plan::Found;
+use q931_codec::states::{ACTIVE, CALL_PRESENT, OUTGOING_CALL_PROCEEDING, OVERLAP_SENDING};
+use q931_codec::{MessageKind, Outgoing};
+
+/// The caller of a call that is accepted.
+#[derive(Clone, Copy)]
+pub(crate) struct Caller {
+    /// Its slot.
+    pub slot: Slot,
+    /// Its call reference value.
+    pub reference: u16,
+    /// Whether its SETUP was not answered yet: the first answer tells it the channel of its call.
+    pub first: bool,
+}
+
+impl<P: PathMap> CallControl<P> {
+    /// Makes the legs of a call which is made from this, and whose number leads there.
+    pub(crate) fn accept(&mut self, out: &mut Outbox, caller: Caller, asked: &Asked, target: Found)
+        requires external { IsExternal self.old.map.external caller.slot }
+        requires count { length self.old.legs.held ≡ 30 * self.old.map.external }
+        requires reached { IsReached self.old.map.external target }
+        requires seats { SeatsInRoom self.old.map self.old.legs caller.slot target }
+        requires reference { caller.reference < 2 ^ 15 }
+        requires fits { FitsElements (asked_of asked.now) }
+        requires fresh { (out.old.sends ≡ []) × (out.old.moved ≡ None) }
+        ensures makes { (d : Dimensions) (w : World) → Holds d self.old.map self.old.legs w → Makes d self.new.map self.new.legs out.new.sends out.new.moved
+            (making_after_all d (making_at w) (accept caller.first w caller.reference (asked_of asked.now) caller.slot target)) }
+        ensures few { IfSome out.new.moved (λ moves. (moves.0 ≤ self.old.map.bound) × (moves.1 ≤ self.old.map.bound)) }
+        ensures sizes { SameSizes self.old.map self.new.map }
+    {
+        match target {
+            Found::Line(line) => {
+                let Some(called) = self.lowest_idle_beside(caller.slot, line) else {
+                    return;
+                };
+                let reference = self.legs.new_reference(line);
+                self.call_line(out, caller, asked, called, reference);
+            }
+            Found::Room(room) => self.call_room(out, caller, room),
+            Found::More => self.await_digits(out, caller, asked),
+            Found::Nothing => {}
+        }
+    }
+
+    // Makes a call to a line: the caller waits, and the called user is offered the call with this
+    // reference.
+    fn call_line(
+        &mut self,
+        out: &mut Outbox,
+        caller: Caller,
+        asked: &Asked,
+        y: Slot,
+        reference: u16,
+    )
+        requires external_x { IsExternal self.old.map.external caller.slot }
+        requires external_y { IsExternal self.old.map.external y }
+        requires count { length self.old.legs.held ≡ 30 * self.old.map.external }
+        requires room { length out.old.sends ≤ 60 }
+        requires own { caller.reference < 2 ^ 15 }
+        requires reference { reference < 2 ^ 15 }
+        requires fits { FitsElements (asked_of asked.now) }
+        ensures makes { Performs (call_line caller.first caller.reference (asked_of asked.now) caller.slot y reference)
+            self.old.map self.old.legs out.old self.new.map self.new.legs out.new }
+        ensures moved { out.new.moved ≡ out.old.moved }
+        ensures map { self.new.map ≡ self.old.map }
+    {
+        let x = caller.slot;
+        let calling = caller_leg(OUTGOING_CALL_PROCEEDING, caller.reference, Peer::Leg(y));
+        let called = called_leg(reference, x);
+        self.put(x, calling);
+        self.put(y, called);
+        send_proceeding(out, caller, &calling);
+        send(out, y.line, &offer(asked, y, &called));
+    }
+
+    // Lets a caller wait for the rest of its number, and asks it for that once.
+    fn await_digits(&mut self, out: &mut Outbox, caller: Caller, asked: &Asked)
+        requires external { IsExternal self.old.map.external caller.slot }
+        requires count { length self.old.legs.held ≡ 30 * self.old.map.external }
+        requires room { length out.old.sends ≤ 60 }
+        requires own { caller.reference < 2 ^ 15 }
+        requires fits { FitsElements (asked_of asked.now) }
+        ensures makes { Performs (await_digits caller.first caller.reference (asked_of asked.now) caller.slot)
+            self.old.map self.old.legs out.old self.new.map self.new.legs out.new }
+        ensures moved { out.new.moved ≡ out.old.moved }
+        ensures map { self.new.map ≡ self.old.map }
+    {
+        let x = caller.slot;
+        let calling = caller_leg(OVERLAP_SENDING, caller.reference, Peer::Alone);
+        self.wait(x, calling, pending_of(asked));
+        if caller.first {
+            send(out, x.line, &setup_acknowledge(x, &calling));
+        }
+    }
+
+    // Makes a call to a conference room, which is answered at once.
+    fn call_room(&mut self, out: &mut Outbox, caller: Caller, room: u8)
+        requires can { (d : Dimensions) × (w : World) × Holds d self.old.map self.old.legs w × CanSeat d w caller.slot }
+        requires external { IsExternal self.old.map.external caller.slot }
+        requires count { length self.old.legs.held ≡ 30 * self.old.map.external }
+        requires room { length out.old.sends ≤ 60 }
+        requires own { caller.reference < 2 ^ 15 }
+        ensures makes { Performs (call_room caller.first caller.reference caller.slot room)
+            self.old.map self.old.legs out.old self.new.map self.new.legs out.new }
+        ensures few { IfSome out.new.moved (λ moves. (moves.0 ≤ self.old.map.bound) × (moves.1 ≤ self.old.map.bound)) }
+        ensures sizes { SameSizes self.old.map self.new.map }
+    {
+        let x = caller.slot;
+        let calling = caller_leg(ACTIVE, caller.reference, Peer::Room(room));
+        self.put(x, calling);
+        out.moved = Some(self.seat(x, room));
+        send_proceeding(out, caller, &calling);
+        send(out, x.line, &message_to(&calling, MessageKind::Connect));
+    }
+}
+
+// Sends CALL PROCEEDING to a caller; as the first answer it tells the channel.
+fn send_proceeding(out: &mut Outbox, caller: Caller, leg: &Leg)
+    requires place { caller.slot.place < 30 }
+    requires room { length out.old.sends < most_sends }
+    requires told { FitsMessages leg.now }
+    ensures sends { out.new.sends ≡ out.old.sends ++ proceeding_sent caller.first caller.slot leg.now ∷ [] }
+    ensures moved { out.new.moved ≡ out.old.moved }
+{
+    let message = message_to(leg, MessageKind::CallProceeding);
+    if caller.first {
+        send(out, caller.slot.line, &with_channel(caller.slot, message));
+    } else {
+        send(out, caller.slot.line, &message);
+    }
+}
+
+// The caller's leg of a new call.
+fn caller_leg(state: u8, reference: u16, peer: Peer) -> Leg
+    ensures { result ≡ caller_leg state reference peer }
+{
+    Leg {
+        state,
+        reference,
+        side: Side::Caller,
+        peer,
+        cause: 0,
+    }
+}
+
+// The called leg of a new call.
+fn called_leg(reference: u16, caller: Slot) -> Leg
+    ensures { result ≡ called_leg reference caller }
+{
+    Leg {
+        state: CALL_PRESENT,
+        reference,
+        side: Side::Called,
+        peer: Peer::Leg(caller),
+        cause: 0,
+    }
+}
+
+// The SETUP ACKNOWLEDGE that tells the caller its channel, and asks for the rest of the number.
+fn setup_acknowledge(x: Slot, leg: &Leg) -> Outgoing<'static>
+    requires place { x.place < 30 }
+    ensures { outgoing_of result ≡ setup_acknowledge x leg.now }
+{
+    with_channel(x, message_to(leg, MessageKind::SetupAcknowledge))
+}
+
+// A message that tells the user the channel of its call.
+fn with_channel(x: Slot, message: Outgoing<'static>) -> Outgoing<'static>
+    requires place { x.place < 30 }
+    ensures { outgoing_of result ≡ with_channel x (outgoing_of message.entry) }
+{
+    Outgoing {
+        channel: Some(channel_of(x.place)),
+        ..message
+    }
+}
+
+// The SETUP to the called user.
+fn offer<'a>(asked: &Asked<'a>, y: Slot, leg: &Leg) -> Outgoing<'a>
+    requires place { y.place < 30 }
+    ensures { outgoing_of result ≡ offer (asked_of asked.now) y leg.now }
+{
+    Outgoing {
+        complete: true,
+        bearer: asked.bearer,
+        channel: Some(channel_of(y.place)),
+        calling: asked.calling,
+        called: asked.called,
+        low: asked.low,
+        high: asked.high,
+        ..message_to(leg, MessageKind::Setup)
+    }
+}
