@@ -17,7 +17,6 @@ use Rattle.exchange_events.specs.Sizes.{Setting, Dimensions}
 use Rattle.call_profile.specs.Acts.{clear_with}
 use Rattle.call_profile.specs.Digits.{adds_wrongly, asked_with, called_with, dial_on, digits_refusal, on_digits, with_pending}
 use Rattle.call_profile.specs.Legs.{Legs, leg_at, pending_at}
-use Rattle.call_profile.specs.Operations.{Operation}
 use Rattle.call_profile.specs.Permitted.{CanSeat}
 use Rattle.call_profile.specs.Setup.{first_cause, number_checks, called_checks, target_dialled, accept}
 use Rattle.call_profile.specs.Waiting.{Waits}

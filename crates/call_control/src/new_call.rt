@@ -1,6 +1,6 @@
 //! A call that is accepted, by a SETUP or once its number is complete: its legs are made, and their users are sent what
 //! comes of it.
-ghost use Rattle.std.specs.Prelude.{◌≡◌, ◌+◌, ◌*◌, ◌<◌, ◌≤◌, ◌^◌, ◌++◌, [], ◌∷◌, None, IfSome, ℕ, length};
+ghost use Rattle.std.specs.Prelude.{◌≡◌, ◌+◌, ◌*◌, ◌<◌, ◌≤◌, ◌^◌, ◌++◌, [], ◌∷◌, None, IfSome, length};
 ghost use Rattle.circuit_map.specs.Connections.{SameSizes};
 ghost use Rattle.circuit_model.specs.Extent.{IsExternal};
 ghost use Rattle.number_plan.specs.declared.target.Found.TheVariants.{Room};
@@ -11,7 +11,7 @@ ghost use Rattle.exchange_events.specs.Limits.{most_sends};
 ghost use Rattle.exchange_events.specs.Sizes.{Dimensions};
 ghost use Rattle.call_profile.specs.Operations.{making_at, making_after_all};
 ghost use Rattle.call_profile.specs.Permitted.{CanSeat};
-ghost use Rattle.call_profile.specs.Setup.{accept, caller_leg, called_leg, with_channel, call_proceeding, setup_acknowledge, offer, call_line, call_room, await_digits};
+ghost use Rattle.call_profile.specs.Setup.{accept, caller_leg, called_leg, with_channel, setup_acknowledge, offer, call_line, call_room, await_digits};
 ghost use Rattle.call_profile.specs.World.{World};
 ghost use Rattle.call_control.specs.Asked.{asked_of};
 ghost use Rattle.call_control.specs.Choices.{IsReached, SeatsInRoom, proceeding_sent};

@@ -9,7 +9,6 @@ use Rattle.q931_codec.specs.Contents.{complete_in, dialled_digits}
 use Rattle.q931_codec.specs.declared.message.Message.{Message}
 use Rattle.number_plan.specs.declared.target.Found.{Found}
 use Rattle.number_plan.specs.declared.target.Found.TheVariants.{Line, Room, More, Nothing}
-use Rattle.call_states.specs.declared.leg.Held.{Held}
 use Rattle.call_states.specs.declared.leg.Leg.{Leg}
 use Rattle.exchange_events.specs.Sizes.{Setting, Dimensions}
 use Rattle.call_profile.specs.Digits.{adds_wrongly, called_with, digits_refusal, WantsSlot, WantsPort}

@@ -1,10 +1,9 @@
 -- More digits of a number that is dialled in parts: a leg that waits on, is cleared, or whose call is accepted keeps the legs consistent.
-use Rattle.std.proofs.Common.{◌≡◌, ℕ, ◌<◌, ◌≤◌, ◌||◌, Bool, true, false, inl, inr, List, ◌∷◌, length, Option, Some, None, refl, sym, ◌∙◌, ap, subst, arith, length-set}
+use Rattle.std.proofs.Common.{◌≡◌, ℕ, ◌<◌, ◌≤◌, ◌||◌, Bool, true, false, inl, inr, List, length, Option, Some, None, refl, sym, ◌∙◌, ap, subst, arith, length-set}
 use Rattle.std.specs.Prelude.{nat_lt}
 use Rattle.std.proofs.lemmas.Bool.Decides.{nat_tests}
 use Rattle.std.specs.List.{AllByRecursion}
 use Rattle.circuit_model.specs.declared.channel.Slot.{Slot}
-use Rattle.circuit_model.specs.declared.circuit.Kind.{Kind}
 use Rattle.circuit_model.specs.Circuits.{is_idle}
 use Rattle.circuit_model.specs.Extent.{IsExternal}
 use Rattle.circuit_model.specs.Holding.{Holding, Clear as Clear_slot, after, Valid}
@@ -17,14 +16,13 @@ use Rattle.call_states.specs.declared.leg.Leg.{Leg}
 use Rattle.call_states.specs.declared.leg.Peer.TheVariants as peer
 use Rattle.call_states.specs.declared.pending.Pending.{Pending}
 use Rattle.call_states.specs.Pending.{FitsElements}
-use Rattle.number_plan.specs.declared.target.Found.{Found}
 use Rattle.tone_rules.specs.declared.tones.Tones.{Tones}
 use Rattle.exchange_events.specs.Sizes.{Setting, Dimensions}
 use Rattle.exchange_events.specs.Sound.{IsPlanned}
 use Rattle.call_profile.specs.Acts.{clear_with, in_disconnect_indication, tone_of}
-use Rattle.call_profile.specs.Digits.{has_no_octet, adds_wrongly, called_with, asked_with, digits_checks, digits_refusal, dial_on, with_pending, on_digits}
+use Rattle.call_profile.specs.Digits.{has_no_octet, called_with, asked_with, digits_checks, digits_refusal, dial_on, with_pending, on_digits}
 use Rattle.call_profile.specs.LegStanding.{CallsStand, LegsStand, LegStands}
-use Rattle.call_profile.specs.Legs.{leg_at, with_entry}
+use Rattle.call_profile.specs.Legs.{leg_at}
 use Rattle.call_profile.specs.Operations.{Operation, making_at, making_after_all}
 use Rattle.call_profile.specs.Setup.{Check, is_room_full, target_dialled}
 use Rattle.call_profile.specs.Waiting.{Waits}

@@ -1,5 +1,5 @@
 -- More digits end no call: of a leg that waits for the rest of its number there is no call yet.
-use Rattle.std.proofs.Common.{◌≡◌, ℕ, ◌*◌, ◌&&◌, Bool, true, false, [], length, Option, Some, None, refl, sym, ◌∙◌, ap, subst, List}
+use Rattle.std.proofs.Common.{◌≡◌, ℕ, ◌&&◌, Bool, true, false, [], Option, Some, None, refl, sym, ◌∙◌, ap, subst, List}
 use Rattle.circuit_model.specs.Extent.{IsExternal}
 use Rattle.q931_codec.specs.CallStates.{overlap_sending}
 use Rattle.q931_codec.specs.declared.message.Message.{Message}

@@ -1,12 +1,11 @@
 -- What is done for more digits is permitted.
-use Rattle.std.proofs.Common.{◌≡◌, ℕ, false, List, Option, Some, None, refl, sym, subst}
+use Rattle.std.proofs.Common.{◌≡◌, ℕ, false, Option, Some, None, refl, sym, subst}
 use Rattle.circuit_model.specs.Extent.{IsExternal}
 use Rattle.circuit_model.proofs.Validity.{deaf_is_idle}
 use Rattle.q931_codec.specs.CallStates.{overlap_sending}
 use Rattle.q931_codec.specs.Contents.{dialled_digits}
 use Rattle.q931_codec.specs.declared.message.Message.{Message}
 use Rattle.number_plan.specs.declared.target.Found.{Found}
-use Rattle.number_plan.specs.declared.target.Found.TheVariants.{More}
 use Rattle.call_states.specs.declared.leg.Held.{Held}
 use Rattle.call_states.specs.declared.pending.Pending.{Pending}
 use Rattle.exchange_events.specs.Sizes.{Setting}
@@ -14,8 +13,7 @@ use Rattle.exchange_events.specs.Sound.{IsPlanned}
 use Rattle.call_profile.specs.Digits.{asked_with, called_with, digits_refusal, dial_on, on_digits}
 use Rattle.call_profile.specs.LegStanding.{CallsStand}
 use Rattle.call_profile.specs.Legs.{leg_at}
-use Rattle.call_profile.specs.Operations.{Operation, making_at}
-use Rattle.call_profile.specs.Permitted.{CanSeat}
+use Rattle.call_profile.specs.Operations.{making_at}
 use Rattle.call_profile.specs.Setup.{target_dialled}
 use Rattle.call_profile.specs.Waiting.{Waits}
 use Rattle.call_profile.specs.World.{World}

@@ -3,7 +3,6 @@ use Rattle.std.proofs.Common.{◌≡◌, ℕ, zero, suc, ◌*◌, ◌<◌, List,
 use Rattle.std.specs.Prelude.{All, replicate}
 use Rattle.std.proofs.lemmas.List.{length-replicate}
 use Rattle.circuit_model.specs.declared.channel.Slot.{Slot}
-use Rattle.circuit_model.specs.Holding.{Valid}
 use Rattle.circuit_model.proofs.Validity.{valid-empty}
 use Rattle.q931_codec.specs.Outgoing.{OutgoingMessage}
 use Rattle.q931_codec.specs.Reading.{reading}
@@ -15,7 +14,7 @@ use Rattle.exchange_events.specs.declared.trace.Event.{Event}
 use Rattle.exchange_events.specs.declared.trace.Event.TheVariants.{Nail, Seat, Free, Message, Frame}
 use Rattle.exchange_events.specs.Sound.{Fits, IsPlanned}
 use Rattle.call_profile.specs.Step.{next, world_after_all}
-use Rattle.call_profile.specs.LegStanding.{LegsStand, CallsStand}
+use Rattle.call_profile.specs.LegStanding.{CallsStand}
 use Rattle.control_memory.specs.Layout.{number_of}
 use Rattle.call_states.specs.declared.leg.Leg.{Leg}
 use Rattle.call_profile.specs.Legs.{leg_at, no_legs}

@@ -1,6 +1,6 @@
 -- Worked calls whose number is dialled on, on which the definitions are evaluated. Source: this exchange's own; the octets are those of ITU-T Q.931
 -- (05/98), section 4.
-use Rattle.std.specs.Prelude.{ℕ, ◌+◌, ◌*◌, List, [], ◌∷◌, ◌++◌, Option, Some, map, replicate, true}
+use Rattle.std.specs.Prelude.{◌+◌, ◌*◌, List, [], ◌∷◌, ◌++◌, Option, Some, map, replicate, true}
 use Rattle.std.specs.List.{range_with_len}
 use Rattle.call_states.specs.declared.pending.Pending.{Pending}
 use Rattle.exchange_events.specs.declared.record.Party.TheVariants as party

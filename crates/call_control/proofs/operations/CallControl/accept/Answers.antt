@@ -1,4 +1,4 @@
-use Rattle.std.proofs.Common.{[], subst, sym, ◌∙◌, ap}
+use Rattle.std.proofs.Common.{subst, sym, ◌∙◌, ap}
 use Rattle.call_profile.specs.Legs.{Legs, new_reference}
 use Rattle.call_profile.specs.Operations.{making_at}
 use Rattle.call_profile.specs.Setup.{accept, await_digits, call_line, call_room}

@@ -1,15 +1,11 @@
 use Rattle.std.proofs.Common.{◌<◌, sym, ◌∙◌, ap, subst}
 use Rattle.std.specs.Prelude.{[], IfSome}
 use Rattle.std.specs.List.{cons_option}
-use Rattle.call_states.specs.Acts.{act_on, cause_of_act, clearing_cause, is_null}
+use Rattle.call_states.specs.Acts.{cause_of_act, clearing_cause, is_null}
 use Rattle.call_states.specs.declared.act.Act.{Act}
 use Rattle.call_states.proofs.Causes.{act_fits, cause_fits}
 use Rattle.q931_codec.specs.Contents.{call_state_in}
 use Rattle.call_profile.proofs.RecordOfActLemmas.{records_of_act}
-use Rattle.call_profile.specs.ActCourse.{course_of}
-use Rattle.call_profile.specs.Digits.{on_digits}
-use Rattle.call_profile.specs.Operations.{making_at}
-use Rattle.call_control.proofs.SetupMakingLemmas.{makes_begun, makes_same}
 use Rattle.call_control.proofs.AtWorkLemmas.{digits_state, peer_external, known_there, known_peer, known_silent, known_waiting, known_records}
 use Rattle.call_control.proofs.operations.CallControl.act.Goals as goal
 

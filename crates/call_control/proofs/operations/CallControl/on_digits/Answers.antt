@@ -1,4 +1,4 @@
-use Rattle.std.proofs.Common.{◌≡◌, [], Some, None, sym, ◌∙◌, ap, true, false}
+use Rattle.std.proofs.Common.{◌≡◌, [], sym, ◌∙◌, ap, true, false}
 use Rattle.std.specs.Prelude.{is_none, unwrap_or}
 use Rattle.std.specs.Option.{option_copied}
 use Rattle.q931_codec.specs.Causes.{invalid_number_format}
@@ -6,7 +6,7 @@ use Rattle.q931_codec.specs.Contents.{dialled_digits}
 use Rattle.tone_rules.specs.declared.tones.Tones.{Tones}
 use Rattle.call_states.specs.declared.pending.Pending.{Pending}
 use Rattle.call_profile.specs.Acts.{clear_with}
-use Rattle.call_profile.specs.Digits.{adds_wrongly, called_with, digits_refusal, on_digits}
+use Rattle.call_profile.specs.Digits.{adds_wrongly, called_with, on_digits}
 use Rattle.call_profile.specs.Operations.{making_at}
 use Rattle.call_profile.specs.Setup.{target_dialled}
 use Rattle.call_control.proofs.AtWorkLemmas.{known_there}
