@@ -15,7 +15,7 @@ use crate::reading_ahead::{DialledNumber, ReadAhead, message_of};
 use crate::sending::answer_on_no_call;
 use clearing_rules::{GLOBAL_CALL_REFERENCE, restart};
 use control_memory::PathMap;
-use exchange_events::{Outbox, Response};
+use exchange_events::Outbox;
 use number_plan::Plan;
 use q931_codec::{Message, MessageKind, read};
 use tone_rules::Tones;

@@ -1,7 +1,6 @@
 //! A run over a list of events, and its report.
 
-use crate::exchange::{PlainExchange, PlainTones};
-use crate::numbers::Number;
+use crate::exchange::PlainExchange;
 use crate::sent::{CallRecord, Course, Sent};
 use circuit_model::{IDLE, PLACES, Slot};
 use std::alloc::{AllocError, Global};
