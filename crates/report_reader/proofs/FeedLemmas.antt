@@ -11,7 +11,7 @@ use Rattle.exchange_events.specs.declared.answer.Kept.{Kept}
 use Rattle.exchange_events.specs.declared.answer.Kept.TheVariants.{Granted, Busy, Seated, NoPort, Freed, NotNailed, Sent, Frame}
 use Rattle.exchange_events.specs.declared.signal.Signal.{Signal}
 use Rattle.report_text.specs.Report.{on_line, parts}
-use Rattle.report_reader.specs.Spelling.{AreOctets, AreToldOctets, IsHeld, IsRow, IsSendable, IsToldReply, is_idle, is_unbroken}
+use Rattle.report_reader.specs.Spelling.{AreOctets, AreNormalOctets, IsHeld, IsRow, IsSendable, IsNormalReply, is_idle, is_unbroken}
 use Rattle.report_reader.proofs.OctetLemmas.{digit_plain}
 use Rattle.report_reader.proofs.SignalLemmas.{line_text, told}
 use Rattle.report_reader.proofs.RowLemmas.{part_busy, part_idle}
@@ -73,7 +73,7 @@ moved_unbroken (Some held_are) rest held after =
 alone_unbroken : (a b : ℕ) → IsHeld a → IsHeld b → is_unbroken (pair a b) ≡ true
 alone_unbroken a b low high = both_unbroken (decimal a) (32 ∷ decimal b) (decimal_unbroken a low) (decimal_unbroken b high)
 
-pub reply_unbroken : (reply : Kept) (rows : List (List ℕ)) → IsToldReply reply → AreToldOctets reply rows → is_unbroken (word_text (word_of reply) ++ body rows reply) ≡ true
+pub reply_unbroken : (reply : Kept) (rows : List (List ℕ)) → IsNormalReply reply → AreNormalOctets reply rows → is_unbroken (word_text (word_of reply) ++ body rows reply) ≡ true
 reply_unbroken (Granted a b) rows fine beside = alone_unbroken a b fine.0 fine.1
 reply_unbroken Busy rows fine beside = refl
 reply_unbroken (Seated a b) rows fine beside = alone_unbroken a b fine.0 fine.1

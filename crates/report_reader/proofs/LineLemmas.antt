@@ -9,7 +9,7 @@ use Rattle.exchange_events.specs.declared.answer.Kept.{Kept}
 use Rattle.exchange_events.specs.declared.answer.Kept.TheVariants.{Granted, Busy, Seated, NoPort, Freed, NotNailed, Sent, Frame}
 use Rattle.report_text.specs.Report.{answer_line, lines_sent, moves, octet_of, report_line}
 use Rattle.report_reader.specs.declared.word.Word.{Word}
-use Rattle.report_reader.specs.Spelling.{AreToldOctets, IsNormal, Spells, is_unbroken}
+use Rattle.report_reader.specs.Spelling.{AreNormalOctets, IsNormal, Spells, is_unbroken}
 use Rattle.report_reader.specs.Reading.{number_at, passing, reading, told_of, word_at}
 use Rattle.report_reader.proofs.StepLemmas.{both, passed}
 use Rattle.report_reader.proofs.NumberLemmas.{number_back, number_text, starts_digit}
@@ -38,7 +38,7 @@ line_is rows n (Sent sends moved records) = rw (moves_told moved, messages_told 
 line_is rows n (Frame k sends records) = rw (frame_messages_told sends) (simp append_assoc refl)
 
 -- the octets of a frame are what its lines send
-rows_told : (reply : Kept) (rows : List (List ℕ)) → AreToldOctets reply rows → reply_text (lines_sent (octet_of rows) (length rows)) reply ≡ reply_text rows reply
+rows_told : (reply : Kept) (rows : List (List ℕ)) → AreNormalOctets reply rows → reply_text (lines_sent (octet_of rows) (length rows)) reply ≡ reply_text rows reply
 rows_told (Granted a b) rows beside = refl
 rows_told Busy rows beside = refl
 rows_told (Seated a b) rows beside = refl

@@ -10,7 +10,7 @@ use Rattle.exchange_events.specs.declared.signal.Signal.{Signal}
 use Rattle.report_text.specs.Report.{parts}
 use Rattle.report_reader.specs.declared.word.Word.{Word}
 use Rattle.report_reader.specs.declared.word.Word.TheVariants as word
-use Rattle.report_reader.specs.Spelling.{AreRows, AreToldOctets, IsHeld, IsSendable, IsToldReply}
+use Rattle.report_reader.specs.Spelling.{AreRows, AreNormalOctets, IsHeld, IsSendable, IsNormalReply}
 use Rattle.report_reader.specs.Reading.{behind, frame_of, is_empty, message_of, moves_at, moves_by, pair_at, pair_of, passing, rows_of, signals_at, spaced_at, told_of, word_at, word_by, ◌>>=◌}
 use Rattle.report_reader.proofs.StepLemmas.{both, passed}
 use Rattle.hex.specs.Hex.{encode_upper}
@@ -239,8 +239,8 @@ alone reply = Some (reply, [])
 pub record IsToldIn (w : Word) (octets : List ℕ) (reply : Kept) (rows : List (List ℕ)) : Type 0 where
   pub named : word_of reply ≡ w
   pub there : octets ≡ body rows reply
-  pub fine : IsToldReply reply
-  pub beside : AreToldOctets reply rows
+  pub fine : IsNormalReply reply
+  pub beside : AreNormalOctets reply rows
 
 signals_there : (mark octets : List ℕ) (sends : List Signal) (rest : List ℕ) → signals_at mark octets ≡ Some (sends, rest) → (octets ≡ told mark sends ++ rest) × All IsSendable sends
 signals_there mark octets sends rest found =
@@ -322,7 +322,7 @@ told_text word.Frame octets reply rows found = frame_told octets reply rows foun
 
 -- ---- what a line says is read
 
-pub told_back : (reply : Kept) (rows : List (List ℕ)) → IsToldReply reply → AreToldOctets reply rows → told_of (word_of reply) (body rows reply) ≡ Some (reply, rows)
+pub told_back : (reply : Kept) (rows : List (List ℕ)) → IsNormalReply reply → AreNormalOctets reply rows → told_of (word_of reply) (body rows reply) ≡ Some (reply, rows)
 told_back (Granted a b) rows fine beside = rw (beside, pair_whole a b fine.0 fine.1) refl
 told_back Busy rows fine beside = rw beside refl
 told_back (Seated a b) rows fine beside = rw (beside, pair_whole a b fine.0 fine.1) refl

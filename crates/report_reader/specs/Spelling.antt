@@ -47,26 +47,26 @@ pub record AreRows (rows : List (List ℕ)) : Type 0 where
   pub last : IfSome (last_or None rows) (λ octets. is_idle octets ≡ false)
 
 -- a reply as a line tells it: its numbers can be held, its messages sent; no line tells of the records of calls
-abbrev pub IsToldReply : Kept → Type 0
-IsToldReply (Granted a b) = IsHeld a × IsHeld b
-IsToldReply Busy = ⊤
-IsToldReply (Seated a b) = IsHeld a × IsHeld b
-IsToldReply NoPort = ⊤
-IsToldReply Freed = ⊤
-IsToldReply NotNailed = ⊤
-IsToldReply (Sent sends moved records) = All IsSendable sends × IfSome moved (λ both. IsHeld both.0 × IsHeld both.1) × (records ≡ [])
-IsToldReply (Frame n sends records) = IsHeld n × All IsSendable sends × (records ≡ [])
+abbrev pub IsNormalReply : Kept → Type 0
+IsNormalReply (Granted a b) = IsHeld a × IsHeld b
+IsNormalReply Busy = ⊤
+IsNormalReply (Seated a b) = IsHeld a × IsHeld b
+IsNormalReply NoPort = ⊤
+IsNormalReply Freed = ⊤
+IsNormalReply NotNailed = ⊤
+IsNormalReply (Sent sends moved records) = All IsSendable sends × IfSome moved (λ both. IsHeld both.0 × IsHeld both.1) × (records ≡ [])
+IsNormalReply (Frame n sends records) = IsHeld n × All IsSendable sends × (records ≡ [])
 
 -- the octets beside a reply as a line tells them: none where it is no frame's
-abbrev pub AreToldOctets : Kept → List (List ℕ) → Type 0
-AreToldOctets (Frame n sends records) rows = AreRows rows
-AreToldOctets reply rows = rows ≡ []
+abbrev pub AreNormalOctets : Kept → List (List ℕ) → Type 0
+AreNormalOctets (Frame n sends records) rows = AreRows rows
+AreNormalOctets reply rows = rows ≡ []
 
 -- an answer in normal form: it holds what its line tells, and nothing else
 pub record IsNormal (answer : Answer) : Type 0 where
   pub event : (1 ≤ answer.event) × (answer.event ≤ most_events)
-  pub reply : IsToldReply answer.reply
-  pub octets : AreToldOctets answer.reply answer.octets
+  pub reply : IsNormalReply answer.reply
+  pub octets : AreNormalOctets answer.reply answer.octets
 
 -- a line, given without the line feed that ends it, spells an answer in normal form: it is the one that is printed for it
 pub record Spells (line : List ℕ) (answer : Answer) : Type 0 where
