@@ -1,4 +1,5 @@
 //! What no clause says: that the calls come to an end, in threads too. And a worked example, whose numbers were found by hand.
+mod segments;
 mod traces;
 mod work;
 
@@ -8,12 +9,14 @@ ghost use Rattle.exchange_events.specs.Sound.{IsSound};
 use exchange_core::{Core, Switchboard};
 use exchange_events::Trace;
 use fabric_map::FabricMap;
+use gate::{OpenGate, TestGate};
+use segments::{frames_run, processed, segments_at};
 use shared_exchange::SharedExchange;
 use std::alloc::Global;
 use std::sync::Wait;
 use std::test::Fail;
 use std::thread::Threads;
-use traces::nails_and_frames;
+use traces::{nail_and_five_frames, nails_and_frames};
 use work::{Outcome, do_all, side_by_side};
 
 // What one thread does with two seats. The place and the answer of each event, and the journal.
@@ -91,5 +94,30 @@ fn two_threads_share_one_history(rt: HostRuntime) -> Result<(), Fail> {
     assert_eq!(rt; granted, (30, 30));
     assert_eq!(rt; journal.len(), 60);
     assert!(rt; has_every_second(&journal, 0, 1) && has_every_second(&journal, 1, 2));
+    Ok(())
+}
+
+// An octet leaves two frames after it came, from the call processor and the frame worker, and from the
+// segments whole, by one caller and by threads.
+#[test]
+fn segments_are_answered_whole(rt: HostRuntime) -> Result<(), Fail> {
+    let alloc = rt.alloc();
+    let trace = nail_and_five_frames(alloc).ok().ok_or("no trace")?;
+    let expected = [
+        (1, Outcome::Granted(0, 0), None),
+        (2, Outcome::Frame(0), Some((0xD5, 0xD5))),
+        (3, Outcome::Frame(1), Some((0xD5, 0xD5))),
+        (4, Outcome::Frame(2), Some((129, 1))),
+        (5, Outcome::Frame(3), Some((130, 2))),
+        (6, Outcome::Frame(4), Some((131, 3))),
+    ];
+    let (nail, whole) = processed(&rt, alloc, &trace)?;
+    assert!(rt; whole && nail.as_slice() == &expected[..1]);
+    let (frames, whole) = frames_run(&rt, alloc, &trace)?;
+    assert!(rt; whole && frames.as_slice() == &expected[1..]);
+    assert!(rt; segments_at(&rt, alloc, &trace, &OpenGate)?.as_slice() == expected.as_slice());
+    assert!(rt;
+        segments_at(&rt, alloc, &trace, &TestGate::new(0, 9))?.as_slice() == expected.as_slice()
+    );
     Ok(())
 }
