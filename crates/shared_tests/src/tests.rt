@@ -1,4 +1,5 @@
 //! What no clause says: that the calls come to an end, in threads too. And a worked example, whose numbers were found by hand.
+mod segments;
 mod traces;
 mod work;
 
@@ -8,12 +9,14 @@ ghost use Rattle.exchange_events.specs.Sound.{IsSound};
 use exchange_core::{Core, Switchboard};
 use exchange_events::Trace;
 use fabric_map::FabricMap;
+use gate::{OpenGate, TestGate};
+use segments::{are_five_frames, frames_run, is_nail, is_whole, processed, segments_at};
 use shared_exchange::SharedExchange;
 use std::alloc::Global;
 use std::sync::Wait;
 use std::test::Fail;
 use std::thread::Threads;
-use traces::nails_and_frames;
+use traces::{nail_and_five_frames, nails_and_frames};
 use work::{Outcome, do_all, side_by_side};
 
 // What one thread does with two seats. The place and the answer of each event, and the journal.
@@ -91,5 +94,37 @@ fn two_threads_share_one_history(rt: HostRuntime) -> Result<(), Fail> {
     assert_eq!(rt; granted, (30, 30));
     assert_eq!(rt; journal.len(), 60);
     assert!(rt; has_every_second(&journal, 0, 1) && has_every_second(&journal, 1, 2));
+    Ok(())
+}
+
+#[test]
+fn a_call_processor_answers_its_part(rt: HostRuntime) -> Result<(), Fail> {
+    let trace = nail_and_five_frames(rt.alloc()).ok().ok_or("no trace")?;
+    let (nail, whole) = processed(&rt, rt.alloc(), &trace)?;
+    assert!(rt; whole && is_nail(nail.as_slice()));
+    Ok(())
+}
+
+#[test]
+fn a_frame_worker_answers_its_part(rt: HostRuntime) -> Result<(), Fail> {
+    let trace = nail_and_five_frames(rt.alloc()).ok().ok_or("no trace")?;
+    let (frames, whole) = frames_run(&rt, rt.alloc(), &trace)?;
+    assert!(rt; whole && are_five_frames(frames.as_slice()));
+    Ok(())
+}
+
+#[test]
+fn segments_are_answered_whole_by_one_caller(rt: HostRuntime) -> Result<(), Fail> {
+    let trace = nail_and_five_frames(rt.alloc()).ok().ok_or("no trace")?;
+    let all = segments_at(&rt, rt.alloc(), &trace, &OpenGate)?;
+    assert!(rt; is_whole(all.as_slice()));
+    Ok(())
+}
+
+#[test]
+fn segments_are_answered_whole_in_threads(rt: HostRuntime) -> Result<(), Fail> {
+    let trace = nail_and_five_frames(rt.alloc()).ok().ok_or("no trace")?;
+    let all = segments_at(&rt, rt.alloc(), &trace, &TestGate::new(0, 9))?;
+    assert!(rt; is_whole(all.as_slice()));
     Ok(())
 }

@@ -1,9 +1,9 @@
-//! A trace of nails and frames.
+//! Traces of nails and frames.
 ghost use Rattle.std.specs.Prelude.{◌≡◌, length, IfOk, All, ◌*◌, ◌+◌};
 ghost use Rattle.exchange_events.specs.Sound.{IsSound, Fits};
 
 use call_timers::Timers;
-use circuit_model::Slot;
+use circuit_model::{IDLE, Slot};
 use exchange_events::{Changes, Event, Events, Input, Segments, Trace};
 use number_plan::Plan;
 use std::alloc::{AllocError, Global};
@@ -59,6 +59,61 @@ pub fn nails_and_frames(alloc: Global) -> Result<Trace, AllocError>
         external: 4,
         bridges: 0,
         processors: 2,
+        plan: Plan::new(alloc),
+        tones: Tones::none(alloc),
+        timers: TIMERS,
+        events: Events::of(events),
+        segments: Segments::of(ends),
+        changes: Changes::of(Vec::new(alloc)),
+    })
+}
+
+// What a line sends that has this octet in its first place.
+fn first_octet(octet: u8) -> Option<[u8; 30]> {
+    let mut row = [IDLE; 30];
+    row[0] = octet;
+    Some(row)
+}
+
+// What arrives in a frame on two lines, an octet in the first place of each.
+fn two_octets(alloc: Global, zero: u8, one: u8) -> Result<Input, AllocError>
+    ensures { IfOk result (λ i. length i ≡ 2) }
+{
+    let mut lines = Vec::with_capacity(alloc, 2)?;
+    lines.push_reserved(first_octet(zero));
+    lines.push_reserved(first_octet(one));
+    Ok(Input::of(lines))
+}
+
+// Five frames, in which line 0 sends the octets 1 to 5, and line 1 the octets 129 to 133.
+fn push_frames(alloc: Global, events: &mut Vec<Event>) -> Result<(), AllocError>
+    requires fits { All (Fits 2) events.old.items }
+    ensures count { IfOk result (λ u. length events.new.items ≡ length events.old.items + 5) }
+    ensures fits { IfOk result (λ u. All (Fits 2) events.new.items) }
+{
+    for number in 1..6 {
+        events.push(Event::Frame(two_octets(alloc, number, 128 + number)?))?;
+    }
+    Ok(())
+}
+
+/// A trace of two lines and one call processor: a nail of their first slots in a segment of its own, and
+/// then five frames, in which line 0 sends the octets 1 to 5 there, and line 1 the octets 129 to 133.
+pub fn nail_and_five_frames(alloc: Global) -> Result<Trace, AllocError>
+    ensures sound { IfOk result IsSound }
+    ensures sizes { IfOk result (λ t. (t.external ≡ 2) × (t.bridges ≡ 0) × (t.processors ≡ 1)) }
+    ensures segments { IfOk result (λ t. length t.segments ≡ 2) }
+{
+    let mut events = Vec::new(alloc);
+    events.push(Event::Nail(on(0, 0), on(1, 0)))?;
+    push_frames(alloc, &mut events)?;
+    let mut ends = Vec::new(alloc);
+    ends.push(1)?;
+    ends.push(6)?;
+    Ok(Trace {
+        external: 2,
+        bridges: 0,
+        processors: 1,
         plan: Plan::new(alloc),
         tones: Tones::none(alloc),
         timers: TIMERS,

@@ -9,7 +9,7 @@ ghost use Rattle.shared_tests.specs.Steps.{HasStepped};
 
 use control_memory::Image;
 use exchange_core::{Desk, Switchboard, Tool};
-use exchange_events::{Event, Reply, Trace};
+use exchange_events::{Answer, Event, Kept, Reply, Trace};
 use std::alloc::Global;
 use std::sync::Wait;
 use std::thread::{Threads, join};
@@ -28,6 +28,16 @@ fn answer_of(reply: &Reply) -> Outcome {
         Reply::Granted(there, back) => Outcome::Granted(*there, *back),
         Reply::Busy => Outcome::Busy,
         Reply::Frame { number, .. } => Outcome::Frame(*number),
+        _ => Outcome::Other,
+    }
+}
+
+/// What a kept answer says.
+pub fn kept_outcome(answer: &Answer) -> Outcome {
+    match &answer.reply {
+        Kept::Granted(there, back) => Outcome::Granted(*there, *back),
+        Kept::Busy => Outcome::Busy,
+        Kept::Frame { number, .. } => Outcome::Frame(*number),
         _ => Outcome::Other,
     }
 }

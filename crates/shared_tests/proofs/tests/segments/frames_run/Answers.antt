@@ -1,0 +1,12 @@
+use Rattle.std.proofs.Common.{length, ap, arith}
+use Rattle.exchange_events.specs.Orders.{Frame_worker}
+use Rattle.exchange_events.specs.declared.trace.Trace.{Trace}
+use Rattle.shared_tests.proofs.SeatLemmas.{chief_may}
+use Rattle.shared_tests.proofs.tests.segments.frames_run.Goals as goal
+
+pub run_frames-framed-requires-clause-turns : goal.run_frames-framed-requires-clause-turns
+run_frames-framed-requires-clause-turns g c lifetimes outlive =
+    let segments = c.requires.segments in
+    let first = c.in_ok-board.ensures in
+    let turns = ap (λ (t : Trace). length t.events) first.board in
+    chief_may c.args.trace.now 1 Frame_worker _ _ turns c.requires.sound (omega (arith, segments)) first.chief first.done
