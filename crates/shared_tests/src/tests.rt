@@ -10,7 +10,7 @@ use exchange_core::{Core, Switchboard};
 use exchange_events::Trace;
 use fabric_map::FabricMap;
 use gate::{OpenGate, TestGate};
-use segments::{frames_run, processed, segments_at};
+use segments::{are_five_frames, frames_run, is_nail, is_whole, processed, segments_at};
 use shared_exchange::SharedExchange;
 use std::alloc::Global;
 use std::sync::Wait;
@@ -97,27 +97,34 @@ fn two_threads_share_one_history(rt: HostRuntime) -> Result<(), Fail> {
     Ok(())
 }
 
-// An octet leaves two frames after it came, from the call processor and the frame worker, and from the
-// segments whole, by one caller and by threads.
 #[test]
-fn segments_are_answered_whole(rt: HostRuntime) -> Result<(), Fail> {
-    let alloc = rt.alloc();
-    let trace = nail_and_five_frames(alloc).ok().ok_or("no trace")?;
-    let expected = [
-        (1, Outcome::Granted(0, 0), None),
-        (2, Outcome::Frame(0), Some((0xD5, 0xD5))),
-        (3, Outcome::Frame(1), Some((0xD5, 0xD5))),
-        (4, Outcome::Frame(2), Some((129, 1))),
-        (5, Outcome::Frame(3), Some((130, 2))),
-        (6, Outcome::Frame(4), Some((131, 3))),
-    ];
-    let (nail, whole) = processed(&rt, alloc, &trace)?;
-    assert!(rt; whole && nail.as_slice() == &expected[..1]);
-    let (frames, whole) = frames_run(&rt, alloc, &trace)?;
-    assert!(rt; whole && frames.as_slice() == &expected[1..]);
-    assert!(rt; segments_at(&rt, alloc, &trace, &OpenGate)?.as_slice() == expected.as_slice());
-    assert!(rt;
-        segments_at(&rt, alloc, &trace, &TestGate::new(0, 9))?.as_slice() == expected.as_slice()
-    );
+fn a_call_processor_answers_its_part(rt: HostRuntime) -> Result<(), Fail> {
+    let trace = nail_and_five_frames(rt.alloc()).ok().ok_or("no trace")?;
+    let (nail, whole) = processed(&rt, rt.alloc(), &trace)?;
+    assert!(rt; whole && is_nail(nail.as_slice()));
+    Ok(())
+}
+
+#[test]
+fn a_frame_worker_answers_its_part(rt: HostRuntime) -> Result<(), Fail> {
+    let trace = nail_and_five_frames(rt.alloc()).ok().ok_or("no trace")?;
+    let (frames, whole) = frames_run(&rt, rt.alloc(), &trace)?;
+    assert!(rt; whole && are_five_frames(frames.as_slice()));
+    Ok(())
+}
+
+#[test]
+fn segments_are_answered_whole_by_one_caller(rt: HostRuntime) -> Result<(), Fail> {
+    let trace = nail_and_five_frames(rt.alloc()).ok().ok_or("no trace")?;
+    let all = segments_at(&rt, rt.alloc(), &trace, &OpenGate)?;
+    assert!(rt; is_whole(all.as_slice()));
+    Ok(())
+}
+
+#[test]
+fn segments_are_answered_whole_in_threads(rt: HostRuntime) -> Result<(), Fail> {
+    let trace = nail_and_five_frames(rt.alloc()).ok().ok_or("no trace")?;
+    let all = segments_at(&rt, rt.alloc(), &trace, &TestGate::new(0, 9))?;
+    assert!(rt; is_whole(all.as_slice()));
     Ok(())
 }

@@ -189,3 +189,26 @@ pub fn frames_run<R: Threads + Wait + Sync>(
     let all = shown_of(alloc, framed.worked.answers.as_slice())?;
     Ok((all, framed.worked.whole))
 }
+
+/// Whether this is what the nail is answered, and nothing else.
+pub fn is_nail(answers: &[Shown]) -> bool {
+    let expected = [(1, Outcome::Granted(0, 0), None)];
+    answers == expected.as_slice()
+}
+
+/// Whether this is what the five frames are answered: an octet leaves two frames after it came.
+pub fn are_five_frames(answers: &[Shown]) -> bool {
+    let expected = [
+        (2, Outcome::Frame(0), Some((0xD5, 0xD5))),
+        (3, Outcome::Frame(1), Some((0xD5, 0xD5))),
+        (4, Outcome::Frame(2), Some((129, 1))),
+        (5, Outcome::Frame(3), Some((130, 2))),
+        (6, Outcome::Frame(4), Some((131, 3))),
+    ];
+    answers == expected.as_slice()
+}
+
+/// Whether this is what the nail and the five frames are answered.
+pub fn is_whole(answers: &[Shown]) -> bool {
+    answers.len() == 6 && is_nail(&answers[..1]) && are_five_frames(&answers[1..])
+}
