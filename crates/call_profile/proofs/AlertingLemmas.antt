@@ -27,7 +27,7 @@ use Rattle.call_profile.proofs.BesideLemmas.{entry_here, entry_else}
 use Rattle.call_profile.proofs.HearingLemmas.{clear_keeps, connect_keeps}
 use Rattle.call_profile.proofs.BothLegsClearedLemmas.{ArePeers, strange_both}
 use Rattle.call_profile.proofs.ClearingLemmas.{Kept}
-use Rattle.call_profile.proofs.TwoStatesLemmas.{both_gone}
+use Rattle.call_profile.proofs.TwoStatesLemmas.{both_gone, gone_to}
 use Rattle.call_profile.proofs.ToneLemmas.{no_tone, sounding_keeps, sounding_valid, sounds}
 use Rattle.call_profile.proofs.LegTableLemmas.{both_size, both_else, both_first, both_second}
 
@@ -76,13 +76,13 @@ module _ (d : Dimensions) (tones : Tones) (w : World) (x y : Slot) (leg other : 
           state_x = refl;
           state_y = old.state;
           matched = subst (λ t. are_matched t incoming_call_proceeding ≡ true) (sym waited) refl;
-          size = length-set w.legs.held (number_of x) (Some (in_state incoming_call_proceeding leg)) ∙ stand.count;
-          here_x = entry_here d.external w.legs x (Some (in_state incoming_call_proceeding leg)) stand.count peers.in_x;
-          here_y = entry_else d.external w.legs x y (Some (in_state incoming_call_proceeding leg)) peers.in_x peers.in_y peers.apart ∙ peers.at_y;
-          hears_x = subst (MayHear tones (in_state incoming_call_proceeding leg)) (sym silent) (λ e. absurd cc, refl);
+          size = length-set w.legs.held (number_of x) (Some (gone_to w incoming_call_proceeding leg)) ∙ stand.count;
+          here_x = entry_here d.external w.legs x (Some (gone_to w incoming_call_proceeding leg)) stand.count peers.in_x;
+          here_y = entry_else d.external w.legs x y (Some (gone_to w incoming_call_proceeding leg)) peers.in_x peers.in_y peers.apart ∙ peers.at_y;
+          hears_x = subst (MayHear tones (gone_to w incoming_call_proceeding leg)) (sym silent) (λ e. absurd cc, refl);
           hears_y = old.hears;
           beside = record {
-            legs = λ z in_z not_x not_y. entry_else d.external w.legs x z (Some (in_state incoming_call_proceeding leg)) peers.in_x in_z not_x;
+            legs = λ z in_z not_x not_y. entry_else d.external w.legs x z (Some (gone_to w incoming_call_proceeding leg)) peers.in_x in_z not_x;
             heard = λ z l in_z at_z not_x not_y. refl;
             strange = λ z l p in_z at_z not_x not_y is. let strange = strange_both d.external tones w x y leg other stand peers z l in_z at_z not_x not_y in (strange.0 p is, strange.1 p is);
           };
@@ -96,8 +96,8 @@ module _ (d : Dimensions) (tones : Tones) (w : World) (x y : Slot) (leg other : 
       let idle = deaf_is_idle w.holding.circuits y (valid.standing y) deaf in
       let tone = tone_of tones (in_state call_delivered other) in
       let called_apart : x ≡ y → ⊥ = λ e. peers.apart (sym e) in
-      let one : Option Leg = Some (in_state call_received leg) in
-      let two : Option Leg = Some (in_state call_delivered other) in (
+      let one : Option Leg = Some (gone_to w call_received leg) in
+      let two : Option Leg = Some (gone_to w call_delivered other) in (
         sounding_valid w.holding y idle d.bridges valid tone,
         both_gone d.external tones w (making_after_all d (making_at w) (on_alerting tones (record { slot = x; leg = leg }) (record { slot = y; leg = other }))).world x y leg other call_received call_delivered (record {
           stand = stand;
@@ -112,8 +112,8 @@ module _ (d : Dimensions) (tones : Tones) (w : World) (x y : Slot) (leg other : 
           size = both_size d.external w.legs x y one two stand.count peers.in_x peers.in_y peers.apart;
           here_x = both_first d.external w.legs x y one two stand.count peers.in_x peers.in_y peers.apart;
           here_y = both_second d.external w.legs x y one two stand.count peers.in_x peers.in_y peers.apart;
-          hears_x = subst (MayHear tones (in_state call_received leg)) (sym (sounding_keeps w.holding y idle x called_apart tone ∙ silent)) (λ e. absurd cc, refl);
-          hears_y = sounds w.holding y idle tones (in_state call_delivered other) (λ e. absurd cc);
+          hears_x = subst (MayHear tones (gone_to w call_received leg)) (sym (sounding_keeps w.holding y idle x called_apart tone ∙ silent)) (λ e. absurd cc, refl);
+          hears_y = sounds w.holding y idle tones (gone_to w call_delivered other) (λ e. absurd cc);
           beside = record {
             legs = both_else d.external w.legs x y one two stand.count peers.in_x peers.in_y peers.apart;
             heard = λ z l in_z at_z not_x not_y. sounding_keeps w.holding y idle z not_y tone;
@@ -147,8 +147,8 @@ module _ (d : Dimensions) (tones : Tones) (w : World) (x y : Slot) (leg other : 
 
   pub answer_kept : Kept d tones (making_after_all d (making_at w) (on_connect (record { slot = x; leg = leg }) (record { slot = y; leg = other }))).world
   answer_kept =
-      let one : Option Leg = Some (in_state active leg) in
-      let two : Option Leg = Some (in_state active other) in (
+      let one : Option Leg = Some (gone_to w active leg) in
+      let two : Option Leg = Some (gone_to w active other) in (
         valid-connect d.bridges cleared y x (valid-clear d.bridges w.holding y valid) peers.apart idle_caller idle_called,
         both_gone d.external tones w (making_after_all d (making_at w) (on_connect (record { slot = x; leg = leg }) (record { slot = y; leg = other }))).world x y leg other active active (record {
           stand = stand;
@@ -163,8 +163,8 @@ module _ (d : Dimensions) (tones : Tones) (w : World) (x y : Slot) (leg other : 
           size = both_size d.external w.legs x y one two stand.count peers.in_x peers.in_y peers.apart;
           here_x = both_first d.external w.legs x y one two stand.count peers.in_x peers.in_y peers.apart;
           here_y = both_second d.external w.legs x y one two stand.count peers.in_x peers.in_y peers.apart;
-          hears_x = subst (MayHear tones (in_state active leg)) (sym heard_called) (refl, peers.there);
-          hears_y = subst (MayHear tones (in_state active other)) (sym heard_caller) (refl, peers.back);
+          hears_x = subst (MayHear tones (gone_to w active leg)) (sym heard_called) (refl, peers.there);
+          hears_y = subst (MayHear tones (gone_to w active other)) (sym heard_caller) (refl, peers.back);
           beside = record {
             legs = both_else d.external w.legs x y one two stand.count peers.in_x peers.in_y peers.apart;
             heard = heard_others;

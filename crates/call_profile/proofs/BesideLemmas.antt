@@ -1,8 +1,9 @@
 -- Legs are as before where a message touches two slots alone.
-use Rattle.std.proofs.Common.{◌≡◌, ℕ, ◌*◌, ◌⊎◌, inl, inr, length, Option, Some, None, refl, sym, ◌∙◌, ap, subst, arith, get_or-set_same, get_or-set_other, set-set}
+use Rattle.std.proofs.Common.{◌≡◌, ℕ, ◌*◌, ◌⊎◌, inl, inr, List, length, Option, Some, None, refl, sym, ◌∙◌, ap, subst, arith, get_or-set_same, get_or-set_other, set-set}
 use Rattle.circuit_model.specs.declared.channel.Slot.{Slot}
 use Rattle.circuit_model.specs.Circuits.{heard_by, same_slot}
 use Rattle.circuit_model.specs.Extent.{IsExternal}
+use Rattle.std.specs.Prelude.{slice_index_or}
 use Rattle.circuit_model.proofs.Slots.{same_slot_cases, same_slot-refl}
 use Rattle.control_memory.specs.Layout.{number_of}
 use Rattle.control_memory.proofs.Steps.{same_number, number_inside}
@@ -18,6 +19,10 @@ use Rattle.call_profile.specs.World.{World}
 
 -- ---- a table of legs with one entry written
 
+-- the entry of a slot
+abbrev pub look : Slot → List (Option Leg) → Option Leg
+look x os = slice_index_or os (number_of x) None
+
 pub entry_here : (external : ℕ) (legs : Legs) (x : Slot) (o : Option Leg) → length legs.held ≡ 30 * external → IsExternal external x → leg_at (with_entry legs x o) x ≡ o
 entry_here external legs x o size inside = get_or-set_same legs.held (number_of x) o None (let n = number_inside external x inside in omega (arith, n, size))
 
@@ -26,7 +31,7 @@ entry_else external legs x z o at_x at_z apart = get_or-set_other legs.held (num
 
 -- the second of two entries for one slot is left
 pub entry_twice : (legs : Legs) (x : Slot) (o p : Option Leg) → with_entry (with_entry legs x o) x p ≡ with_entry legs x p
-entry_twice legs x o p = λ i. record { held = set-set legs.held (number_of x) o p i; pending = set-set legs.pending (number_of x) None None i }
+entry_twice legs x o p = λ i. record { held = set-set legs.held (number_of x) o p i; pending = set-set legs.pending (number_of x) None None i; kept = set-set legs.kept (number_of x) None None i }
 
 -- one slot or another
 pub same_or_apart : (x y : Slot) → (x ≡ y) ⊎ (x ≡ y → ⊥)

@@ -12,10 +12,10 @@ use Rattle.call_states.specs.declared.leg.Peer.TheVariants as peer
 use Rattle.tone_rules.specs.declared.tones.Tones.{Tones}
 use Rattle.call_profile.specs.Acts.{in_disconnect_indication, tone_of}
 use Rattle.call_profile.specs.LegStanding.{LegStands, LegsStand, MayHear}
-use Rattle.call_profile.specs.Legs.{Legs, leg_at, with_entry}
-use Rattle.call_profile.specs.Operations.{with_tone}
+use Rattle.call_profile.specs.Legs.{leg_at, with_entry}
+use Rattle.call_profile.specs.Operations.{begun, with_tone}
 use Rattle.call_profile.specs.World.{World}
-use Rattle.call_profile.proofs.BesideLemmas.{entry_here, entry_else, same_or_apart, named_back, Beside, each_stands, SameReferences, still_one}
+use Rattle.call_profile.proofs.BesideLemmas.{look, entry_here, entry_else, same_or_apart, named_back, Beside, each_stands, SameReferences, still_one}
 use Rattle.call_profile.proofs.HearingLemmas.{IsStrange, clear_both_keeps}
 use Rattle.call_profile.proofs.OneLegClearedLemmas.{IsLeft, left_stands, left_reference, disconnected_stands, deaf_once, deaf_still}
 use Rattle.call_profile.proofs.ToneLemmas.{cleared_is_idle, sounding_keeps, sounds}
@@ -46,12 +46,16 @@ strange_both external tones w x y leg other stand peers z l in_z at_z not_x not_
     )
 
 module _ (external : ℕ) (tones : Tones) (bridges : ℕ) (w v : World) (x y : Slot) (leg other : Leg) (o : Option Leg) (cause : ℕ) (small : cause < 128) (valid : Valid bridges w.holding) (stand : LegsStand external tones w)
-    (peers : ArePeers external w x y leg other) (left : IsLeft leg o)
-    (legs : v.legs ≡ with_entry (with_entry w.legs x o) y (Some (in_disconnect_indication cause other)))
+    (peers : ArePeers external w x y leg other) (left : IsLeft w.holding.next leg o)
+    (legs : v.legs.held ≡ (with_entry (with_entry w.legs x o) y (Some (begun w (in_disconnect_indication cause other)))).held)
     (holding : v.holding ≡ with_tone (after (after w.holding (Clear x)) (Clear y)) y (tone_of tones (in_disconnect_indication cause other))) where
   -- once both slots are cleared, and before the one gets its tone
   abbrev cleared : Holding
   cleared = after (after w.holding (Clear x)) (Clear y)
+
+  -- the other leg, as it is cleared
+  abbrev told : Leg
+  told = begun w (in_disconnect_indication cause other)
 
   abbrev tone : Option Kind
   tone = tone_of tones (in_disconnect_indication cause other)
@@ -61,20 +65,20 @@ module _ (external : ℕ) (tones : Tones) (bridges : ℕ) (w v : World) (x y : S
 
   legs_both : (z : Slot) → IsExternal external z → (z ≡ x → ⊥) → (z ≡ y → ⊥) → leg_at v.legs z ≡ leg_at w.legs z
   legs_both z in_z not_x not_y =
-      ap (λ ls. leg_at ls z) legs
-      ∙ entry_else external (with_entry w.legs x o) y z (Some (in_disconnect_indication cause other)) peers.in_y in_z not_y
+      ap (look z) legs
+      ∙ entry_else external (with_entry w.legs x o) y z (Some told) peers.in_y in_z not_y
       ∙ entry_else external w.legs x z o peers.in_x in_z not_x
 
   here_x : leg_at v.legs x ≡ o
   here_x =
-      ap (λ ls. leg_at ls x) legs
-      ∙ entry_else external (with_entry w.legs x o) y x (Some (in_disconnect_indication cause other)) peers.in_y peers.in_x (λ e. peers.apart (sym e))
+      ap (look x) legs
+      ∙ entry_else external (with_entry w.legs x o) y x (Some told) peers.in_y peers.in_x (λ e. peers.apart (sym e))
       ∙ entry_here external w.legs x o stand.count peers.in_x
 
-  here_y : leg_at v.legs y ≡ Some (in_disconnect_indication cause other)
+  here_y : leg_at v.legs y ≡ Some told
   here_y =
-      ap (λ ls. leg_at ls y) legs
-      ∙ entry_here external (with_entry w.legs x o) y (Some (in_disconnect_indication cause other)) (length-set w.legs.held (number_of x) o ∙ stand.count) peers.in_y
+      ap (look y) legs
+      ∙ entry_here external (with_entry w.legs x o) y (Some told) (length-set w.legs.held (number_of x) o ∙ stand.count) peers.in_y
 
   beside_both : Beside external w v x y
   beside_both = record {
@@ -95,27 +99,27 @@ module _ (external : ℕ) (tones : Tones) (bridges : ℕ) (w v : World) (x y : S
       ∙ sounding_keeps cleared y idle_y x (λ e. peers.apart (sym e)) tone
       ∙ deaf_still bridges (after w.holding (Clear x)) x y (valid-clear bridges w.holding x valid) (deaf_once bridges w.holding x valid)
 
-  hears_y : MayHear tones (in_disconnect_indication cause other) (heard_by v.holding.circuits y)
-  hears_y = subst (λ (h : Holding). MayHear tones (in_disconnect_indication cause other) (heard_by h.circuits y)) (sym holding) (sounds cleared y idle_y tones (in_disconnect_indication cause other) (λ e. absurd cc))
+  hears_y : MayHear tones told (heard_by v.holding.circuits y)
+  hears_y = subst (λ (h : Holding). MayHear tones told (heard_by h.circuits y)) (sym holding) (sounds cleared y idle_y tones told (λ e. absurd cc))
 
   new_x : (l : Leg) → leg_at v.legs x ≡ Some l → LegStands external tones v x l
-  new_x l is = left_stands external tones w v x leg o left (stand.each x leg peers.in_x peers.at_x) deaf_x l (sym here_x ∙ is)
+  new_x l is = left_stands external tones w v x leg w.holding.next o left (stand.each x leg peers.in_x peers.at_x) deaf_x l (sym here_x ∙ is)
 
   new_y : (l : Leg) → leg_at v.legs y ≡ Some l → LegStands external tones v y l
   new_y l is =
-      let e : Some (in_disconnect_indication cause other) ≡ Some l = sym here_y ∙ is in
-      let same : in_disconnect_indication cause other ≡ l = cc in
-      subst (LegStands external tones v y) same (disconnected_stands external tones w v y other cause small (stand.each y other peers.in_y peers.at_y) hears_y)
+      let e : Some told ≡ Some l = sym here_y ∙ is in
+      let same : told ≡ l = cc in
+      subst (LegStands external tones v y) same (disconnected_stands external tones w v y other w.holding.next cause small (stand.each y other peers.in_y peers.at_y) hears_y)
 
   references_both : SameReferences external w v
   references_both z b in_z at_z = elim (same_or_apart z x) [
     | inl is_x ↦
-        let kept = left_reference leg o left b (sym here_x ∙ sym (ap (leg_at v.legs) is_x) ∙ at_z) in
+        let kept = left_reference leg w.holding.next o left b (sym here_x ∙ sym (ap (leg_at v.legs) is_x) ∙ at_z) in
         (leg, ap (leg_at w.legs) is_x ∙ peers.at_x, kept.0, kept.1)
     | inr not_x ↦ elim (same_or_apart z y) [
       | inl is_y ↦
-          let e : Some (in_disconnect_indication cause other) ≡ Some b = sym here_y ∙ sym (ap (leg_at v.legs) is_y) ∙ at_z in
-          let same : in_disconnect_indication cause other ≡ b = cc in
+          let e : Some told ≡ Some b = sym here_y ∙ sym (ap (leg_at v.legs) is_y) ∙ at_z in
+          let same : told ≡ b = cc in
           (other, ap (leg_at w.legs) is_y ∙ peers.at_y, ap (λ (l : Leg). l.side) same, ap (λ (l : Leg). l.reference) same)
       | inr not_y ↦ (b, sym (legs_both z in_z not_x not_y) ∙ at_z, refl, refl)
     ]
@@ -123,7 +127,7 @@ module _ (external : ℕ) (tones : Tones) (bridges : ℕ) (w v : World) (x y : S
 
   pub both_cleared : LegsStand external tones v
   both_cleared = record {
-    count = ap (λ (ls : Legs). length ls.held) legs ∙ length-set (with_entry w.legs x o).held (number_of y) (Some (in_disconnect_indication cause other)) ∙ length-set w.legs.held (number_of x) o ∙ stand.count;
+    count = ap length legs ∙ length-set (with_entry w.legs x o).held (number_of y) (Some told) ∙ length-set w.legs.held (number_of x) o ∙ stand.count;
     each = each_stands external tones w v x y beside_both stand new_x new_y;
     one = still_one external tones w v references_both stand;
   }

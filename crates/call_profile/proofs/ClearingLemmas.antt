@@ -1,9 +1,11 @@
 -- The acts that begin to clear a call keep the legs consistent.
 use Rattle.std.proofs.Common.{◌≡◌, ℕ, ◌<◌, inl, inr, Option, Some, None, refl, sym, ◌∙◌, ap, subst}
+use Rattle.std.specs.Prelude.{slice_set}
 use Rattle.circuit_model.specs.declared.channel.Slot.{Slot}
 use Rattle.circuit_model.specs.Extent.{IsExternal}
 use Rattle.circuit_model.specs.Holding.{Holding, Clear as Clear_slot, after, Valid}
 use Rattle.circuit_model.proofs.Validity.{valid-clear}
+use Rattle.control_memory.specs.Layout.{number_of}
 use Rattle.q931_codec.specs.declared.message.Message.{Message}
 use Rattle.call_states.specs.declared.act.Act.TheVariants as act
 use Rattle.call_states.specs.declared.leg.Leg.{Leg}
@@ -17,8 +19,8 @@ use Rattle.call_profile.specs.ActCourse.{course_of}
 use Rattle.call_profile.specs.Acts.{in_release_request, in_disconnect_indication, tone_of, peer_of, with_peer, clear_with, on_disconnect, on_release, remove_leg}
 use Rattle.call_profile.specs.Calls.{making_by}
 use Rattle.call_profile.specs.LegStanding.{LegsStand, HasPeer, IsInCall}
-use Rattle.call_profile.specs.Legs.{Legs, leg_at, held_at, with_entry}
-use Rattle.call_profile.specs.Operations.{Making, making_at, making_after_all, with_tone}
+use Rattle.call_profile.specs.Legs.{Legs, from_frame, leg_at, held_at, with_entry}
+use Rattle.call_profile.specs.Operations.{Making, begun, making_at, making_after_all, with_tone}
 use Rattle.exchange_events.specs.Sizes.{Setting, Dimensions}
 use Rattle.call_profile.specs.World.{World}
 use Rattle.call_profile.proofs.BesideLemmas.{peer_there, peer_back}
@@ -59,8 +61,8 @@ peers_of external w x y leg other in_x in_y at_x at_y call = record {
 -- ---- once the leg's slot is cleared, and the leg waits for its release or is gone, its peer is cleared
 
 module _ (d : Dimensions) (tones : Tones) (w : World) (x : Slot) (leg : Leg) (o : Option Leg) (cause : ℕ) (small : cause < 128) (valid : Valid d.bridges w.holding) (stand : LegsStand d.external tones w)
-    (within : IsExternal d.external x) (at : leg_at w.legs x ≡ Some leg) (left : IsLeft leg o)
-    (m : Making) (legs : m.world.legs ≡ with_entry w.legs x o) (holding : m.world.holding ≡ after w.holding (Clear_slot x)) where
+    (within : IsExternal d.external x) (at : leg_at w.legs x ≡ Some leg) (left : IsLeft w.holding.next leg o)
+    (m : Making) (legs : m.world.legs.held ≡ (with_entry w.legs x o).held) (holding : m.world.holding ≡ after w.holding (Clear_slot x)) where
   valid_left : Valid d.bridges m.world.holding
   valid_left = subst (Valid d.bridges) (sym holding) (valid-clear d.bridges w.holding x valid)
 
@@ -74,7 +76,7 @@ module _ (d : Dimensions) (tones : Tones) (w : World) (x : Slot) (leg : Leg) (o 
         (tone_of tones (in_disconnect_indication cause other)),
     both_cleared d.external tones d.bridges w (making_after_all d m (clear_with tones cause (record { slot = y; leg = other }))).world x y leg other o cause small valid stand
         (peers_of d.external w x y leg other within in_y at at_y call) left
-        (ap (λ (ls : Legs). with_entry ls y (Some (in_disconnect_indication cause other))) legs)
+        (λ i. slice_set (legs i) (number_of y) (Some (from_frame (holding i).next (in_disconnect_indication cause other))))
         (ap (λ (h : Holding). with_tone (after h (Clear_slot y)) y (tone_of tones (in_disconnect_indication cause other))) holding),
   )
 
@@ -91,7 +93,7 @@ module _ (d : Dimensions) (tones : Tones) (w : World) (x : Slot) (leg : Leg) (o 
 module _ (s : Setting) (w : World) (h : Held) (m : Message) (cause : ℕ) (small : cause < 128) (valid : Valid s.dimensions.bridges w.holding) (stand : LegsStand s.dimensions.external s.tones w)
     (within : IsExternal s.dimensions.external h.slot) (at : leg_at w.legs h.slot ≡ Some h.leg) where
   pub disconnect_kept : Kept s.dimensions s.tones (making_by s w (course_of s w h m (act.Disconnect cause))).world
-  disconnect_kept = clearing_kept s.dimensions s.tones w h.slot h.leg (Some (in_release_request h.leg)) cause small valid stand within at (inr refl) (making_after_all s.dimensions (making_at w) (on_disconnect h)) refl refl
+  disconnect_kept = clearing_kept s.dimensions s.tones w h.slot h.leg (Some (begun w (in_release_request h.leg))) cause small valid stand within at (inr refl) (making_after_all s.dimensions (making_at w) (on_disconnect h)) refl refl
 
   pub released_kept : Kept s.dimensions s.tones (making_by s w (course_of s w h m (act.Release cause))).world
   released_kept = clearing_kept s.dimensions s.tones w h.slot h.leg None cause small valid stand within at (inl refl) (making_after_all s.dimensions (making_at w) (on_release h)) refl refl

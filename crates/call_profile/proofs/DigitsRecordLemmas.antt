@@ -12,7 +12,7 @@ use Rattle.call_profile.specs.CallRecords.{is_calling, records}
 use Rattle.call_profile.specs.Digits.{asked_with, called_with, digits_refusal, dial_on, on_digits}
 use Rattle.call_profile.specs.LegStanding.{CallsStand}
 use Rattle.call_profile.specs.Legs.{leg_at}
-use Rattle.call_profile.specs.Operations.{Operation, making_at, making_after_all}
+use Rattle.call_profile.specs.Operations.{Operation, begun, making_at, making_after_all}
 use Rattle.call_profile.specs.Setup.{target_dialled}
 use Rattle.call_profile.specs.World.{World}
 use Rattle.call_profile.proofs.BesideLemmas.{entry_else}
@@ -36,7 +36,7 @@ module _ (s : Setting) (w : World) (h : Held) (m : Message) (planned : IsPlanned
   clearing_ends cause =
       no_record_where_kept s.dimensions.external w (making_after_all s.dimensions (making_at w) (clear_with s.tones cause h)).world 0 stands.legs.count
       (λ z leg in_z at_z calls.
-      entry_else s.dimensions.external w.legs h.slot z (Some (in_disconnect_indication cause h.leg)) within in_z (not_there w.legs h.slot z leg silent at_z calls) ∙ at_z)
+      entry_else s.dimensions.external w.legs h.slot z (Some (begun w (in_disconnect_indication cause h.leg))) within in_z (not_there w.legs h.slot z leg silent at_z calls) ∙ at_z)
 
   abbrev called : List ℕ
   called = (number s w h m planned stands within at is).number.called

@@ -26,8 +26,9 @@ use Rattle.call_profile.specs.ActCourse.{course_of}
 use Rattle.call_profile.specs.Calls.{Request, For_leg, New_call, On_no_call, Restarts, Unanswered, request_of, answer_back, outcome_for}
 use Rattle.call_profile.specs.IdleSlots.{idle, is_nailed}
 use Rattle.call_profile.specs.LegStanding.{CallsStand}
-use Rattle.call_profile.specs.Legs.{Legs, leg_at, with_leg, with_waiting, without_leg}
-use Rattle.call_profile.specs.Operations.{Operation, Making, making_at, making_after, making_after_all, with_tone}
+use Rattle.q931_codec.specs.Outgoing.{encoding}
+use Rattle.call_profile.specs.Legs.{Legs, leg_at, with_leg, resent_from, with_waiting, with_kept, without_leg}
+use Rattle.call_profile.specs.Operations.{Operation, begun, Making, making_at, making_after, making_after_all, with_tone}
 use Rattle.call_profile.specs.Operations as op
 use Rattle.call_profile.specs.Permitted.{CanSeat}
 use Rattle.call_profile.proofs.Permitted.{CanPair, CanSound, IsPermitted, ArePermitted}
@@ -160,8 +161,10 @@ made_performed d tones plan m (op.Clear x) may made = made_clear d tones m.world
 made_performed d tones plan m (op.Pair x y) may made = made_pair d tones m.world made x y may
 made_performed d tones plan m (op.Seat x room) may made = made_seat d tones m.world made x room may
 made_performed d tones plan m (op.Sound x kind) may made = made_sound d tones m.world made x kind may
-made_performed d tones plan m (op.Put x leg) may made = made_legs d tones m.world made (with_leg m.world.legs x leg)
-made_performed d tones plan m (op.Wait x leg p) may made = made_legs d tones m.world made (with_waiting m.world.legs x leg p)
+made_performed d tones plan m (op.Put x leg) may made = made_legs d tones m.world made (with_leg m.world.legs x (begun m.world leg))
+made_performed d tones plan m (op.Wait x leg p) may made = made_legs d tones m.world made (with_waiting m.world.legs x (begun m.world leg) p)
+made_performed d tones plan m (op.Expect x leg message) may made = made_legs d tones m.world made (with_kept m.world.legs x (begun m.world leg) (encoding message))
+made_performed d tones plan m (op.Repeat h octets) may made = made_legs d tones m.world made (with_kept m.world.legs h.slot (resent_from m.world.holding.next h.leg) octets)
 made_performed d tones plan m (op.Remove x) may made = made_legs d tones m.world made (without_leg m.world.legs x)
 made_performed d tones plan m (op.Send line message) may made = made
 

@@ -19,7 +19,7 @@ use Rattle.tone_rules.specs.declared.tones.Tones.{Tones}
 use Rattle.call_profile.specs.IdleSlots.{idle}
 use Rattle.call_profile.specs.LegStanding.{LegStands, LegsStand, MayHear, AreOneCall}
 use Rattle.call_profile.specs.Legs.{Legs, leg_at, leg_named, with_entry}
-use Rattle.call_profile.specs.Operations.{Wait, making_at, making_after, making_after_all}
+use Rattle.call_profile.specs.Operations.{Wait, begun, making_at, making_after, making_after_all}
 use Rattle.call_profile.specs.Setup.{caller_leg, called_leg, call_line, call_room, await_digits}
 use Rattle.exchange_events.specs.Sizes.{Dimensions}
 use Rattle.call_profile.specs.World.{World, is_full}
@@ -114,10 +114,10 @@ idle_may d tones w own x valid stand in_x idle_x small unused = record {
 
 module _ (d : Dimensions) (tones : Tones) (w : World) (first : Bool) (own : ℕ) (asked : Pending) (x y : Slot) (reference : ℕ) (may : MayCall d tones w own x) (offer : MayOffer d w x y reference) where
   abbrev caller : Leg
-  caller = caller_leg outgoing_call_proceeding own (peer.Leg y)
+  caller = begun w (caller_leg outgoing_call_proceeding own (peer.Leg y))
 
   abbrev called : Leg
-  called = called_leg reference x
+  called = begun w (called_leg reference x)
 
   abbrev after_call : World
   after_call = (making_after_all d (making_at w) (call_line first own asked x y reference)).world
@@ -193,7 +193,7 @@ module _ (d : Dimensions) (tones : Tones) (w : World) (first : Bool) (own : ℕ)
 
 module _ (d : Dimensions) (tones : Tones) (w : World) (first : Bool) (own : ℕ) (x : Slot) (room : ℕ) (may : MayCall d tones w own x) (free : is_full d w ≡ false) where
   abbrev member : Leg
-  member = caller_leg active own (peer.Room room)
+  member = begun w (caller_leg active own (peer.Room room))
 
   abbrev after_seat : World
   after_seat = (making_after_all d (making_at w) (call_room first own x room)).world
@@ -245,10 +245,10 @@ module _ (d : Dimensions) (tones : Tones) (w : World) (first : Bool) (own : ℕ)
 
 module _ (d : Dimensions) (tones : Tones) (w : World) (own : ℕ) (asked : Pending) (x : Slot) (may : MayCall d tones w own x) where
   abbrev waiting : Leg
-  waiting = caller_leg overlap_sending own peer.Alone
+  waiting = begun w (caller_leg overlap_sending own peer.Alone)
 
   abbrev after_wait : World
-  after_wait = (making_after d (making_at w) (Wait x waiting asked)).world
+  after_wait = (making_after d (making_at w) (Wait x (caller_leg overlap_sending own peer.Alone) asked)).world
 
   at_waiting : leg_at after_wait.legs x ≡ Some waiting
   at_waiting = entry_here d.external w.legs x (Some waiting) may.stand.count may.in_x

@@ -11,10 +11,10 @@ use Rattle.call_states.specs.declared.leg.Peer.TheVariants as peer
 use Rattle.tone_rules.specs.declared.tones.Tones.{Tones}
 use Rattle.call_profile.specs.Acts.{in_release_request, in_disconnect_indication}
 use Rattle.call_profile.specs.LegStanding.{LegStands, LegsStand, MayHear}
-use Rattle.call_profile.specs.Legs.{Legs, leg_at, with_entry}
+use Rattle.call_profile.specs.Legs.{from_frame, leg_at, with_entry}
 use Rattle.call_profile.specs.World.{World}
 use Rattle.call_profile.proofs.AnsweringLemmas.{cleared_by}
-use Rattle.call_profile.proofs.BesideLemmas.{entry_here, entry_else, same_or_apart, named_back, Beside, each_stands, SameReferences, still_one}
+use Rattle.call_profile.proofs.BesideLemmas.{look, entry_here, entry_else, same_or_apart, named_back, Beside, each_stands, SameReferences, still_one}
 use Rattle.call_profile.proofs.HearingLemmas.{IsStrange, clear_keeps}
 
 -- ---- what is alone
@@ -27,18 +27,20 @@ pub deaf_still : (bridges : ℕ) (h : Holding) (x y : Slot) → Valid bridges h 
 deaf_still bridges h x y valid deaf = heard_by-clear h.circuits y x (valid.standing x) ∙ ap (unless_naming y) deaf
 
 -- a leg that was released is alone in silence, and one that was disconnected with a cause where it hears what it may
-pub released_stands : (external : ℕ) (tones : Tones) (w v : World) (x : Slot) (leg : Leg) → LegStands external tones w x leg → heard_by v.holding.circuits x ≡ None → LegStands external tones v x (in_release_request leg)
-released_stands external tones w v x leg stands deaf = record {
+pub released_stands : (external : ℕ) (tones : Tones) (w v : World) (x : Slot) (leg : Leg) (next : ℕ) → LegStands external tones w x leg → heard_by v.holding.circuits x ≡ None
+    → LegStands external tones v x (from_frame next (in_release_request leg))
+released_stands external tones w v x leg next stands deaf = record {
   state = refl;
   reference = stands.reference;
   cause = stands.cause;
   peer = refl;
-  hears = subst (MayHear tones (in_release_request leg)) (sym deaf) (λ e. absurd cc, refl);
+  hears = subst (MayHear tones (from_frame next (in_release_request leg))) (sym deaf) (λ e. absurd cc, refl);
 }
 
-pub disconnected_stands : (external : ℕ) (tones : Tones) (w v : World) (x : Slot) (leg : Leg) (cause : ℕ) → cause < 128 → LegStands external tones w x leg → MayHear tones (in_disconnect_indication cause leg) (heard_by v.holding.circuits x)
-    → LegStands external tones v x (in_disconnect_indication cause leg)
-disconnected_stands external tones w v x leg cause small stands may = record {
+pub disconnected_stands : (external : ℕ) (tones : Tones) (w v : World) (x : Slot) (leg : Leg) (next cause : ℕ) → cause < 128 → LegStands external tones w x leg
+    → MayHear tones (from_frame next (in_disconnect_indication cause leg)) (heard_by v.holding.circuits x)
+    → LegStands external tones v x (from_frame next (in_disconnect_indication cause leg))
+disconnected_stands external tones w v x leg next cause small stands may = record {
   state = refl;
   reference = stands.reference;
   cause = small;
@@ -48,32 +50,33 @@ disconnected_stands external tones w v x leg cause small stands may = record {
 
 -- ---- one leg without another
 
--- what becomes of a leg that is released: it is gone, or waits for its release
-abbrev pub IsLeft : Leg → Option Leg → Type 0
-IsLeft leg o = (o ≡ None) ⊎ (o ≡ Some (in_release_request leg))
+-- what becomes of a leg that is released: it is gone, or waits for its release from the next frame on
+abbrev pub IsLeft : ℕ → Leg → Option Leg → Type 0
+IsLeft next leg o = (o ≡ None) ⊎ (o ≡ Some (from_frame next (in_release_request leg)))
 
-pub left_stands : (external : ℕ) (tones : Tones) (w v : World) (x : Slot) (leg : Leg) (o : Option Leg) → IsLeft leg o → LegStands external tones w x leg → heard_by v.holding.circuits x ≡ None → (l : Leg) → o ≡ Some l → LegStands external tones v x l
-left_stands external tones w v x leg o (inl gone) stands deaf l is = let e : None ≡ Some l = sym gone ∙ is in absurd cc
-left_stands external tones w v x leg o (inr waits) stands deaf l is =
-    let e : Some (in_release_request leg) ≡ Some l = sym waits ∙ is in
-    let same : in_release_request leg ≡ l = cc in
-    subst (LegStands external tones v x) same (released_stands external tones w v x leg stands deaf)
+pub left_stands : (external : ℕ) (tones : Tones) (w v : World) (x : Slot) (leg : Leg) (next : ℕ) (o : Option Leg) → IsLeft next leg o → LegStands external tones w x leg → heard_by v.holding.circuits x ≡ None
+    → (l : Leg) → o ≡ Some l → LegStands external tones v x l
+left_stands external tones w v x leg next o (inl gone) stands deaf l is = let e : None ≡ Some l = sym gone ∙ is in absurd cc
+left_stands external tones w v x leg next o (inr waits) stands deaf l is =
+    let e : Some (from_frame next (in_release_request leg)) ≡ Some l = sym waits ∙ is in
+    let same : from_frame next (in_release_request leg) ≡ l = cc in
+    subst (LegStands external tones v x) same (released_stands external tones w v x leg next stands deaf)
 
-pub left_reference : (leg : Leg) (o : Option Leg) → IsLeft leg o → (b : Leg) → o ≡ Some b → (leg.side ≡ b.side) × (leg.reference ≡ b.reference)
-left_reference leg o (inl gone) b is = let e : None ≡ Some b = sym gone ∙ is in absurd cc
-left_reference leg o (inr waits) b is =
-    let e : Some (in_release_request leg) ≡ Some b = sym waits ∙ is in
-    let same : in_release_request leg ≡ b = cc in
+pub left_reference : (leg : Leg) (next : ℕ) (o : Option Leg) → IsLeft next leg o → (b : Leg) → o ≡ Some b → (leg.side ≡ b.side) × (leg.reference ≡ b.reference)
+left_reference leg next o (inl gone) b is = let e : None ≡ Some b = sym gone ∙ is in absurd cc
+left_reference leg next o (inr waits) b is =
+    let e : Some (from_frame next (in_release_request leg)) ≡ Some b = sym waits ∙ is in
+    let same : from_frame next (in_release_request leg) ≡ b = cc in
     (ap (λ (l : Leg). l.side) same, ap (λ (l : Leg). l.reference) same)
 
 module _ (external : ℕ) (tones : Tones) (bridges : ℕ) (w v : World) (x : Slot) (leg : Leg) (o : Option Leg) (valid : Valid bridges w.holding) (stand : LegsStand external tones w)
-    (within : IsExternal external x) (at : leg_at w.legs x ≡ Some leg) (left : IsLeft leg o)
-    (legs : v.legs ≡ with_entry w.legs x o) (holding : v.holding ≡ after w.holding (Clear x)) (no_peer : (p : Slot) → leg.peer ≡ peer.Leg p → ⊥) where
+    (within : IsExternal external x) (at : leg_at w.legs x ≡ Some leg) (left : IsLeft w.holding.next leg o)
+    (legs : v.legs.held ≡ (with_entry w.legs x o).held) (holding : v.holding ≡ after w.holding (Clear x)) (no_peer : (p : Slot) → leg.peer ≡ peer.Leg p → ⊥) where
   legs_alone : (z : Slot) → IsExternal external z → (z ≡ x → ⊥) → leg_at v.legs z ≡ leg_at w.legs z
-  legs_alone z in_z apart = ap (λ ls. leg_at ls z) legs ∙ entry_else external w.legs x z o within in_z apart
+  legs_alone z in_z apart = ap (look z) legs ∙ entry_else external w.legs x z o within in_z apart
 
   here_alone : leg_at v.legs x ≡ o
-  here_alone = ap (λ ls. leg_at ls x) legs ∙ entry_here external w.legs x o stand.count within
+  here_alone = ap (look x) legs ∙ entry_here external w.legs x o stand.count within
 
   -- nobody else names the slot
   strange_alone : (z : Slot) (l : Leg) → IsExternal external z → leg_at w.legs z ≡ Some l → IsStrange l x
@@ -94,19 +97,19 @@ module _ (external : ℕ) (tones : Tones) (bridges : ℕ) (w v : World) (x : Slo
   }
 
   new_alone : (l : Leg) → leg_at v.legs x ≡ Some l → LegStands external tones v x l
-  new_alone l is = left_stands external tones w v x leg o left (stand.each x leg within at) (ap (λ (h : Holding). heard_by h.circuits x) holding ∙ deaf_once bridges w.holding x valid) l (sym here_alone ∙ is)
+  new_alone l is = left_stands external tones w v x leg w.holding.next o left (stand.each x leg within at) (ap (λ (h : Holding). heard_by h.circuits x) holding ∙ deaf_once bridges w.holding x valid) l (sym here_alone ∙ is)
 
   references_alone : SameReferences external w v
   references_alone z b in_z at_z = elim (same_or_apart z x) [
     | inl is_x ↦
-        let kept = left_reference leg o left b (sym here_alone ∙ sym (ap (leg_at v.legs) is_x) ∙ at_z) in
+        let kept = left_reference leg w.holding.next o left b (sym here_alone ∙ sym (ap (leg_at v.legs) is_x) ∙ at_z) in
         (leg, ap (leg_at w.legs) is_x ∙ at, kept.0, kept.1)
     | inr not_x ↦ (b, sym (legs_alone z in_z not_x) ∙ at_z, refl, refl)
   ]
 
   pub alone_left : LegsStand external tones v
   alone_left = record {
-    count = ap (λ (ls : Legs). length ls.held) legs ∙ length-set w.legs.held (number_of x) o ∙ stand.count;
+    count = ap length legs ∙ length-set w.legs.held (number_of x) o ∙ stand.count;
     each = each_stands external tones w v x x beside_alone stand new_alone new_alone;
     one = still_one external tones w v references_alone stand;
   }

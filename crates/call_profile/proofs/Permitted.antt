@@ -1,5 +1,5 @@
 -- What an operation asks of the world in the making.
-use Rattle.std.specs.Prelude.{◌≡◌, ◌≢◌, ◌<◌, true, List, [], ◌∷◌, Option, IfSome}
+use Rattle.std.specs.Prelude.{◌≡◌, ◌≢◌, ◌<◌, true, false, List, [], ◌∷◌, Option, Some, IfSome}
 use Rattle.circuit_model.specs.declared.channel.Slot.{Slot}
 use Rattle.circuit_model.specs.declared.circuit.Kind.{Kind}
 use Rattle.circuit_model.specs.Circuits.{is_idle}
@@ -7,12 +7,15 @@ use Rattle.circuit_model.specs.Extent.{IsExternal}
 use Rattle.number_plan.specs.declared.plan.Number.{Number}
 use Rattle.q931_codec.specs.CallStates.{overlap_sending}
 use Rattle.q931_codec.specs.Outgoing.{IsWritable}
+use Rattle.call_states.specs.Acts.{is_among}
 use Rattle.call_states.specs.Status.{FitsMessages}
 use Rattle.tone_rules.specs.declared.tones.Tones.{Tones}
 use Rattle.tone_rules.specs.Tables.{IsGiven}
-use Rattle.call_profile.specs.Operations.{Operation, Clear, Pair, Seat, Sound, Put, Wait, Remove, Send, Making, making_after}
+use Rattle.call_profile.specs.Operations.{Operation, Clear, Pair, Seat, Sound, Put, Wait, Expect, Repeat, Remove, Send, Making, making_after}
 use Rattle.exchange_events.specs.Sizes.{Dimensions}
 use Rattle.call_profile.specs.World.{World}
+use Rattle.call_profile.specs.KeptMessages.{IsAwaited, awaiting_answer}
+use Rattle.call_profile.specs.Legs.{leg_at, kept_at}
 use Rattle.call_profile.specs.Permitted.{CanSeat}
 use Rattle.call_profile.specs.Waiting.{IsWaiting}
 
@@ -35,8 +38,10 @@ IsPermitted d tones plan m (Clear x) = IsExternal d.external x
 IsPermitted d tones plan m (Pair x y) = CanPair d m.world x y
 IsPermitted d tones plan m (Seat x room) = CanSeat d m.world x
 IsPermitted d tones plan m (Sound x kind) = CanSound d tones m.world x kind
-IsPermitted d tones plan m (Put x leg) = IsExternal d.external x × FitsMessages leg × (leg.state ≢ overlap_sending)
+IsPermitted d tones plan m (Put x leg) = IsExternal d.external x × FitsMessages leg × (leg.state ≢ overlap_sending) × (is_among awaiting_answer leg.state ≡ false)
 IsPermitted d tones plan m (Wait x leg p) = IsExternal d.external x × FitsMessages leg × IsWaiting plan leg p
+IsPermitted d tones plan m (Expect x leg message) = IsExternal d.external x × FitsMessages leg × IsAwaited leg message
+IsPermitted d tones plan m (Repeat h octets) = IsExternal d.external h.slot × (leg_at m.world.legs h.slot ≡ Some h.leg) × (kept_at m.world.legs h.slot ≡ Some octets)
 IsPermitted d tones plan m (Remove x) = IsExternal d.external x
 IsPermitted d tones plan m (Send line message) = (line < d.external) × IsWritable message
 

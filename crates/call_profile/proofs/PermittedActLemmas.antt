@@ -29,6 +29,7 @@ use Rattle.call_states.specs.declared.leg.Held.{Held}
 use Rattle.call_profile.specs.ActCourse.{course_of}
 use Rattle.call_profile.specs.Digits.{on_digits}
 use Rattle.call_profile.specs.Acts.{with_progress, peer_of, tone_of, with_peer, clear_with, in_state, in_release_request, in_disconnect_indication, message_to, disconnect, on_alerting, on_connect}
+use Rattle.call_profile.specs.KeptMessages.{IsAwaited, awaiting_answer}
 use Rattle.call_profile.specs.LegStanding.{CallsStand, LegStands, LegsStand, HasPeer}
 use Rattle.call_profile.specs.Legs.{Legs, leg_at}
 use Rattle.call_profile.specs.Operations.{Making, making_at}
@@ -151,7 +152,7 @@ abbrev Sends : Dimensions → Held → OutgoingMessage → Type 0
 Sends d h message = (h.slot.line < d.external) × IsWritable message
 
 abbrev Puts : Dimensions → Held → Leg → Type 0
-Puts d h leg = IsExternal d.external h.slot × FitsMessages leg × (leg.state ≢ overlap_sending)
+Puts d h leg = IsExternal d.external h.slot × FitsMessages leg × (leg.state ≢ overlap_sending) × (is_among awaiting_answer leg.state ≡ false)
 
 in_state_told : (leg : Leg) (state : ℕ) → FitsMessages leg → state < 64 → FitsMessages (in_state state leg)
 in_state_told leg state told small = record { state = small; reference = told.reference }
@@ -162,7 +163,7 @@ clear_permitted d tones plan m cause c there small =
     let tone = tone_of tones (in_disconnect_indication cause c.leg) in
     let sends : Sends d c (with_progress tone (disconnect c.leg cause)) =
     (there.within.0, announced_writable tone (disconnect c.leg cause) (disconnect_writable c.leg cause there.told small)) in
-    let goes : Puts d c (in_disconnect_indication cause c.leg) = (there.within, record { state = omega arith; reference = there.told.reference }, λ e. absurd cc) in
+    let goes : Puts d c (in_disconnect_indication cause c.leg) = (there.within, record { state = omega arith; reference = there.told.reference }, λ e. absurd cc, refl) in
     let sound : CanSound d tones (obey d m.world (Clear_slot c.slot)) c.slot tone = record {
       within = there.within;
       idle = cleared_is_idle m.world.holding c.slot;
@@ -182,8 +183,8 @@ alerting_permitted d tones plan m h there (Some c) is idle =
     let tone = tone_of tones (in_state call_delivered c.leg) in
     let sends : Sends d c (with_progress tone (message_to c.leg kind.Alerting)) =
     (is.0.within.0, announced_writable tone (message_to c.leg kind.Alerting) (message_writable c.leg kind.Alerting is.0.told tt)) in
-    let caller_goes : Puts d c (in_state call_delivered c.leg) = (is.0.within, in_state_told c.leg call_delivered is.0.told (omega arith), λ e. absurd cc) in
-    let called_goes : Puts d h (in_state call_received h.leg) = (there.within, in_state_told h.leg call_received there.told (omega arith), λ e. absurd cc) in
+    let caller_goes : Puts d c (in_state call_delivered c.leg) = (is.0.within, in_state_told c.leg call_delivered is.0.told (omega arith), λ e. absurd cc, refl) in
+    let called_goes : Puts d h (in_state call_received h.leg) = (there.within, in_state_told h.leg call_received there.told (omega arith), λ e. absurd cc, refl) in
     (called_goes, (caller_goes, (record { within = is.0.within; idle = idle; octets = tone_octets tones (in_state call_delivered c.leg) }, (sends, tt))))
 
 module _ (s : Setting) (w : World) (h : Held) (stand : CallsStand s w) (within : IsExternal s.dimensions.external h.slot) (at : leg_at w.legs h.slot ≡ Some h.leg) where
@@ -211,8 +212,8 @@ module _ (s : Setting) (w : World) (h : Held) (stand : CallsStand s w) (within :
       } in
       let connected : Sends d c (message_to c.leg kind.Connect) = (is.0.within.0, message_writable c.leg kind.Connect is.0.told tt) in
       let acknowledged : Sends d h (message_to h.leg kind.ConnectAcknowledge) = (within.0, message_writable h.leg kind.ConnectAcknowledge there.told tt) in
-      let caller_goes : Puts d c (in_state active c.leg) = (is.0.within, in_state_told c.leg active is.0.told (omega arith), λ e. absurd cc) in
-      let called_goes : Puts d h (in_state active h.leg) = (within, in_state_told h.leg active there.told (omega arith), λ e. absurd cc) in
+      let caller_goes : Puts d c (in_state active c.leg) = (is.0.within, in_state_told c.leg active is.0.told (omega arith), λ e. absurd cc, refl) in
+      let called_goes : Puts d h (in_state active h.leg) = (within, in_state_told h.leg active there.told (omega arith), λ e. absurd cc, refl) in
       (is.0.within, (can, (called_goes, (caller_goes, (acknowledged, (connected, tt))))))
 
   each_idle : (o : Option Held) → IfSome o (λ c. heard_by w.holding.circuits c.slot ≡ None) → IfSome o (λ c. is_idle w.holding.circuits c.slot ≡ true)
@@ -225,16 +226,17 @@ module _ (s : Setting) (w : World) (h : Held) (stand : CallsStand s w) (within :
   asked_permitted m act.Nothing asks digits = tt
   asked_permitted m act.Unexpected asks digits = ((within.0, status_writable h.leg (unexpected_cause m.kind) there.told (unexpected_fits m.kind)), tt)
   asked_permitted m act.Enquiry asks digits = ((within.0, status_writable h.leg response_to_status_enquiry there.told (omega arith)), tt)
-  asked_permitted m act.Proceeding asks digits = ((within, in_state_told h.leg incoming_call_proceeding there.told (omega arith), λ e. absurd cc), tt)
+  asked_permitted m act.Proceeding asks digits = ((within, in_state_told h.leg incoming_call_proceeding there.told (omega arith), λ e. absurd cc, refl), tt)
   asked_permitted m act.Alerting asks digits =
       alerting_permitted d tones s.plan (making_at w) h there (peer_of w.legs h.leg.peer) peer_too
       (each_idle (peer_of w.legs h.leg.peer) (caller_silent d.external tones w h stand.legs within at asks))
   asked_permitted m act.Answer asks digits = answer_permitted (rings_silent d.external tones w h stand.legs within at asks) (peer_of w.legs h.leg.peer) peer_too
   asked_permitted m act.Digits asks digits = digits asks
   asked_permitted m (act.Disconnect cause) asks digits =
-      let sends : Sends d h (message_to h.leg kind.Release) = (within.0, message_writable h.leg kind.Release there.told tt) in
-      let goes : Puts d h (in_release_request h.leg) = (within, record { state = omega arith; reference = there.told.reference }, λ e. absurd cc) in
-      (within, (goes, (sends, peer_permitted d tones s.plan _ h cause (peer_of w.legs h.leg.peer) peer_too asks)))
+      let expects : IsAwaited (in_release_request h.leg) (message_to h.leg kind.Release) =
+      record { flag = refl; reference = refl; state = refl; writable = message_writable h.leg kind.Release there.told tt } in
+      let told : FitsMessages (in_release_request h.leg) = record { state = omega arith; reference = there.told.reference } in
+      (within, ((within, told, expects), (peer_permitted d tones s.plan _ h cause (peer_of w.legs h.leg.peer) peer_too asks)))
   asked_permitted m (act.Release cause) asks digits =
       let sends : Sends d h (message_to h.leg kind.ReleaseComplete) = (within.0, message_writable h.leg kind.ReleaseComplete there.told tt) in
       (within, (within, (sends, peer_permitted d tones s.plan _ h cause (peer_of w.legs h.leg.peer) peer_too asks)))

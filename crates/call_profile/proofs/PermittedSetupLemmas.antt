@@ -157,20 +157,17 @@ module _ (s : Setting) (w : World) (first : Bool) (own : ℕ) (asked : Pending) 
   line_permitted y reference in_x small fits in_y few =
       let caller : FitsMessages _ = told small outgoing_call_proceeding (peer.Leg y) (omega arith) in
       let called : FitsMessages _ = record { state = omega arith; reference = few } in (
-        (in_x, caller, λ e. absurd cc),
+        (in_x, caller, λ e. absurd cc, refl),
         (
-          (in_y, called, λ e. absurd cc),
-          (
-            (in_x.0, proceeding_writable first x _ in_x.1 caller),
-            ((in_y.0, offer_writable asked y _ in_y.1 called fits), tt),
-          ),
+          (in_x.0, proceeding_writable first x _ in_x.1 caller),
+          ((in_y, called, record { flag = refl; reference = refl; state = refl; writable = offer_writable asked y _ in_y.1 called fits }), tt),
         ),
       )
 
   room_permitted : (room : ℕ) → IsExternal s.dimensions.external x → own < 2 ^ 15 → CanSeat s.dimensions w x → ArePermitted s.dimensions s.tones s.plan (making_at w) (call_room first own x room)
   room_permitted room in_x small can =
       let member : FitsMessages _ = told small active (peer.Room room) (omega arith) in (
-        (in_x, member, λ e. absurd cc),
+        (in_x, member, λ e. absurd cc, refl),
         (
           can_still s.dimensions w x _ can,
           (

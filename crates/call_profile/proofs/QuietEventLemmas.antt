@@ -33,6 +33,8 @@ performed_same d m (op.Seat x room) = record { inputs = refl; held = refl; seate
 performed_same d m (op.Sound x kind) = record { inputs = refl; held = refl; seated = refl; next = sounding_next m.world.holding x kind }
 performed_same d m (op.Put x leg) = record { inputs = refl; held = refl; seated = refl; next = refl }
 performed_same d m (op.Wait x leg p) = record { inputs = refl; held = refl; seated = refl; next = refl }
+performed_same d m (op.Expect x leg message) = record { inputs = refl; held = refl; seated = refl; next = refl }
+performed_same d m (op.Repeat h octets) = record { inputs = refl; held = refl; seated = refl; next = refl }
 performed_same d m (op.Remove x) = record { inputs = refl; held = refl; seated = refl; next = refl }
 performed_same d m (op.Send line message) = record { inputs = refl; held = refl; seated = refl; next = refl }
 

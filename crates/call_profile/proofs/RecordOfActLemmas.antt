@@ -1,9 +1,10 @@
 -- The records of what an act ends: that of the caller for an act that clears a call, none for any other.
 use Rattle.std.proofs.Common.{◌≡◌, ℕ, ◌*◌, Bool, true, false, ◌&&◌, inl, inr, List, [], length, Option, Some, None, refl, sym, ◌∙◌, ap, subst, eqb-true}
-use Rattle.std.specs.Prelude.{option_and_then, unwrap_or}
+use Rattle.std.specs.Prelude.{option_and_then, unwrap_or, slice_set}
 use Rattle.std.specs.List.{cons_option}
 use Rattle.circuit_model.specs.declared.channel.Slot.{Slot}
 use Rattle.circuit_model.specs.Extent.{IsExternal}
+use Rattle.control_memory.specs.Layout.{number_of}
 use Rattle.q931_codec.specs.declared.message.Message.{Message}
 use Rattle.q931_codec.specs.CallStates.{overlap_sending, call_delivered, call_received, incoming_call_proceeding, active}
 use Rattle.q931_codec.specs.Contents.{call_state_in}
@@ -26,18 +27,19 @@ use Rattle.call_profile.specs.Calls.{making_by}
 use Rattle.call_profile.specs.EndedCalls.{caller_in, record_calling, record_ended, record_of_act}
 use Rattle.call_profile.specs.LegStanding.{CallsStand, LegsStand, HasPeer, IsInCall, AreOneCall}
 use Rattle.exchange_events.specs.Sound.{IsPlanned}
-use Rattle.call_profile.specs.Legs.{Legs, leg_at, with_entry}
-use Rattle.call_profile.specs.Operations.{Operation, Making, making_at, making_after_all}
+use Rattle.call_profile.specs.Legs.{Legs, from_frame, leg_at, with_entry}
+use Rattle.call_profile.specs.Operations.{Operation, Making, begun, making_at, making_after_all}
 use Rattle.exchange_events.specs.Sizes.{Setting, Dimensions}
 use Rattle.call_profile.specs.World.{World}
 use Rattle.call_profile.proofs.AnsweringLemmas.{ringing, caller_of}
-use Rattle.call_profile.proofs.BesideLemmas.{entry_here, entry_else, same_or_apart}
+use Rattle.call_profile.proofs.BesideLemmas.{look, entry_here, entry_else, same_or_apart}
 use Rattle.call_profile.proofs.OneLegClearedLemmas.{IsLeft}
 use Rattle.call_profile.proofs.ClearingLemmas.{held_there, peers_apart}
 use Rattle.call_profile.proofs.DigitsRecordLemmas.{digits_end_none}
 use Rattle.call_profile.proofs.EndedCallLemmas.{GoesOn, no_record_where_calling, one_record}
 use Rattle.call_profile.proofs.MessageToLegLemmas.{Asked, asked, two_ring, one_rings, with_caller}
 use Rattle.call_profile.proofs.RefusalLemmas.{no_records}
+use Rattle.call_profile.proofs.TwoStatesLemmas.{gone_to}
 use Rattle.call_profile.proofs.LegTableLemmas.{both_else, both_first, both_second}
 
 -- the record of what an act ends, as a list
@@ -65,12 +67,12 @@ and_false : (b : Bool) → (b && false) ≡ false
 and_false true = refl
 and_false false = refl
 
-left_silent : (leg : Leg) (o : Option Leg) → IsLeft leg o → is_calling o ≡ false
-left_silent leg o (inl gone) = rw gone refl
-left_silent leg o (inr waits) = rw waits (and_false _)
+left_silent : (leg : Leg) (next : ℕ) (o : Option Leg) → IsLeft next leg o → is_calling o ≡ false
+left_silent leg next o (inl gone) = rw gone refl
+left_silent leg next o (inr waits) = rw waits (and_false _)
 
-pub disconnected_silent : (cause : ℕ) (leg : Leg) → is_calling (Some (in_disconnect_indication cause leg)) ≡ false
-disconnected_silent cause leg = and_false _
+pub disconnected_silent : (next cause : ℕ) (leg : Leg) → is_calling (Some (from_frame next (in_disconnect_indication cause leg))) ≡ false
+disconnected_silent next cause leg = and_false _
 
 same_goes_on : (before after : Legs) (x : Slot) → leg_at after x ≡ leg_at before x → GoesOn before after x
 same_goes_on before after x same calls = ap is_calling same ∙ calls
@@ -78,17 +80,17 @@ same_goes_on before after x same calls = ap is_calling same ∙ calls
 -- ---- once the leg's slot is cleared, and the leg waits for its release or is gone
 
 module _ (d : Dimensions) (tones : Tones) (w : World) (x : Slot) (leg : Leg) (o : Option Leg) (cause : ℕ) (stand : LegsStand d.external tones w)
-    (within : IsExternal d.external x) (at : leg_at w.legs x ≡ Some leg) (left : IsLeft leg o)
-    (m : Making) (legs : m.world.legs ≡ with_entry w.legs x o) where
+    (within : IsExternal d.external x) (at : leg_at w.legs x ≡ Some leg) (left : IsLeft w.holding.next leg o)
+    (m : Making) (legs : m.world.legs.held ≡ (with_entry w.legs x o).held) where
   abbrev one : Leg → Slot → List CallRecord
   one l z = cons_option (record_calling w cause (record { slot = z; leg = l })) []
 
   -- without a peer
   alone_else : (z : Slot) → IsExternal d.external z → (z ≡ x → ⊥) → GoesOn w.legs m.world.legs z
-  alone_else z in_z apart = same_goes_on w.legs m.world.legs z (ap (λ ls. leg_at ls z) legs ∙ entry_else d.external w.legs x z o within in_z apart)
+  alone_else z in_z apart = same_goes_on w.legs m.world.legs z (ap (look z) legs ∙ entry_else d.external w.legs x z o within in_z apart)
 
   alone_over : is_calling (leg_at m.world.legs x) ≡ false
-  alone_over = ap (λ ls. is_calling (leg_at ls x)) legs ∙ ap is_calling (entry_here d.external w.legs x o stand.count within) ∙ left_silent leg o left
+  alone_over = ap (λ os. is_calling (look x os)) legs ∙ ap is_calling (entry_here d.external w.legs x o stand.count within) ∙ left_silent leg w.holding.next o left
 
   alone_caller : records w m.world cause ≡ one leg x
   alone_caller = one_record d.external w m.world cause x leg stand.count within at alone_over alone_else
@@ -105,24 +107,24 @@ module _ (d : Dimensions) (tones : Tones) (w : World) (x : Slot) (leg : Leg) (o 
 
   -- with the other leg of its call, which calls no more either
   module _ (v : World) (y : Slot) (other : Leg) (p : Option Leg) (in_y : IsExternal d.external y) (at_y : leg_at w.legs y ≡ Some other) (apart : y ≡ x → ⊥)
-      (over : is_calling p ≡ false) (both : v.legs ≡ with_entry m.world.legs y p) where
-    both_legs : v.legs ≡ with_entry (with_entry w.legs x o) y p
-    both_legs = both ∙ ap (λ (ls : Legs). with_entry ls y p) legs
+      (over : is_calling p ≡ false) (both : v.legs.held ≡ (with_entry m.world.legs y p).held) where
+    both_legs : v.legs.held ≡ (with_entry (with_entry w.legs x o) y p).held
+    both_legs = both ∙ ap (λ (os : List (Option Leg)). slice_set os (number_of y) p) legs
 
     both_others : (z : Slot) → IsExternal d.external z → (z ≡ x → ⊥) → (z ≡ y → ⊥) → GoesOn w.legs v.legs z
     both_others z in_z not_x not_y =
         same_goes_on w.legs v.legs z
-        (ap (λ ls. leg_at ls z) both_legs ∙ both_else d.external w.legs x y o p stand.count within in_y apart z in_z not_x not_y)
+        (ap (look z) both_legs ∙ both_else d.external w.legs x y o p stand.count within in_y apart z in_z not_x not_y)
 
     both_over_x : is_calling (leg_at v.legs x) ≡ false
     both_over_x =
-        ap (λ ls. is_calling (leg_at ls x)) both_legs
+        ap (λ os. is_calling (look x os)) both_legs
         ∙ ap is_calling (both_first d.external w.legs x y o p stand.count within in_y apart)
-        ∙ left_silent leg o left
+        ∙ left_silent leg w.holding.next o left
 
     both_over_y : is_calling (leg_at v.legs y) ≡ false
     both_over_y =
-        ap (λ ls. is_calling (leg_at ls y)) both_legs
+        ap (λ os. is_calling (look y os)) both_legs
         ∙ ap is_calling (both_second d.external w.legs x y o p stand.count within in_y apart)
         ∙ over
 
@@ -150,8 +152,8 @@ module _ (d : Dimensions) (tones : Tones) (w : World) (x : Slot) (leg : Leg) (o 
   peer_records peer.Alone is has = alone_records leg.side refl
   peer_records (peer.Leg y) is has =
       rw (held_there w.legs y has.1.0 has.1.1)
-      (both_records (making_after_all d m (clear_with tones cause (record { slot = y; leg = has.1.0 }))).world y has.1.0 (Some (in_disconnect_indication cause has.1.0)) has.0 has.1.1
-      (peers_apart w.legs x y leg has.1.0 at has.1.1 has.1.2) (disconnected_silent cause has.1.0) refl leg.side refl has.1.2)
+      (both_records (making_after_all d m (clear_with tones cause (record { slot = y; leg = has.1.0 }))).world y has.1.0 (Some (begun m.world (in_disconnect_indication cause has.1.0))) has.0 has.1.1
+      (peers_apart w.legs x y leg has.1.0 at has.1.1 has.1.2) (disconnected_silent m.world.holding.next cause has.1.0) refl leg.side refl has.1.2)
   peer_records (peer.Room room) is has = alone_records leg.side refl
 
   pub clearing_records : records w (making_after_all d m (with_peer (peer_of w.legs leg.peer) (clear_with tones cause))).world cause
@@ -163,28 +165,28 @@ module _ (d : Dimensions) (tones : Tones) (w : World) (x : Slot) (leg : Leg) (o 
 -- the called leg at x is in another state, and so is its caller's, which calls on
 module _ (external : ℕ) (w v : World) (x y : Slot) (leg other : Leg) (cause : ℕ) (size : length w.legs.held ≡ 30 * external)
     (in_x : IsExternal external x) (at_x : leg_at w.legs x ≡ Some leg) (is_called : leg.side ≡ Called) where
-  called_alone : (o : Option Leg) → v.legs ≡ with_entry w.legs x o → records w v cause ≡ []
+  called_alone : (o : Option Leg) → v.legs.held ≡ (with_entry w.legs x o).held → records w v cause ≡ []
   called_alone o legs = no_record_where_calling external w v cause size (λ z in_z. elim (same_or_apart z x) [
     | inl same ↦ subst (GoesOn w.legs v.legs) (sym same) (called_silent w.legs v.legs x leg at_x is_called)
-    | inr not_x ↦ same_goes_on w.legs v.legs z (ap (λ ls. leg_at ls z) legs ∙ entry_else external w.legs x z o in_x in_z not_x)
+    | inr not_x ↦ same_goes_on w.legs v.legs z (ap (look z) legs ∙ entry_else external w.legs x z o in_x in_z not_x)
   ])
 
   caller_too : (o : Option Leg) (new : Leg) → IsExternal external y → (y ≡ x → ⊥) → is_calling (Some new) ≡ true
-      → v.legs ≡ with_entry (with_entry w.legs x o) y (Some new) → records w v cause ≡ []
+      → v.legs.held ≡ (with_entry (with_entry w.legs x o) y (Some new)).held → records w v cause ≡ []
   caller_too o new in_y apart calls legs = no_record_where_calling external w v cause size (λ z in_z. elim (same_or_apart z x) [
     | inl same ↦ subst (GoesOn w.legs v.legs) (sym same) (called_silent w.legs v.legs x leg at_x is_called)
     | inr not_x ↦ elim (same_or_apart z y) [
       | inl same ↦ subst (GoesOn w.legs v.legs) (sym same) (λ before.
-          ap (λ ls. is_calling (leg_at ls y)) legs ∙ ap is_calling (both_second external w.legs x y o (Some new) size in_x in_y apart) ∙ calls)
-      | inr not_y ↦ same_goes_on w.legs v.legs z (ap (λ ls. leg_at ls z) legs ∙ both_else external w.legs x y o (Some new) size in_x in_y apart z in_z not_x not_y)
+          ap (λ os. is_calling (look y os)) legs ∙ ap is_calling (both_second external w.legs x y o (Some new) size in_x in_y apart) ∙ calls)
+      | inr not_y ↦ same_goes_on w.legs v.legs z (ap (look z) legs ∙ both_else external w.legs x y o (Some new) size in_x in_y apart z in_z not_x not_y)
     ]
   ])
 
-delivered_calls : (leg : Leg) → leg.side ≡ Caller → is_calling (Some (in_state call_delivered leg)) ≡ true
-delivered_calls leg is = rw is refl
+delivered_calls : (w : World) (leg : Leg) → leg.side ≡ Caller → is_calling (Some (gone_to w call_delivered leg)) ≡ true
+delivered_calls w leg is = rw is refl
 
-active_calls : (leg : Leg) → leg.side ≡ Caller → is_calling (Some (in_state active leg)) ≡ true
-active_calls leg is = rw is refl
+active_calls : (w : World) (leg : Leg) → leg.side ≡ Caller → is_calling (Some (gone_to w active leg)) ≡ true
+active_calls w leg is = rw is refl
 
 -- ---- the acts
 
@@ -215,24 +217,24 @@ module _ (s : Setting) (w : World) (h : Held) (m : Message) (planned : IsPlanned
   act_records act.Proceeding asks =
       let c = has_caller (one_rings h.leg.state asks) in
       called_alone s.dimensions.external w (making_by s w (course_of s w h m act.Proceeding)).world h.slot c.0 h.leg c.3.0 0 stand.count within at c.3.2.is_called
-      (Some (in_state incoming_call_proceeding h.leg)) refl
+      (Some (gone_to w incoming_call_proceeding h.leg)) refl
   act_records act.Alerting asks =
       let c = has_caller (two_ring h.leg.state asks) in
       let y = c.0 in
       let other = c.3.0 in
       progress_records (on_alerting s.tones h) c
       (caller_too s.dimensions.external w (making_after_all s.dimensions (making_at w) (on_alerting s.tones h (record { slot = y; leg = other }))).world h.slot y h.leg other 0 stand.count within at c.3.2.is_called
-      (Some (in_state call_received h.leg)) (in_state call_delivered other) c.2 (apart_from c) (delivered_calls other c.3.2.calls) refl)
+      (Some (gone_to w call_received h.leg)) (gone_to w call_delivered other) c.2 (apart_from c) (delivered_calls w other c.3.2.calls) refl)
   act_records act.Answer asks =
       let c = has_caller asks in
       let y = c.0 in
       let other = c.3.0 in
       progress_records (on_connect h) c
       (caller_too s.dimensions.external w (making_after_all s.dimensions (making_at w) (on_connect h (record { slot = y; leg = other }))).world h.slot y h.leg other 0 stand.count within at c.3.2.is_called
-      (Some (in_state active h.leg)) (in_state active other) c.2 (apart_from c) (active_calls other c.3.2.calls) refl)
+      (Some (gone_to w active h.leg)) (gone_to w active other) c.2 (apart_from c) (active_calls w other c.3.2.calls) refl)
   act_records act.Digits asks = digits_end_none s w h m planned stands within at (eqb-true h.leg.state overlap_sending asks)
   act_records (act.Disconnect cause) asks =
-      clearing_records s.dimensions s.tones w h.slot h.leg (Some (in_release_request h.leg)) cause stand within at (inr refl) (making_after_all s.dimensions (making_at w) (on_disconnect h)) refl
+      clearing_records s.dimensions s.tones w h.slot h.leg (Some (begun w (in_release_request h.leg))) cause stand within at (inr refl) (making_after_all s.dimensions (making_at w) (on_disconnect h)) refl
   act_records (act.Release cause) asks =
       clearing_records s.dimensions s.tones w h.slot h.leg None cause stand within at (inl refl) (making_after_all s.dimensions (making_at w) (on_release h)) refl
   act_records (act.ReleaseComplete cause) asks =

@@ -137,8 +137,34 @@ same_performed d a b (Clear x) same = record { holding = rw same.holding refl; l
 same_performed d a b (Pair x y) same = record { holding = rw same.holding refl; legs = same.legs; ports = same.ports; sends = same.sends; moved = refl }
 same_performed d a b (Seat x room) same = record { holding = rw same.holding refl; legs = same.legs; ports = ap (ports_with x) same.ports; sends = same.sends; moved = seat_moved d a.world b.world x same.ports }
 same_performed d a b (Sound x kind) same = record { holding = ap (λ (h : Holding). with_tone h x kind) same.holding; legs = same.legs; ports = same.ports; sends = same.sends; moved = same.moved }
-same_performed d a b (Put x leg) same = record { holding = same.holding; legs = rw same.legs refl; ports = same.ports; sends = same.sends; moved = same.moved }
-same_performed d a b (Wait x leg p) same = record { holding = same.holding; legs = rw same.legs refl; ports = same.ports; sends = same.sends; moved = same.moved }
+same_performed d a b (Put x leg) same = record {
+  holding = same.holding;
+  legs = λ i. with_leg (same.legs i) x (from_frame (same.holding i).next leg);
+  ports = same.ports;
+  sends = same.sends;
+  moved = same.moved;
+}
+same_performed d a b (Wait x leg p) same = record {
+  holding = same.holding;
+  legs = λ i. with_waiting (same.legs i) x (from_frame (same.holding i).next leg) p;
+  ports = same.ports;
+  sends = same.sends;
+  moved = same.moved;
+}
+same_performed d a b (Expect x leg message) same = record {
+  holding = same.holding;
+  legs = λ i. with_kept (same.legs i) x (from_frame (same.holding i).next leg) (encoding message);
+  ports = same.ports;
+  sends = rw same.sends refl;
+  moved = same.moved;
+}
+same_performed d a b (Repeat h octets) same = record {
+  holding = same.holding;
+  legs = λ i. with_kept (same.legs i) h.slot (resent_from (same.holding i).next h.leg) octets;
+  ports = same.ports;
+  sends = rw same.sends refl;
+  moved = same.moved;
+}
 same_performed d a b (Remove x) same = record { holding = same.holding; legs = rw same.legs refl; ports = same.ports; sends = same.sends; moved = same.moved }
 same_performed d a b (Send line message) same = record { holding = same.holding; legs = same.legs; ports = same.ports; sends = rw same.sends refl; moved = same.moved }
 

@@ -21,8 +21,8 @@ use Rattle.tone_rules.specs.declared.tones.Tones.{Tones}
 use Rattle.call_states.specs.declared.leg.Held.{Held}
 use Rattle.call_profile.specs.Acts.{in_disconnect_indication, tone_of, peer_of, with_peer, clear_with, remove_leg}
 use Rattle.call_profile.specs.LegStanding.{LegsStand, HasPeer, MayHear, IsInCall}
-use Rattle.call_profile.specs.Legs.{leg_at, with_entry}
-use Rattle.call_profile.specs.Operations.{Making, making_after_all, with_tone}
+use Rattle.call_profile.specs.Legs.{from_frame, leg_at, with_entry}
+use Rattle.call_profile.specs.Operations.{Making, begun, making_after_all, with_tone}
 use Rattle.call_profile.specs.Restarts.{restarts_slot, restart_peer, restart_leg, restart_slot}
 use Rattle.exchange_events.specs.Sizes.{Dimensions}
 use Rattle.call_profile.specs.World.{World}
@@ -76,14 +76,14 @@ module _ (external bridges : ℕ) (tones : Tones) (w : World) (valid : Valid bri
 -- ---- one slot is restarted
 
 -- what becomes of the leg of a call whose other leg was at the slot: it is gone if its own slot is restarted too, and is cleared otherwise
-abbrev pub peer_after : Restart → ℕ → Slot → Leg → Option Leg
-peer_after r line z other = if restarts_slot r line z then None else Some (in_disconnect_indication temporary_failure other)
+abbrev pub peer_after : Restart → ℕ → ℕ → Slot → Leg → Option Leg
+peer_after r line next z other = if restarts_slot r line z then None else Some (from_frame next (in_disconnect_indication temporary_failure other))
 
 -- the slot holds no leg any more, and the other leg of its call is what it must be; all others are as they were, and hear what they heard; and so
 -- do the slots that no leg holds
 pub record IsRestartedAt (external : ℕ) (r : Restart) (line : ℕ) (u v : World) (x : Slot) : Type 0 where
   pub here : leg_at v.legs x ≡ None
-  pub other_leg : (z : Slot) (other : Leg) → IsExternal external z → leg_at u.legs z ≡ Some other → other.peer ≡ peer.Leg x → leg_at v.legs z ≡ peer_after r line z other
+  pub other_leg : (z : Slot) (other : Leg) → IsExternal external z → leg_at u.legs z ≡ Some other → other.peer ≡ peer.Leg x → leg_at v.legs z ≡ peer_after r line u.holding.next z other
   pub legs : (z : Slot) → IsExternal external z → (z ≡ x → ⊥) → ((other : Leg) → leg_at u.legs z ≡ Some other → other.peer ≡ peer.Leg x → ⊥) → leg_at v.legs z ≡ leg_at u.legs z
   pub heard : (z : Slot) (l : Leg) → IsExternal external z → leg_at u.legs z ≡ Some l → (z ≡ x → ⊥) → (l.peer ≡ peer.Leg x → ⊥) → heard_by v.holding.circuits z ≡ heard_by u.holding.circuits z
   pub unheld : (z : Slot) → IsExternal external z → leg_at u.legs z ≡ None → heard_by v.holding.circuits z ≡ heard_by u.holding.circuits z
@@ -133,7 +133,7 @@ module _ (d : Dimensions) (tones : Tones) (r : Restart) (line : ℕ) (m : Making
 
     -- it has one, which becomes this
     module _ (y : Slot) (other : Leg) (in_y : IsExternal d.external y) (at_y : leg_at u.legs y ≡ Some other) (call : IsInCall leg.side x leg y other)
-        (o : Option Leg) (is : peer_after r line y other ≡ o) (tone : Option Kind)
+        (o : Option Leg) (is : peer_after r line u.holding.next y other ≡ o) (tone : Option Kind)
         (v : World) (legs : v.legs ≡ with_entry (with_entry u.legs x None) y o)
         (holding : v.holding ≡ with_tone (after (after u.holding (Clear_slot x)) (Clear_slot y)) y tone) where
       peers : ArePeers d.external u x y leg other
@@ -155,12 +155,12 @@ module _ (d : Dimensions) (tones : Tones) (r : Restart) (line : ℕ) (m : Making
       here_y : leg_at v.legs y ≡ o
       here_y = ap (λ ls. leg_at ls y) legs ∙ both_second d.external u.legs x y None o kept.1.count in_x in_y peers.apart
 
-      both_other : (z : Slot) (l : Leg) → IsExternal d.external z → leg_at u.legs z ≡ Some l → l.peer ≡ peer.Leg x → leg_at v.legs z ≡ peer_after r line z l
+      both_other : (z : Slot) (l : Leg) → IsExternal d.external z → leg_at u.legs z ≡ Some l → l.peer ≡ peer.Leg x → leg_at v.legs z ≡ peer_after r line u.holding.next z l
       both_other z l in_z at_z names_x = elim (same_or_apart z y) [
         | inl same ↦
             let at_l = sym (ap (leg_at u.legs) same) ∙ at_z in
             let this = is_other l at_l in
-            subst (λ q. leg_at v.legs q ≡ peer_after r line q l) (sym same) (subst (λ k. leg_at v.legs y ≡ peer_after r line y k) (sym this) (here_y ∙ sym is))
+            subst (λ q. leg_at v.legs q ≡ peer_after r line u.holding.next q l) (sym same) (subst (λ k. leg_at v.legs y ≡ peer_after r line u.holding.next y k) (sym this) (here_y ∙ sym is))
         | inr not_y ↦ absurd (not_peer z in_z not_y l at_z names_x)
       ]
 
@@ -200,7 +200,7 @@ module _ (d : Dimensions) (tones : Tones) (r : Restart) (line : ℕ) (m : Making
         rw (held_there u.legs y other has.1.1) (elim (true_or_false (restarts_slot r line y)) [
           | inl too ↦ rw too (both_done y other has.0 has.1.1 has.1.2 None (rw too refl) None
               (making_after_all d gone (remove_leg (record { slot = y; leg = other }))).world refl refl)
-          | inr not_so ↦ rw not_so (both_done y other has.0 has.1.1 has.1.2 (Some (in_disconnect_indication temporary_failure other)) (rw not_so refl)
+          | inr not_so ↦ rw not_so (both_done y other has.0 has.1.1 has.1.2 (Some (begun u (in_disconnect_indication temporary_failure other))) (rw not_so refl)
               (tone_of tones (in_disconnect_indication temporary_failure other))
               (making_after_all d gone (clear_with tones temporary_failure (record { slot = y; leg = other }))).world refl refl)
         ])

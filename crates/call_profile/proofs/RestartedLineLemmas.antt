@@ -17,6 +17,7 @@ use Rattle.call_profile.specs.Acts.{in_disconnect_indication}
 use Rattle.call_profile.specs.Calls.{Request, outcome_for, after_message}
 use Rattle.call_profile.specs.LegStanding.{HasPeer}
 use Rattle.call_profile.specs.Legs.{leg_at}
+use Rattle.call_profile.specs.Operations.{begun}
 use Rattle.call_profile.specs.Restarted.{IsRestart, left_with, left_by}
 use Rattle.call_profile.specs.Restarts.{MessageOutcome, restarts_slot, outcome_at_slot, outcome_below}
 use Rattle.exchange_events.specs.Sizes.{Setting}
@@ -25,7 +26,7 @@ use Rattle.call_profile.proofs.BesideLemmas.{same_or_apart}
 use Rattle.call_profile.proofs.ClearingLemmas.{Kept}
 use Rattle.call_profile.proofs.CommandLemmas.{both_true}
 use Rattle.call_profile.proofs.RestartLemmas.{slot_kept}
-use Rattle.call_profile.proofs.RestartedLegLemmas.{IsRestartedAt, slot_done}
+use Rattle.call_profile.proofs.RestartedLegLemmas.{IsRestartedAt, peer_after, slot_done}
 use Rattle.call_profile.proofs.RestartedSlotLemmas.{below_none, below_more}
 use Rattle.call_profile.proofs.VacantSlotLemmas.{same_parts}
 
@@ -34,17 +35,17 @@ abbrev pub was_restarted : Restart → ℕ → ℕ → Slot → Bool
 was_restarted r line n x = restarts_slot r line x && nat_lt x.place n
 
 -- a leg at a slot that isn't restarted, once the slots below a place were
-abbrev pub left_below : Restart → ℕ → ℕ → Leg → Peer → Leg
-left_below r line n leg peer.Alone = leg
-left_below r line n leg (peer.Leg y) = if was_restarted r line n y then in_disconnect_indication temporary_failure leg else leg
-left_below r line n leg (peer.Room room) = leg
+abbrev pub left_below : Restart → ℕ → World → ℕ → Leg → Peer → Leg
+left_below r line w n leg peer.Alone = leg
+left_below r line w n leg (peer.Leg y) = if was_restarted r line n y then begun w (in_disconnect_indication temporary_failure leg) else leg
+left_below r line w n leg (peer.Room room) = leg
 
 -- what the slots of the line below a place have left
 pub record AreRestartedBelow (s : Setting) (r : Restart) (line : ℕ) (w : World) (n : ℕ) (v : World) : Type 0 where
   pub kept : Kept s.dimensions s.tones v
   pub gone : (x : Slot) → IsExternal s.dimensions.external x → restarts_slot r line x ≡ true → x.place < n → leg_at v.legs x ≡ None
   pub others : (x : Slot) (leg : Leg) → IsExternal s.dimensions.external x → restarts_slot r line x ≡ false → leg_at w.legs x ≡ Some leg
-      → leg_at v.legs x ≡ Some (left_below r line n leg leg.peer)
+      → leg_at v.legs x ≡ Some (left_below r line w n leg leg.peer)
   pub empty : (x : Slot) → IsExternal s.dimensions.external x → leg_at w.legs x ≡ None → leg_at v.legs x ≡ None
   pub unheld : (x : Slot) → IsExternal s.dimensions.external x → leg_at w.legs x ≡ None → heard_by v.holding.circuits x ≡ heard_by w.holding.circuits x
   pub next : v.holding.next ≡ w.holding.next
@@ -122,24 +123,26 @@ module _ (r : Restart) (line : ℕ) where
     | inr e ↦ rw e refl
   ]
 
-  left_same : (n : ℕ) (leg : Leg) (p : Peer) → ((y : Slot) → p ≡ peer.Leg y → was_restarted r line (suc n) y ≡ was_restarted r line n y) → left_below r line (suc n) leg p ≡ left_below r line n leg p
+-- what is left of a leg, one place further on
+module _ (r : Restart) (line : ℕ) (w : World) where
+  left_same : (n : ℕ) (leg : Leg) (p : Peer) → ((y : Slot) → p ≡ peer.Leg y → was_restarted r line (suc n) y ≡ was_restarted r line n y) → left_below r line w (suc n) leg p ≡ left_below r line w n leg p
   left_same n leg peer.Alone same = refl
-  left_same n leg (peer.Leg y) same = ap (λ (b : Bool). if b then in_disconnect_indication temporary_failure leg else leg) (same y refl)
+  left_same n leg (peer.Leg y) same = ap (λ (b : Bool). if b then begun w (in_disconnect_indication temporary_failure leg) else leg) (same y refl)
   left_same n leg (peer.Room room) same = refl
 
-  left_peer : (n : ℕ) (leg : Leg) (p : Peer) (q : Slot) → leg.peer ≡ p → (left_below r line n leg p).peer ≡ peer.Leg q → (p ≡ peer.Leg q) × (left_below r line n leg p ≡ leg)
+  left_peer : (n : ℕ) (leg : Leg) (p : Peer) (q : Slot) → leg.peer ≡ p → (left_below r line w n leg p).peer ≡ peer.Leg q → (p ≡ peer.Leg q) × (left_below r line w n leg p ≡ leg)
   left_peer n leg peer.Alone q is e = (sym is ∙ e, refl)
   left_peer n leg (peer.Leg y) q is e = elim (true_or_false (was_restarted r line n y)) [
-    | inl restarted ↦ let wrong : peer.Alone ≡ peer.Leg q = sym (ap (λ (b : Bool). (if b then in_disconnect_indication temporary_failure leg else leg).peer) restarted) ∙ e in absurd cc
+    | inl restarted ↦ let wrong : peer.Alone ≡ peer.Leg q = sym (ap (λ (b : Bool). (if b then begun w (in_disconnect_indication temporary_failure leg) else leg).peer) restarted) ∙ e in absurd cc
     | inr not_so ↦
-        let stays : left_below r line n leg (peer.Leg y) ≡ leg = rw not_so refl in
+        let stays : left_below r line w n leg (peer.Leg y) ≡ leg = rw not_so refl in
         (sym is ∙ ap (λ (l : Leg). l.peer) (sym stays) ∙ e, stays)
   ]
   left_peer n leg (peer.Room room) q is e = (sym is ∙ e, refl)
 
-  left_none : (leg : Leg) (p : Peer) → left_below r line 0 leg p ≡ leg
+  left_none : (leg : Leg) (p : Peer) → left_below r line w 0 leg p ≡ leg
   left_none leg peer.Alone = refl
-  left_none leg (peer.Leg y) = ap (λ (b : Bool). if b then in_disconnect_indication temporary_failure leg else leg) (none_before (restarts_slot r line y) (nat_lt y.place 0) (lt_false y.place 0 (omega arith)))
+  left_none leg (peer.Leg y) = ap (λ (b : Bool). if b then begun w (in_disconnect_indication temporary_failure leg) else leg) (none_before (restarts_slot r line y) (nat_lt y.place 0) (lt_false r line y.place 0 (omega arith)))
   left_none leg (peer.Room room) = refl
 
 -- ---- one more place
@@ -167,7 +170,7 @@ module _ (s : Setting) (r : Restart) (line : ℕ) (w : World) (below : line < s.
             let wrong : true ≡ false = sym (both_true (z.line == line) (is_restarted r z.place) restarted).1 ∙ ap (is_restarted r) place ∙ none in
             absurd cc
       ];
-      others = λ z leg in_z other at. so_far.others z leg in_z other at ∙ ap (λ (l : Leg). Some l) (sym (left_same r line n leg leg.peer (λ y is. same_where_not r line y n none)));
+      others = λ z leg in_z other at. so_far.others z leg in_z other at ∙ ap (λ (l : Leg). Some l) (sym (left_same r line w n leg leg.peer (λ y is. same_where_not r line y n none)));
       empty = so_far.empty;
       unheld = so_far.unheld;
       next = so_far.next;
@@ -194,27 +197,27 @@ module _ (s : Setting) (r : Restart) (line : ℕ) (w : World) (below : line < s.
       ]
 
       -- a leg that names the slot was not cleared before
-      left_self : (leg : Leg) → leg.peer ≡ peer.Leg x → left_below r line n leg leg.peer ≡ leg
+      left_self : (leg : Leg) → leg.peer ≡ peer.Leg x → left_below r line w n leg leg.peer ≡ leg
       left_self leg names_x =
-          ap (left_below r line n leg) names_x
-          ∙ ap (λ (b : Bool). if b then in_disconnect_indication temporary_failure leg else leg) (none_before (restarts_slot r line x) (nat_lt n n) (lt_false r line n n (omega arith)))
+          ap (left_below r line w n leg) names_x
+          ∙ ap (λ (b : Bool). if b then begun w (in_disconnect_indication temporary_failure leg) else leg) (none_before (restarts_slot r line x) (nat_lt n n) (lt_false r line n n (omega arith)))
 
       -- a leg that names it is cleared
       cleared : (z : Slot) (leg : Leg) → IsExternal s.dimensions.external z → restarts_slot r line z ≡ false → leg_at u.legs z ≡ Some leg → leg.peer ≡ peer.Leg x
-          → leg_at v.legs z ≡ Some (left_below r line (suc n) leg (peer.Leg x))
+          → leg_at v.legs z ≡ Some (left_below r line w (suc n) leg (peer.Leg x))
       cleared z leg in_z not_so at is =
           let here : was_restarted r line (suc n) x ≡ true = rw (x_is, lt_true r line n (suc n) (omega arith)) refl in
-          done.other_leg z leg in_z at is ∙ rw (not_so, here) refl
+          done.other_leg z leg in_z at is ∙ ap (λ next. peer_after r line next z leg) so_far.next ∙ rw (not_so, here) refl
 
       more_others : (z : Slot) (leg : Leg) → IsExternal s.dimensions.external z → restarts_slot r line z ≡ false → leg_at w.legs z ≡ Some leg
-          → leg_at v.legs z ≡ Some (left_below r line (suc n) leg leg.peer)
+          → leg_at v.legs z ≡ Some (left_below r line w (suc n) leg leg.peer)
       more_others z leg in_z not_so at =
-          let now = left_below r line n leg leg.peer in
+          let now = left_below r line w n leg leg.peer in
           let at_now : leg_at u.legs z ≡ Some now = so_far.others z leg in_z not_so at in
           elim (named_or_not now.peer x) [
             | inl named ↦
-                let is = left_peer r line n leg leg.peer x refl named in
-                cleared z leg in_z not_so (at_now ∙ ap (λ (l : Leg). Some l) is.1) is.0 ∙ ap (λ (p : Peer). Some (left_below r line (suc n) leg p)) (sym is.0)
+                let is = left_peer r line w n leg leg.peer x refl named in
+                cleared z leg in_z not_so (at_now ∙ ap (λ (l : Leg). Some l) is.1) is.0 ∙ ap (λ (p : Peer). Some (left_below r line w (suc n) leg p)) (sym is.0)
             | inr other ↦
                 let away : (y : Slot) → leg.peer ≡ peer.Leg y → y ≡ x → ⊥ = λ y is same.
                 let names_x : leg.peer ≡ peer.Leg x = is ∙ ap (λ (q : Slot). let named : Peer = peer.Leg q in named) same in
@@ -225,7 +228,7 @@ module _ (s : Setting) (r : Restart) (line : ℕ) (w : World) (below : line < s.
                 let same : now ≡ k = cc in
                 other (ap (λ (l : Leg). l.peer) same ∙ is))
                 ∙ at_now
-                ∙ ap (λ (l : Leg). Some l) (sym (left_same r line n leg leg.peer (λ y is. same_where_apart r line y n (away y is))))
+                ∙ ap (λ (l : Leg). Some l) (sym (left_same r line w n leg leg.peer (λ y is. same_where_apart r line y n (away y is))))
           ]
 
       more_empty : (z : Slot) → IsExternal s.dimensions.external z → leg_at w.legs z ≡ None → leg_at v.legs z ≡ None
@@ -248,7 +251,7 @@ module _ (s : Setting) (r : Restart) (line : ℕ) (w : World) (below : line < s.
   start_below kept = record {
     kept = kept;
     gone = λ x in_x restarted less. absurd (omega (arith, less));
-    others = λ x leg in_x not_so at. at ∙ ap (λ (l : Leg). Some l) (sym (left_none r line leg leg.peer));
+    others = λ x leg in_x not_so at. at ∙ ap (λ (l : Leg). Some l) (sym (left_none r line w leg leg.peer));
     empty = λ x in_x none. none;
     unheld = λ x in_x none. refl;
     next = refl;
@@ -286,13 +289,13 @@ module _ (s : Setting) (w : World) (line : ℕ) (octets : List ℕ) (r : Restart
   pub restarted_gone : (x : Slot) → IsExternal s.dimensions.external x → restarts_slot r line x ≡ true → leg_at (after_message s w line octets).legs x ≡ None
   restarted_gone x in_x restarted = ap (λ (v : World). leg_at v.legs x) after_is ∙ all_below.gone x in_x restarted in_x.1
 
-  left_all : (leg : Leg) (p : Peer) → ((y : Slot) → p ≡ peer.Leg y → y.place < 30) → left_below r line 30 leg p ≡ left_with r line leg p
+  left_all : (leg : Leg) (p : Peer) → ((y : Slot) → p ≡ peer.Leg y → y.place < 30) → left_below r line w 30 leg p ≡ left_with r line w leg p
   left_all leg peer.Alone near = refl
-  left_all leg (peer.Leg y) near = ap (λ (b : Bool). if b then in_disconnect_indication temporary_failure leg else leg) (all_places (restarts_slot r line y) (nat_lt y.place 30) (lt_true r line y.place 30 (near y refl)))
+  left_all leg (peer.Leg y) near = ap (λ (b : Bool). if b then begun w (in_disconnect_indication temporary_failure leg) else leg) (all_places (restarts_slot r line y) (nat_lt y.place 30) (lt_true r line y.place 30 (near y refl)))
   left_all leg (peer.Room room) near = refl
 
   pub restarted_others : (x : Slot) (leg : Leg) → IsExternal s.dimensions.external x → restarts_slot r line x ≡ false → leg_at w.legs x ≡ Some leg
-      → leg_at (after_message s w line octets).legs x ≡ Some (left_by r line leg)
+      → leg_at (after_message s w line octets).legs x ≡ Some (left_by r line w leg)
   restarted_others x leg in_x not_so at =
       let has = (is.stands.legs.each x leg in_x at).peer in
       ap (λ (v : World). leg_at v.legs x) after_is

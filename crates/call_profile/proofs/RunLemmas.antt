@@ -43,6 +43,8 @@ performed_next d m (op.Seat x room) = refl
 performed_next d m (op.Sound x kind) = sounding_next m.world.holding x kind
 performed_next d m (op.Put x leg) = refl
 performed_next d m (op.Wait x leg p) = refl
+performed_next d m (op.Expect x leg message) = refl
+performed_next d m (op.Repeat h octets) = refl
 performed_next d m (op.Remove x) = refl
 performed_next d m (op.Send line message) = refl
 

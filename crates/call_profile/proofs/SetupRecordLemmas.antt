@@ -12,7 +12,7 @@ use Rattle.call_profile.specs.CallRecords.{records, is_calling}
 use Rattle.call_profile.specs.Calls.{making_by}
 use Rattle.call_profile.specs.LegStanding.{CallsStand}
 use Rattle.call_profile.specs.Legs.{Legs, leg_at, new_reference}
-use Rattle.call_profile.specs.Operations.{Wait, making_at, making_after, making_after_all}
+use Rattle.call_profile.specs.Operations.{Wait, begun, making_at, making_after, making_after_all}
 use Rattle.exchange_events.specs.Sizes.{Setting}
 use Rattle.call_states.specs.declared.leg.Leg.{Leg}
 use Rattle.call_states.specs.declared.pending.Pending.{Pending}
@@ -41,18 +41,18 @@ module _ (s : Setting) (w : World) (first : Bool) (own : ℕ) (asked : Pending) 
   line_ends y reference in_y apart silent_y =
       no_record_where_kept s.dimensions.external w (making_after_all s.dimensions (making_at w) (call_line first own asked x y reference)).world 0 size
       (λ z leg in_z at calls.
-      both_else s.dimensions.external w.legs x y (Some (caller_leg outgoing_call_proceeding own (peer.Leg y))) (Some (called_leg reference x)) size in_x in_y apart z in_z
+      both_else s.dimensions.external w.legs x y (Some (begun w (caller_leg outgoing_call_proceeding own (peer.Leg y)))) (Some (begun w (called_leg reference x))) size in_x in_y apart z in_z
       (not_there w.legs x z leg silent at calls) (not_there w.legs y z leg silent_y at calls) ∙ at)
 
   room_ends : (room : ℕ) → records w (making_after_all s.dimensions (making_at w) (call_room first own x room)).world 0 ≡ []
   room_ends room =
       no_record_where_kept s.dimensions.external w (making_after_all s.dimensions (making_at w) (call_room first own x room)).world 0 size
-      (λ z leg in_z at calls. entry_else s.dimensions.external w.legs x z (Some (caller_leg active own (peer.Room room))) in_x in_z (not_there w.legs x z leg silent at calls) ∙ at)
+      (λ z leg in_z at calls. entry_else s.dimensions.external w.legs x z (Some (begun w (caller_leg active own (peer.Room room)))) in_x in_z (not_there w.legs x z leg silent at calls) ∙ at)
 
   wait_ends : records w (making_after s.dimensions (making_at w) (Wait x (caller_leg overlap_sending own peer.Alone) asked)).world 0 ≡ []
   wait_ends =
       no_record_where_kept s.dimensions.external w (making_after s.dimensions (making_at w) (Wait x (caller_leg overlap_sending own peer.Alone) asked)).world 0 size
-      (λ z leg in_z at calls. entry_else s.dimensions.external w.legs x z (Some (caller_leg overlap_sending own peer.Alone)) in_x in_z (not_there w.legs x z leg silent at calls) ∙ at)
+      (λ z leg in_z at calls. entry_else s.dimensions.external w.legs x z (Some (begun w (caller_leg overlap_sending own peer.Alone))) in_x in_z (not_there w.legs x z leg silent at calls) ∙ at)
 
   waiting_ends : (asks : Bool) → records w (making_after_all s.dimensions (making_at w) (await_digits asks own asked x)).world 0 ≡ []
   waiting_ends true = wait_ends

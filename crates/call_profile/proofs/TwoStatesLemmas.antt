@@ -10,8 +10,13 @@ use Rattle.tone_rules.specs.declared.tones.Tones.{Tones}
 use Rattle.call_profile.specs.Acts.{in_state}
 use Rattle.call_profile.specs.LegStanding.{LegStands, LegsStand, HasPeer, MayHear, IsInCall, AreOneCall, are_matched}
 use Rattle.call_profile.specs.Legs.{leg_at}
+use Rattle.call_profile.specs.Operations.{begun}
 use Rattle.call_profile.specs.World.{World}
 use Rattle.call_profile.proofs.BesideLemmas.{same_or_apart, Beside, each_stands, SameReferences, still_one}
+
+-- a leg that has gone to another state
+abbrev pub gone_to : World → ℕ → Leg → Leg
+gone_to w state leg = begun w (in_state state leg)
 
 -- what is known once the called leg at x is in state s and the caller's at y in state t
 pub record HasGone (external : ℕ) (tones : Tones) (w v : World) (x y : Slot) (leg other : Leg) (s t : ℕ) : Type 0 where
@@ -25,56 +30,56 @@ pub record HasGone (external : ℕ) (tones : Tones) (w v : World) (x y : Slot) (
   pub state_y : is_among every_state t ≡ true
   pub matched : are_matched t s ≡ true
   pub size : length v.legs.held ≡ 30 * external
-  pub here_x : leg_at v.legs x ≡ Some (in_state s leg)
-  pub here_y : leg_at v.legs y ≡ Some (in_state t other)
-  pub hears_x : MayHear tones (in_state s leg) (heard_by v.holding.circuits x)
-  pub hears_y : MayHear tones (in_state t other) (heard_by v.holding.circuits y)
+  pub here_x : leg_at v.legs x ≡ Some (gone_to w s leg)
+  pub here_y : leg_at v.legs y ≡ Some (gone_to w t other)
+  pub hears_x : MayHear tones (gone_to w s leg) (heard_by v.holding.circuits x)
+  pub hears_y : MayHear tones (gone_to w t other) (heard_by v.holding.circuits y)
   pub beside : Beside external w v x y
 
 module _ (external : ℕ) (tones : Tones) (w v : World) (x y : Slot) (leg other : Leg) (s t : ℕ) (g : HasGone external tones w v x y leg other s t) where
-  gone_call : AreOneCall y (in_state t other) x (in_state s leg)
+  gone_call : AreOneCall y (gone_to w t other) x (gone_to w s leg)
   gone_call = let c = g.call in record { calls = c.calls; is_called = c.is_called; there = c.there; back = c.back; matched = g.matched }
 
-  called_stands : LegStands external tones v x (in_state s leg)
+  called_stands : LegStands external tones v x (gone_to w s leg)
   called_stands =
       let old = g.stand.each x leg g.in_x g.at_x in
-      let in_call : IsInCall leg.side x (in_state s leg) y (in_state t other) = subst (λ (side : Side). IsInCall side x (in_state s leg) y (in_state t other)) (sym g.call.is_called) gone_call in
+      let in_call : IsInCall leg.side x (gone_to w s leg) y (gone_to w t other) = subst (λ (side : Side). IsInCall side x (gone_to w s leg) y (gone_to w t other)) (sym g.call.is_called) gone_call in
       record {
         state = g.state_x;
         reference = old.reference;
         cause = old.cause;
-        peer = subst (HasPeer external v.legs x (in_state s leg)) (sym g.call.back) (g.in_y, (in_state t other, g.here_y, in_call));
+        peer = subst (HasPeer external v.legs x (gone_to w s leg)) (sym g.call.back) (g.in_y, (gone_to w t other, g.here_y, in_call));
         hears = g.hears_x;
       }
 
-  caller_stands : LegStands external tones v y (in_state t other)
+  caller_stands : LegStands external tones v y (gone_to w t other)
   caller_stands =
       let old = g.stand.each y other g.in_y g.at_y in
-      let in_call : IsInCall other.side y (in_state t other) x (in_state s leg) = subst (λ (side : Side). IsInCall side y (in_state t other) x (in_state s leg)) (sym g.call.calls) gone_call in
+      let in_call : IsInCall other.side y (gone_to w t other) x (gone_to w s leg) = subst (λ (side : Side). IsInCall side y (gone_to w t other) x (gone_to w s leg)) (sym g.call.calls) gone_call in
       record {
         state = g.state_y;
         reference = old.reference;
         cause = old.cause;
-        peer = subst (HasPeer external v.legs y (in_state t other)) (sym g.call.there) (g.in_x, (in_state s leg, g.here_x, in_call));
+        peer = subst (HasPeer external v.legs y (gone_to w t other)) (sym g.call.there) (g.in_x, (gone_to w s leg, g.here_x, in_call));
         hears = g.hears_y;
       }
 
   gone_x : (l : Leg) → leg_at v.legs x ≡ Some l → LegStands external tones v x l
-  gone_x l is = let e : Some (in_state s leg) ≡ Some l = sym g.here_x ∙ is in let same : in_state s leg ≡ l = cc in subst (LegStands external tones v x) same called_stands
+  gone_x l is = let e : Some (gone_to w s leg) ≡ Some l = sym g.here_x ∙ is in let same : gone_to w s leg ≡ l = cc in subst (LegStands external tones v x) same called_stands
 
   gone_y : (l : Leg) → leg_at v.legs y ≡ Some l → LegStands external tones v y l
-  gone_y l is = let e : Some (in_state t other) ≡ Some l = sym g.here_y ∙ is in let same : in_state t other ≡ l = cc in subst (LegStands external tones v y) same caller_stands
+  gone_y l is = let e : Some (gone_to w t other) ≡ Some l = sym g.here_y ∙ is in let same : gone_to w t other ≡ l = cc in subst (LegStands external tones v y) same caller_stands
 
   references_gone : SameReferences external w v
   references_gone z b in_z at_z = elim (same_or_apart z x) [
     | inl is_x ↦
-        let e : Some (in_state s leg) ≡ Some b = sym g.here_x ∙ sym (ap (leg_at v.legs) is_x) ∙ at_z in
-        let same : in_state s leg ≡ b = cc in
+        let e : Some (gone_to w s leg) ≡ Some b = sym g.here_x ∙ sym (ap (leg_at v.legs) is_x) ∙ at_z in
+        let same : gone_to w s leg ≡ b = cc in
         (leg, ap (leg_at w.legs) is_x ∙ g.at_x, ap (λ (l : Leg). l.side) same, ap (λ (l : Leg). l.reference) same)
     | inr not_x ↦ elim (same_or_apart z y) [
       | inl is_y ↦
-          let e : Some (in_state t other) ≡ Some b = sym g.here_y ∙ sym (ap (leg_at v.legs) is_y) ∙ at_z in
-          let same : in_state t other ≡ b = cc in
+          let e : Some (gone_to w t other) ≡ Some b = sym g.here_y ∙ sym (ap (leg_at v.legs) is_y) ∙ at_z in
+          let same : gone_to w t other ≡ b = cc in
           (other, ap (leg_at w.legs) is_y ∙ g.at_y, ap (λ (l : Leg). l.side) same, ap (λ (l : Leg). l.reference) same)
       | inr not_y ↦ (b, sym (g.beside.legs z in_z not_x not_y) ∙ at_z, refl, refl)
     ]

@@ -14,7 +14,7 @@ use Rattle.tone_rules.specs.declared.tones.Tones.{Tones}
 use Rattle.tone_rules.specs.CallTones.{tone_given}
 use Rattle.call_states.specs.declared.leg.Held.{Held}
 use Rattle.call_profile.specs.Legs.{Legs, held_at}
-use Rattle.call_profile.specs.Operations.{Operation, Clear, Pair, Sound, Put, Remove, Send}
+use Rattle.call_profile.specs.Operations.{Operation, Clear, Pair, Sound, Put, Expect, Remove, Send}
 
 -- ---- messages to the user of a leg
 
@@ -97,8 +97,7 @@ on_connect h caller =
 abbrev pub on_disconnect : Held → List Operation
 on_disconnect h =
     Clear h.slot
-    ∷ Put h.slot (in_release_request h.leg)
-    ∷ send_to h (message_to h.leg kind.Release)
+    ∷ Expect h.slot (in_release_request h.leg) (message_to h.leg kind.Release)
     ∷ []
 
 -- the user of the leg has released its channel, and its call reference is released

@@ -17,6 +17,7 @@ use Rattle.tone_rules.specs.declared.tones.Tones.{Tones}
 use Rattle.call_profile.specs.Acts.{tone_of}
 use Rattle.call_profile.specs.Legs.{Legs, leg_at}
 use Rattle.exchange_events.specs.Sizes.{Setting}
+use Rattle.call_profile.specs.KeptMessages.{LegsWait}
 use Rattle.call_profile.specs.Waiting.{NumbersPend}
 use Rattle.call_profile.specs.World.{World}
 
@@ -71,8 +72,10 @@ pub record LegsStand (external : ℕ) (tones : Tones) (w : World) : Type 0 where
   pub one : (x y : Slot) (a b : Leg) → IsExternal external x → IsExternal external y → leg_at w.legs x ≡ Some a → leg_at w.legs y ≡ Some b
       → x.line ≡ y.line → a.side ≡ b.side → a.reference ≡ b.reference → x ≡ y
 
--- each slot is in one state, the legs are consistent, and numbers are pending where legs wait for the rest of them
+-- each slot is in one state, the legs are consistent, numbers are pending where legs wait for the rest of them, and messages are kept where
+-- legs wait for the answer
 pub record CallsStand (s : Setting) (w : World) : Type 0 where
   pub circuits : Valid s.dimensions.bridges w.holding
   pub legs : LegsStand s.dimensions.external s.tones w
   pub numbers : NumbersPend s.dimensions.external s.plan w.legs
+  pub waits : LegsWait s.dimensions.external w.holding.next w.legs

@@ -10,13 +10,15 @@ use Rattle.call_states.specs.declared.leg.Side.TheVariants.{Caller, Called}
 use Rattle.call_states.specs.declared.leg.Held.{Held}
 use Rattle.call_states.specs.declared.pending.Pending.{Pending}
 
--- for each external slot, by its number, the leg that holds it, and the number that is pending there
+-- for each external slot, by its number, the leg that holds it, the number that is pending there, and the octets of the message that is kept
+-- there to be sent again
 pub record Legs : Type 0 where
   pub held : List (Option Leg)
   pub pending : List (Option Pending)
+  pub kept : List (Option (List ℕ))
 
 abbrev pub no_legs : ℕ → Legs
-no_legs external = record { held = replicate (30 * external) None; pending = replicate (30 * external) None }
+no_legs external = record { held = replicate (30 * external) None; pending = replicate (30 * external) None; kept = replicate (30 * external) None }
 
 abbrev pub leg_at : Legs → Slot → Option Leg
 leg_at legs x = slice_index_or legs.held (number_of x) None
@@ -24,9 +26,23 @@ leg_at legs x = slice_index_or legs.held (number_of x) None
 abbrev pub pending_at : Legs → Slot → Option Pending
 pending_at legs x = slice_index_or legs.pending (number_of x) None
 
--- the slot is held by this leg, if by any, and no number is pending there
+abbrev pub kept_at : Legs → Slot → Option (List ℕ)
+kept_at legs x = slice_index_or legs.kept (number_of x) None
+
+-- a leg waits in its state from this frame on, once it holds its slot, and once what it got in this state was sent again
+abbrev pub from_frame : ℕ → Leg → Leg
+from_frame next leg = record leg { since = next; resent = false }
+
+abbrev pub resent_from : ℕ → Leg → Leg
+resent_from next leg = record leg { since = next; resent = true }
+
+-- the slot is held by this leg, if by any, and no number is pending there and no message kept
 abbrev pub with_entry : Legs → Slot → Option Leg → Legs
-with_entry legs x leg = record { held = slice_set legs.held (number_of x) leg; pending = slice_set legs.pending (number_of x) None }
+with_entry legs x leg = record {
+  held = slice_set legs.held (number_of x) leg;
+  pending = slice_set legs.pending (number_of x) None;
+  kept = slice_set legs.kept (number_of x) None;
+}
 
 abbrev pub with_leg : Legs → Slot → Leg → Legs
 with_leg legs x leg = with_entry legs x (Some leg)
@@ -36,7 +52,19 @@ without_leg legs x = with_entry legs x None
 
 -- the slot is held by this leg, whose number is pending
 abbrev pub with_waiting : Legs → Slot → Leg → Pending → Legs
-with_waiting legs x leg pending = record { held = slice_set legs.held (number_of x) (Some leg); pending = slice_set legs.pending (number_of x) (Some pending) }
+with_waiting legs x leg pending = record {
+  held = slice_set legs.held (number_of x) (Some leg);
+  pending = slice_set legs.pending (number_of x) (Some pending);
+  kept = slice_set legs.kept (number_of x) None;
+}
+
+-- the slot is held by this leg, and the message with these octets is kept there
+abbrev pub with_kept : Legs → Slot → Leg → List ℕ → Legs
+with_kept legs x leg octets = record {
+  held = slice_set legs.held (number_of x) (Some leg);
+  pending = slice_set legs.pending (number_of x) None;
+  kept = slice_set legs.kept (number_of x) (Some octets);
+}
 
 -- the slots of a line, lowest first
 unfoldable pub slots_of : ℕ → List Slot

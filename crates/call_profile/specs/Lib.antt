@@ -12,6 +12,7 @@ pub mod Digits
 pub mod ActCourse
 pub mod Calls
 pub mod Waiting
+pub mod KeptMessages
 pub mod LegStanding
 pub mod Step
 pub mod WorkedCalls

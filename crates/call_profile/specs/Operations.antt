@@ -8,9 +8,10 @@ use Rattle.control_memory.specs.Layout.{Layout}
 use Rattle.control_memory.specs.Connecting.{moved}
 use Rattle.q931_codec.specs.Outgoing.{OutgoingMessage, encoding}
 use Rattle.call_states.specs.declared.leg.Leg.{Leg}
+use Rattle.call_states.specs.declared.leg.Held.{Held}
 use Rattle.call_states.specs.declared.pending.Pending.{Pending}
 use Rattle.exchange_events.specs.declared.signal.Signal.{Signal}
-use Rattle.call_profile.specs.Legs.{with_leg, with_waiting, without_leg}
+use Rattle.call_profile.specs.Legs.{Legs, from_frame, resent_from, with_leg, with_waiting, with_kept, without_leg}
 use Rattle.exchange_events.specs.Sizes.{Dimensions}
 use Rattle.call_profile.specs.World.{World, obey, one_way, both_ways}
 
@@ -23,11 +24,15 @@ pub data Operation : Type 0 where
   Seat : (x : Slot) (room : ℕ) → Operation
   -- the slot gets this tone, if there is one
   Sound : (x : Slot) (kind : Option Kind) → Operation
-  -- the slot is held by this leg, in place of any other, and no number is pending there
+  -- the slot is held by this leg from the next frame on, in place of any other, and no number is pending there and no message kept
   Put : (x : Slot) (leg : Leg) → Operation
-  -- the slot is held by this leg, in place of any other, and its number is pending
+  -- the same, and its number is pending
   Wait : (x : Slot) (leg : Leg) (pending : Pending) → Operation
-  -- the slot is held by no leg, and no number is pending there
+  -- the same, and this message goes to its user, and is kept, to be sent again
+  Expect : (x : Slot) (leg : Leg) (message : OutgoingMessage) → Operation
+  -- what is kept of the leg goes to its user again, and the leg waits anew from the next frame on
+  Repeat : (h : Held) (octets : List ℕ) → Operation
+  -- the slot is held by no leg, and no number is pending there and no message kept
   Remove : (x : Slot) → Operation
   -- a message goes to the user of a line
   Send : (line : ℕ) (message : OutgoingMessage) → Operation
@@ -53,14 +58,30 @@ abbrev pub with_tone : Holding → Slot → Option Kind → Holding
 with_tone h x None = h
 with_tone h x (Some kind) = after h (Give_tone x kind)
 
+-- the legs of the world are others
+abbrev pub with_legs : World → Legs → World
+with_legs w legs = record w { legs = legs }
+
+-- a leg as it is put into the world: it waits from the next frame on
+abbrev pub begun : World → Leg → Leg
+begun w leg = from_frame w.holding.next leg
+
 abbrev pub making_after : Dimensions → Making → Operation → Making
 making_after d m (Clear x) = record m { world = obey d m.world (Clear_slot x) }
 making_after d m (Pair x y) = record m { world = obey d m.world (Connect x y); moves = Some (moves_for d m.world.layout x y) }
 making_after d m (Seat x room) = record m { world = obey d m.world (Take_seat x room); moves = moves_of_seat d m.world x }
 making_after d m (Sound x kind) = record m { world = record m.world { holding = with_tone m.world.holding x kind } }
-making_after d m (Put x leg) = record m { world = record m.world { legs = with_leg m.world.legs x leg } }
-making_after d m (Wait x leg pending) = record m { world = record m.world { legs = with_waiting m.world.legs x leg pending } }
-making_after d m (Remove x) = record m { world = record m.world { legs = without_leg m.world.legs x } }
+making_after d m (Put x leg) = record m { world = with_legs m.world (with_leg m.world.legs x (begun m.world leg)) }
+making_after d m (Wait x leg pending) = record m { world = with_legs m.world (with_waiting m.world.legs x (begun m.world leg) pending) }
+making_after d m (Expect x leg message) = record m {
+  world = with_legs m.world (with_kept m.world.legs x (begun m.world leg) (encoding message));
+  sends = m.sends ++ record { line = x.line; octets = encoding message } ∷ [];
+}
+making_after d m (Repeat h octets) = record m {
+  world = with_legs m.world (with_kept m.world.legs h.slot (resent_from m.world.holding.next h.leg) octets);
+  sends = m.sends ++ record { line = h.slot.line; octets = octets } ∷ [];
+}
+making_after d m (Remove x) = record m { world = with_legs m.world (without_leg m.world.legs x) }
 making_after d m (Send line message) = record m { sends = m.sends ++ record { line = line; octets = encoding message } ∷ [] }
 
 abbrev pub making_after_all : Dimensions → Making → List Operation → Making

@@ -12,6 +12,7 @@ use Rattle.call_profile.specs.Acts.{in_disconnect_indication}
 use Rattle.call_profile.specs.Calls.{Restarts, request_of}
 use Rattle.call_profile.specs.LegStanding.{CallsStand}
 use Rattle.call_profile.specs.Legs.{leg_at}
+use Rattle.call_profile.specs.Operations.{begun}
 use Rattle.call_profile.specs.Restarts.{restarts_slot}
 use Rattle.exchange_events.specs.Sizes.{Setting}
 use Rattle.call_profile.specs.World.{World}
@@ -23,13 +24,13 @@ pub record IsRestart (s : Setting) (w : World) (line : ℕ) (octets : List ℕ) 
   pub restarts : request_of w.legs line octets ≡ Restarts r
 
 -- a leg at a slot that isn't restarted: where the other leg of its call was at one that is, it is cleared with cause 41, temporary failure
-abbrev pub left_with : Restart → ℕ → Leg → Peer → Leg
-left_with r line leg peer.Alone = leg
-left_with r line leg (peer.Leg y) = if restarts_slot r line y then in_disconnect_indication temporary_failure leg else leg
-left_with r line leg (peer.Room room) = leg
+abbrev pub left_with : Restart → ℕ → World → Leg → Peer → Leg
+left_with r line w leg peer.Alone = leg
+left_with r line w leg (peer.Leg y) = if restarts_slot r line y then begun w (in_disconnect_indication temporary_failure leg) else leg
+left_with r line w leg (peer.Room room) = leg
 
-abbrev pub left_by : Restart → ℕ → Leg → Leg
-left_by r line leg = left_with r line leg leg.peer
+abbrev pub left_by : Restart → ℕ → World → Leg → Leg
+left_by r line w leg = left_with r line w leg leg.peer
 
 -- no leg holds the slot, and it hears by what it heard before: a nail or a seat that it has stays
 abbrev pub StaysUnheld : World → World → Slot → Type 0
@@ -42,7 +43,7 @@ RestartedAreEmpty external r line afterwards = (x : Slot) → IsExternal externa
 -- each leg at any other slot is what the RESTART leaves of it
 abbrev pub OthersAreLeft : ℕ → Restart → ℕ → World → World → Type 0
 OthersAreLeft external r line before afterwards =
-    (x : Slot) (leg : Leg) → IsExternal external x → restarts_slot r line x ≡ false → leg_at before.legs x ≡ Some leg → leg_at afterwards.legs x ≡ Some (left_by r line leg)
+    (x : Slot) (leg : Leg) → IsExternal external x → restarts_slot r line x ≡ false → leg_at before.legs x ≡ Some leg → leg_at afterwards.legs x ≡ Some (left_by r line before leg)
 
 -- what no leg held stays so
 abbrev pub UnheldStay : ℕ → World → World → Type 0

@@ -27,7 +27,7 @@ use Rattle.call_profile.specs.Acts.{message_to}
 use Rattle.call_profile.specs.Course.{Course, only}
 use Rattle.call_profile.specs.IdleSlots.{idle, lowest_idle, lowest_idle_beside}
 use Rattle.call_profile.specs.Legs.{new_reference}
-use Rattle.call_profile.specs.Operations.{Operation, Seat, Put, Wait, Send}
+use Rattle.call_profile.specs.Operations.{Operation, Seat, Put, Wait, Expect, Send}
 use Rattle.exchange_events.specs.Sizes.{Setting, Dimensions}
 use Rattle.call_profile.specs.World.{World, is_full}
 
@@ -174,12 +174,12 @@ refusal s w line m = first_cause (checks s w line m)
 
 -- ---- what an accepted call makes. A caller learns its channel in the first answer to its SETUP (5.1.2, 5.1.3), and in no later one
 
--- a leg of a new call
+-- a leg of a new call, before it holds a slot
 abbrev pub caller_leg : ℕ → ℕ → Peer → Leg
-caller_leg state reference peer = record { state = state; reference = reference; side = Caller; peer = peer; cause = 0 }
+caller_leg state reference peer = record { state = state; reference = reference; side = Caller; peer = peer; cause = 0; since = 0; resent = false }
 
 abbrev pub called_leg : ℕ → Slot → Leg
-called_leg reference caller = record { state = call_present; reference = reference; side = Called; peer = peer.Leg caller; cause = 0 }
+called_leg reference caller = record { state = call_present; reference = reference; side = Called; peer = peer.Leg caller; cause = 0; since = 0; resent = false }
 
 -- a message that tells the user the channel of its call
 abbrev pub with_channel : Slot → OutgoingMessage → OutgoingMessage
@@ -211,9 +211,8 @@ call_line first own asked x y reference =
     let caller = caller_leg outgoing_call_proceeding own (peer.Leg y) in
     let called = called_leg reference x in
     Put x caller
-    ∷ Put y called
     ∷ Send x.line (call_proceeding first x caller)
-    ∷ Send y.line (offer asked y called)
+    ∷ Expect y called (offer asked y called)
     ∷ []
 
 -- a call to a room is answered at once

@@ -48,6 +48,10 @@ pub struct Leg {
     pub peer: Peer,
     /// The cause value (4.5.12) that the leg was cleared with, 0 until then.
     pub cause: u8,
+    /// The number of the frame from which on it waits in its state.
+    pub since: u32,
+    /// Whether the message that it got in this state was sent again.
+    pub resent: bool,
 }
 
 /// A leg and the slot that it holds.
