@@ -66,7 +66,7 @@ module _ (d : Dimensions) (tones : Tones) (w : World) (x y : Slot) (leg other : 
       let waited = waits (first_of_two leg.state among) in
       let old = stand.each y other peers.in_y peers.at_y in (
         valid,
-        both_gone d.external tones w after_proceeding x y leg other incoming_call_proceeding other.state (record {
+        both_gone d.external tones w after_proceeding x y leg other incoming_call_proceeding other.state other.since other.resent (record {
           stand = stand;
           in_x = peers.in_x;
           in_y = peers.in_y;
@@ -99,7 +99,7 @@ module _ (d : Dimensions) (tones : Tones) (w : World) (x y : Slot) (leg other : 
       let one : Option Leg = Some (gone_to w call_received leg) in
       let two : Option Leg = Some (gone_to w call_delivered other) in (
         sounding_valid w.holding y idle d.bridges valid tone,
-        both_gone d.external tones w (making_after_all d (making_at w) (on_alerting tones (record { slot = x; leg = leg }) (record { slot = y; leg = other }))).world x y leg other call_received call_delivered (record {
+        both_gone d.external tones w (making_after_all d (making_at w) (on_alerting tones (record { slot = x; leg = leg }) (record { slot = y; leg = other }))).world x y leg other call_received call_delivered w.holding.next false (record {
           stand = stand;
           in_x = peers.in_x;
           in_y = peers.in_y;
@@ -150,7 +150,7 @@ module _ (d : Dimensions) (tones : Tones) (w : World) (x y : Slot) (leg other : 
       let one : Option Leg = Some (gone_to w active leg) in
       let two : Option Leg = Some (gone_to w active other) in (
         valid-connect d.bridges cleared y x (valid-clear d.bridges w.holding y valid) peers.apart idle_caller idle_called,
-        both_gone d.external tones w (making_after_all d (making_at w) (on_connect (record { slot = x; leg = leg }) (record { slot = y; leg = other }))).world x y leg other active active (record {
+        both_gone d.external tones w (making_after_all d (making_at w) (on_connect (record { slot = x; leg = leg }) (record { slot = y; leg = other }))).world x y leg other active active w.holding.next false (record {
           stand = stand;
           in_x = peers.in_x;
           in_y = peers.in_y;

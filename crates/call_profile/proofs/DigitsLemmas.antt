@@ -23,7 +23,7 @@ use Rattle.call_profile.specs.Acts.{clear_with, in_disconnect_indication, tone_o
 use Rattle.call_profile.specs.Digits.{has_no_octet, called_with, asked_with, digits_checks, digits_refusal, dial_on, with_pending, on_digits}
 use Rattle.call_profile.specs.LegStanding.{CallsStand, LegsStand, LegStands}
 use Rattle.call_profile.specs.Legs.{leg_at}
-use Rattle.call_profile.specs.Operations.{Operation, making_at, making_after_all}
+use Rattle.call_profile.specs.Operations.{Operation, begun, making_at, making_after_all}
 use Rattle.call_profile.specs.Setup.{Check, is_room_full, target_dialled}
 use Rattle.call_profile.specs.Waiting.{Waits}
 use Rattle.call_profile.specs.World.{World}
@@ -44,7 +44,7 @@ module _ (d : Dimensions) (tones : Tones) (w : World) (h : Held) (cause : ℕ) (
   x = h.slot
 
   abbrev new : Leg
-  new = in_disconnect_indication cause h.leg
+  new = begun w (in_disconnect_indication cause h.leg)
 
   abbrev cleared : Holding
   cleared = after w.holding (Clear_slot x)
@@ -78,7 +78,7 @@ module _ (d : Dimensions) (tones : Tones) (w : World) (h : Held) (cause : ℕ) (
   }
 
   new_stands : LegStands d.external tones v x new
-  new_stands = disconnected_stands d.external tones w v x h.leg cause small (stand.each x h.leg within at) (sounds cleared x idle_x tones new (λ e. absurd cc))
+  new_stands = disconnected_stands d.external tones w v x h.leg w.holding.next cause small (stand.each x h.leg within at) (sounds cleared x idle_x tones new (λ e. absurd cc))
 
   stands_x : (l : Leg) → leg_at v.legs x ≡ Some l → LegStands d.external tones v x l
   stands_x l is = let e : Some new ≡ Some l = sym here ∙ is in let same : new ≡ l = cc in subst (LegStands d.external tones v x) same new_stands

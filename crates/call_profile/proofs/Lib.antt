@@ -22,6 +22,7 @@ pub mod NewCallLemmas
 pub mod SetupLemmas
 pub mod AcceptedSetupLemmas
 pub mod OctetLemmas
+pub mod KeptMessageLemmas
 pub mod PendingNumberLemmas
 pub mod WaitingLegLemmas
 pub mod StandingLegLemmas

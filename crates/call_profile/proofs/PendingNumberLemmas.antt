@@ -1,12 +1,13 @@
--- Every event keeps a number pending exactly where a leg is in overlap sending.
+-- Every event keeps a number pending exactly where a leg is in overlap sending, and a message kept exactly where a leg waits for the answer.
 use Rattle.std.proofs.Common.{◌≡◌, ℕ, zero, suc, ◌*◌, inl, inr, Bool, true, false, List, [], ◌∷◌, Option, Some, None, refl, sym, ◌∙◌, subst, arith, get_or, length-set, get_or-set_same, get_or-set_other, if◌then◌else◌}
-use Rattle.std.specs.Prelude.{replicate, slice_set}
+use Rattle.std.specs.Prelude.{◌≤◌, IfSome, replicate, slice_set}
 use Rattle.std.proofs.lemmas.List.{length-replicate}
 use Rattle.circuit_model.specs.declared.channel.Slot.{Slot}
 use Rattle.circuit_model.specs.Extent.{IsExternal}
 use Rattle.control_memory.specs.Layout.{number_of}
 use Rattle.control_memory.proofs.Steps.{same_number, number_inside}
 use Rattle.number_plan.specs.declared.plan.Number.{Number}
+use Rattle.q931_codec.specs.Outgoing.{encoding}
 use Rattle.call_states.specs.Acts.{act_on}
 use Rattle.call_states.specs.declared.leg.Leg.{Leg}
 use Rattle.call_states.specs.declared.pending.Pending.{Pending}
@@ -19,17 +20,20 @@ use Rattle.exchange_events.specs.Sound.{Fits, IsPlanned}
 use Rattle.call_profile.specs.ActCourse.{course_of}
 use Rattle.call_profile.specs.Calls.{Request, For_leg, New_call, On_no_call, Restarts, Unanswered, request_of, answer_back, outcome_for}
 use Rattle.call_profile.specs.IdleSlots.{is_nailed}
-use Rattle.call_profile.specs.Legs.{Legs, leg_at, pending_at, no_legs}
+use Rattle.call_profile.specs.Legs.{Legs, from_frame, resent_from, leg_at, pending_at, no_legs}
 use Rattle.call_profile.specs.LegStanding.{CallsStand}
 use Rattle.call_profile.specs.Operations as op
-use Rattle.call_profile.specs.Operations.{Operation, Making, making_at, making_after, making_after_all}
+use Rattle.call_profile.specs.Operations.{Operation, Making, begun, with_legs, making_at, making_after, making_after_all}
 use Rattle.call_profile.specs.Restarts.{restart_slot}
 use Rattle.call_profile.specs.Setup.{course_of_setup}
 use Rattle.call_profile.specs.Step.{next, may_nail, may_seat}
-use Rattle.call_profile.specs.Waiting.{MayWait, NumbersPend}
-use Rattle.call_profile.specs.World.{World}
+use Rattle.call_profile.specs.KeptMessages.{MayKeep, LegsWait}
+use Rattle.call_profile.specs.Waiting.{IsWaiting, MayWait, NumbersPend}
+use Rattle.call_profile.specs.World.{World, pass}
 use Rattle.call_profile.proofs.BesideLemmas.{same_or_apart}
 use Rattle.call_profile.proofs.ClearingLemmas.{Kept}
+use Rattle.call_profile.proofs.KeptMessageLemmas.{awaits_by, digits_keep_none, kept_from, kept_anew, kept_there, written_wait, wait_on}
+use Rattle.call_profile.proofs.ToneLemmas.{sounding_next}
 use Rattle.call_profile.proofs.Permitted.{IsPermitted, ArePermitted}
 use Rattle.call_profile.proofs.PermittedLemmas.{act_may, call_may, answer_may}
 use Rattle.call_profile.proofs.RestartLemmas.{slot_kept, slot_permitted}
@@ -37,9 +41,9 @@ use Rattle.call_profile.proofs.RestartedSlotLemmas.{each_below}
 
 -- ---- one entry written
 
-module _ (external : ℕ) (plan : List Number) (legs : Legs) (x : Slot) (pend : NumbersPend external plan legs) (in_x : IsExternal external x) (o : Option Leg) (p : Option Pending) where
+module _ (external : ℕ) (plan : List Number) (legs : Legs) (x : Slot) (pend : NumbersPend external plan legs) (in_x : IsExternal external x) (o : Option Leg) (p : Option Pending) (k : Option (List ℕ)) where
   abbrev written : Legs
-  written = record { held = slice_set legs.held (number_of x) o; pending = slice_set legs.pending (number_of x) p }
+  written = record { held = slice_set legs.held (number_of x) o; pending = slice_set legs.pending (number_of x) p; kept = slice_set legs.kept (number_of x) k }
 
   leg_here : leg_at written x ≡ o
   leg_here = get_or-set_same legs.held (number_of x) o None (let n = number_inside external x in_x in let size = pend.legs_count in omega (arith, n, size))
@@ -62,51 +66,79 @@ module _ (external : ℕ) (plan : List Number) (legs : Legs) (x : Slot) (pend : 
 
 -- ---- what is done
 
-module _ (d : Dimensions) (tones : Tones) (plan : List Number) where
-  performed : (m : Making) (o : Operation) → IsPermitted d tones plan m o → NumbersPend d.external plan m.world.legs → NumbersPend d.external plan (making_after d m o).world.legs
-  performed m (op.Clear x) may pend = pend
-  performed m (op.Pair x y) may pend = pend
-  performed m (op.Seat x room) may pend = pend
-  performed m (op.Sound x kind) may pend = pend
-  performed m (op.Put x leg) may pend = written_pend d.external plan m.world.legs x pend may.0 (Some leg) None may.2
-  performed m (op.Wait x leg p) may pend = written_pend d.external plan m.world.legs x pend may.0 (Some leg) (Some p) may.2
-  performed m (op.Remove x) may pend = written_pend d.external plan m.world.legs x pend may None None tt
-  performed m (op.Send line message) may pend = pend
+-- what every event is to keep of the entries of slots
+abbrev pub EntriesStand : ℕ → List Number → World → Type 0
+EntriesStand external plan w = NumbersPend external plan w.legs × LegsWait external w.holding.next w.legs
 
-  performed_all : (m : Making) (os : List Operation) → ArePermitted d tones plan m os → NumbersPend d.external plan m.world.legs → NumbersPend d.external plan (making_after_all d m os).world.legs
-  performed_all m [] may pend = pend
-  performed_all m (o ∷ os) may pend = performed_all (making_after d m o) os may.1 (performed m o may.0 pend)
+waiting_from : (plan : List Number) (next : ℕ) (leg : Leg) (p : Pending) → IsWaiting plan leg p → IsWaiting plan (from_frame next leg) p
+waiting_from plan next leg p is = record { state = is.state; calls = is.calls; alone = is.alone; dialled = is.dialled; fits = is.fits }
+
+module _ (d : Dimensions) (tones : Tones) (plan : List Number) where
+  abbrev Stand : World → Type 0
+  Stand w = EntriesStand d.external plan w
+
+  -- a slot gets another entry
+  entered : (w : World) (x : Slot) → IsExternal d.external x → Stand w → (o : Option Leg) (p : Option Pending) (k : Option (List ℕ)) → MayWait plan o p → IfSome o (λ leg. leg.since ≤ w.holding.next) → MayKeep o k
+      → Stand (with_legs w (record { held = slice_set w.legs.held (number_of x) o; pending = slice_set w.legs.pending (number_of x) p; kept = slice_set w.legs.kept (number_of x) k }))
+  entered w x in_x stand o p k waits since keeps = (
+    written_pend d.external plan w.legs x stand.0 in_x o p k waits,
+    written_wait d.external w.holding.next w.legs x stand.1 in_x o p k since keeps,
+  )
+
+  performed : (m : Making) (o : Operation) → IsPermitted d tones plan m o → Stand m.world → Stand (making_after d m o).world
+  performed m (op.Clear x) may stand = stand
+  performed m (op.Pair x y) may stand = stand
+  performed m (op.Seat x room) may stand = stand
+  performed m (op.Sound x kind) may stand = (stand.0, subst (λ next. LegsWait d.external next m.world.legs) (sym (sounding_next m.world.holding x kind)) stand.1)
+  performed m (op.Put x leg) may stand = entered m.world x may.0 stand (Some (begun m.world leg)) None None may.2 (omega arith) may.3
+  performed m (op.Wait x leg p) may stand =
+      entered m.world x may.0 stand (Some (begun m.world leg)) (Some p) None (waiting_from plan m.world.holding.next leg p may.2) (omega arith) (digits_keep_none leg.state may.2.state)
+  performed m (op.Expect x leg message) may stand =
+      entered m.world x may.0 stand (Some (begun m.world leg)) None (Some (encoding message)) (awaits_by message.kind leg.state may.2.state).1 (omega arith) (kept_from m.world.holding.next leg message may.2)
+  performed m (op.Repeat h octets) may stand =
+      let keeps = kept_there d.external m.world.holding.next m.world.legs h.slot h.leg octets stand.1 may.0 may.1 may.2 in
+      entered m.world h.slot may.0 stand (Some (resent_from m.world.holding.next h.leg)) None (Some octets) (awaits_by keeps.message.kind h.leg.state keeps.awaited.state).1 (omega arith)
+      (kept_anew m.world.holding.next h.leg octets keeps)
+  performed m (op.Remove x) may stand = entered m.world x may stand None None None tt tt tt
+  performed m (op.Send line message) may stand = stand
+
+  performed_all : (m : Making) (os : List Operation) → ArePermitted d tones plan m os → Stand m.world → Stand (making_after_all d m os).world
+  performed_all m [] may stand = stand
+  performed_all m (o ∷ os) may stand = performed_all (making_after d m o) os may.1 (performed m o may.0 stand)
 
 -- ---- a message
 
 module _ (s : Setting) (w : World) (line : ℕ) (octets : List ℕ) (planned : IsPlanned s) (fits : Fits s.dimensions.external (Message line octets)) (stands : CallsStand s w) where
-  abbrev Pend : World → Type 0
-  Pend v = NumbersPend s.dimensions.external s.plan v.legs
+  abbrev Stands : World → Type 0
+  Stands v = EntriesStand s.dimensions.external s.plan v
 
-  received : (r : Request) → request_of w.legs line octets ≡ r → Pend (outcome_for s w line r).making.world
+  before : Stands w
+  before = (stands.numbers, stands.waits)
+
+  received : (r : Request) → request_of w.legs line octets ≡ r → Stands (outcome_for s w line r).making.world
   received (For_leg h m) is =
-      performed_all s.dimensions s.tones s.plan (making_at w) (course_of s w h m (act_on h.leg.state m)).operations (act_may s w line octets planned fits stands h m is) stands.numbers
-  received (New_call m) is = performed_all s.dimensions s.tones s.plan (making_at w) (course_of_setup s w line m).operations (call_may s w line octets planned fits stands m is) stands.numbers
-  received (On_no_call m) is = performed_all s.dimensions s.tones s.plan (making_at w) (answer_back line (answer_without_call m)) (answer_may s w line octets planned fits stands m is) stands.numbers
-  received (Restarts r) is = (each_below s.dimensions s.tones r line w (λ a. Pend a.making.world × Kept s.dimensions s.tones a.making.world) (stands.numbers, (stands.circuits, stands.legs)) (λ a place small k.
+      performed_all s.dimensions s.tones s.plan (making_at w) (course_of s w h m (act_on h.leg.state m)).operations (act_may s w line octets planned fits stands h m is) before
+  received (New_call m) is = performed_all s.dimensions s.tones s.plan (making_at w) (course_of_setup s w line m).operations (call_may s w line octets planned fits stands m is) before
+  received (On_no_call m) is = performed_all s.dimensions s.tones s.plan (making_at w) (answer_back line (answer_without_call m)) (answer_may s w line octets planned fits stands m is) before
+  received (Restarts r) is = (each_below s.dimensions s.tones r line w (λ a. Stands a.making.world × Kept s.dimensions s.tones a.making.world) (before, (stands.circuits, stands.legs)) (λ a place small k.
       let x : Slot = record { line = line; place = place } in (
         performed_all s.dimensions s.tones s.plan a.making (restart_slot s.tones r a.making.world.legs x) (slot_permitted s.dimensions s.tones r a.making x k.1 (fits.0, small) s.plan) k.0,
         slot_kept s.dimensions s.tones r a.making x k.1 (fits.0, small),
       )) 30 (omega arith)).0
-  received Unanswered is = stands.numbers
+  received Unanswered is = before
 
 -- ---- an event
 
-either_legs : (b : Bool) (v w : World) → v.legs ≡ w.legs → (if b then v else w).legs ≡ w.legs
-either_legs true v w same = same
-either_legs false v w same = refl
+either_stand : (external : ℕ) (plan : List Number) (b : Bool) (v w : World) → EntriesStand external plan v → EntriesStand external plan w → EntriesStand external plan (if b then v else w)
+either_stand external plan true v w one other = one
+either_stand external plan false v w one other = other
 
-pub numbers_happened : (s : Setting) (w : World) (e : Event) → IsPlanned s → Fits s.dimensions.external e → CallsStand s w → NumbersPend s.dimensions.external s.plan (next s w e).legs
-numbers_happened s w (Nail x y) planned fits stands = subst (NumbersPend s.dimensions.external s.plan) (sym (either_legs (may_nail w x y) _ w refl)) stands.numbers
-numbers_happened s w (Seat x room) planned fits stands = subst (NumbersPend s.dimensions.external s.plan) (sym (either_legs (may_seat s.dimensions w x) _ w refl)) stands.numbers
-numbers_happened s w (Free x) planned fits stands = subst (NumbersPend s.dimensions.external s.plan) (sym (either_legs (is_nailed w x) _ w refl)) stands.numbers
-numbers_happened s w (Message line octets) planned fits stands = received s w line octets planned fits stands (request_of w.legs line octets) refl
-numbers_happened s w (Frame input) planned fits stands = stands.numbers
+pub entries_stand : (s : Setting) (w : World) (e : Event) → IsPlanned s → Fits s.dimensions.external e → CallsStand s w → EntriesStand s.dimensions.external s.plan (next s w e)
+entries_stand s w (Nail x y) planned fits stands = either_stand s.dimensions.external s.plan (may_nail w x y) _ w (stands.numbers, stands.waits) (stands.numbers, stands.waits)
+entries_stand s w (Seat x room) planned fits stands = either_stand s.dimensions.external s.plan (may_seat s.dimensions w x) _ w (stands.numbers, stands.waits) (stands.numbers, stands.waits)
+entries_stand s w (Free x) planned fits stands = either_stand s.dimensions.external s.plan (is_nailed w x) _ w (stands.numbers, stands.waits) (stands.numbers, stands.waits)
+entries_stand s w (Message line octets) planned fits stands = received s w line octets planned fits stands (request_of w.legs line octets) refl
+entries_stand s w (Frame input) planned fits stands = (stands.numbers, wait_on s.dimensions.external w.holding.next (pass w input).holding.next w.legs (omega arith) stands.waits)
 
 -- ---- before the first event
 

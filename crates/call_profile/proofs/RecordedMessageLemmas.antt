@@ -61,10 +61,10 @@ module _ (external : ℕ) (r : Restart) (line : ℕ) (u v : World) (x : Slot) (d
   Became z = (is_calling (leg_at v.legs z) ≡ false)
       ⊎ ((leg_at v.legs z ≡ leg_at u.legs z) × ((l : Leg) → leg_at u.legs z ≡ Some l → heard_by v.holding.circuits z ≡ heard_by u.holding.circuits z))
 
-  peer_silent : (z : Slot) (l : Leg) → is_calling (peer_after r line z l) ≡ false
+  peer_silent : (z : Slot) (l : Leg) → is_calling (peer_after r line u.holding.next z l) ≡ false
   peer_silent z l = elim (true_or_false (restarts_slot r line z)) [
     | inl too ↦ rw too refl
-    | inr not_so ↦ rw not_so (disconnected_silent temporary_failure l)
+    | inr not_so ↦ rw not_so (disconnected_silent u.holding.next temporary_failure l)
   ]
 
   by_leg : (z : Slot) → IsExternal external z → (z ≡ x → ⊥) → (o : Option Leg) → leg_at u.legs z ≡ o → Became z

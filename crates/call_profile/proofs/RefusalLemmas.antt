@@ -17,8 +17,8 @@ use Rattle.exchange_events.specs.declared.record.CallRecord.{CallRecord}
 use Rattle.call_profile.specs.ActCourse.{course_of}
 use Rattle.call_profile.specs.CallRecords.{record_at, records, records_by, is_ended, is_calling}
 use Rattle.call_profile.specs.Calls.{Request, For_leg, New_call, On_no_call, Restarts, Unanswered, request_of, answer_back, outcome_for, outcome_of_octets, after_message}
-use Rattle.call_profile.specs.Legs.{leg_at}
-use Rattle.call_profile.specs.Operations.{Operation, Clear, Pair, Seat, Sound, Put, Wait, Remove, Send, Making, making_at, making_after, making_after_all, moves_for, moves_of_seat, with_tone}
+use Rattle.call_profile.specs.Legs.{from_frame, resent_from, with_leg, with_waiting, with_kept, leg_at}
+use Rattle.call_profile.specs.Operations.{Operation, Clear, Pair, Seat, Sound, Put, Wait, Expect, Repeat, Remove, Send, Making, making_at, making_after, making_after_all, moves_for, moves_of_seat, with_tone}
 use Rattle.call_profile.specs.Restarts.{MessageOutcome, outcome_at_slot, restart_slot, outcome_below, outcome_of_restart}
 use Rattle.exchange_events.specs.declared.trace.Event.{Event}
 use Rattle.exchange_events.specs.declared.trace.Event.TheVariants.{Nail, Seat as Seat_event, Free, Message as Message_event, Frame}

@@ -25,7 +25,7 @@ use Rattle.call_profile.specs.CallRecords.{records}
 use Rattle.call_profile.specs.EndedCalls.{caller_in, record_calling, record_ended, slot_records}
 use Rattle.call_profile.specs.LegStanding.{HasPeer, IsInCall}
 use Rattle.call_profile.specs.Legs.{Legs, leg_at}
-use Rattle.call_profile.specs.Operations.{Operation, Making, making_after_all}
+use Rattle.call_profile.specs.Operations.{Operation, Making, begun, making_after_all}
 use Rattle.call_profile.specs.Peers.{PeerIsThere}
 use Rattle.call_profile.proofs.Permitted.{ArePermitted}
 use Rattle.call_profile.specs.Restarts.{restarts_slot, restart_peer, restart_leg, restart_slot, outcome_below}
@@ -70,10 +70,10 @@ module _ (d : Dimensions) (tones : Tones) (r : Restart) (m : Making) (x : Slot) 
       let waits : World = (making_after_all d gone (clear_with tones temporary_failure (record { slot = y; leg = other }))).world in
       let stands = both_kept d tones m.world x leg None temporary_failure (omega arith) kept.0 kept.1 within at (inl refl) gone refl refl y other in_y at_y call in
       let size : length gone.world.legs.held ≡ 30 * d.external = length-set m.world.legs.held (number_of x) None ∙ kept.1.count in
-      let there : leg_at waits.legs y ≡ Some (in_disconnect_indication temporary_failure other) = entry_here d.external gone.world.legs y (Some (in_disconnect_indication temporary_failure other)) size in_y in (
+      let there : leg_at waits.legs y ≡ Some (begun m.world (in_disconnect_indication temporary_failure other)) = entry_here d.external gone.world.legs y (Some (begun m.world (in_disconnect_indication temporary_failure other))) size in_y in (
         stands.0,
-        alone_left d.external tones d.bridges waits (both_gone y other) y (in_disconnect_indication temporary_failure other) None stands.0 stands.1 in_y there (inl refl)
-            (sym (entry_twice gone.world.legs y (Some (in_disconnect_indication temporary_failure other)) None))
+        alone_left d.external tones d.bridges waits (both_gone y other) y (begun m.world (in_disconnect_indication temporary_failure other)) None stands.0 stands.1 in_y there (inl refl)
+            (ap (λ (ls : Legs). ls.held) (sym (entry_twice gone.world.legs y (Some (begun m.world (in_disconnect_indication temporary_failure other))) None)))
             (sym (cleared_twice gone.world.holding y))
             (λ p is. cc),
       )
@@ -101,8 +101,8 @@ module _ (d : Dimensions) (tones : Tones) (r : Restart) (m : Making) (x : Slot) 
         | inl too ↦ rw too (both_records d tones m.world x leg None temporary_failure kept.1 within at (inl refl) gone refl
             (both_gone y other) y other None has.0 has.1.1 apart refl refl leg.side refl has.1.2)
         | inr not_so ↦ rw not_so (both_records d tones m.world x leg None temporary_failure kept.1 within at (inl refl) gone refl
-            (making_after_all d gone (clear_with tones temporary_failure (record { slot = y; leg = other }))).world y other (Some (in_disconnect_indication temporary_failure other)) has.0 has.1.1 apart
-            (disconnected_silent temporary_failure other) refl leg.side refl has.1.2)
+            (making_after_all d gone (clear_with tones temporary_failure (record { slot = y; leg = other }))).world y other (Some (begun m.world (in_disconnect_indication temporary_failure other))) has.0 has.1.1 apart
+            (disconnected_silent m.world.holding.next temporary_failure other) refl leg.side refl has.1.2)
       ])
   told_by (peer.Room room) is has = alone_records d tones m.world x leg None temporary_failure kept.1 within at (inl refl) gone refl leg.side refl
 

@@ -25,9 +25,9 @@ use Rattle.call_profile.proofs.CommandLemmas.{nail_kept, seat_kept, free_kept, f
 use Rattle.call_profile.proofs.MessageToLegLemmas.{leg_kept}
 use Rattle.call_profile.proofs.NamedLegLemmas.{received_stands}
 use Rattle.call_profile.proofs.RestartLemmas.{below_kept}
-use Rattle.call_profile.specs.Waiting.{NumbersPend}
 use Rattle.call_profile.proofs.OctetLemmas.{octets_small}
-use Rattle.call_profile.proofs.PendingNumberLemmas.{none_pend, numbers_happened}
+use Rattle.call_profile.proofs.PendingNumberLemmas.{EntriesStand, none_pend, entries_stand}
+use Rattle.call_profile.proofs.KeptMessageLemmas.{none_wait}
 use Rattle.call_profile.proofs.SetupLemmas.{setup_kept, new_from}
 
 -- a message that is sent changes nothing else
@@ -35,8 +35,8 @@ kept_without : (s : Setting) (w : World) (line : ℕ) (o : Option OutgoingMessag
 kept_without s w line None kept = kept
 kept_without s w line (Some message) kept = kept
 
-kept_stands : (s : Setting) (v : World) → Kept s.dimensions s.tones v → NumbersPend s.dimensions.external s.plan v.legs → CallsStand s v
-kept_stands s v kept numbers = record { circuits = kept.0; legs = kept.1; numbers = numbers }
+kept_stands : (s : Setting) (v : World) → Kept s.dimensions s.tones v → EntriesStand s.dimensions.external s.plan v → CallsStand s v
+kept_stands s v kept entries = record { circuits = kept.0; legs = kept.1; numbers = entries.0; waits = entries.1 }
 
 module _ (s : Setting) (w : World) (line : ℕ) (octets : List ℕ) (planned : IsPlanned s) (can : Fits s.dimensions.external (Message line octets)) (stands : CallsStand s w) where
   received_kept : (r : Request) → request_of w.legs line octets ≡ r → Kept s.dimensions s.tones (outcome_for s w line r).making.world
@@ -53,13 +53,13 @@ module _ (s : Setting) (w : World) (line : ℕ) (octets : List ℕ) (planned : I
   received_kept Unanswered is = (stands.circuits, stands.legs)
 
 pub happened_kept : (s : Setting) (w : World) (e : Event) → IsPlanned s → Fits s.dimensions.external e → CallsStand s w → CallsStand s (next s w e)
-happened_kept s w (Nail x y) planned fits stands = kept_stands s (next s w (Nail x y)) (nail_kept s w stands.circuits stands.legs x y fits) (numbers_happened s w (Nail x y) planned fits stands)
-happened_kept s w (Seat x room) planned fits stands = kept_stands s (next s w (Seat x room)) (seat_kept s w stands.circuits stands.legs x room fits) (numbers_happened s w (Seat x room) planned fits stands)
-happened_kept s w (Free x) planned fits stands = kept_stands s (next s w (Free x)) (free_kept s w stands.circuits stands.legs x fits) (numbers_happened s w (Free x) planned fits stands)
+happened_kept s w (Nail x y) planned fits stands = kept_stands s (next s w (Nail x y)) (nail_kept s w stands.circuits stands.legs x y fits) (entries_stand s w (Nail x y) planned fits stands)
+happened_kept s w (Seat x room) planned fits stands = kept_stands s (next s w (Seat x room)) (seat_kept s w stands.circuits stands.legs x room fits) (entries_stand s w (Seat x room) planned fits stands)
+happened_kept s w (Free x) planned fits stands = kept_stands s (next s w (Free x)) (free_kept s w stands.circuits stands.legs x fits) (entries_stand s w (Free x) planned fits stands)
 happened_kept s w (Message line octets) planned fits stands =
     kept_stands s (next s w (Message line octets)) (received_kept s w line octets planned fits stands (request_of w.legs line octets) refl)
-    (numbers_happened s w (Message line octets) planned fits stands)
-happened_kept s w (Frame input) planned fits stands = kept_stands s (next s w (Frame input)) (frame_kept s w stands.circuits stands.legs input) (numbers_happened s w (Frame input) planned fits stands)
+    (entries_stand s w (Message line octets) planned fits stands)
+happened_kept s w (Frame input) planned fits stands = kept_stands s (next s w (Frame input)) (frame_kept s w stands.circuits stands.legs input) (entries_stand s w (Frame input) planned fits stands)
 
 -- ---- whole runs
 
@@ -84,6 +84,7 @@ start_stands s = record {
     one = λ x y a b in_x in_y at_x at_y line side reference. absurd (none_at s.dimensions.external x a at_x);
   };
   numbers = none_pend s.dimensions.external s.plan;
+  waits = none_wait s.dimensions.external 0;
 }
 
 pub run_stands : (s : Setting) (w : World) (es : List Event) → IsPlanned s → All (Fits s.dimensions.external) es → CallsStand s w → CallsStand s (world_after_all s w es)

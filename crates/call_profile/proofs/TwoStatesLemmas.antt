@@ -1,5 +1,5 @@
 -- The legs are consistent after the two of a call have gone to other states.
-use Rattle.std.proofs.Common.{◌≡◌, ℕ, ◌*◌, true, inl, inr, length, Some, refl, sym, ◌∙◌, ap, subst}
+use Rattle.std.proofs.Common.{◌≡◌, ℕ, ◌*◌, Bool, true, inl, inr, length, Some, refl, sym, ◌∙◌, ap, subst}
 use Rattle.circuit_model.specs.declared.channel.Slot.{Slot}
 use Rattle.circuit_model.specs.Circuits.{heard_by}
 use Rattle.circuit_model.specs.Extent.{IsExternal}
@@ -18,8 +18,12 @@ use Rattle.call_profile.proofs.BesideLemmas.{same_or_apart, Beside, each_stands,
 abbrev pub gone_to : World → ℕ → Leg → Leg
 gone_to w state leg = begun w (in_state state leg)
 
+-- the other leg of its call, which may have stayed in its own
+abbrev pub moved_to : ℕ → ℕ → Bool → Leg → Leg
+moved_to state since resent leg = record leg { state = state; since = since; resent = resent }
+
 -- what is known once the called leg at x is in state s and the caller's at y in state t
-pub record HasGone (external : ℕ) (tones : Tones) (w v : World) (x y : Slot) (leg other : Leg) (s t : ℕ) : Type 0 where
+pub record HasGone (external : ℕ) (tones : Tones) (w v : World) (x y : Slot) (leg other : Leg) (s t since : ℕ) (resent : Bool) : Type 0 where
   pub stand : LegsStand external tones w
   pub in_x : IsExternal external x
   pub in_y : IsExternal external y
@@ -31,36 +35,36 @@ pub record HasGone (external : ℕ) (tones : Tones) (w v : World) (x y : Slot) (
   pub matched : are_matched t s ≡ true
   pub size : length v.legs.held ≡ 30 * external
   pub here_x : leg_at v.legs x ≡ Some (gone_to w s leg)
-  pub here_y : leg_at v.legs y ≡ Some (gone_to w t other)
+  pub here_y : leg_at v.legs y ≡ Some (moved_to t since resent other)
   pub hears_x : MayHear tones (gone_to w s leg) (heard_by v.holding.circuits x)
-  pub hears_y : MayHear tones (gone_to w t other) (heard_by v.holding.circuits y)
+  pub hears_y : MayHear tones (moved_to t since resent other) (heard_by v.holding.circuits y)
   pub beside : Beside external w v x y
 
-module _ (external : ℕ) (tones : Tones) (w v : World) (x y : Slot) (leg other : Leg) (s t : ℕ) (g : HasGone external tones w v x y leg other s t) where
-  gone_call : AreOneCall y (gone_to w t other) x (gone_to w s leg)
+module _ (external : ℕ) (tones : Tones) (w v : World) (x y : Slot) (leg other : Leg) (s t since : ℕ) (resent : Bool) (g : HasGone external tones w v x y leg other s t since resent) where
+  gone_call : AreOneCall y (moved_to t since resent other) x (gone_to w s leg)
   gone_call = let c = g.call in record { calls = c.calls; is_called = c.is_called; there = c.there; back = c.back; matched = g.matched }
 
   called_stands : LegStands external tones v x (gone_to w s leg)
   called_stands =
       let old = g.stand.each x leg g.in_x g.at_x in
-      let in_call : IsInCall leg.side x (gone_to w s leg) y (gone_to w t other) = subst (λ (side : Side). IsInCall side x (gone_to w s leg) y (gone_to w t other)) (sym g.call.is_called) gone_call in
+      let in_call : IsInCall leg.side x (gone_to w s leg) y (moved_to t since resent other) = subst (λ (side : Side). IsInCall side x (gone_to w s leg) y (moved_to t since resent other)) (sym g.call.is_called) gone_call in
       record {
         state = g.state_x;
         reference = old.reference;
         cause = old.cause;
-        peer = subst (HasPeer external v.legs x (gone_to w s leg)) (sym g.call.back) (g.in_y, (gone_to w t other, g.here_y, in_call));
+        peer = subst (HasPeer external v.legs x (gone_to w s leg)) (sym g.call.back) (g.in_y, (moved_to t since resent other, g.here_y, in_call));
         hears = g.hears_x;
       }
 
-  caller_stands : LegStands external tones v y (gone_to w t other)
+  caller_stands : LegStands external tones v y (moved_to t since resent other)
   caller_stands =
       let old = g.stand.each y other g.in_y g.at_y in
-      let in_call : IsInCall other.side y (gone_to w t other) x (gone_to w s leg) = subst (λ (side : Side). IsInCall side y (gone_to w t other) x (gone_to w s leg)) (sym g.call.calls) gone_call in
+      let in_call : IsInCall other.side y (moved_to t since resent other) x (gone_to w s leg) = subst (λ (side : Side). IsInCall side y (moved_to t since resent other) x (gone_to w s leg)) (sym g.call.calls) gone_call in
       record {
         state = g.state_y;
         reference = old.reference;
         cause = old.cause;
-        peer = subst (HasPeer external v.legs y (gone_to w t other)) (sym g.call.there) (g.in_x, (gone_to w s leg, g.here_x, in_call));
+        peer = subst (HasPeer external v.legs y (moved_to t since resent other)) (sym g.call.there) (g.in_x, (gone_to w s leg, g.here_x, in_call));
         hears = g.hears_y;
       }
 
@@ -68,7 +72,7 @@ module _ (external : ℕ) (tones : Tones) (w v : World) (x y : Slot) (leg other 
   gone_x l is = let e : Some (gone_to w s leg) ≡ Some l = sym g.here_x ∙ is in let same : gone_to w s leg ≡ l = cc in subst (LegStands external tones v x) same called_stands
 
   gone_y : (l : Leg) → leg_at v.legs y ≡ Some l → LegStands external tones v y l
-  gone_y l is = let e : Some (gone_to w t other) ≡ Some l = sym g.here_y ∙ is in let same : gone_to w t other ≡ l = cc in subst (LegStands external tones v y) same caller_stands
+  gone_y l is = let e : Some (moved_to t since resent other) ≡ Some l = sym g.here_y ∙ is in let same : moved_to t since resent other ≡ l = cc in subst (LegStands external tones v y) same caller_stands
 
   references_gone : SameReferences external w v
   references_gone z b in_z at_z = elim (same_or_apart z x) [
@@ -78,8 +82,8 @@ module _ (external : ℕ) (tones : Tones) (w v : World) (x y : Slot) (leg other 
         (leg, ap (leg_at w.legs) is_x ∙ g.at_x, ap (λ (l : Leg). l.side) same, ap (λ (l : Leg). l.reference) same)
     | inr not_x ↦ elim (same_or_apart z y) [
       | inl is_y ↦
-          let e : Some (gone_to w t other) ≡ Some b = sym g.here_y ∙ sym (ap (leg_at v.legs) is_y) ∙ at_z in
-          let same : gone_to w t other ≡ b = cc in
+          let e : Some (moved_to t since resent other) ≡ Some b = sym g.here_y ∙ sym (ap (leg_at v.legs) is_y) ∙ at_z in
+          let same : moved_to t since resent other ≡ b = cc in
           (other, ap (leg_at w.legs) is_y ∙ g.at_y, ap (λ (l : Leg). l.side) same, ap (λ (l : Leg). l.reference) same)
       | inr not_y ↦ (b, sym (g.beside.legs z in_z not_x not_y) ∙ at_z, refl, refl)
     ]

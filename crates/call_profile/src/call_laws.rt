@@ -14,6 +14,7 @@ ghost use Rattle.call_profile.specs.Calls.{For_leg, after_message, answer_to, ou
 ghost use Rattle.q931_codec.specs.declared.message.Message.{Message};
 ghost use Rattle.exchange_events.specs.declared.trace.Event.{Event};
 ghost use Rattle.exchange_events.specs.declared.trace.Event.TheVariants as event;
+ghost use Rattle.call_profile.specs.KeptMessages.{EachBegan, EachIsKept, NoneElseIsKept};
 ghost use Rattle.call_profile.specs.LegStanding.{CallsStand};
 ghost use Rattle.call_states.specs.declared.leg.Held.{Held};
 ghost use Rattle.exchange_events.specs.Sizes.{Setting};
@@ -84,7 +85,9 @@ pub fn law_of_answered_calls()
 /// Every event keeps the legs consistent: peers name each other, in states that go together, each slot
 /// hears by what its leg's state says, and call references name one leg. So it is in every run. A leg in
 /// overlap sending is then a caller's and alone, its slot hears nothing, and its number is pending, whose
-/// digits so far are the beginning of a number of the plan; in no other state a number is pending.
+/// digits so far are the beginning of a number of the plan; in no other state a number is pending. A leg
+/// waits in its state since a frame that is at most the next one; in call present and in release request,
+/// and in no other state, the octets of its SETUP or RELEASE are kept.
 pub fn law_of_legs()
     ensures begins { (s : Setting) → CallsStand s (start s.dimensions) }
     ensures kept { (s : Setting) (w : World) (e : Event) → IsPlanned s → Fits s.dimensions.external e → CallsStand s w
@@ -93,6 +96,9 @@ pub fn law_of_legs()
         → CallsStand s (world_after_all s (start s.dimensions) es) }
     ensures waiting { (s : Setting) (w : World) → CallsStand s w → EachWaits s w }
     ensures pending { (s : Setting) (w : World) → CallsStand s w → NoneElsePends s w }
+    ensures since { (s : Setting) (w : World) → CallsStand s w → EachBegan s.dimensions.external w }
+    ensures kept_messages { (s : Setting) (w : World) → CallsStand s w → EachIsKept s.dimensions.external w }
+    ensures none_kept { (s : Setting) (w : World) → CallsStand s w → NoneElseIsKept s.dimensions.external w }
 {}
 
 /// The slot that a call gets whose number is dialled on is the called line's lowest idle one, as for a SETUP, since a

@@ -1,3 +1,4 @@
+use Rattle.call_profile.proofs.KeptMessageLemmas.{each_began, each_is_kept, none_else_is_kept}
 use Rattle.call_profile.proofs.WaitingLegLemmas.{each_waits, none_else}
 use Rattle.call_profile.proofs.StandingLegLemmas.{start_stands, happened_kept, run_stands}
 use Rattle.call_profile.proofs.call_laws.law_of_legs.Goals as goal
@@ -16,3 +17,12 @@ returns-clause-waiting c s w stands = each_waits s w stands
 
 pub returns-clause-pending : goal.returns-clause-pending
 returns-clause-pending c s w stands = none_else s w stands
+
+pub returns-clause-since : goal.returns-clause-since
+returns-clause-since c s w stands = each_began s w stands
+
+pub returns-clause-kept_messages : goal.returns-clause-kept_messages
+returns-clause-kept_messages c s w stands = each_is_kept s w stands
+
+pub returns-clause-none_kept : goal.returns-clause-none_kept
+returns-clause-none_kept c s w stands = none_else_is_kept s w stands
