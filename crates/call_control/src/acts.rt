@@ -6,7 +6,7 @@ ghost use Rattle.q931_codec.specs.Outgoing.{outgoing_of};
 ghost use Rattle.call_states.specs.Acts.{cause_of_act};
 ghost use Rattle.call_states.specs.declared.act.Act.TheVariants as asked;
 ghost use Rattle.call_profile.specs.ActCourse.{course_of};
-ghost use Rattle.call_profile.specs.Acts.{with_progress, peer_of, with_peer, disconnect, in_disconnect_indication, in_state, tone_of, on_alerting, on_connect, on_disconnect, on_release, remove_leg, clear_with};
+ghost use Rattle.call_profile.specs.Acts.{with_progress, peer_of, with_peer, disconnect, in_disconnect_indication, in_release_request, in_state, tone_of, on_alerting, on_connect, on_disconnect, on_release, remove_leg, clear_with};
 ghost use Rattle.call_control.specs.AtWork.{IsAtWork, EachAtWork};
 ghost use Rattle.call_profile.specs.Calls.{making_by, outcome_by, course_on};
 ghost use Rattle.call_profile.specs.Legs.{leg_at};
@@ -206,15 +206,8 @@ impl<P: PathMap> CallControl<P> {
         ensures sizes { SameSizes self.old.map self.new.map }
     {
         self.clear(held.slot);
-        self.put(
-            held.slot,
-            Leg {
-                state: RELEASE_REQUEST,
-                peer: Peer::Alone,
-                ..held.leg
-            },
-        );
-        send_bare(out, held, MessageKind::Release);
+        let release = message_to(&held.leg, MessageKind::Release);
+        self.expect(out, held.slot, in_release_request(held.leg), &release);
     }
 
     // RELEASE: the user of the leg has released its channel, and its call reference is released.
@@ -292,6 +285,17 @@ fn in_state(state: u8, leg: Leg) -> Leg
     ensures { result ≡ in_state state leg }
 {
     Leg { state, ..leg }
+}
+
+// The leg alone, asked to release its channel.
+fn in_release_request(leg: Leg) -> Leg
+    ensures { result ≡ in_release_request leg }
+{
+    Leg {
+        state: RELEASE_REQUEST,
+        peer: Peer::Alone,
+        ..leg
+    }
 }
 
 // The leg alone, cleared with a cause.

@@ -94,9 +94,8 @@ impl<P: PathMap> CallControl<P> {
         let calling = caller_leg(OUTGOING_CALL_PROCEEDING, caller.reference, Peer::Leg(y));
         let called = called_leg(reference, x);
         self.put(x, calling);
-        self.put(y, called);
         send_proceeding(out, caller, &calling);
-        send(out, y.line, &offer(asked, y, &called));
+        self.expect(out, y, called, &offer(asked, y, &called));
     }
 
     // Lets a caller wait for the rest of its number, and asks it for that once.
@@ -156,7 +155,7 @@ fn send_proceeding(out: &mut Outbox, caller: Caller, leg: &Leg)
     }
 }
 
-// The caller's leg of a new call.
+// The caller's leg of a new call, before it holds a slot.
 fn caller_leg(state: u8, reference: u16, peer: Peer) -> Leg
     ensures { result ≡ caller_leg state reference peer }
 {
@@ -166,10 +165,12 @@ fn caller_leg(state: u8, reference: u16, peer: Peer) -> Leg
         side: Side::Caller,
         peer,
         cause: 0,
+        since: 0,
+        resent: false,
     }
 }
 
-// The called leg of a new call.
+// The called leg of a new call, before it holds a slot.
 fn called_leg(reference: u16, caller: Slot) -> Leg
     ensures { result ≡ called_leg reference caller }
 {
@@ -179,6 +180,8 @@ fn called_leg(reference: u16, caller: Slot) -> Leg
         side: Side::Called,
         peer: Peer::Leg(caller),
         cause: 0,
+        since: 0,
+        resent: false,
     }
 }
 

@@ -1,24 +1,31 @@
 //! What the code of calls works on, and its single operations.
-ghost use Rattle.std.specs.Prelude.{◌≡◌, ◌≢◌, ◌*◌, ◌≤◌, length, None, Some, IsTrue};
+ghost use Rattle.std.specs.Prelude.{◌≡◌, ◌≢◌, ◌*◌, ◌≤◌, ◌<◌, ◌+◌, [], ◌∷◌, true, false, length, None, Some, IsTrue};
 ghost use Rattle.circuit_model.specs.declared.channel.Slot.{Slot};
 ghost use Rattle.circuit_model.specs.Extent.{IsExternal};
 ghost use Rattle.circuit_model.specs.Holding.{Connect, Seat as Take_seat, Clear};
 ghost use Rattle.circuit_map.specs.Connections.{SameSizes, hears_at, hears_after};
 ghost use Rattle.q931_codec.specs.CallStates.{overlap_sending};
+ghost use Rattle.q931_codec.specs.Outgoing.{IsWritable, outgoing_of};
+ghost use Rattle.call_states.specs.Acts.{is_among};
 ghost use Rattle.call_states.specs.Status.{FitsMessages};
+ghost use Rattle.exchange_events.specs.Limits.{most_sends};
+ghost use Rattle.call_profile.specs.KeptMessages.{awaiting_answer};
 ghost use Rattle.call_profile.specs.IdleSlots.{idle};
-ghost use Rattle.call_profile.specs.Legs.{leg_at, with_leg, with_waiting, without_leg};
-ghost use Rattle.call_profile.specs.Operations.{moves_for, moves_of_seat, with_tone};
+ghost use Rattle.call_profile.specs.Legs.{from_frame, leg_at, with_leg, with_waiting, without_leg};
+ghost use Rattle.call_profile.specs.Operations.{Put, Wait, Expect, moves_for, moves_of_seat, with_tone};
 ghost use Rattle.call_profile.specs.Permitted.{CanSeat};
-ghost use Rattle.call_control.specs.Standing.{Holds};
+ghost use Rattle.call_control.specs.Standing.{Holds, Performs, PerformsQuietly};
 ghost use Rattle.exchange_events.specs.Sizes.{Dimensions};
 ghost use Rattle.call_profile.specs.World.{World, obey};
 
+use crate::sending::copy_of;
 use call_states::{Leg, Pending};
 use circuit_map::CircuitMap;
 use circuit_model::{Kind, Slot};
 use control_memory::PathMap;
+use exchange_events::{Encoded, Outbox, Signal};
 use leg_table::LegTable;
+use q931_codec::{Outgoing, write};
 
 /// The live circuits, with their paths and conference ports, and the legs of the calls: what
 /// call control works on. None of its operations takes memory.
@@ -100,31 +107,59 @@ impl<P: PathMap> CallControl<P> {
         }
     }
 
-    /// Lets a leg hold a slot, in place of any other; no number is pending there then.
+    /// Lets a leg hold a slot from the next frame on, in place of any other; no number is pending there then, and
+    /// no message kept.
     pub(crate) fn put(&mut self, x: Slot, leg: Leg)
         requires external { IsExternal self.old.map.external x }
         requires count { length self.old.legs.held ≡ 30 * self.old.map.external }
         requires told { FitsMessages leg }
         requires state { leg.state ≢ overlap_sending }
-        ensures legs { self.new.legs ≡ with_leg self.old.legs x leg }
+        requires unanswered { is_among awaiting_answer leg.state ≡ false }
+        ensures legs { self.new.legs ≡ with_leg self.old.legs x (from_frame self.old.map.next leg) }
         ensures map { self.new.map ≡ self.old.map }
+        ensures makes { PerformsQuietly (Put x leg ∷ []) self.old.map self.old.legs self.new.map self.new.legs }
     {
-        self.legs.put(x, leg);
+        self.legs.put(x, from_frame(self.map.next_frame(), leg));
     }
 
-    /// Lets a leg hold a slot, in place of any other, and wait there with its number.
+    /// Lets a leg hold a slot from the next frame on, in place of any other, and wait there with its number.
     pub(crate) fn wait(&mut self, x: Slot, leg: Leg, pending: Pending)
         requires external { IsExternal self.old.map.external x }
         requires count { length self.old.legs.held ≡ 30 * self.old.map.external }
         requires told { FitsMessages leg }
         requires state { leg.state ≡ overlap_sending }
-        ensures legs { self.new.legs ≡ with_waiting self.old.legs x leg pending }
+        ensures legs { self.new.legs ≡ with_waiting self.old.legs x (from_frame self.old.map.next leg) pending }
         ensures map { self.new.map ≡ self.old.map }
+        ensures makes { PerformsQuietly (Wait x leg pending ∷ []) self.old.map self.old.legs self.new.map self.new.legs }
     {
-        self.legs.wait(x, leg, pending);
+        self.legs.wait(x, from_frame(self.map.next_frame(), leg), pending);
     }
 
-    /// Lets no leg hold a slot; no number is pending there then.
+    /// Lets a leg hold a slot from the next frame on, in place of any other; this message goes to its user, and is
+    /// kept, to be sent again.
+    pub(crate) fn expect(&mut self, out: &mut Outbox, x: Slot, leg: Leg, message: &Outgoing)
+        requires external { IsExternal self.old.map.external x }
+        requires count { length self.old.legs.held ≡ 30 * self.old.map.external }
+        requires told { FitsMessages leg }
+        requires state { is_among awaiting_answer leg.state ≡ true }
+        requires room { length out.old.sends < most_sends }
+        requires writable { IsWritable (outgoing_of message.now) }
+        ensures makes { Performs (Expect x leg (outgoing_of message.now) ∷ []) self.old.map self.old.legs out.old self.new.map self.new.legs out.new }
+        ensures count { length self.new.legs.held ≡ length self.old.legs.held }
+        ensures sends { length out.new.sends ≡ length out.old.sends + 1 }
+        ensures moved { out.new.moved ≡ out.old.moved }
+        ensures map { self.new.map ≡ self.old.map }
+    {
+        let octets = write(message);
+        let leg = from_frame(self.map.next_frame(), leg);
+        self.legs.expect(x, leg, copy_of(octets.as_slice()));
+        out.sends.push(Signal {
+            line: x.line,
+            octets: Encoded::of(octets),
+        });
+    }
+
+    /// Lets no leg hold a slot; no number is pending there then, and no message kept.
     pub(crate) fn remove(&mut self, x: Slot)
         requires external { IsExternal self.old.map.external x }
         requires count { length self.old.legs.held ≡ 30 * self.old.map.external }
@@ -132,5 +167,16 @@ impl<P: PathMap> CallControl<P> {
         ensures map { self.new.map ≡ self.old.map }
     {
         self.legs.remove(x);
+    }
+}
+
+// A leg that waits in its state from this frame on.
+fn from_frame(next: u32, leg: Leg) -> Leg
+    ensures { result ≡ from_frame next leg }
+{
+    Leg {
+        since: next,
+        resent: false,
+        ..leg
     }
 }

@@ -1,5 +1,5 @@
--- What a table of legs shows of the numbers that it keeps.
-use Rattle.std.proofs.Common.{◌≡◌, ◌≢◌, ℕ, zero, suc, ◌+◌, ◌*◌, ◌<◌, List, [], ◌∷◌, length, get_or, set, Option, Some, None, refl, sym, ◌∙◌, ap, subst, arith, eq-eqb}
+-- What a table of legs shows of the numbers and messages that it keeps.
+use Rattle.std.proofs.Common.{◌≡◌, ◌≢◌, ℕ, true, false, zero, suc, ◌+◌, ◌*◌, ◌<◌, List, [], ◌∷◌, length, get_or, set, Option, Some, None, refl, sym, ◌∙◌, ap, subst, arith, eq-eqb}
 use Rattle.std.specs.Prelude.{All, IfSome, replicate}
 use Rattle.std.proofs.lemmas.List.{length-replicate}
 use Rattle.std.proofs.lemmas.Bool.{ne_eqb}
@@ -8,62 +8,85 @@ use Rattle.call_states.specs.declared.leg.Leg.{Leg}
 use Rattle.call_states.specs.declared.pending.Pending.{Pending}
 use Rattle.circuit_model.specs.declared.channel.Slot.{Slot}
 use Rattle.control_memory.specs.Layout.{number_of}
-use Rattle.call_profile.specs.Legs.{Legs, no_legs, pending_at, with_leg, with_waiting, without_leg}
+use Rattle.call_profile.specs.Legs.{Legs, no_legs, pending_at, kept_at, with_leg, with_waiting, with_kept, without_leg}
 use Rattle.call_states.specs.Status.{FitsMessages}
 use Rattle.leg_table.specs.LegKeys.{key_of, key_on, leg_on, no_key, AreKeysOf}
-use Rattle.leg_table.specs.KeptNumbers.{counting, counting_all, legs_kept}
+use Rattle.leg_table.specs.KeptNumbers.{number_in, message_in, counting, keeping, shown_all, counting_all, keeping_all, legs_kept}
+use Rattle.leg_table.specs.declared.notes.Note.{Note}
+use Rattle.leg_table.specs.declared.notes.Note.TheVariants.{Number, Message}
+use Rattle.call_states.specs.Acts.{is_among}
+use Rattle.call_profile.specs.KeptMessages.{awaiting_answer}
 
-pub quiet : (leg : Leg) (p : Pending) → leg.state ≢ overlap_sending → counting (Some leg) p ≡ None
-quiet leg p apart = rw (ne_eqb leg.state overlap_sending apart) refl
+-- ---- which states count
 
-pub waiting : (leg : Leg) (p : Pending) → leg.state ≡ overlap_sending → counting (Some leg) p ≡ Some p
-waiting leg p is = rw (eq-eqb leg.state overlap_sending is) refl
+pub quiet : (leg : Leg) (note : Note) → leg.state ≢ overlap_sending → counting (Some leg) note ≡ None
+quiet leg note apart = rw (ne_eqb leg.state overlap_sending apart) refl
 
--- where no leg is, no number counts
-pub counts_none : (n : ℕ) (ps : List Pending) → counting_all (replicate n None) ps ≡ replicate n None
-unfolding counting_all
-counts_none zero ps = refl
-counts_none (suc n) [] = ap (λ os. None ∷ os) (counts_none n [])
-counts_none (suc n) (p ∷ ps) = ap (λ os. None ∷ os) (counts_none n ps)
+pub waiting : (leg : Leg) (note : Note) → leg.state ≡ overlap_sending → counting (Some leg) note ≡ number_in note
+waiting leg note is = rw (eq-eqb leg.state overlap_sending is) refl
 
--- another leg, or none, for which no number counts
-pub counts_quiet : (os : List (Option Leg)) (ps : List Pending) (n : ℕ) (o : Option Leg) → ((p : Pending) → counting o p ≡ None) → counting_all (set os n o) ps ≡ set (counting_all os ps) n None
-unfolding counting_all
-counts_quiet [] ps n o none = refl
-counts_quiet (q ∷ os) [] zero o none = refl
-counts_quiet (q ∷ os) (p ∷ ps) zero o none = ap (λ c. c ∷ counting_all os ps) (none p)
-counts_quiet (q ∷ os) [] (suc n) o none = ap (λ cs. None ∷ cs) (counts_quiet os [] n o none)
-counts_quiet (q ∷ os) (p ∷ ps) (suc n) o none = ap (λ cs. counting q p ∷ cs) (counts_quiet os ps n o none)
+pub unkept : (leg : Leg) (note : Note) → is_among awaiting_answer leg.state ≡ false → keeping (Some leg) note ≡ None
+unkept leg note none = rw none refl
 
--- a leg that waits with its number
-pub counts_waiting : (os : List (Option Leg)) (ps : List Pending) (n : ℕ) (o : Option Leg) (p : Pending) → counting o p ≡ Some p → length ps ≡ length os
-    → counting_all (set os n o) (set ps n p) ≡ set (counting_all os ps) n (Some p)
-unfolding counting_all
-counts_waiting [] [] n o p some size = refl
-counts_waiting [] (r ∷ ps) n o p some size = absurd (omega (arith, size))
-counts_waiting (q ∷ os) [] n o p some size = absurd (omega (arith, size))
-counts_waiting (q ∷ os) (r ∷ ps) zero o p some size = ap (λ c. c ∷ counting_all os ps) some
-counts_waiting (q ∷ os) (r ∷ ps) (suc n) o p some size = ap (λ cs. counting q r ∷ cs) (counts_waiting os ps n o p some (omega (arith, size)))
+pub keeps : (leg : Leg) (note : Note) → is_among awaiting_answer leg.state ≡ true → keeping (Some leg) note ≡ message_in note
+keeps leg note is = rw is refl
 
--- what counts at a place, by the leg that is there
-pub counts_none_at : (os : List (Option Leg)) (ps : List Pending) (n : ℕ) → get_or os n None ≡ None → get_or (counting_all os ps) n None ≡ None
-unfolding counting_all
-counts_none_at [] ps n at = refl
-counts_none_at (q ∷ os) [] zero at = refl
-counts_none_at (q ∷ os) (p ∷ ps) zero at = ap (λ (o : Option Leg). counting o p) at
-counts_none_at (q ∷ os) [] (suc n) at = counts_none_at os [] n at
-counts_none_at (q ∷ os) (p ∷ ps) (suc n) at = counts_none_at os ps n at
+-- no leg is in both
+digits_keep_none : (state : ℕ) → state ≡ overlap_sending → is_among awaiting_answer state ≡ false
+digits_keep_none state is = rw is refl
 
-pub counts_leg_at : (os : List (Option Leg)) (ps : List Pending) (n : ℕ) (leg : Leg) (d : Pending) → get_or os n None ≡ Some leg → n < length ps
-    → get_or (counting_all os ps) n None ≡ counting (Some leg) (get_or ps n d)
-unfolding counting_all
-counts_leg_at [] ps n leg d at inside = absurd cc
-counts_leg_at (q ∷ os) [] n leg d at inside = absurd (omega (arith, inside))
-counts_leg_at (q ∷ os) (p ∷ ps) zero leg d at inside = ap (λ (o : Option Leg). counting o p) at
-counts_leg_at (q ∷ os) (p ∷ ps) (suc n) leg d at inside = counts_leg_at os ps n leg d at (omega (arith, inside))
+answer_no_digits : (state : ℕ) → is_among awaiting_answer state ≡ true → state ≢ overlap_sending
+answer_no_digits state among is = let wrong : true ≡ false = sym among ∙ digits_keep_none state is in cc
 
-pub none_pending : Pending
-none_pending = record { bearer = []; calling = []; called = []; low = []; high = [] }
+-- ---- what counts at each slot
+
+module _ (X : Type 0) (shown : Option Leg → Note → Option X) where
+  abbrev all : List (Option Leg) → List Note → List (Option X)
+  all legs notes = shown_all X shown legs notes
+
+  -- where no leg is, nothing counts
+  counts_none : ((note : Note) → shown None note ≡ None) → (n : ℕ) (ps : List Note) → all (replicate n None) ps ≡ replicate n None
+  unfolding shown_all
+  counts_none nobody zero ps = refl
+  counts_none nobody (suc n) [] = ap (λ os. None ∷ os) (counts_none nobody n [])
+  counts_none nobody (suc n) (p ∷ ps) = (λ i. nobody p i ∷ all (replicate n None) ps) ∙ ap (λ os. None ∷ os) (counts_none nobody n ps)
+
+  -- another leg, or none, for which nothing counts
+  counts_quiet : (os : List (Option Leg)) (ps : List Note) (n : ℕ) (o : Option Leg) → ((note : Note) → shown o note ≡ None) → all (set os n o) ps ≡ set (all os ps) n None
+  unfolding shown_all
+  counts_quiet [] ps n o none = refl
+  counts_quiet (q ∷ os) [] zero o none = refl
+  counts_quiet (q ∷ os) (p ∷ ps) zero o none = ap (λ c. c ∷ all os ps) (none p)
+  counts_quiet (q ∷ os) [] (suc n) o none = ap (λ cs. None ∷ cs) (counts_quiet os [] n o none)
+  counts_quiet (q ∷ os) (p ∷ ps) (suc n) o none = ap (λ cs. shown q p ∷ cs) (counts_quiet os ps n o none)
+
+  -- a leg for which something else is kept
+  counts_noted : (os : List (Option Leg)) (ps : List Note) (n : ℕ) (o : Option Leg) (note : Note) → length ps ≡ length os → all (set os n o) (set ps n note) ≡ set (all os ps) n (shown o note)
+  unfolding shown_all
+  counts_noted [] [] n o note size = refl
+  counts_noted [] (r ∷ ps) n o note size = absurd (omega (arith, size))
+  counts_noted (q ∷ os) [] n o note size = absurd (omega (arith, size))
+  counts_noted (q ∷ os) (r ∷ ps) zero o note size = refl
+  counts_noted (q ∷ os) (r ∷ ps) (suc n) o note size = ap (λ cs. shown q r ∷ cs) (counts_noted os ps n o note (omega (arith, size)))
+
+  -- what counts at a place, by the leg that is there
+  pub counts_none_at : ((note : Note) → shown None note ≡ None) → (os : List (Option Leg)) (ps : List Note) (n : ℕ) → get_or os n None ≡ None → get_or (all os ps) n None ≡ None
+  unfolding shown_all
+  counts_none_at nobody [] ps n at = refl
+  counts_none_at nobody (q ∷ os) [] zero at = refl
+  counts_none_at nobody (q ∷ os) (p ∷ ps) zero at = ap (λ (o : Option Leg). shown o p) at ∙ nobody p
+  counts_none_at nobody (q ∷ os) [] (suc n) at = counts_none_at nobody os [] n at
+  counts_none_at nobody (q ∷ os) (p ∷ ps) (suc n) at = counts_none_at nobody os ps n at
+
+  pub counts_leg_at : (os : List (Option Leg)) (ps : List Note) (n : ℕ) (leg : Leg) (d : Note) → get_or os n None ≡ Some leg → n < length ps → get_or (all os ps) n None ≡ shown (Some leg) (get_or ps n d)
+  unfolding shown_all
+  counts_leg_at [] ps n leg d at inside = absurd cc
+  counts_leg_at (q ∷ os) [] n leg d at inside = absurd (omega (arith, inside))
+  counts_leg_at (q ∷ os) (p ∷ ps) zero leg d at inside = ap (λ (o : Option Leg). shown o p) at
+  counts_leg_at (q ∷ os) (p ∷ ps) (suc n) leg d at inside = counts_leg_at os ps n leg d at (omega (arith, inside))
+
+pub no_note : Note
+no_note = Message []
 
 pub inside_of : (o : Option Leg) (legs numbers n : ℕ) (leg : Leg) → o ≡ Some leg → IfSome o (λ _. n < legs) → numbers ≡ legs → n < numbers
 inside_of o legs numbers n leg is within same =
@@ -72,37 +95,53 @@ inside_of o legs numbers n leg is within same =
 
 -- ---- a table, as contracts see it
 
-abbrev entry : List (Option Leg) → List (Option Pending) → Option Leg → Option Pending → ℕ → Legs
-entry legs shown o q n = record { held = set legs n o; pending = set shown n q }
+abbrev entry : List (Option Leg) → List (Option Pending) → List (Option (List ℕ)) → Option Leg → Option Pending → Option (List ℕ) → ℕ → Legs
+entry legs pending kept o p k n = record { held = set legs n o; pending = set pending n p; kept = set kept n k }
 
-module _ (legs : List (Option Leg)) (numbers : List Pending) (now : Legs) (view : legs_kept legs numbers ≡ now) (n : ℕ) (x : Slot) (at : n ≡ number_of x) where
+module _ (legs : List (Option Leg)) (notes : List Note) (now : Legs) (view : legs_kept legs notes ≡ now) (n : ℕ) (x : Slot) (at : n ≡ number_of x) where
   -- what the table shows there
-  pub kept_shown : pending_at now x ≡ get_or (counting_all legs numbers) n None
-  kept_shown = sym (ap (λ (k : ℕ). get_or (counting_all legs numbers) k None) at ∙ ap (λ (ls : Legs). pending_at ls x) view)
+  pub pending_shown : pending_at now x ≡ get_or (counting_all legs notes) n None
+  pending_shown = sym (ap (λ (k : ℕ). get_or (counting_all legs notes) k None) at ∙ ap (λ (ls : Legs). pending_at ls x) view)
 
-  pub kept_put : (leg : Leg) → leg.state ≢ overlap_sending → legs_kept (set legs n (Some leg)) numbers ≡ with_leg now x leg
-  kept_put leg apart =
-      (λ i. record { held = set legs n (Some leg); pending = counts_quiet legs numbers n (Some leg) (λ p. quiet leg p apart) i })
-      ∙ ap (entry legs (counting_all legs numbers) (Some leg) None) at
-      ∙ ap (λ (ls : Legs). with_leg ls x leg) view
+  pub kept_shown : kept_at now x ≡ get_or (keeping_all legs notes) n None
+  kept_shown = sym (ap (λ (k : ℕ). get_or (keeping_all legs notes) k None) at ∙ ap (λ (ls : Legs). kept_at ls x) view)
 
-  pub kept_remove : legs_kept (set legs n None) numbers ≡ without_leg now x
-  kept_remove =
-      (λ i. record { held = set legs n None; pending = counts_quiet legs numbers n None (λ p. refl) i })
-      ∙ ap (entry legs (counting_all legs numbers) None None) at
-      ∙ ap (λ (ls : Legs). without_leg ls x) view
+  -- nothing counts there any more
+  dropped : (o : Option Leg) → ((note : Note) → counting o note ≡ None) → ((note : Note) → keeping o note ≡ None) → legs_kept (set legs n o) notes ≡ entry now.held now.pending now.kept o None None (number_of x)
+  dropped o no_number no_message =
+      (λ i. record { held = set legs n o; pending = counts_quiet Pending counting legs notes n o no_number i; kept = counts_quiet (List ℕ) keeping legs notes n o no_message i })
+      ∙ ap (entry legs (counting_all legs notes) (keeping_all legs notes) o None None) at
+      ∙ ap (λ (ls : Legs). entry ls.held ls.pending ls.kept o None None (number_of x)) view
 
-  pub kept_wait : (leg : Leg) (p : Pending) → leg.state ≡ overlap_sending → length numbers ≡ length legs → legs_kept (set legs n (Some leg)) (set numbers n p) ≡ with_waiting now x leg p
+  -- something else is kept there
+  noted : (leg : Leg) (note : Note) → length notes ≡ length legs
+      → legs_kept (set legs n (Some leg)) (set notes n note) ≡ entry now.held now.pending now.kept (Some leg) (counting (Some leg) note) (keeping (Some leg) note) (number_of x)
+  noted leg note size =
+      (λ i. record { held = set legs n (Some leg); pending = counts_noted Pending counting legs notes n (Some leg) note size i; kept = counts_noted (List ℕ) keeping legs notes n (Some leg) note size i })
+      ∙ ap (entry legs (counting_all legs notes) (keeping_all legs notes) (Some leg) (counting (Some leg) note) (keeping (Some leg) note)) at
+      ∙ ap (λ (ls : Legs). entry ls.held ls.pending ls.kept (Some leg) (counting (Some leg) note) (keeping (Some leg) note) (number_of x)) view
+
+  pub kept_put : (leg : Leg) → leg.state ≢ overlap_sending → is_among awaiting_answer leg.state ≡ false → legs_kept (set legs n (Some leg)) notes ≡ with_leg now x leg
+  kept_put leg apart unanswered = dropped (Some leg) (λ note. quiet leg note apart) (λ note. unkept leg note unanswered)
+
+  pub kept_remove : legs_kept (set legs n None) notes ≡ without_leg now x
+  kept_remove = dropped None (λ note. refl) (λ note. refl)
+
+  pub kept_wait : (leg : Leg) (p : Pending) → leg.state ≡ overlap_sending → length notes ≡ length legs → legs_kept (set legs n (Some leg)) (set notes n (Number p)) ≡ with_waiting now x leg p
   kept_wait leg p is size =
-      (λ i. record { held = set legs n (Some leg); pending = counts_waiting legs numbers n (Some leg) p (waiting leg p is) size i })
-      ∙ ap (entry legs (counting_all legs numbers) (Some leg) (Some p)) at
-      ∙ ap (λ (ls : Legs). with_waiting ls x leg p) view
+      noted leg (Number p) size
+      ∙ (λ i. entry now.held now.pending now.kept (Some leg) (waiting leg (Number p) is i) (unkept leg (Number p) (digits_keep_none leg.state is) i) (number_of x))
 
-pub kept_none : (legs : List (Option Leg)) (numbers : List Pending) (n external : ℕ) → legs ≡ replicate n None → n ≡ 30 * external → legs_kept legs numbers ≡ no_legs external
-kept_none legs numbers n external is size =
-    ap (λ os. legs_kept os numbers) is
-    ∙ (λ i. record { held = replicate n None; pending = counts_none n numbers i })
-    ∙ ap (λ k. let bare : Legs = record { held = replicate k None; pending = replicate k None } in bare) size
+  pub kept_expect : (leg : Leg) (octets : List ℕ) → is_among awaiting_answer leg.state ≡ true → length notes ≡ length legs → legs_kept (set legs n (Some leg)) (set notes n (Message octets)) ≡ with_kept now x leg octets
+  kept_expect leg octets is size =
+      noted leg (Message octets) size
+      ∙ (λ i. entry now.held now.pending now.kept (Some leg) (quiet leg (Message octets) (answer_no_digits leg.state is) i) (keeps leg (Message octets) is i) (number_of x))
+
+pub kept_none : (legs : List (Option Leg)) (notes : List Note) (n external : ℕ) → legs ≡ replicate n None → n ≡ 30 * external → legs_kept legs notes ≡ no_legs external
+kept_none legs notes n external is size =
+    ap (λ os. legs_kept os notes) is
+    ∙ (λ i. record { held = replicate n None; pending = counts_none Pending counting (λ note. refl) n notes i; kept = counts_none (List ℕ) keeping (λ note. refl) n notes i })
+    ∙ ap (λ k. let bare : Legs = record { held = replicate k None; pending = replicate k None; kept = replicate k None } in bare) size
 
 -- ---- a table without legs
 

@@ -1,24 +1,48 @@
--- How a table of legs keeps the numbers that are pending: for each slot it has room for one, which counts where the slot's leg is in overlap sending.
--- Source: this exchange's own.
+-- How a table of legs keeps the numbers that are pending and the messages that may be sent again: for each slot it has room for one of either, which
+-- counts by the state of the slot's leg. Source: this exchange's own.
 use Rattle.std.specs.Prelude.{◌≡◌, ℕ, ◌*◌, ◌==◌, List, [], ◌∷◌, length, Option, Some, None, if◌then◌else◌}
 use Rattle.q931_codec.specs.CallStates.{overlap_sending}
+use Rattle.call_states.specs.Acts.{is_among}
 use Rattle.call_states.specs.declared.leg.Leg.{Leg}
 use Rattle.call_states.specs.declared.pending.Pending.{Pending}
+use Rattle.call_profile.specs.KeptMessages.{awaiting_answer}
 use Rattle.call_profile.specs.Legs.{Legs}
+use Rattle.leg_table.specs.declared.notes.Note.{Note}
+use Rattle.leg_table.specs.declared.notes.Note.TheVariants.{Number, Message}
 use Rattle.leg_table.specs.LegKeys.{AreKeysOf}
 
-abbrev pub counting : Option Leg → Pending → Option Pending
-counting None p = None
-counting (Some leg) p = if leg.state == overlap_sending then Some p else None
+abbrev pub number_in : Note → Option Pending
+number_in (Number p) = Some p
+number_in (Message octets) = None
 
-unfoldable pub counting_all : List (Option Leg) → List Pending → List (Option Pending)
-counting_all [] ps = []
-counting_all (leg ∷ legs) [] = None ∷ counting_all legs []
-counting_all (leg ∷ legs) (p ∷ ps) = counting leg p ∷ counting_all legs ps
+abbrev pub message_in : Note → Option (List ℕ)
+message_in (Number p) = None
+message_in (Message octets) = Some octets
 
-abbrev pub legs_kept : List (Option Leg) → List Pending → Legs
-legs_kept legs numbers = record { held = legs; pending = counting_all legs numbers }
+-- a number counts where the leg is in overlap sending, a message where the leg waits for the answer to it
+abbrev pub counting : Option Leg → Note → Option Pending
+counting None note = None
+counting (Some leg) note = if leg.state == overlap_sending then number_in note else None
 
-pub record IsTable (lines : ℕ) (legs : List (Option Leg)) (keys : List ℕ) (numbers : List Pending) : Type 0 where
+abbrev pub keeping : Option Leg → Note → Option (List ℕ)
+keeping None note = None
+keeping (Some leg) note = if is_among awaiting_answer leg.state then message_in note else None
+
+-- what counts at each slot
+unfoldable pub shown_all : (X : Type 0) → (Option Leg → Note → Option X) → List (Option Leg) → List Note → List (Option X)
+shown_all X shown [] notes = []
+shown_all X shown (leg ∷ legs) [] = None ∷ shown_all X shown legs []
+shown_all X shown (leg ∷ legs) (note ∷ notes) = shown leg note ∷ shown_all X shown legs notes
+
+abbrev pub counting_all : List (Option Leg) → List Note → List (Option Pending)
+counting_all legs notes = shown_all Pending counting legs notes
+
+abbrev pub keeping_all : List (Option Leg) → List Note → List (Option (List ℕ))
+keeping_all legs notes = shown_all (List ℕ) keeping legs notes
+
+abbrev pub legs_kept : List (Option Leg) → List Note → Legs
+legs_kept legs notes = record { held = legs; pending = counting_all legs notes; kept = keeping_all legs notes }
+
+pub record IsTable (lines : ℕ) (legs : List (Option Leg)) (keys : List ℕ) (notes : List Note) : Type 0 where
   pub found : AreKeysOf lines legs keys
-  pub room : length numbers ≡ 30 * lines
+  pub room : length notes ≡ 30 * lines

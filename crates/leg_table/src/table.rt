@@ -1,34 +1,38 @@
 //! The legs of all calls, by the slots that they hold.
-ghost use Rattle.std.specs.Prelude.{◌≡◌, ◌≢◌, ◌+◌, ◌*◌, ◌<◌, ◌≤◌, length, slice_set, slice_index_or, All, IfOk, IfSome, None};
+ghost use Rattle.std.specs.Prelude.{◌≡◌, ◌≢◌, ◌+◌, ◌*◌, ◌<◌, ◌≤◌, true, false, length, slice_set, slice_index_or, All, IfOk, IfSome, None};
 ghost use Rattle.std.specs.Option.{option_copied};
 ghost use Rattle.control_memory.specs.Layout.{number_of};
 ghost use Rattle.q931_codec.specs.CallStates.{overlap_sending};
+ghost use Rattle.call_states.specs.Acts.{is_among};
 ghost use Rattle.call_states.specs.Status.{FitsMessages};
-ghost use Rattle.leg_table.specs.KeptNumbers.{counting_all};
+ghost use Rattle.call_profile.specs.KeptMessages.{awaiting_answer};
+ghost use Rattle.leg_table.specs.KeptNumbers.{counting_all, keeping_all};
 ghost use Rattle.leg_table.specs.LegKeys.{IsRowOf};
-ghost use Rattle.call_profile.specs.Legs.{no_legs, leg_at, pending_at, with_leg, with_waiting, without_leg, leg_named, held_at, new_reference};
+ghost use Rattle.call_profile.specs.Legs.{no_legs, leg_at, pending_at, kept_at, with_leg, with_waiting, with_kept, without_leg, leg_named, held_at, new_reference};
 
 use crate::leg_keys::{NO_KEY, ROW, key_named, key_of, places_with, references_in};
+use crate::notes::Note;
 use call_states::{Held, Leg, Pending};
 use circuit_model::{PLACES, Slot};
-use q931_codec::states::OVERLAP_SENDING;
+use exchange_events::Encoded;
+use q931_codec::states::{CALL_PRESENT, OVERLAP_SENDING, RELEASE_REQUEST};
 use std::alloc::{AllocError, Global};
 use std::marker::Model;
 
 /// The legs of all calls, by the slots that they hold. Contracts see for each external slot, by its
-/// number, the leg that holds it, and the number that is pending there.
+/// number, the leg that holds it, the number that is pending there, and the message that is kept there.
 ///
 /// Beside the legs is a row of keys for each line, by which a message finds its leg in one pass
-/// without a branch, and for each slot room for a number that is pending.
+/// without a branch, and for each slot room for a number that is pending, or a message that is kept.
 #[derive(Drop)]
 pub struct LegTable {
     lines: u8,
     legs: Vec<Option<Leg>>,
     // The key of the leg at each place of each line.
     keys: Vec<u32>,
-    // What is pending at each slot. It counts where the slot's leg is in overlap sending, so that nothing is
-    // cleared when the leg leaves that state.
-    numbers: Vec<Pending>,
+    // What is kept at each slot. It counts by the state of the slot's leg, so that nothing is cleared when the
+    // leg leaves that state.
+    notes: Vec<Note>,
 }
 
 impl Model for LegTable {
@@ -37,9 +41,9 @@ impl Model for LegTable {
 
     ghost Value = { Legs };
 
-    ghost view = { λ t. legs_kept t.legs.items t.numbers.items };
+    ghost view = { λ t. legs_kept t.legs.items t.notes.items };
 
-    ghost invariant = { λ t. IsTable t.lines t.legs.items t.keys.items t.numbers.items };
+    ghost invariant = { λ t. IsTable t.lines t.legs.items t.keys.items t.notes.items };
 }
 
 impl LegTable {
@@ -52,7 +56,7 @@ impl LegTable {
             lines: external,
             legs: vec![in alloc; None; usize::from(PLACES) * lines]?,
             keys: vec![in alloc; NO_KEY; ROW * lines]?,
-            numbers: vec![in alloc; Pending::default(); usize::from(PLACES) * lines]?,
+            notes: vec![in alloc; Note::Number(Pending::default()); usize::from(PLACES) * lines]?,
         })
     }
 
@@ -72,15 +76,23 @@ impl LegTable {
     pub fn pending(&self, x: Slot) -> Option<&Pending>
         ensures { option_copied result ≡ pending_at self.now x }
     {
-        number_at(&self.legs, &self.numbers, x.number())
+        number_at(&self.legs, &self.notes, x.number())
     }
 
-    /// Lets a leg hold a slot, in place of any other; no number is pending there then.
+    /// The message that is kept at a slot, to be sent again.
+    pub fn kept(&self, x: Slot) -> Option<&Encoded>
+        ensures { option_copied result ≡ kept_at self.now x }
+    {
+        message_at(&self.legs, &self.notes, x.number())
+    }
+
+    /// Lets a leg hold a slot, in place of any other; no number is pending there then, and no message kept.
     pub fn put(&mut self, x: Slot, leg: Leg)
         requires inside { number_of x < length self.old.held }
         requires place { x.place < 30 }
         requires told { FitsMessages leg }
         requires state { leg.state ≢ overlap_sending }
+        requires unanswered { is_among awaiting_answer leg.state ≡ false }
         ensures { self.new ≡ with_leg self.old x leg }
     {
         self.legs[x.number()] = Some(leg);
@@ -95,12 +107,25 @@ impl LegTable {
         requires state { leg.state ≡ overlap_sending }
         ensures { self.new ≡ with_waiting self.old x leg pending }
     {
-        keep(&mut self.numbers, x, pending);
+        keep(&mut self.notes, x, Note::Number(pending));
         self.legs[x.number()] = Some(leg);
         self.keys[key_index(x)] = key_of(leg);
     }
 
-    /// Lets no leg hold a slot; no number is pending there then.
+    /// Lets a leg hold a slot, in place of any other, and keeps there the message whose answer it waits for.
+    pub fn expect(&mut self, x: Slot, leg: Leg, message: Encoded)
+        requires inside { number_of x < length self.old.held }
+        requires place { x.place < 30 }
+        requires told { FitsMessages leg }
+        requires state { is_among awaiting_answer leg.state ≡ true }
+        ensures { self.new ≡ with_kept self.old x leg message }
+    {
+        keep(&mut self.notes, x, Note::Message(message));
+        self.legs[x.number()] = Some(leg);
+        self.keys[key_index(x)] = key_of(leg);
+    }
+
+    /// Lets no leg hold a slot; no number is pending there then, and no message kept.
     pub fn remove(&mut self, x: Slot)
         requires inside { number_of x < length self.old.held }
         requires place { x.place < 30 }
@@ -166,24 +191,49 @@ fn leg_of(legs: &[Option<Leg>], number: usize) -> Option<Leg>
 }
 
 // What is pending at a slot with this number: what is kept there counts in overlap sending alone.
-fn number_at<'a>(legs: &[Option<Leg>], numbers: &'a [Pending], number: usize) -> Option<&'a Pending>
-    requires { length numbers.now ≡ length legs.now }
-    ensures { option_copied result ≡ slice_index_or (counting_all legs.now numbers.now) number None }
+fn number_at<'a>(legs: &[Option<Leg>], notes: &'a [Note], number: usize) -> Option<&'a Pending>
+    requires { length notes.now ≡ length legs.now }
+    ensures { option_copied result ≡ slice_index_or (counting_all legs.now notes.now) number None }
 {
     let leg = leg_of(legs, number)?;
     if leg.state != OVERLAP_SENDING {
         return None;
     }
-    Some(&numbers[number])
+    match &notes[number] {
+        Note::Number(pending) => Some(pending),
+        Note::Message(_) => None,
+    }
 }
 
-// Keeps a number at a slot.
-fn keep(numbers: &mut Vec<Pending>, x: Slot, pending: Pending)
-    requires { number_of x < length numbers.old.items }
-    ensures items { numbers.new.items ≡ slice_set numbers.old.items (number_of x) pending }
-    ensures count { length numbers.new.items ≡ length numbers.old.items }
+// Which message is kept at a slot with this number: it counts where the leg waits for the answer to it.
+fn message_at<'a>(legs: &[Option<Leg>], notes: &'a [Note], number: usize) -> Option<&'a Encoded>
+    requires { length notes.now ≡ length legs.now }
+    ensures { option_copied result ≡ slice_index_or (keeping_all legs.now notes.now) number None }
 {
-    numbers[x.number()] = pending;
+    let leg = leg_of(legs, number)?;
+    if !awaits_answer(leg.state) {
+        return None;
+    }
+    match &notes[number] {
+        Note::Message(octets) => Some(octets),
+        Note::Number(_) => None,
+    }
+}
+
+// Whether a leg in this state waits for the answer to a message that is kept.
+fn awaits_answer(state: u8) -> bool
+    ensures { result ≡ is_among awaiting_answer state }
+{
+    matches!(state, CALL_PRESENT | RELEASE_REQUEST)
+}
+
+// Keeps something at a slot.
+fn keep(notes: &mut Vec<Note>, x: Slot, note: Note)
+    requires { number_of x < length notes.old.items }
+    ensures items { notes.new.items ≡ slice_set notes.old.items (number_of x) note }
+    ensures count { length notes.new.items ≡ length notes.old.items }
+{
+    notes[x.number()] = note;
 }
 
 // Where the key of a slot is.

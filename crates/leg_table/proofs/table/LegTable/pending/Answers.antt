@@ -1,10 +1,10 @@
 use Rattle.std.proofs.Common.{None, slice_index_or, sym, ◌∙◌}
 use Rattle.leg_table.specs.KeptNumbers.{counting_all}
-use Rattle.leg_table.proofs.KeptNumberLemmas.{kept_shown}
+use Rattle.leg_table.proofs.KeptNumberLemmas.{pending_shown}
 use Rattle.leg_table.proofs.table.LegTable.pending.Goals as goal
 
 pub returns : goal.returns
 returns c =
     c.number_at.ensures
     ∙ (λ i. slice_index_or (counting_all (c.deref.ensures.value i) (c.deref-2.ensures.value i)) c.number.result None)
-    ∙ sym (kept_shown c.self.inside.legs.items c.self.inside.numbers.items c.args.self.now c.self.view_is c.number.result c.args.x c.number.ensures)
+    ∙ sym (pending_shown c.self.inside.legs.items c.self.inside.notes.items c.args.self.now c.self.view_is c.number.result c.args.x c.number.ensures)

@@ -1,4 +1,5 @@
 use Rattle.std.proofs.Common.{set, Some, sym, ◌∙◌}
+use Rattle.leg_table.specs.declared.notes.Note.TheVariants.{Number}
 use Rattle.leg_table.specs.KeptNumbers.{legs_kept}
 use Rattle.leg_table.proofs.KeptNumberLemmas.{kept_wait}
 use Rattle.leg_table.proofs.table.LegTable.wait.Goals as goal
@@ -6,6 +7,6 @@ use Rattle.leg_table.proofs.table.LegTable.wait.Goals as goal
 pub returns : goal.returns
 returns c =
     let room = c.self.invariant.room ∙ sym c.self.invariant.found.slots in
-    let numbers = c.keep.ensures.items ∙ (λ i. set c.self.inside.numbers.items (sym c.number.ensures i) c.args.pending) in
-    (λ i. legs_kept (set c.self.inside.legs.items c.number.result (Some c.args.leg)) (numbers i))
-    ∙ kept_wait c.self.inside.legs.items c.self.inside.numbers.items c.args.self.now c.self.view_is c.number.result c.args.x c.number.ensures c.args.leg c.args.pending c.requires.state room
+    let notes = c.keep.ensures.items ∙ (λ i. set c.self.inside.notes.items (sym c.number.ensures i) (Number c.args.pending)) in
+    (λ i. legs_kept (set c.self.inside.legs.items c.number.result (Some c.args.leg)) (notes i))
+    ∙ kept_wait c.self.inside.legs.items c.self.inside.notes.items c.args.self.now c.self.view_is c.number.result c.args.x c.number.ensures c.args.leg c.args.pending c.requires.state room
