@@ -267,6 +267,7 @@ impl<P: PathMap> CallControl<P> {
         requires room { length out.old.sends < most_sends }
         requires cause { cause < 128 }
         ensures makes { Performs (clear_with tones.now cause held) self.old.map self.old.legs out.old self.new.map self.new.legs out.new }
+        ensures count { length self.new.legs.held ≡ length self.old.legs.held }
         ensures few { length out.new.sends ≤ length out.old.sends + 1 }
         ensures moved { out.new.moved ≡ out.old.moved }
         ensures records { out.new.records ≡ out.old.records }

@@ -138,12 +138,13 @@ impl<P: PathMap> CallControl<P> {
         let Some(octets) = self.legs.kept(held.slot) else {
             return;
         };
-        let octets = octets.clone();
+        let again = octets.copy();
+        let octets = again.copy();
         let leg = resent_from(self.map.next_frame(), held.leg);
-        self.legs.expect(held.slot, leg, octets.clone());
+        self.legs.expect(held.slot, leg, octets);
         out.sends.push(Signal {
             line: held.slot.line,
-            octets,
+            octets: again,
         });
     }
 

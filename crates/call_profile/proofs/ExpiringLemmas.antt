@@ -206,3 +206,8 @@ each_line s frame w P first more (suc line) few =
 
 pub place_within : (external frame line : ℕ) → line < external → IsExternal external (slot_looked_at frame line)
 place_within external frame line below = (below, omega arith)
+
+pub lines_kept : (s : Setting) (frame : ℕ) (w : World) → Kept s.dimensions s.tones w → (lines : ℕ) → lines ≤ s.dimensions.external → Kept s.dimensions s.tones (outcome_of_lines s frame w lines).making.world
+lines_kept s frame w kept =
+    each_line s frame w (λ a. Kept s.dimensions s.tones a.making.world) kept
+    (λ a line small k. slot_fine s frame a.making (slot_looked_at frame line) k (place_within s.dimensions.external frame line small))

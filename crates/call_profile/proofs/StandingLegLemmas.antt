@@ -20,11 +20,10 @@ use Rattle.control_memory.specs.Layout.{number_of}
 use Rattle.call_states.specs.declared.leg.Leg.{Leg}
 use Rattle.call_profile.specs.Legs.{leg_at, no_legs}
 use Rattle.exchange_events.specs.Sizes.{Setting}
-use Rattle.call_profile.specs.Expiring.{slot_looked_at}
 use Rattle.call_profile.specs.World.{World, start, pass}
 use Rattle.call_profile.proofs.ClearingLemmas.{Kept}
 use Rattle.call_profile.proofs.CommandLemmas.{nail_kept, seat_kept, free_kept, pass_kept}
-use Rattle.call_profile.proofs.ExpiringLemmas.{slot_fine, each_line, place_within}
+use Rattle.call_profile.proofs.ExpiringLemmas.{lines_kept}
 use Rattle.call_profile.proofs.MessageToLegLemmas.{leg_kept}
 use Rattle.call_profile.proofs.NamedLegLemmas.{received_stands}
 use Rattle.call_profile.proofs.RestartLemmas.{below_kept}
@@ -58,9 +57,7 @@ module _ (s : Setting) (w : World) (line : ℕ) (octets : List ℕ) (planned : I
 -- the legs whose turn it is in a frame, one after another
 turn_kept : (s : Setting) (w : World) (input : Input) → CallsStand s w → Kept s.dimensions s.tones (next s w (Frame input))
 turn_kept s w input stands =
-    let f : ℕ = w.holding.next in
-    each_line s f (pass w input) (λ a. Kept s.dimensions s.tones a.making.world) (pass_kept s w stands.circuits stands.legs input)
-    (λ a line small k. slot_fine s f a.making (slot_looked_at f line) k (place_within s.dimensions.external f line small)) s.dimensions.external (omega arith)
+    lines_kept s w.holding.next (pass w input) (pass_kept s w stands.circuits stands.legs input) s.dimensions.external (omega arith)
 
 pub happened_kept : (s : Setting) (w : World) (e : Event) → IsPlanned s → Fits s.dimensions.external e → CallsStand s w → CallsStand s (next s w e)
 happened_kept s w (Nail x y) planned fits stands = kept_stands s (next s w (Nail x y)) (nail_kept s w stands.circuits stands.legs x y fits) (entries_stand s w (Nail x y) planned fits stands)
