@@ -23,7 +23,7 @@ use Rattle.exchange_events.specs.Sizes.{Setting, Dimensions}
 use Rattle.call_profile.specs.Acts.{in_disconnect_indication, in_release_request, peer_of, with_peer, clear_with, remove_leg}
 use Rattle.call_profile.specs.CallRecords.{before_clearing, is_calling, records}
 use Rattle.call_profile.specs.EndedCalls.{caller_in, record_calling, record_ended, record_of_expiry, expired_records}
-use Rattle.call_profile.specs.Expiring.{send_again, give_up, ask_for_release, clear_peer, on_expiry, due_of, if_due, expire_leg, expire_slot}
+use Rattle.call_profile.specs.Expiring.{timed_state, send_again, give_up, ask_for_release, clear_peer, on_expiry, due_of, if_due, expire_leg, expire_slot}
 use Rattle.call_profile.specs.LegStanding.{LegsStand, AreOneCall}
 use Rattle.call_profile.specs.Legs.{Legs, leg_at, kept_at, with_entry, resent_from}
 use Rattle.call_profile.specs.Operations.{Operation, Making, begun, making_after_all}
@@ -31,7 +31,7 @@ use Rattle.call_profile.specs.World.{World}
 use Rattle.call_profile.proofs.AnsweringLemmas.{caller_of}
 use Rattle.call_profile.proofs.BesideLemmas.{look, entry_here, entry_else, same_or_apart}
 use Rattle.call_profile.proofs.ClearingLemmas.{Kept, held_there, peers_apart}
-use Rattle.call_profile.proofs.ExpiryStateLemmas.{timed_state, due_state}
+use Rattle.call_profile.proofs.ExpiryStateLemmas.{due_state}
 use Rattle.call_profile.proofs.LegTableLemmas.{both_else, both_second}
 use Rattle.call_profile.proofs.EndedCallLemmas.{GoesOn, no_record_where_calling, one_record}
 use Rattle.call_profile.proofs.RecordOfActLemmas.{called_silent, clearing_records, disconnected_silent, same_goes_on}

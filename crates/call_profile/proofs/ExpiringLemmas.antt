@@ -19,7 +19,7 @@ use Rattle.number_plan.specs.declared.plan.Number.{Number}
 use Rattle.tone_rules.specs.declared.tones.Tones.{Tones}
 use Rattle.exchange_events.specs.Sizes.{Setting, Dimensions}
 use Rattle.call_profile.specs.Acts.{in_release_request, in_disconnect_indication, peer_of, with_peer, clear_with, remove_leg}
-use Rattle.call_profile.specs.Expiring.{release_for, release_complete_for, send_again, give_up, ask_for_release, clear_peer, on_expiry, due_of, if_due, expire_leg, expire_slot, slot_looked_at, outcome_on_line, outcome_of_lines}
+use Rattle.call_profile.specs.Expiring.{timed_state, release_for, release_complete_for, send_again, give_up, ask_for_release, clear_peer, on_expiry, due_of, if_due, expire_leg, expire_slot, slot_looked_at, outcome_on_line, outcome_of_lines}
 use Rattle.call_profile.specs.KeptMessages.{IsAwaited}
 use Rattle.call_profile.specs.LegStanding.{LegStands, LegsStand, HasPeer, IsInCall, alone}
 use Rattle.call_profile.specs.Legs.{Legs, from_frame, leg_at, held_at, kept_at}
@@ -31,7 +31,7 @@ use Rattle.call_profile.proofs.BothDisconnectedLemmas.{both_valid, both_disconne
 use Rattle.call_profile.proofs.ClearingLemmas.{Kept, held_there, peers_of, clearing_kept, alone_kept}
 use Rattle.call_profile.proofs.DigitsLemmas.{cleared_kept}
 use Rattle.call_profile.proofs.ExpiredLegLemmas.{waits_anew, release_asked}
-use Rattle.call_profile.proofs.ExpiryStateLemmas.{timed_state, due_state, is_alone}
+use Rattle.call_profile.proofs.ExpiryStateLemmas.{due_state, is_alone}
 use Rattle.call_profile.proofs.Permitted.{IsPermitted, ArePermitted}
 use Rattle.call_profile.proofs.PermittedActLemmas.{is_there, peer_there_too, clear_permitted, peer_permitted, message_writable}
 

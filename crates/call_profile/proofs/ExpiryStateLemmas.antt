@@ -15,21 +15,13 @@ use Rattle.call_states.specs.declared.leg.Peer.{Peer}
 use Rattle.call_states.specs.declared.leg.Peer.TheVariants as peer
 use Rattle.call_states.specs.declared.leg.Side.{Side}
 use Rattle.call_states.specs.declared.leg.Side.TheVariants.{Caller, Called}
+use Rattle.call_profile.specs.Expiring.{timed_state}
 use Rattle.call_profile.specs.LegStanding.{HasPeer, IsInCall, alone}
 use Rattle.call_profile.specs.Legs.{Legs}
 
 -- ---- the state whose timer it is
 
-abbrev pub timed_state : Expiry → ℕ
-timed_state expiry.Digits = overlap_sending
-timed_state expiry.SetupAgain = call_present
-timed_state expiry.SetupOver = call_present
-timed_state expiry.Proceeding = incoming_call_proceeding
-timed_state expiry.Disconnect = disconnect_indication
-timed_state expiry.ReleaseAgain = release_request
-timed_state expiry.ReleaseOver = release_request
-
--- the same by tests, as a state is looked up
+-- by tests, as a state is looked up
 abbrev Tested : Bool → Bool → Bool → Bool → Bool → Expiry → Type 0
 Tested digits setup proceeding disconnect release expiry.Digits = digits ≡ true
 Tested digits setup proceeding disconnect release expiry.SetupAgain = setup ≡ true

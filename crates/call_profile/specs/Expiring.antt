@@ -4,6 +4,7 @@ use Rattle.std.specs.Prelude.{ℕ, zero, suc, ◌%◌, List, [], ◌∷◌, ◌+
 use Rattle.circuit_model.specs.declared.channel.Slot.{Slot}
 use Rattle.circuit_model.specs.FrameInput.{Input}
 use Rattle.q931_codec.specs.declared.kind.MessageKind.TheVariants as kind
+use Rattle.q931_codec.specs.CallStates.{overlap_sending, call_present, incoming_call_proceeding, disconnect_indication, release_request}
 use Rattle.q931_codec.specs.Causes.{invalid_number_format, no_user_responding, recovery_on_timer_expiry}
 use Rattle.q931_codec.specs.Outgoing.{OutgoingMessage}
 use Rattle.call_timers.specs.Expiries.{due}
@@ -53,6 +54,16 @@ on_expiry tones legs h expiry.Proceeding = clear_with tones recovery_on_timer_ex
 on_expiry tones legs h expiry.Disconnect = ask_for_release h
 on_expiry tones legs h expiry.ReleaseAgain = send_again h (kept_at legs h.slot)
 on_expiry tones legs h expiry.ReleaseOver = remove_leg h
+
+-- the state whose timer it is
+abbrev pub timed_state : Expiry → ℕ
+timed_state expiry.Digits = overlap_sending
+timed_state expiry.SetupAgain = call_present
+timed_state expiry.SetupOver = call_present
+timed_state expiry.Proceeding = incoming_call_proceeding
+timed_state expiry.Disconnect = disconnect_indication
+timed_state expiry.ReleaseAgain = release_request
+timed_state expiry.ReleaseOver = release_request
 
 -- ---- a leg, in a frame
 
