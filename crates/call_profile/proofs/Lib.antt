@@ -4,6 +4,7 @@ pub mod ExpiryStateLemmas
 pub mod ExpiredLegLemmas
 pub mod BothDisconnectedLemmas
 pub mod ExpiringLemmas
+pub mod NoneDueLemmas
 pub mod ExpiredRecordLemmas
 pub mod GivenToneLemmas
 pub mod RestartedSlotLemmas

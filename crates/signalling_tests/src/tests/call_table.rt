@@ -125,6 +125,8 @@ fn leg(state: u8, side: Side) -> Leg {
         side,
         peer: Peer::Leg(Slot { line: 1, place: 0 }),
         cause: 0,
+        since: 0,
+        resent: false,
     }
 }
 
