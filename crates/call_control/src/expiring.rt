@@ -1,5 +1,5 @@
 //! The turn of a frame: what is done for the legs whose timers have run out.
-ghost use Rattle.std.specs.Prelude.{◌≡◌, ◌<◌, ◌≤◌, ◌+◌, ◌*◌, ◌++◌, [], true, None, Some, length};
+ghost use Rattle.std.specs.Prelude.{◌≡◌, ◌<◌, ◌≤◌, ◌+◌, ◌*◌, ◌%◌, ◌++◌, [], true, None, Some, length};
 ghost use Rattle.std.specs.List.{cons_option};
 ghost use Rattle.circuit_model.specs.Extent.{IsExternal};
 ghost use Rattle.circuit_map.specs.Connections.{SameSizes};
@@ -34,7 +34,7 @@ use tone_rules::Tones;
 impl<P: PathMap> CallControl<P> {
     /// Looks at one leg of each external line, lowest line first, in the turn of a frame that has passed its
     /// boundary: does what is asked for where its timer has run out, and records the calls that this ends, in the
-    /// same order.
+    /// same order. Where none of them may be due it does nothing.
     pub fn expire(
         &mut self,
         out: &mut Outbox,
@@ -54,6 +54,33 @@ impl<P: PathMap> CallControl<P> {
         ensures sizes { SameSizes self.old.map self.new.map }
     {
         let place = (frame % u32::from(PLACES)) as u8;
+        if self.legs.may_be_due(place, frame, timers) {
+            self.expire_place(out, tones, timers, external, frame, place);
+            self.legs.settle(place);
+        }
+    }
+
+    // Looks at the legs of this place of each external line, lowest line first.
+    fn expire_place(
+        &mut self,
+        out: &mut Outbox,
+        tones: &Tones,
+        timers: &Timers,
+        external: u8,
+        frame: u32,
+        place: u8,
+    )
+        requires work { (s : Setting) × (w : World) × (s.tones ≡ tones.now) × (s.timers ≡ timers.now) × IsInOrder s self.old.map self.old.legs w }
+        requires lines { (external ≡ self.old.map.external) × (external ≤ 32) }
+        requires place { place ≡ frame % 30 }
+        requires fresh { (out.old.sends ≡ []) × (out.old.moved ≡ None) × (out.old.records ≡ []) }
+        ensures makes { EachInOrder tones.now timers.now self.old.map self.old.legs (λ s w.
+            HasMade s self.new.map self.new.legs out.new (outcome_of_lines s frame w s.dimensions.external).making) }
+        ensures records { EachInOrder tones.now timers.now self.old.map self.old.legs (λ s w.
+            out.new.records ≡ (outcome_of_lines s frame w s.dimensions.external).recorded) }
+        ensures moved { out.new.moved ≡ None }
+        ensures sizes { SameSizes self.old.map self.new.map }
+    {
         for line in 0..external {
             self.expire_slot(out, tones, timers, frame, Slot { line, place });
         }
