@@ -1,0 +1,32 @@
+//! Laws of what is verified.
+ghost use Rattle.std.specs.Prelude.{◌≡◌, ◌+◌, ◌≤◌, ◌++◌, ◌↔◌, ℕ, List, [], ◌∷◌, length};
+ghost use Rattle.exchange_events.specs.declared.trace.Trace.{Trace};
+ghost use Rattle.exchange_events.specs.Orders.{IsLawfulPrefix};
+ghost use Rattle.exchange_events.specs.Sound.{IsSound};
+ghost use Rattle.run_verifier.specs.Verdicts.{IsGood, IsInvalidAt, IsValid, MayFollow, report_due};
+
+/// A report says in which order the events happened: two orders, lawful as far as they go, that have one
+/// report are the same.
+pub fn law_of_orders()
+    ensures { (slots : ℕ) (trace : Trace) (one other : List ℕ) → IsSound trace → IsLawfulPrefix trace one → IsLawfulPrefix trace other
+        → report_due slots trace one ≡ report_due slots trace other → one ≡ other }
+{}
+
+/// At most one verdict is right.
+pub fn law_of_verdicts()
+    ensures never_both { (slots : ℕ) (trace : Trace) (bytes : List ℕ) (n : ℕ) → IsValid slots trace bytes → IsInvalidAt slots trace bytes n → ⊥ }
+    ensures one_line { (slots : ℕ) (trace : Trace) (bytes : List ℕ) (m n : ℕ) → IsInvalidAt slots trace bytes m → IsInvalidAt slots trace bytes n → m ≡ n }
+{}
+
+/// Where lines are good, those at the beginning are; and there are no more good lines than events, so that
+/// a verdict names the line behind as many at the most.
+pub fn law_of_lines()
+    ensures fewer { (slots : ℕ) (trace : Trace) (bytes : List ℕ) (j k : ℕ) → j ≤ k → IsGood slots trace bytes k → IsGood slots trace bytes j }
+    ensures good { (slots : ℕ) (trace : Trace) (bytes : List ℕ) (k : ℕ) → IsGood slots trace bytes k → k ≤ length trace.events }
+    ensures named { (slots : ℕ) (trace : Trace) (bytes : List ℕ) (n : ℕ) → IsInvalidAt slots trace bytes n → n ≤ length trace.events + 1 }
+{}
+
+/// What is lawful goes on with an event exactly where it may come next.
+pub fn law_of_turns()
+    ensures { (trace : Trace) (order : List ℕ) (n : ℕ) → IsLawfulPrefix trace (order ++ n ∷ []) ↔ (IsLawfulPrefix trace order × MayFollow trace order n) }
+{}
