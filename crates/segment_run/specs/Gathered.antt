@@ -24,7 +24,7 @@ pub record IsComplete {T E K : Type 0} (g : Gathered T E K) : Type 0 where
   pub done : HasRoom g.crew.done
 
 -- From v to w all workers did their whole parts, the engine and the tool are ready for the next frame, and at the used workplaces the answers are
--- kept, which put together are those of what the history grew by.
+-- kept, which put together answer what the history grew by.
 pub record AllDone {T E K : Type 0} (holds : K → List Placed → Type 0) (plays : Plays) (carries : Carrying E) (next : E → ℕ) (sizes : E → Dimensions) (board : Board) (trace : Trace) (segment : ℕ) (v w : Known) (g : Gathered T E K) : Type 0 where
   pub whole : RanWhole trace segment v w
   pub long : HasGrown trace segment v w
