@@ -1,4 +1,4 @@
-"""Reads messages of ITU-T Q.931 as the exchange does, names what they say, and writes those of an endpoint.
+"""Reads messages of ITU-T Q.931 as the exchange does, names what they say, and writes an endpoint's messages.
 
 Only codeset 0 is read, elements may come in any order, and the first of a kind counts.
 """

@@ -5,7 +5,7 @@ typedef enum {
     ACTIVE = 10, DISCONNECT_INDICATION = 12, RELEASE_REQUEST = 19,
 } State;
 
-// A leg holds a slot of its line. The reference of a called leg was chosen here, that of a caller's by the
+// A leg holds a slot of its line. The reference of a called leg was chosen here, a caller's by the
 // user; `other` is the slot of the other leg, where that is the peer.
 typedef struct {
     uint8_t state, called;

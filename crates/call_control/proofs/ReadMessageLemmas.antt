@@ -25,7 +25,7 @@ pub read_before : (plan : List Number) (octets : List ℕ) (ahead : Option ReadA
     → IfSome ahead (IsReadAhead plan octets) → IsReadAhead plan octets known
 read_before plan octets ahead known is reads = subst (λ (o : Option ReadAhead). IfSome o (IsReadAhead plan octets)) is reads
 
--- its elements are those of the octets behind its header
+-- its elements are read from the octets behind its header
 elements_behind : (octets : List ℕ) (m : Message) → IsMessage octets m → m.elements ≡ elements_of (drop 5 octets)
 elements_behind octets m is = reading_is is.rest m.elements is.elements_are ∙ sym (ap (λ (os : List ℕ). elements_of (drop 5 os)) is.octets_are)
 

@@ -18,7 +18,7 @@ use Rattle.call_profile.specs.Setup.{Check, first_cause, called_checks, digits_i
 use Rattle.exchange_events.specs.Sound.{is_reached}
 use Rattle.call_profile.specs.World.{World}
 
--- ---- of two lists of checks the first decides, where one of its checks fails; else the second
+-- ---- one list of checks behind another decides only where no check of the other fails
 
 none_step : (fails : Bool) (cause : ℕ) (a b : List Check) → (first_cause a ≡ None → first_cause (a ++ b) ≡ first_cause b) → first_cause ((fails, cause) ∷ a) ≡ None → first_cause ((fails, cause) ∷ a ++ b) ≡ first_cause b
 none_step true cause a b later e = absurd cc
@@ -42,7 +42,7 @@ pub slot_causes : (d : Dimensions) (w : World) (line : ℕ) (channel : Option Ch
     → first_cause (called_checks d w (Some x) target) ≡ first_cause (slot_checks d w line channel target)
 slot_causes d w line channel target x taken is = rw (taken, is) refl
 
--- ---- a line that is found exists, where those of the plan do
+-- ---- a line that is found exists, where the plan's lines do
 
 pub reaches : (external : ℕ) (plan : List Number) (digits : List ℕ) (t : Found) → IsTrue (all_targets (is_reached external) plan) → found_for plan digits ≡ t → IsReached external t
 reaches external plan digits (Line line) planned is = let passes = found_passes (is_reached external) plan digits (target.Line line) planned is in grind (arith, nat_tests, passes)

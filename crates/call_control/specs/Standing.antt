@@ -17,7 +17,7 @@ pub record StandsFor (m : Connections) (w : World) : Type 0 where
   pub holds : Represents m w.holding w.ports
   pub layout : m.layout ≡ w.layout
 
--- a map and legs of an exchange of this size are those of the world
+-- a map and legs of an exchange of this size are the world's
 pub record Holds (d : Dimensions) (map : Connections) (legs : Legs) (w : World) : Type 0 where
   pub sizes : dimensions_of map ≡ d
   pub circuits : StandsFor map w
@@ -27,7 +27,7 @@ pub record Holds (d : Dimensions) (map : Connections) (legs : Legs) (w : World) 
 abbrev pub EachHeld : Connections → Legs → (Setting → World → Type 0) → Type 0
 EachHeld map legs Says = (s : Setting) (w : World) → Holds s.dimensions map legs w → Says s w
 
--- they are those of a world in the making, and this was sent and moved so far
+-- map and legs are a world's in the making, and this was sent and moved so far
 pub record Makes (d : Dimensions) (map : Connections) (legs : Legs) (sends : List Signal) (moved : Option (ℕ × ℕ)) (m : Making) : Type 0 where
   pub holds : Holds d map legs m.world
   pub sent : sends ≡ m.sends

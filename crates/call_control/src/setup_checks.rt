@@ -60,8 +60,7 @@ impl<P: PathMap> CallControl<P> {
         self.idle(slot) && slot != beside
     }
 
-    /// The caller's slot: the one that is asked for where it is idle, else the lowest idle one of the
-    /// line.
+    /// The caller's slot: the one that is asked for where it is idle, else the line's lowest idle slot.
     pub(crate) fn caller_slot(
         &self,
         line: u8,

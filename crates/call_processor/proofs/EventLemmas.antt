@@ -212,7 +212,7 @@ going_said board done v w x answers p n g h last event a =
       beyond = All-push (λ (q : Placed). length v.seen ≤ q.place) answers p g.beyond (omega (arith, long, longer, size, last, hlast));
     }
 
--- the octets of an answer stay those of its frame
+-- an answer keeps the octets of its frame
 pub frame_stays : (plays : Plays) (tones : _) (board : Board) (w x : Known) (p : Placed) → StartsWith x.seen w.seen → IsAnswer board w p → HasFrame plays tones board w p → HasFrame plays tones board x p
 frame_stays plays tones board w x p s a h = λ input number.
     let here = slice_get_within w.seen p.place (w.number, p.answer.event) a.entry in

@@ -132,7 +132,7 @@ next_frame carried image d w a carries = record {
 }
 
 module _ {E : Type 0} (carries : Carrying E) (frames : E → ℕ) (sizes : E → Dimensions) (board : Board) where
-  -- the frames of two worlds are the same, so the engine carries those of the other one too
+  -- the frames of two worlds are the same, so the engine carries the other world's too
   pub still_carried : (w v : World) (engine : E) → SameFrames w v → CarriesFrames carries engine w → CarriesFrames carries engine v
   still_carried w v engine same carried = rw (same.inputs, same.held, same.seated) carried
 

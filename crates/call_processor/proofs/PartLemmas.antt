@@ -1,4 +1,4 @@
--- Which numbers are those of a segment's events.
+-- Which numbers a segment's events have.
 use Rattle.std.proofs.Common.{append-nil, length-append, ◌≡◌, ℕ, zero, suc, ◌+◌, ◌-◌, ◌<◌, ◌≤◌, ◌&&◌, Bool, true, false, nat_lt, nat_eq, List, [], ◌∷◌, ◌++◌, length, get_or, filter, refl, sym, ap, ◌∙◌, arith, inl, inr, cond}
 use Rattle.std.specs.List.{range_with_len, AllPairs}
 use Rattle.std.proofs.lemmas.Bool.{le-leb, cases_lt}
@@ -58,7 +58,7 @@ rises ends r i j le within =
       | inr above ↦ let same : i ≡ j = omega (arith, le, above) in omega (arith, ap (λ (k : ℕ). get_or ends k 0) same)
     ]
 
--- the last end of all is that of the last segment
+-- the last end of all is where the last segment ends
 pub below_last : (ends : List ℕ) → Rising ends → (k : ℕ) → k < length ends → get_or ends k 0 ≤ last_of ends
 below_last [] r k within = absurd (omega arith)
 below_last (n ∷ []) r zero within = omega arith

@@ -72,7 +72,7 @@ pub record HasKept {K : Type 0} (holds : K → List Placed → Type 0) (board : 
 abbrev pub has_no_octets : Placed → Type 0
 has_no_octets p = p.answer.octets ≡ []
 
--- From v to w the first events of the part were done, as `Works` says, and their answers are what is kept; what is said of octets holds for those of each,
+-- From v to w the first events of the part were done, as `Works` says, and their answers are what is kept; what is said of octets holds for the octets of each,
 -- given what the seat knows at last.
 pub record KeepsWork {K : Type 0} (holds : K → List Placed → Type 0) (board : Board) (octets : Known → Placed → Type 0) (part : List ℕ) (v : Known) (keeper : K) (whole : Bool) (w : Known) : Type 0 where
   pub answers : List Placed

@@ -8,8 +8,8 @@ ghost use Rattle.call_processor.specs.Parts.{events_of_segment, is_its, part_of,
 
 use exchange_events::{Event, Input, Trace};
 
-/// The numbers of a segment's events: from the first of the two on, up to before the second.
-/// Segments are counted from 0, events from 1.
+/// The number of a segment's first event, and the number behind its last one. Segments are counted
+/// from 0, events from 1.
 pub fn numbers_of(trace: &Trace, segment: u32) -> (u32, u32)
     requires sound { IsSound trace.now }
     requires segment { segment < length trace.now.segments }

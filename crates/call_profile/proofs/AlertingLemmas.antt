@@ -31,7 +31,7 @@ use Rattle.call_profile.proofs.TwoStatesLemmas.{both_gone, gone_to}
 use Rattle.call_profile.proofs.ToneLemmas.{no_tone, sounding_keeps, sounding_valid, sounds}
 use Rattle.call_profile.proofs.LegTableLemmas.{both_size, both_else, both_first, both_second}
 
--- ---- the caller's state, from that of the called leg
+-- ---- the caller's state, from the called leg's
 
 pub waiting : (t s : ℕ) → is_among (call_present ∷ incoming_call_proceeding ∷ []) s ≡ true → IsTrue (are_matched t s) → t ≡ outgoing_call_proceeding
 waiting t s among matched = grind (arith, common_steps, among, matched)

@@ -82,7 +82,7 @@ module _ (external : ℕ) (tones : Tones) (w v : World) (x y : Slot) (beside : B
     hears = subst (MayHear tones leg) (sym (beside.heard z leg within at not_x not_y)) stands.hears;
   }
 
-  -- each leg is consistent where those of the two slots are
+  -- each leg is consistent where the legs of the two slots are
   pub each_stands : LegsStand external tones w → ((leg : Leg) → leg_at v.legs x ≡ Some leg → LegStands external tones v x leg) → ((leg : Leg) → leg_at v.legs y ≡ Some leg → LegStands external tones v y leg)
       → (z : Slot) (leg : Leg) → IsExternal external z → leg_at v.legs z ≡ Some leg → LegStands external tones v z leg
   each_stands stand at_x at_y z leg within at = elim (same_or_apart z x) [

@@ -24,7 +24,7 @@ last_entry : {X : Type 0} (xs : List X) (x missing : X) → slice_index_or (xs +
 last_entry [] x missing = refl
 last_entry (y ∷ xs) x missing = last_entry xs x missing
 
--- as they will be those of the next frame
+-- circuits and ports match, as the next frame will have them
 made_matched : (d : Dimensions) (tones : Tones) (w : World) → IsMade d tones w → Matched d.bridges w.holding.circuits w.ports
 made_matched d tones w made =
     let later = made_pass d tones w made [] in

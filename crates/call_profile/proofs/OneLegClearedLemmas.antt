@@ -1,4 +1,4 @@
--- The legs are consistent after one of a call is released and the other is cleared.
+-- The legs are consistent after one leg of a call is released and the other is cleared.
 use Rattle.std.proofs.Common.{◌≡◌, ℕ, ◌<◌, ◌⊎◌, inl, inr, length, Option, Some, None, refl, sym, ◌∙◌, ap, subst, length-set}
 use Rattle.circuit_model.specs.declared.channel.Slot.{Slot}
 use Rattle.circuit_model.specs.Circuits.{heard_by, unless_naming}

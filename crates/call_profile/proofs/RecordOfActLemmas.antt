@@ -1,4 +1,4 @@
--- The records of what an act ends: that of the caller for an act that clears a call, none for any other.
+-- The records of what an act ends: the caller's for an act that clears a call, none for any other.
 use Rattle.std.proofs.Common.{◌≡◌, ℕ, ◌*◌, Bool, true, false, ◌&&◌, inl, inr, List, [], length, Option, Some, None, refl, sym, ◌∙◌, ap, subst, eqb-true}
 use Rattle.std.specs.Prelude.{option_and_then, unwrap_or, slice_set}
 use Rattle.std.specs.List.{cons_option}

@@ -232,7 +232,7 @@ module _ (s : Setting) (r : Restart) (line : ℕ) (w : World) (below : line < s.
 
 -- ---- the records of a message
 
--- those of a RESTART come by place
+-- the records of a RESTART come by place
 pub restart_comes_by_place : (s : Setting) (w : World) (line : ℕ) (octets : List ℕ) (r : Restart) → IsRestart s w line octets r → ComeByPlace r line (answer_to s w line octets).records
 restart_comes_by_place s w line octets r is =
     subst (λ (q : Request). ComeByPlace r line (outcome_for s w line q).recorded) (sym is.restarts)

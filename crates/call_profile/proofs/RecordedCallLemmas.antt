@@ -1,4 +1,4 @@
--- The records of a step are those of the callers' legs that stopped calling.
+-- A step has a record for each caller's leg that stopped calling, and no other.
 use Rattle.std.proofs.Common.{◌≡◌, ℕ, zero, suc, ◌+◌, ◌*◌, ◌<◌, ◌≤◌, true, false, not, ◌⊎◌, inl, inr, List, length, Option, Some, None, refl, ◌∙◌, ap, arith, if◌then◌else◌}
 use Rattle.std.specs.Prelude.{Contains, filter_map, option_and_then, option_map, ◌==◌}
 use Rattle.std.specs.List.{range_with_len, cons_option}

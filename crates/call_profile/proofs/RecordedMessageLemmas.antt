@@ -1,4 +1,4 @@
--- A message's records are those of the calls that it ends.
+-- A message has a record for each call that it ends, and no other.
 use Rattle.std.proofs.Common.{◌≡◌, ℕ, zero, suc, ◌*◌, ◌<◌, ◌≤◌, Bool, true, false, ◌⊎◌, inl, inr, List, [], ◌++◌, length, Option, Some, None, refl, sym, ◌∙◌, ap, subst, arith, if◌then◌else◌}
 use Rattle.std.specs.Prelude.{Contains}
 use Rattle.std.proofs.lemmas.List.Elements.{Contains-append_left, Contains-append_right, Contains-append_cases}
@@ -38,7 +38,7 @@ use Rattle.call_profile.proofs.RestartedLineLemmas.{AreRestartedBelow, named_or_
 use Rattle.call_profile.proofs.SetupRecordLemmas.{setup_ends_none}
 use Rattle.call_profile.proofs.RestartedSlotLemmas.{below_none, below_more}
 
--- ---- records that are those of the calls that ended
+-- ---- records of the calls that ended
 
 -- the record of each call that ended between two worlds is there, with one cause, and no other
 pub record AreOfEnded (external : ℕ) (before afterwards : World) (cause : ℕ) (told : List CallRecord) : Type 0 where

@@ -26,7 +26,7 @@ use Rattle.call_profile.proofs.RefusalLemmas.{no_records}
 use Rattle.call_profile.proofs.SetupLemmas.{caller_is, offered, reached}
 use Rattle.call_profile.proofs.LegTableLemmas.{both_else}
 
--- a slot whose leg is that of no call is another one than that of a caller's leg that calls
+-- a slot whose leg is in no call is not the slot of a caller's leg that calls
 pub not_there : (legs : Legs) (x z : Slot) (leg : Leg) → is_calling (leg_at legs x) ≡ false → leg_at legs z ≡ Some leg → is_calling (Some leg) ≡ true → z ≡ x → ⊥
 not_there legs x z leg silent at calls same =
     let wrong : true ≡ false = sym calls ∙ sym (ap is_calling at) ∙ ap (λ (q : Slot). is_calling (leg_at legs q)) same ∙ silent in

@@ -37,7 +37,7 @@ abbrev pub has_no_octet : Option (List ℕ) → Bool
 has_no_octet (Some []) = true
 has_no_octet _ = false
 
--- a called party number without octets adds nothing, and one of more than 21 octets is none
+-- a called party number without octets adds nothing, and a number of more than 21 octets is none
 abbrev pub adds_wrongly : List ℕ → Message → Bool
 adds_wrongly called m = has_no_octet (called_received m.elements) || nat_lt 21 (length (called_with called m))
 

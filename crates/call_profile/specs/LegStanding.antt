@@ -1,4 +1,4 @@
--- When the legs of a world are consistent. Source: this exchange's own; the states are those of ITU-T Q.931 (05/98), 2.1.2.
+-- When the legs of a world are consistent. Source: this exchange's own; the states are from ITU-T Q.931 (05/98), 2.1.2.
 use Rattle.std.specs.Prelude.{◌≡◌, ◌≢◌, ℕ, ◌*◌, ◌^◌, ◌<◌, ◌≤◌, ◌⊎◌, ◌&&◌, ◌||◌, ◌==◌, Bool, IsTrue, List, [], ◌∷◌, length, Option, Some, None}
 use Rattle.circuit_model.specs.declared.channel.Slot.{Slot}
 use Rattle.circuit_model.specs.declared.circuit.Circuit.{Circuit}

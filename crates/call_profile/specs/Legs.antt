@@ -78,7 +78,7 @@ held_at legs x = option_map (λ leg. record { slot = x; leg = leg }) (leg_at leg
 abbrev pub legs_of : Legs → ℕ → List Held
 legs_of legs line = filter_map (held_at legs) (slots_of line)
 
--- The side that chose a call reference value sends flag 0 with it. A caller's value was chosen by its user, that of a called leg by the
+-- The side that chose a call reference value sends flag 0 with it. A caller's value was chosen by its user, a called leg's by the
 -- exchange: so what a user sends with flag 0 is for a caller's leg, and what it sends with flag 1 for a called one
 abbrev pub side_named : Bool → Side
 side_named false = Caller

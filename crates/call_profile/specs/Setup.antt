@@ -73,11 +73,11 @@ slot_asked line (Some Invalid) = None
 abbrev pub if_idle : World → Slot → Option Slot
 if_idle w x = if idle w x then Some x else None
 
--- the caller's slot is the named one where it is idle, else the lowest idle one of the line
+-- the caller's slot is the named one where it is idle, else the line's lowest idle slot
 abbrev pub caller_slot : World → ℕ → Option ChannelIdentification → Option Slot
 caller_slot w line channel = option_or (option_and_then (if_idle w) (slot_asked line channel)) (lowest_idle w line)
 
--- the called slot is the lowest idle one of the called line beside the caller's
+-- the called slot is the called line's lowest idle slot beside the caller's
 abbrev pub called_slot : World → Slot → Found → Option Slot
 called_slot w caller (Line line) = lowest_idle_beside w caller line
 called_slot w caller _ = None

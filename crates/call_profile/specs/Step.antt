@@ -65,7 +65,7 @@ abbrev pub world_after_all : Setting → World → List Event → World
 world_after_all s w [] = w
 world_after_all s w (e ∷ es) = world_after_all s (next s w e) es
 
--- the replies of a run, in order: each is that of the world that the events before it made
+-- the replies of a run, in order: the world that the events before it made gives each
 abbrev pub run : Setting → World → List Event → List Reply
 run s w [] = []
 run s w (e ∷ es) = reply s w e ∷ run s (next s w e) es

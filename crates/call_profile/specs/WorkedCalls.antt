@@ -23,7 +23,7 @@ use Rattle.call_profile.specs.World.{start}
 abbrev pub silent : Tones
 silent = record { ringback = []; busy = [] }
 
--- an exchange of two lines, where number 101 is line 1's, and one of a single line, where number 30 is room 0's
+-- an exchange of two lines, where number 101 is line 1's, and an exchange of a single line, where number 30 is room 0's
 abbrev pub two_lines : Setting
 two_lines = record {
   dimensions = record { external = 2; bridges = 0; slots = 30 };

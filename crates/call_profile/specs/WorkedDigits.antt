@@ -1,4 +1,4 @@
--- Worked calls whose number is dialled on, on which the definitions are evaluated. Source: this exchange's own; the octets are those of ITU-T Q.931
+-- Worked calls whose number is dialled on, on which the definitions are evaluated. Source: this exchange's own; the octets are from ITU-T Q.931
 -- (05/98), section 4.
 use Rattle.std.specs.Prelude.{◌+◌, ◌*◌, List, [], ◌∷◌, ◌++◌, Option, Some, map, replicate, true}
 use Rattle.std.specs.List.{range_with_len}
@@ -65,7 +65,7 @@ faulty_digits_answered =
     ∷ sends_reply []
     ∷ []
 
--- a number of 21 octets in all, which is none of the plan: cause 1; and one of 22: cause 28
+-- a number of 21 octets in all, which is none of the plan: cause 1; and a number of 22 octets: cause 28
 abbrev pub longest_numbers : List Event
 longest_numbers =
     Message 0 (0x08 ∷ 0x02 ∷ 0x00 ∷ 0x01 ∷ 0x05 ∷ 0x04 ∷ 0x03 ∷ 0x80 ∷ 0x90 ∷ 0xA3 ∷ 0x70 ∷ 0x02 ∷ 0x80 ∷ 0x31 ∷ [])
@@ -82,7 +82,7 @@ longest_numbers_answered =
     ∷ sends_reply (to 0 (0x08 ∷ 0x02 ∷ 0x80 ∷ 0x02 ∷ 0x45 ∷ 0x08 ∷ 0x02 ∷ 0x82 ∷ 0x9C ∷ []) ∷ [])
     ∷ []
 
--- a SETUP without a called party number: the first octet of the first one that comes begins it, and those of the later ones don't count
+-- a SETUP without a called party number: it begins with the first octet of the first one that comes; in later ones the first octet doesn't count
 abbrev pub begun_later : List Event
 begun_later =
     Message 0 (0x08 ∷ 0x02 ∷ 0x00 ∷ 0x01 ∷ 0x05 ∷ 0x04 ∷ 0x03 ∷ 0x80 ∷ 0x90 ∷ 0xA3 ∷ [])

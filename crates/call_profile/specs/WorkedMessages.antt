@@ -1,5 +1,5 @@
 -- More worked messages, on which the definitions are evaluated: refusals by each cause of an element, causes that can't be read, release at both
--- ends, and what is passed on. Source: this exchange's own; the octets are those of ITU-T Q.931 (05/98), section 4.
+-- ends, and what is passed on. Source: this exchange's own; the octets are from ITU-T Q.931 (05/98), section 4.
 use Rattle.std.specs.Prelude.{ℕ, true, false, List, [], ◌∷◌}
 use Rattle.exchange_events.specs.declared.record.CallRecord.{CallRecord}
 use Rattle.exchange_events.specs.declared.record.Party.TheVariants as party
@@ -8,7 +8,7 @@ use Rattle.exchange_events.specs.declared.trace.Event.{Event}
 use Rattle.exchange_events.specs.declared.trace.Event.TheVariants.{Message}
 use Rattle.call_profile.specs.WorkedCalls.{at, to, sends_reply, connected, records_reply}
 
--- SETUPs to number 101 without a bearer capability; with one of a single octet; with one in packet mode; for the D-channel; without a number of
+-- SETUPs to number 101 without a bearer capability; with a single octet of it; with one in packet mode; for the D-channel; without a number of
 -- which nothing more comes; with a letter in it; and without both, where the first check decides
 abbrev pub refused_by_element : List Event
 refused_by_element =
@@ -70,7 +70,7 @@ null_status_answered =
     ∷ records_reply [] (room_record 41)
     ∷ []
 
--- RELEASE meets RELEASE: the leg is gone, nothing is sent, and nothing is recorded again; the call reference is then one of no call
+-- RELEASE meets RELEASE: the leg is gone, nothing is sent, and nothing is recorded again; the call reference is then no call's
 abbrev pub release_collision : List Event
 release_collision =
     room_called

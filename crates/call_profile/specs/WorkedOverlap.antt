@@ -1,4 +1,4 @@
--- Worked calls whose number is dialled in parts, on which the definitions are evaluated. Source: this exchange's own; the octets are those of ITU-T
+-- Worked calls whose number is dialled in parts, on which the definitions are evaluated. Source: this exchange's own; the octets are from ITU-T
 -- Q.931 (05/98), section 4.
 use Rattle.std.specs.Prelude.{ℕ, List, [], ◌∷◌, Option, Some}
 use Rattle.call_states.specs.declared.pending.Pending.{Pending}

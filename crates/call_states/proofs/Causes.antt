@@ -1,4 +1,4 @@
--- The causes of acts are those of messages.
+-- Acts have the causes of messages.
 use Rattle.std.proofs.Common.{ℕ, ◌<◌, Bool, true, false, cond, List, [], ◌∷◌, Option, Some, None, arith}
 use Rattle.std.specs.Prelude.{IfSome, unwrap_or, option_and_then, nat_lt, ◌==◌, if◌then◌else◌}
 use Rattle.q931_elements.specs.InformationElement.{InformationElement}

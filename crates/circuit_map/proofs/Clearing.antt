@@ -1,4 +1,4 @@
--- The connections after a slot is cleared are those of the holding after it.
+-- The connections after a slot is cleared belong to the holding after it.
 use Rattle.std.proofs.Common.{◌≡◌, ℕ, zero, suc, ◌+◌, ◌*◌, ◌<◌, ◌≤◌, Bool, true, false, not, List, [], ◌∷◌, length, Option, Some, None, refl, sym, ◌∙◌, ap, subst, inl, inr, arith, length-set, if◌then◌else◌}
 use Rattle.std.specs.Prelude.{◌↔◌, IfSome}
 use Rattle.std.specs.List.{count_by, filter, Contains}
@@ -255,7 +255,7 @@ rows_one external hears x z k never = elim (same_slot_cases z x) [
   | inr away ↦ ap (λ b. if b then None else hears z) away ∙ sym (row_of_other external hears x z k (apart_by z x away) (λ s e. never s (k.both_ways z x s e)))
 ]
 
--- and that of the other end of its connection
+-- and the row of the other end of its connection
 pub rows_two : (external : ℕ) (hears : Slot → Option Circuit) (x y z : Slot) (s : ℕ) → Hearing external hears → hears x ≡ Some (Pair y x s) → (if same_slot z y then None else if same_slot z x then None else hears z) ≡ unless_naming x (hears z)
 rows_two external hears x y z s k hx = elim (same_slot_cases z y) [
   | inl at_y ↦ rw at_y (ap (λ b. if b then None else if same_slot y x then None else hears y) (same_slot-refl y) ∙ sym (gone y (k.both_ways x y s hx)))

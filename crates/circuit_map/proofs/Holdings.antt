@@ -1,4 +1,4 @@
--- The connections after a tone is given and after a connection is made are those of the holding after it.
+-- The connections after a tone is given and after a connection is made belong to the holding after it.
 use Rattle.std.proofs.Common.{◌≡◌, ℕ, ◌+◌, ◌⊎◌, Bool, true, false, [], ◌∷◌, Option, Some, None, refl, sym, ◌∙◌, ap, subst, inl, inr, arith, if◌then◌else◌}
 use Rattle.std.specs.Prelude.{◌↔◌, is_none}
 use Rattle.std.proofs.lemmas.Grind.{common_steps}

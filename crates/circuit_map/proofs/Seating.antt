@@ -1,4 +1,4 @@
--- The connections after a member is seated are those of the holding after it.
+-- The connections after a member is seated belong to the holding after it.
 use Rattle.std.proofs.Common.{◌≡◌, ℕ, suc, ◌+◌, ◌*◌, ◌==◌, ◌<◌, ◌≤◌, ◌⊎◌, true, false, List, [], ◌∷◌, cond, ltb, get_or, length, Option, Some, None, refl, sym, ◌∙◌, ap, subst, inl, inr, arith, if◌then◌else◌}
 use Rattle.std.specs.Prelude.{◌↔◌, is_some, is_none, position, option_map}
 use Rattle.std.specs.List.{count_by, position_or_len}

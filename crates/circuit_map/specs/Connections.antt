@@ -26,7 +26,7 @@ pub record Connections : Type 0 where
   pub ports : Ports
   pub layout : Layout
 
--- those of a map that keeps the owner of each port, whose member has it
+-- the connections of a map that keeps the owner of each port, whose member has it
 abbrev pub kept_connections : ℕ → ℕ → ℕ → ℕ → ℕ → List (Option Circuit) → List (Option Owner) → Layout → Connections
 kept_connections external bridges slots bound next heard owners layout = record {
   external = external;
@@ -68,7 +68,7 @@ seats x (Pair from to since) = false
 seats x (Member room at since) = same_slot x at
 seats x (Tone kind to since) = false
 
--- the connections are those of a valid holding and of its ports: each slot hears by its circuit, each member has one port and nobody else
+-- the connections belong to a valid holding and its ports: each slot hears by its circuit, each member has one port and nobody else
 -- has any, and the paths are those that the circuits need
 pub record Represents (m : Connections) (h : Holding) (ports : Ports) : Type 0 where
   pub next : m.next ≡ h.next
@@ -87,11 +87,11 @@ IsLaid m = Legal (map_lines m) m.slots m.layout
 abbrev pub Obeys : Connections → Connections → Command → Type 0
 Obeys m n command = (h : Holding) (ports : Ports) → Represents m h ports → Represents n (after h command) (ports_after ports command)
 
--- the circuit that a slot serves: an external slot the one by which it hears, a conference port that of its member
+-- the circuit that a slot serves: an external slot the one by which it hears, a conference port the one that its member hears by
 abbrev pub served_in : ℕ → List (Option Circuit) → Ports → Slot → Option Circuit
 served_in external heard ports at = option_and_then (hears_in external heard) (served_by external ports at)
 
--- the room that a slot shows: that of a port's member
+-- the room that a slot shows: a port shows its member's
 abbrev pub room_in : ℕ → List (Option Circuit) → Ports → Slot → Option (ℕ × ℕ)
 room_in external heard ports at = if nat_lt at.line external then None else seated_as (served_in external heard ports at)
 
@@ -110,7 +110,7 @@ pub record IsShown (external bridges : ℕ) (heard : List (Option Circuit)) (por
 abbrev pub AreRoomed : (Slot → Option Circuit) → List (Option Owner) → Type 0
 AreRoomed hears owners = (k : ℕ) (owner : Owner) → slice_index_or owners k None ≡ Some owner → (since : ℕ) × (hears owner.member ≡ Some (Member owner.room owner.member since))
 
--- how large the parts are, that they are those of some holding, which room each port is owned for, and that what is kept for the next control
+-- how large the parts are, that they belong to some holding, which room each port is owned for, and that what is kept for the next control
 -- memory is what they show
 pub record IsSound (m : Connections) (lines first_line bridge_lines : ℕ) (owners : List (Option Owner)) (hearing : List Heard) (sitting : List (Option (ℕ × ℕ))) : Type 0 where
   pub few : map_lines m ≤ 34

@@ -41,7 +41,7 @@ pub valid-after_all : (bridges : ℕ) (h : Holding) (cs : List Command) → Vali
 valid-after_all bridges h [] v allowed = v
 valid-after_all bridges h (c ∷ cs) v allowed = valid-after_all bridges (after h c) cs (valid-after bridges h c v allowed.0) allowed.1
 
--- the circuits of each frame are those of a valid holding
+-- the circuits of each frame belong to a valid holding
 pub valid-frames : (bridges : ℕ) (h : Holding) (cs : List Command) (k : ℕ) → Valid bridges h → AreAllowed bridges h cs → k < length (frames h cs) → Valid bridges (record { circuits = circuits_of (frames h cs) k; next = h.next + k })
 valid-frames bridges h [] k v allowed within = absurd (omega arith)
 valid-frames bridges h (Connect x y ∷ cs) k v allowed within = valid-frames bridges (after h (Connect x y)) cs k (valid-after bridges h (Connect x y) v allowed.0) allowed.1 within

@@ -15,7 +15,7 @@ first line = record { line = line; place = 0 }
 abbrev pub input_of : List ℕ → Input
 input_of octets = map (λ octet. Some (octet ∷ [])) octets
 
--- three octets of ringing tone, one of busy tone
+-- three octets of ringing tone, a single octet of busy tone
 abbrev pub some_tones : Kind → List ℕ
 some_tones Ringback = 0x11 ∷ 0x22 ∷ 0x33 ∷ []
 some_tones Busy = 0x44 ∷ []

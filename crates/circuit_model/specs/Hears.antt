@@ -1,4 +1,4 @@
--- What a slot hears in a frame. Source: this exchange's own; the conference sum is that of a linear bridge, coded once.
+-- What a slot hears in a frame. Source: this exchange's own; the conference sum is a linear bridge's, coded once.
 use Rattle.std.specs.Prelude.{ℕ, ℤ, pos, ◌+ℤ◌, ◌+◌, ◌-◌, ◌%◌, ◌&&◌, not, nat_le, Bool, false, ◌==◌, List, [], ◌∷◌, length, Option, Some, None, filter, slice_index_or, if◌then◌else◌}
 use Rattle.circuit_model.specs.declared.channel.Slot.{Slot}
 use Rattle.circuit_model.specs.declared.circuit.Kind.{Kind}

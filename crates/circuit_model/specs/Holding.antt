@@ -1,5 +1,5 @@
 -- The circuits that exist, and what the commands make of them. Source: this exchange's own; the terms connection, room member and tone
--- are those of circuit switching (ITU-T Q.9).
+-- come from circuit switching (ITU-T Q.9).
 use Rattle.std.specs.Prelude.{◌≡◌, ℕ, ◌+◌, ◌*◌, ◌≤◌, ◌<◌, ◌⊎◌, IsTrue, not, List, [], ◌∷◌, ◌++◌, filter, All, count_by, slice_index_or, Option, Some}
 use Rattle.circuit_model.specs.declared.channel.Slot.{Slot}
 use Rattle.circuit_model.specs.declared.circuit.Kind.{Kind}

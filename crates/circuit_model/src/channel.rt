@@ -20,7 +20,7 @@ pub struct Slot {
 }
 
 impl Slot {
-    /// The number of the slot among those of all lines: thirty places to a line, line after line.
+    /// The number of the slot among the slots of all lines: thirty places to a line, line after line.
     /// A table with an entry for each slot has it there.
     pub fn number(self) -> usize
         ensures { result ≡ 30 * self.line + self.place }

@@ -11,7 +11,7 @@ ghost use Rattle.circuit_model.specs.Holding.{Holding, empty, Command, Connect, 
 ghost use Rattle.circuit_model.specs.Examples.{first};
 
 /// A holding is valid at the start and after each command that is allowed, and so the circuits of
-/// each frame that commands record are those of a valid holding.
+/// each frame that commands record belong to a valid holding.
 pub fn law_of_validity()
     ensures start { (bridges : ℕ) → Valid bridges empty }
     ensures kept { (bridges : ℕ) (h : Holding) (c : Command) → Valid bridges h → IsAllowed bridges h c → Valid bridges (after h c) }

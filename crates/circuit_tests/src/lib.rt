@@ -1,5 +1,5 @@
-//! Worked examples of the map of circuits over the fabric of thirty internal slots, and one over that
-//! of fifty-nine: tables of steps, with what a slot hears after each.
+//! Worked examples of the map of circuits over the fabric of thirty internal slots, and one over
+//! fifty-nine: tables of steps, with what a slot hears after each.
 //!
 //! They are here and not beside the map, so that the map need not be proved again where the
 //! fabric changes. The crate promises nothing.

@@ -26,7 +26,7 @@ channel_named (Preferred channel) = Some channel
 channel_named (Exclusive channel) = Some channel
 channel_named Invalid = None
 
--- the place, among those of the line, of the channel that a message names
+-- the place on the line of the channel that a message names
 abbrev pub place_named : Message → Option ℕ
 place_named m = option_and_then place_of (option_and_then channel_named (channel_in m.elements))
 

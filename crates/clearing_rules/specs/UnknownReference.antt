@@ -17,7 +17,7 @@ message_back m type = bare (not m.flag) m.reference type
 abbrev pub null_status : Message → OutgoingMessage
 null_status m = record (message_back m kind.Status) { cause = Some response_to_status_enquiry; state = Some null }
 
--- RELEASE COMPLETE: the call reference is not one of a call
+-- RELEASE COMPLETE: the call reference is no call's
 abbrev pub no_such_reference : Message → OutgoingMessage
 no_such_reference m = record (message_back m kind.ReleaseComplete) { cause = Some invalid_call_reference }
 

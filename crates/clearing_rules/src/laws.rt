@@ -19,7 +19,7 @@ pub fn law_of_answers()
     ensures acknowledgement { (r : Restart) → IsOnLine r → IsWritable (acknowledgement r) }
 {}
 
-/// The global call reference of the code is that of the definitions.
+/// Code and definitions have the same global call reference.
 pub fn law_of_global_reference()
     ensures { GLOBAL_CALL_REFERENCE ≡ global_call_reference }
 {}

@@ -1,4 +1,4 @@
--- What a conference bridge gives each of its members. Source: this exchange's own; the sum is that of a linear bridge, coded once.
+-- What a conference bridge gives each of its members. Source: this exchange's own; the sum is a linear bridge's, coded once.
 use Rattle.std.specs.Prelude.{ℕ, ℤ, pos, List, Option, Some, None, filter_map, remove}
 use Rattle.circuit_model.specs.ALaw.{expand, compress}
 use Rattle.circuit_model.specs.Hears.{sum_of_values}

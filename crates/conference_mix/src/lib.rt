@@ -9,7 +9,7 @@
 //! - [`Mixer`] does so for all rooms at once: each port gets what its room alone would give it
 //!   ([`Mixer::mix`]).
 //! - The order of the places does not matter ([`law_of_order`]); a member alone hears the idle
-//!   octet, and one of two hears what the other sends ([`law_of_small_rooms`]).
+//!   octet, and each of two members what the other sends ([`law_of_small_rooms`]).
 //!
 //! It uses `alaw_codec` and `circuit_model`.
 #![tactic(auto)]
@@ -32,7 +32,7 @@ pub const MAX_MEMBERS: usize = 60;
 /// Mixes a room: writes to each place of `out` the A-law octet of the sum of the others' values.
 ///
 /// `members` has for each place the octet that arrived there, or `None` where none counts, which adds
-/// nothing. `out` has the same places, and each is written, also that of an absent octet. The sum is
+/// nothing. `out` has the same places, and each is written, also where the octet is absent. The sum is
 /// exact and saturates only in its coding (ITU-T G.711 (11/88), table 1a): with 60 members it stays
 /// within 241,920. The bridge is this exchange's own.
 pub fn mix(members: &[Option<u8>], out: &mut [u8])

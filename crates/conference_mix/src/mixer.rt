@@ -13,7 +13,7 @@ use std::marker::Model;
 /// to it, so a free port is given the code of 0, which is the idle octet.
 const FREE: u16 = 256;
 
-/// How many rooms have a total, that of the free ports included.
+/// How many rooms have a total, the room of the free ports included.
 const ROOMS: usize = 257;
 
 /// A member of a room, as it sits in a port of a bridge.

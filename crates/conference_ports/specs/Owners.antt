@@ -23,7 +23,7 @@ members owners = map member_of owners
 abbrev pub port_number : ℕ → Slot → ℕ
 port_number external port = 30 * (port.line - external) + port.place
 
--- a member has the slot of an external line, a port that of a bridge line
+-- a member has the slot of an external line, a port the slot of a bridge line
 abbrev pub IsMemberSlot : Bridges → Slot → Type 0
 IsMemberSlot b at = (at.line < b.external) × (at.place < 30)
 

@@ -42,7 +42,7 @@ same_rows lines a b size_a size_b agree = ext_get_or Silent a b (size_a ∙ sym 
     let line : k / 30 < lines = omega (arith, inside, size_a, whole) in
     sym (ap (λ i. get_or a i Silent) whole) ∙ agree (k / 30) (k % 30) line rest ∙ ap (λ i. get_or b i Silent) whole)
 
--- who is marked in neither of two words is not marked in the first, and not in the second
+-- who is marked in neither of two words is not marked in m, and not in n
 pub first_unmarked : (m n k : ℕ) → bit_at (bit_or m n) k ≡ 0 → bit_at m k ≡ 0
 first_unmarked m n k none = omega (arith, bit_at_or m n k, none)
 

@@ -15,11 +15,11 @@ abbrev pub from_inlet : Option Path → (Slot → ℕ) → ℕ
 from_inlet None octet = idle_octet
 from_inlet (Some p) octet = octet p.from
 
--- the octet that an outgoing line gets in an internal slot: that of the inlet of its path there
+-- the octet that an outgoing line gets in an internal slot: it comes from the inlet of its path there
 abbrev pub crossing : Layout → (Slot → ℕ) → ℕ → ℕ → ℕ
 crossing layout octet line slot = from_inlet (path_out layout line slot) octet
 
--- the octet that an outlet gets: that of the inlet of its path
+-- the octet that an outlet gets: it comes from the inlet of its path
 abbrev pub carried : Layout → (Slot → ℕ) → Slot → ℕ
 carried layout octet at = from_inlet (path_to layout at) octet
 
@@ -42,12 +42,12 @@ pub record Wiring : Type 0 where
   pub legal : Legal lines slots layout
   pub tables : HasTables lines slots layout places crossed read
 
--- what the outgoing lines get by the second table of what the incoming lines send by the first is what the layout brings them
+-- what the outgoing lines get by the table `crossed` of what the incoming lines send by `places` is what the layout brings them
 abbrev pub BringsAcross : Wiring → Type 0
 BringsAcross w = (octet : Slot → ℕ) (highway : ℕ → ℕ → ℕ) → SendsBy w.lines w.slots w.places octet highway
     → HoldsCrossing w.lines w.slots w.layout octet (λ line slot. fetched (w.crossed line slot) (λ from. highway from slot))
 
--- and what their places then read by the third is the octet of the inlet of their path
+-- and what their places then read by the table `read` is the octet of the inlet of their path
 abbrev pub BringsOut : Wiring → Type 0
 BringsOut w = (octet : Slot → ℕ) (held : ℕ → ℕ → ℕ) → HoldsCrossing w.lines w.slots w.layout octet held
     → (at : Slot) → at.line < w.lines → at.place < 30 → fetched (w.read at.line at.place) (held at.line) ≡ carried w.layout octet at

@@ -36,7 +36,7 @@ received m line slot = entry_in m.slots m.space line slot
 abbrev pub read : Control → ℕ → ℕ → Option ℕ
 read m line place = entry_in 30 m.outgoing line place
 
--- the three tables are those of the layout, and hold nothing else
+-- the three tables say the layout, and hold nothing else
 abbrev pub HasLayout : Control → Layout → Type 0
 HasLayout m layout = HasTables (lines_of m) m.slots layout (sent m) (received m) (read m)
 
@@ -64,7 +64,7 @@ pub record IsOfSize (d : Dimensions) (image : Control) : Type 0 where
   pub bridges : image.bridges ≡ d.bridges
   pub slots : image.slots ≡ d.slots
 
--- the second has the sizes of the first
+-- b has the sizes of a
 pub record SameSizes (a b : Control) : Type 0 where
   pub external : b.external ≡ a.external
   pub bridges : b.bridges ≡ a.bridges

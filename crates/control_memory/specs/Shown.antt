@@ -66,11 +66,11 @@ seated_as (Some (Tone_circuit kind x since)) = None
 abbrev pub circuit_of : ℕ → List Circuit → Ports → Slot → Option Circuit
 circuit_of external circuits ports at = option_and_then (heard_by circuits) (served_by external ports at)
 
--- the room of an external slot is none, that of a port is its member's
+-- an external slot has no room, a port has its member's
 abbrev pub room_of : ℕ → List Circuit → Ports → Slot → Option (ℕ × ℕ)
 room_of external circuits ports at = if nat_lt at.line external then None else seated_as (circuit_of external circuits ports at)
 
--- by this layout, the control memory shows these circuits and ports as those of frame f
+-- by this layout, the control memory shows these circuits and ports as frame f's
 pub record ShowsBy (layout : Layout) (m : Control) (circuits : List Circuit) (ports : Ports) (f : ℕ) : Type 0 where
   pub frame : m.frame ≡ f
   pub legal : Legal (lines_of m) m.slots layout

@@ -38,7 +38,7 @@ written row column value old r c = if (r == row) && (c == column) then value els
 abbrev pub nothing : ℕ → ℕ → Option ℕ
 nothing row column = None
 
--- three tables are those of a layout on n lines and m internal slots, and hold nothing else
+-- three tables say a layout on n lines and m internal slots, and hold nothing else
 pub record HasTables (lines slots : ℕ) (layout : Layout) (places crossed read : ℕ → ℕ → Option ℕ) : Type 0 where
   pub incoming : Agree lines slots places (place_sent layout)
   pub space : Agree lines slots crossed (line_received layout)

@@ -7,7 +7,7 @@ use circuit_model::Kind;
 use std::alloc::AllocError;
 use std::marker::Model;
 
-// The words of paths are below this one, and those of ringing tones begin with it.
+// The words of paths are below this one, and the words of ringing tones begin with it.
 const RINGBACK: u64 = 1 << 32;
 
 // The first word of busy tones.

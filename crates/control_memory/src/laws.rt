@@ -28,10 +28,10 @@ pub fn worked_chains()
     ensures tie { connect 3 2 same_length (at 0 1) (at 1 1) ≡ tie_moved }
 {}
 
-/// The tables of a legal layout do what the layout says. Where the incoming lines send by the first
-/// table and the outgoing lines get by the second, each internal slot holds the octet of the inlet
-/// of its path; and what the places then read by the third is the octet of the inlet of theirs.
-/// Everything else is idle.
+/// The tables of a legal layout do what the layout says. Where the incoming lines send by the
+/// incoming table and the outgoing lines get by the space table, each internal slot holds the octet
+/// of the inlet of its path; and what the places then read by the outgoing table is the octet of the
+/// inlet of their path. Everything else is idle.
 pub fn tables_carry_their_layout()
     ensures crossing { (w : Wiring) → BringsAcross w }
     ensures carried { (w : Wiring) → BringsOut w }

@@ -5,8 +5,8 @@
 //!   leaves.
 //! - [`PathMap`] is what any live map of paths promises: a new path joins the layout by its rule
 //!   (`layout`), its pairs are those before and the new one (`pairs`), the result is how many paths
-//!   moved (`moves`), the layout stays legal (`legal`), and the tables at a boundary are those of
-//!   the layout (`tables`).
+//!   moved (`moves`), the layout stays legal (`legal`), and the tables at a boundary say the
+//!   layout (`tables`).
 //! - [`PathTable`] keeps a layout with its tables, for any such map.
 //! - The tables of a legal layout carry its octets ([`tables_carry_their_layout`]).
 //!

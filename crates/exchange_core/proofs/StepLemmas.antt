@@ -1,4 +1,4 @@
--- A core's map and legs are those of the world of its journal, step by step.
+-- A core's map and legs hold the world of its journal, step by step.
 use Rattle.std.proofs.Common.{◌≡◌, ℕ, suc, ◌+◌, ◌<◌, ◌≤◌, List, [], ◌∷◌, ◌++◌, length, Option, Some, None, refl, sym, ◌∙◌, ap, subst, arith}
 use Rattle.std.specs.Prelude.{All, map, IfSome}
 use Rattle.std.specs.List.{cons_option}
@@ -86,7 +86,7 @@ at_work x map legs room works = record {
 
 -- ---- the paths
 
--- they are those of the world, as it holds them
+-- they are the world's, as it holds them
 module _ (x : Working) (map : Connections) (legs : Legs) (room : ℕ) (works : IsWorking x map legs room) where
   pub is_laid : Is_map_laid map → IsLaid x
   is_laid laid =

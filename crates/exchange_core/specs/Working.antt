@@ -53,7 +53,7 @@ JoinsItsCircuits x = JoinsCircuits (exchange_lines (setting x).dimensions) x.tra
 abbrev pub IsNumbered : Trace → ℕ → Event → Type 0
 IsNumbered trace n e = event_at trace.events n ≡ Some e
 
--- the core's map and legs are those of the world of its journal, whose entries are events of a sound trace; and the journal has room for all events
+-- the core's map and legs hold the world of its journal, whose entries are events of a sound trace; and the journal has room for all events
 pub record IsWorking (x : Working) (map : Connections) (legs : Legs) (room : ℕ) : Type 0 where
   pub sound : IsSound x.trace
   pub known : All (IsEvent x.trace) (order_of x.journal)

@@ -127,6 +127,6 @@ pub trait Switchboard: Sync {
         ensures second { StartsWith (known seat.new).seen (known other).seen }
         ensures settled { Settled (turns_of (board self.now)) (known seat.new) };
 
-    /// A board that has a seat is one of a sound trace.
+    /// A board that has a seat is a sound trace's.
     ghost sound_trace: { (x : Self) (s : Self.Seat) → seated x s → IsSound (board x).trace };
 }

@@ -10,8 +10,8 @@ pub data Worker : Type 0 where
   Processor : ℕ → Worker
   Frame_worker : Worker
 
--- the call processors share the lines in turn; a nail belongs to the line of its first slot, a seat and a free to that of their slot, a message
--- to that of its user
+-- the call processors share the lines in turn; a nail belongs to the line of its first slot, a seat and a free to the line of their
+-- slot, a message to its user's line
 abbrev pub worker_of : ℕ → Event → Worker
 worker_of processors (Nail x y) = Processor (x.line % processors)
 worker_of processors (Seat x room) = Processor (x.line % processors)

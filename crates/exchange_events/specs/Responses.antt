@@ -5,7 +5,7 @@ use Rattle.exchange_events.specs.declared.outbox.Response.TheVariants as respons
 use Rattle.exchange_events.specs.declared.reply.Reply.{Reply}
 use Rattle.exchange_events.specs.declared.reply.Reply.TheVariants.{Granted, Busy, Seated, NoPort, Freed, NotNailed, Sent, Frame}
 
--- the reply: the response, and where it has lists those of the outbox
+-- the reply: the response, with the outbox's lists where it has lists
 abbrev pub reply_of : Response → Outbox → Reply
 reply_of (response.Granted a b) out = Granted a b
 reply_of response.Busy out = Busy

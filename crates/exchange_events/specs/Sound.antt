@@ -41,7 +41,7 @@ last_of [] = 0
 last_of (n ∷ []) = n
 last_of (n ∷ m ∷ ns) = last_of (m ∷ ns)
 
--- where the segments of n events end: the numbers of their last events rise, and the last of them is that of the last event
+-- where the segments of n events end: the numbers of their last events rise, and the last one is n
 pub record AreSegments (events : ℕ) (ends : List ℕ) : Type 0 where
   pub some : All (λ n. 1 ≤ n) ends
   pub rising : AllPairs (λ m n. m < n) ends

@@ -83,7 +83,7 @@ run-append s w (e ∷ es) fs = ap (λ (l : List Reply). reply s w e ∷ l) (run-
 events_append : (trace : Trace) (order more : List ℕ) → events_of trace.events (order ++ more) ≡ events_of trace.events order ++ events_of trace.events more
 events_append trace order more = filter_map-append (event_at trace.events) order more
 
--- the report of a longer order begins with that of its beginning
+-- the report of a longer order begins with the report of its beginning
 pub report_append : (played : Played) (slots : ℕ) (trace : Trace) (order more : List ℕ) → All (IsEvent trace) order → report_with played slots trace (order ++ more)
     ≡ report_with played slots trace order ++ event_lines played (setting_of slots trace) (world_after slots trace order) more (events_of trace.events more)
 report_append played slots trace order more known =
@@ -141,7 +141,7 @@ module _ (plays : Plays) (tones : Kind → List ℕ) (board : Board) (front : Li
       ∙ sent_played board.trace.external (plays tones (pass here input).inputs (pass here input).held here.holding.next) a.octets p.played
       ∙ (λ i. lines_sent (λ y. plays tones (sym same.inputs i) (sym same.held i) here.holding.next y) board.trace.external))
 
-  -- the line of an answer is that of its event, after this history
+  -- the line of an answer is its event's, after this history
   answer_is : (e : Event) (r : Reply) → a.event ≡ n → IsNumbered board.trace n e → AnswersAt board front n r → a.reply ≡ kept_of r
       → answer_line a ≡ event_line (plays tones) (setting_at board) here n e
   answer_is e r same number given keeps = (λ i. report_line kept_rows (same i) ((keeps ∙ ap kept_of (given e number)) i)) ∙ rows_of e number
@@ -210,7 +210,7 @@ module _ (plays : Plays) (tones : Kind → List ℕ) (board : Board) (v w : Know
       let new : unseen v.seen w.seen ≡ begins.0 = ap (drop (length v.seen)) begins.1 ∙ drop-append_seam v.seen begins.0 in
       told plays tones board w.seen v.seen (unseen v.seen w.seen) answers (begins.1 ∙ ap (λ (l : List Entry). v.seen ++ l) (sym new)) known answered.events answered.each
 
-  -- the lines of the answers are those of the events, in the order of the history
+  -- the answers have the lines of the events, in the order of the history
   pub lines_told : answer_lines answers ≡ event_lines (plays tones) (setting_at board) (world_at board v.seen) (new_events v w) (events_of board.trace.events (new_events v w))
   lines_told = all_told.lines
 
@@ -233,7 +233,7 @@ module _ (plays : Plays) (tones : Kind → List ℕ) (board : Board) (v w : Know
   pub few_told : GrewFew board v w
   few_told = all_told.few
 
-  -- the calls that ended are those of the answers
+  -- the calls that ended are the answers'
   pub calls_told_of : calls_answered answers ≡ grown_calls board v w
   calls_told_of = all_told.calls
 

@@ -64,7 +64,7 @@ module _ (x : Parties) where
   answers_run strict bytes t status order old new before after is (Unwritten_from s rose b) = Unwritten s rose (In_report t is (By_write s b))
   answers_run strict bytes t status order old new before after is (No_memory_from s b) = No_memory s (In_report t is (By_memory s b))
 
-  -- a run on a fabric that is the one of a flag is a run on the one of an equal flag
+  -- a run on the fabric that a flag chooses is a run on the fabric that an equal flag chooses
   pub runs_on : (strict flag : Bool) (f : Fabric) (l : Listing) (t : Trace) (status : ℕ) (order : List ℕ) (old new : Option (List ℕ)) (before after : ℕ)
       → strict ≡ flag → f ≡ fabric_of flag t → Runs x f l t status order old new before after → Runs x (fabric_of strict t) l t status order old new before after
   runs_on strict flag f l t status order old new before after same is run =

@@ -40,7 +40,7 @@ calls_answers : (l : Listing) (ps : List Placed) → calls_of (map (line_of l) p
 calls_answers l [] = refl
 calls_answers l (p ∷ ps) = ap (λ (rs : List CallRecord). calls_kept p.answer.reply ++ rs) (calls_answers l ps)
 
--- answers were put behind those of these lines
+-- answers were put behind the answers of these lines
 module _ (l : Listing) (before after : List Line) (kept answers : List Placed) (are : before ≡ map (line_of l) kept) (is : after ≡ map (line_of l) (kept ++ answers)) where
   grown : after ≡ before ++ map (line_of l) answers
   grown = is ∙ map-append (line_of l) kept answers ∙ ap (λ (ls : List Line). ls ++ map (line_of l) answers) (sym are)
@@ -75,7 +75,7 @@ added plays l board trace segment v w before after same ran are adds =
     }
 
 module _ (plays : Plays) (l : Listing) (board : Board) (v w : Known) (before after : List Line) (a : IsAdded plays l board v w before after) (told : ℕ) (count : told ≡ length (calls_of before)) where
-  -- the records behind those that were noted before are those of the calls that ended since
+  -- behind the records that were noted before come the calls that ended since
   pub told_behind : drop told (calls_of after) ≡ grown_calls board v w
   told_behind = ap (drop told) a.calls ∙ drop_at (calls_of before) (grown_calls board v w) told (sym count)
 

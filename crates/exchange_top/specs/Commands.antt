@@ -118,7 +118,7 @@ pub record Parties : Type 1 where
   pub told_beyond : List CallRecord → Telling
   pub said : List ℕ
 
--- those of a call: an engine plays so, has these dimensions and carries frames so, and may be handed out; meters represent calls and say a text,
+-- the parties of a call: an engine plays so, has these dimensions and carries frames so, and may be handed out; meters represent calls and say a text,
 -- before and after
 abbrev pub parties : {M E : Type 0} → Plays → (E → Dimensions) → Carrying E → Option E → (M → List CallRecord → Type 0) → (M → List CallRecord → List ℕ) → List M → List M → Parties
 parties plays sizes carries engine stands text old new = record {
@@ -206,13 +206,13 @@ pub data IsUndone (x : Parties) (status : ℕ) (words : List (List ℕ)) (left_o
 
 -- ---- how the parts of a call end
 
--- how a refusal ends: the line was written and the status is the wanted one, or the write failed; the counts are those of the sink's faults
+-- how a refusal ends: the line was written and the status is the wanted one, or the write failed; the counts are the sink's faults
 -- before and after
 pub data Refuses (wanted : ℕ) (line : List ℕ) (status : ℕ) (old new : Option (List ℕ)) (before after : ℕ) : Type 0 where
   Told_so : status ≡ wanted → Appends old new line → Refuses wanted line status old new before after
   Untold : status ≡ 4 → Rose before after → AppendsFront old new line → Refuses wanted line status old new before after
 
--- how an answer to the bytes that were read ends, by its status; the counts are those of the sink's faults before and after
+-- how an answer to the bytes that were read ends, by its status; the counts are the sink's faults before and after
 pub data Answers (x : Parties) (strict : Bool) (bytes : List ℕ) (status : ℕ) (order : List ℕ) (old new : Option (List ℕ)) (before after : ℕ) : Type 0 where
   Done : status ≡ 0 → IsDone x strict bytes order old new → Answers x strict bytes status order old new before after
   Turned_down : status ≡ 1 → IsTurnedDown bytes order old new → x.told [] → Answers x strict bytes status order old new before after

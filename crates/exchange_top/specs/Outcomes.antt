@@ -25,7 +25,7 @@ pub record Fabric : Type 0 where
   pub slots : ℕ
   pub most_moves : ℕ
 
--- that of a map of paths, whose type says both of it
+-- the fabric of a map of paths, whose type says both
 abbrev pub fabric : {M : Type 0} → (M → ℕ) → (M → ℕ) → M → Fabric
 fabric depth bound paths = record { slots = depth paths; most_moves = bound paths }
 
@@ -64,7 +64,7 @@ pub record EndsWithSegment (plays : Plays) (l : Listing) (slots : ℕ) (trace : 
   pub done : IsDoneBelow trace segments first
   pub text_is : text ≡ listed l (report plays slots trace first)
 
--- A write failed behind the first segments: the order is that of all their events, a prefix of what is written of them was written, and the meters
+-- A write failed behind the first segments: the order has all their events, a prefix of what is written of them was written, and the meters
 -- noted all calls that ended in them.
 pub record IsUnwritten (plays : Plays) (l : Listing) (slots : ℕ) (told : Telling) (trace : Trace) (order : List ℕ) (old new : Option (List ℕ)) : Type 0 where
   pub segments : ℕ
@@ -72,7 +72,7 @@ pub record IsUnwritten (plays : Plays) (l : Listing) (slots : ℕ) (told : Telli
   pub text : AppendsFront old new (listed l (report plays slots trace order))
   pub calls : told (calls_told slots trace order)
 
--- Memory ran out behind the first segments: the order is that of all their events, and maybe of some of the next one, lawful as far as it goes.
+-- Memory ran out behind the first segments: the order has all their events, and maybe some of the next one, lawful as far as it goes.
 -- What was written is all that is written of the first few of these segments, and the meters noted all calls that ended in the first
 -- segments, and the first few that ended in the next one.
 pub record IsInterrupted (plays : Plays) (l : Listing) (slots : ℕ) (told_beyond : List CallRecord → Telling) (trace : Trace) (order : List ℕ) (old new : Option (List ℕ)) : Type 0 where

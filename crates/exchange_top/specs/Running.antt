@@ -46,6 +46,6 @@ GrowthIsTold told board v w = told (grown_calls board v w)
 abbrev pub AddsText : Plays → Listing → Board → Known → Known → List Line → List Line → Type 0
 AddsText plays l board v w before after = text_of after ≡ text_of before ++ listed l (grown_lines plays board v w)
 
--- the lines are those of some answers
+-- the lines belong to some answers
 abbrev pub AreOfAnswers : Listing → List Line → Type 0
 AreOfAnswers l lines = (answers : List Placed) × (lines ≡ map (line_of l) answers)

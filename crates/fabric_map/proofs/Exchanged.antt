@@ -32,7 +32,7 @@ chain_stands lines slots layout legal zero side line x y = tt
 chain_stands lines slots layout legal (suc n) side line x y =
     link_stands lines slots layout legal n side line x y (path_at layout side line x) refl (λ p. chain_stands lines slots layout legal n (across side) (far_line side p) y x)
 
--- ---- the ends that are taken are those of the chain
+-- ---- the ends that are taken are the chain's
 some_path : (p q : Path) → Some p ≡ Some q → p ≡ q
 some_path p q e = cc
 

@@ -1,4 +1,4 @@
--- The slots of the rule on the matrix are those of the rule on the layout, and the moves determine the paths that are taken.
+-- The rule chooses the same slots on the matrix as on the layout, and the moves determine the paths that are taken.
 use Rattle.std.proofs.Common.{◌≡◌, ℕ, Some, None, List, [], ◌∷◌, refl, sym, ◌∙◌, ap}
 use Rattle.std.specs.Prelude.{find, unwrap_or}
 use Rattle.std.specs.List.{range_with_len}

@@ -1,4 +1,4 @@
--- Rows of idle octets, and the frame before the last one of a list.
+-- Rows of idle octets, and the frame right before a list's last one.
 use Rattle.std.proofs.Common.{◌≡◌, ℕ, zero, suc, ◌<◌, List, [], ◌∷◌, ◌++◌, length, length-append, get_or, replicate, All, None, Some, slice_get, refl, arith}
 use Rattle.circuit_model.specs.declared.channel.Slot.{Slot}
 use Rattle.circuit_model.specs.FrameInput.{Input, idle_octet, octet_in, line_of}

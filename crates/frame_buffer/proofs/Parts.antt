@@ -108,7 +108,7 @@ module _ (width : ℕ) (octet : ℕ → ℕ → ℕ) (first line : ℕ) (part : 
         put_row-beyond a k part row_now room fits i past ∙ is.idle i (omega (arith, starts, past)) (omega (arith, inside, size));
   }
 
--- all rows of a part are those of lines that there are
+-- all rows of a part belong to lines that exist
 pub all_hold : (width : ℕ) (octet : ℕ → ℕ → ℕ) (first lines last : ℕ) (part : List ℕ) → (is : IsPart lines width first (length part)) → lines ≤ last → HoldBefore width octet first last part → RowsHold width octet first part
 all_hold width octet first lines last part is reached before row at begins near =
     before row at (omega (arith, reached, is.within, row_within (length part) is.rows width row is.whole begins)) begins near

@@ -1,5 +1,5 @@
 -- The octets on the highways of a time-space-time exchange: one for each line and internal time slot of a frame. Source: this
--- exchange's own; the terms are those of C. Clos, "A study of non-blocking switching networks" (1953), carried over to time slots.
+-- exchange's own; the terms are from C. Clos, "A study of non-blocking switching networks" (1953), carried over to time slots.
 use Rattle.std.specs.Prelude.{◌≡◌, ℕ, ◌+◌, ◌-◌, ◌*◌, ◌<◌, ◌≤◌, List, ◌++◌, length, take, drop, slice_index}
 
 -- the octets, line after line, one for each internal slot

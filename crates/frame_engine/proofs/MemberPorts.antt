@@ -69,7 +69,7 @@ seat-numbered m k =
     cond-false (nat_lt (m.external + k / 30) m.external) None _ (not-below (m.external + k / 30) m.external (omega arith))
     ∙ ap (λ i. get_or m.rooms i None) number
 
--- and its octet is so far behind those of the external lines
+-- and its octet is at that number behind the octets of the external lines
 pub octet-numbered : (octets : List ℕ) (external k : ℕ) → octet_in_half octets (port_numbered external k) ≡ get_or octets (external * 30 + k) 0
 octet-numbered octets external k =
     let place : (external + k / 30) * 30 + k % 30 ≡ external * 30 + k = omega arith in

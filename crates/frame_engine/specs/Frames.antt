@@ -16,7 +16,7 @@ use Rattle.control_memory.specs.Shown.{member_at, Shows}
 use Rattle.tone_rules.specs.declared.tones.Tones.{Tones}
 use Rattle.tone_rules.specs.Tables.{IsGiven}
 
--- the circuits and ports of each frame are those of one list of allowed commands and boundaries, which name slots of external lines alone
+-- the circuits and ports of each frame come from one list of allowed commands and boundaries, which name slots of external lines alone
 pub record Come (external bridges : ℕ) (held : List (List Circuit)) (ports : List Ports) : Type 0 where
   pub commands : List Command
   pub within : AreWithin external commands

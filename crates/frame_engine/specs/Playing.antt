@@ -37,7 +37,7 @@ with_tone tones f octet (Tone kind since) = tone_octet (tones kind) (f - since)
 abbrev pub played_at : (Kind → List ℕ) → Control → (Slot → ℕ) → Slot → ℕ
 played_at tones m octet at = played_as tones m.frame (octet at) (heard_at m at)
 
--- thirty octets are those of a line, by place
+-- a line has these thirty octets, by place
 abbrev pub HasLine : ℕ → (Slot → ℕ) → List ℕ → Type 0
 HasLine line octet octets = (place : ℕ) → place < 30 → slice_index octets place ≡ octet (record { line = line; place = place })
 

@@ -43,8 +43,8 @@ pub trait Carrier: Sized + Send + Drop {
         ensures carries { IfOk result (λ e. carries e [] [] []) };
 
     /// Carries one frame: it takes `input` in, thirty octets for each external line or none for an
-    /// idle one, and writes what each external slot sends into `out`. The control memory is that
-    /// of this frame; the engine keeps it, and hands another of the same sizes back. The work may be
+    /// idle one, and writes what each external slot sends into `out`. The control memory is
+    /// this frame's; the engine keeps it, and hands another of the same sizes back. The work may be
     /// shared among threads of this runtime, which are joined again.
     fn frame<R: Threads + Sync>(
         &mut self,

@@ -4,13 +4,12 @@ use Rattle.std.specs.Prelude.{codes, decimal}
 use Rattle.std.specs.List.{list_all}
 use Rattle.std.proofs.lemmas.Bool.{agree_below_at, and_parts, eq-eqb, eqb-true, lt-ltb, le-leb, ltb-true}
 use Rattle.std.proofs.lemmas.Bool.Decides.{nat_tests}
-use Rattle.std.proofs.lemmas.Fmt.{decimal_by_steps, decimal_digit, decimal_step}
-use Rattle.std.proofs.lemmas.List.Folds.{list_all-append}
-use Rattle.std.proofs.lemmas.Nat.{mod_below}
+use Rattle.std.proofs.lemmas.Fmt.{decimal_digit, decimal_step}
 use Rattle.hex.specs.Hex.{encode_upper, encode_with, upper_digits}
 use Rattle.circuit_model.specs.Channels.{place_of}
 use Rattle.traffic_gen.specs.Fitting.{is_digit, is_octet}
 use Rattle.traffic_gen.specs.Lines.{channel_at, slot_text}
+use Rattle.traffic_gen.proofs.Spelling.{both_have, decimal_has, number_has, octets_have}
 use Rattle.trace_text.specs.TraceWords.{cut_at, is_empty, numeral}
 use Rattle.trace_text.specs.TraceFields.{digit_value, external_line, octets_written, slash, slot}
 use Rattle.trace_text.proofs.TraceOctets.{behind, pair_then}
@@ -102,28 +101,14 @@ octets_read (octet ∷ octets) each =
 digit_solid : (n : ℕ) → n < 10 → is_solid (48 + n) ≡ true
 digit_solid n small = grind (arith, nat_tests)
 
-both : (xs ys : List ℕ) → list_all is_solid xs ≡ true → list_all is_solid ys ≡ true → list_all is_solid (xs ++ ys) ≡ true
-both xs ys left right = list_all-append is_solid xs ys ∙ rw (left, right) refl
-
 decimal_solid : (n : ℕ) → n < 2 ^ 64 → list_all is_solid (decimal n) ≡ true
-decimal_solid n fits = decimal_by_steps (λ n text. list_all is_solid text ≡ true)
-    (λ n small. let digit = digit_solid n small in rw digit refl)
-    (λ n text big front. both text ((48 + n % 10) ∷ []) front (let digit = digit_solid (n % 10) (mod_below n 10 (omega arith)) in rw digit refl))
-    n fits
+decimal_solid = decimal_has is_solid digit_solid
 
 glyph_solid : (value : ℕ) → value < 16 → is_solid (slice_index upper_digits value) ≡ true
 glyph_solid value within = agree_below_at (λ v. is_solid (slice_index upper_digits v)) (λ v. true) 16 value refl within
 
 pub octets_solid : (octets : List ℕ) → list_all is_octet octets ≡ true → list_all is_solid (encode_upper octets) ≡ true
-unfolding encode_with
-octets_solid [] each = refl
-octets_solid (octet ∷ octets) each =
-    let parts = and_parts (is_octet octet) (list_all is_octet octets) each in
-    let below : octet < 256 = ltb-true octet 256 parts.0 in
-    let high = glyph_solid (octet / 16) (omega arith) in
-    let low = glyph_solid (octet % 16) (omega arith) in
-    let rest = octets_solid octets parts.1 in
-    rw (high, low, rest) refl
+octets_solid = octets_have is_solid glyph_solid
 
 octets_filled : (octet : ℕ) (octets : List ℕ) → is_empty (encode_upper (octet ∷ octets)) ≡ false
 unfolding encode_with
@@ -145,23 +130,15 @@ digit_word n small = record {
 solid_digit : (digit : ℕ) → is_digit digit ≡ true → is_solid digit ≡ true
 solid_digit digit is = grind (arith, nat_tests)
 
-number_solid : (number : List ℕ) → list_all is_digit number ≡ true → list_all is_solid number ≡ true
-number_solid [] each = refl
-number_solid (digit ∷ number) each =
-    let parts = and_parts (is_digit digit) (list_all is_digit number) each in
-    let first = solid_digit digit parts.0 in
-    let rest = number_solid number parts.1 in
-    rw (first, rest) refl
-
 pub number_word : (number : List ℕ) → list_all is_digit number ≡ true → 1 ≤ length number → IsWord number
 number_word [] each some = absurd (omega arith)
-number_word (digit ∷ number) each some = record { solid = number_solid (digit ∷ number) each; filled = refl }
+number_word (digit ∷ number) each some = record { solid = number_has is_solid solid_digit (digit ∷ number) each; filled = refl }
 
 pub slot_word : (line place : ℕ) → line < 8 → 10 ≤ place → place < 30 → IsWord (slot_text line place)
 slot_word line place within least here =
     let small : line < 10 = omega arith in
     let channel = channel_by place (ltb place 15) least here in
     record {
-      solid = both (decimal line ++ codes "/") (decimal (channel_at place)) (both (decimal line) (codes "/") (decimal_solid line (omega arith)) refl) (decimal_solid (channel_at place) (omega (arith, channel.1)));
+      solid = both_have is_solid (decimal line ++ codes "/") (decimal (channel_at place)) (both_have is_solid (decimal line) (codes "/") (decimal_solid line (omega arith)) refl) (decimal_solid (channel_at place) (omega (arith, channel.1)));
       filled = rw (decimal_digit line) refl;
     }

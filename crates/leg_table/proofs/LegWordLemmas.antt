@@ -79,7 +79,7 @@ module _ (legs : Legs) (line : ℕ) (row : List ℕ) (of : IsRowOf legs line row
 
 -- ---- the call references that are used
 
--- those of the places below this one
+-- a word marks the call references of the places below this one
 pub record Uses (row : List ℕ) (count word : ℕ) : Type 0 where
   pub used : (reference : ℕ) → reference < 32 → bit_at word reference ≡ 1 → (place : ℕ) × (place < count) × (slice_index row place ≡ 2 ^ 16 + reference)
   pub unused : (reference : ℕ) → reference < 32 → bit_at word reference ≡ 0 → (place : ℕ) → place < count → slice_index row place ≢ 2 ^ 16 + reference

@@ -12,7 +12,7 @@ abbrev pub key_named : Bool → ℕ → ℕ
 key_named false reference = reference
 key_named true reference = 2 ^ 16 + reference
 
--- the key of a leg is that of the messages that are for it
+-- a leg has the key of the messages that are for it
 abbrev pub key_by : Side → ℕ → ℕ
 key_by Caller reference = key_named false reference
 key_by Called reference = key_named true reference
@@ -42,7 +42,7 @@ pub record AreKeysOf (lines : ℕ) (legs : List (Option Leg)) (keys : List ℕ) 
   pub each : (line place : ℕ) → place < 30 → key_on keys line place ≡ key_of (leg_on legs line place)
   pub behind : (line place : ℕ) → 30 ≤ place → place < 32 → key_on keys line place ≡ no_key
 
--- a row of 32 keys is that of a line
+-- a line has this row of 32 keys
 pub record IsRowOf (legs : Legs) (line : ℕ) (row : List ℕ) : Type 0 where
   pub size : length row ≡ 32
   pub each : (place : ℕ) → place < 30 → slice_index row place ≡ key_of (leg_on legs.held line place)

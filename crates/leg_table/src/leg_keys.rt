@@ -5,7 +5,7 @@ ghost use Rattle.leg_table.specs.LegKeys.{key_by, key_named, hit, HasKey, LacksK
 
 use call_states::{Leg, Side};
 
-/// How many keys the row of a line has: those of its thirty slots, and two more, so that a loop over them
+/// How many keys the row of a line has: one a slot, and two more, so that a loop over them
 /// is made vector code.
 pub(crate) const ROW: usize = 32;
 
@@ -23,7 +23,7 @@ pub(crate) fn key_named(flag: bool, reference: u16) -> u32
     if flag { CALLED + value } else { value }
 }
 
-/// The key of a leg: that of the messages that are for it.
+/// The key of a leg: the messages that are for it have it too.
 pub(crate) fn key_of(leg: Leg) -> u32
     ensures { result ≡ key_by leg.side leg.reference }
 {

@@ -11,7 +11,7 @@ slot line place = record { line = line; place = place }
 abbrev call : Slot → Party → Bool → ℕ → ℕ → ℕ → CallRecord
 call caller called answered from to cause = record { caller = caller; called = called; answered = answered; from = from; to = to; cause = cause }
 
--- an answered call of 8 frames, one of 4,000 to a room, and one whose first frame is above its last
+-- an answered call of 8 frames, a call of 4,000 frames to a room, and a call whose first frame is above its last
 abbrev pub three_calls : List CallRecord
 three_calls =
     call (slot 0 0) (Line (slot 12 29)) true 2 10 16

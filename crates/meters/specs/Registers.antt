@@ -1,4 +1,4 @@
--- What the registers of a peg count and of a holding time hold and say. The holding time is that of ITU-T E.600 (how long a seizure lasts),
+-- What the registers of a peg count and of a holding time hold and say. The holding time is from ITU-T E.600 (how long a seizure lasts),
 -- given in frames; a peg count is a plain count of events. The texts are this exchange's own.
 use Rattle.std.specs.Prelude.{◌≡◌, ℕ, ◌+◌, ◌-◌, ◌^◌, min, max, List, [], ◌∷◌, ◌++◌, length, codes, decimal}
 use Rattle.std.specs.List.{count_by, sum_by}
@@ -37,7 +37,7 @@ holding_line total longest = codes "holding " ++ decimal total ++ codes " " ++ d
 abbrev pub peg_text : List CallRecord → List ℕ
 peg_text calls = peg_line (register_value (length calls)) (register_value (answered_calls calls))
 
--- the holding time of a list of calls: that of all of them, and that of the longest
+-- the holding time of a list of calls: of all together, and of the longest
 abbrev pub holding_text : List CallRecord → List ℕ
 holding_text calls = holding_line (register_value (total_held calls)) (register_value (longest_held calls))
 

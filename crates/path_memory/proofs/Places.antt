@@ -33,7 +33,7 @@ one_is_left n free place line all =
     omega (arith, slots, less)) in
     omega (arith, few)
 
--- the number of a slot: that of its place in the one line, closed up over the free place, or else n and that of its place in the other
+-- the number of a slot: the number of its place in the one line, closed up over the free place, or else n and the number of its place in the other
 abbrev numbered : ℕ → ℕ → ℕ → Option ℕ → Option ℕ → ℕ
 numbered n free other_free (Some p) other = closed_up free p
 numbered n free other_free None other = n + closed_up other_free (unwrap_or other 0)

@@ -7,7 +7,7 @@ use Rattle.control_memory.specs.Paths.{Fabric}
 use Rattle.paull_matrix.specs.Matrix.{Matrix, IsLegal}
 use Rattle.path_memory.specs.Matching.{IsMatrixOf}
 
--- the matrix is that of the layout, and both are legal
+-- the matrix is the layout's, and both are legal
 pub record IsPathMemory (m : Matrix) (f : Fabric) : Type 0 where
   pub lines : m.lines ≡ f.lines
   pub slots : m.slots ≡ f.slots

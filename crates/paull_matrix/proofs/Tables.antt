@@ -209,7 +209,7 @@ kept_empty lines slots few_lines few_slots =
       column_marks = subst (λ n. IsMarked lines slots (replicate lines 0) (column_slot n)) same (marks_none lines slots (column_slot (no_paths lines slots)) (no_column_slot lines slots));
     }
 
--- the lowest slot that the word of a row lacks, and that of a column
+-- the lowest slot that the word of a row lacks, and the lowest that a column's lacks
 pub row_word_lowest : (lines slots : ℕ) (columns rows : List (Option ℕ)) (row_words column_words : List ℕ) (m : Matrix) (i n word : ℕ) → IsKept lines slots columns rows row_words column_words → tabled lines slots columns ≡ m → i < m.lines → n ≡ i → word ≡ get_or row_words n word → lowest_in_row m i ≡ lowest (lacks word) slots
 row_word_lowest lines slots columns rows row_words column_words m i n word kept same row at read =
     ap (λ o. lowest_in_row o i) (sym same)

@@ -31,7 +31,7 @@ pub fn written_fields_are_read()
     ensures { (m : OutgoingMessage) → IsWritable m → HasFields (message_at_receiver m) m }
 {}
 
-/// The call state values of the code are those of the definitions.
+/// Code and definitions have the same call state values.
 pub fn law_of_states()
     ensures null { NULL ≡ state.null }
     ensures overlap_sending { OVERLAP_SENDING ≡ state.overlap_sending }
@@ -45,7 +45,7 @@ pub fn law_of_states()
     ensures release_request { RELEASE_REQUEST ≡ state.release_request }
 {}
 
-/// The cause values of the code are those of the definitions.
+/// Code and definitions have the same cause values.
 pub fn law_of_cause_values()
     ensures unallocated { UNALLOCATED_NUMBER ≡ cause.unallocated_number }
     ensures normal { NORMAL_CALL_CLEARING ≡ cause.normal_call_clearing }
@@ -64,7 +64,7 @@ pub fn law_of_cause_values()
     ensures incompatible { MESSAGE_NOT_COMPATIBLE_WITH_CALL_STATE ≡ cause.message_not_compatible_with_call_state }
 {}
 
-/// The classes of restart of the code are those of the definitions.
+/// Code and definitions have the same classes of restart.
 pub fn law_of_restart_classes()
     ensures channels { INDICATED_CHANNELS ≡ class.indicated_channels }
     ensures interface { SINGLE_INTERFACE ≡ class.single_interface }

@@ -8,7 +8,7 @@ use thiserror::Error;
 /// Why a received message is ignored: it changes no call, and gets no answer.
 #[derive(Clone, Copy, Debug, PartialEq, Eq, Error)]
 pub enum Discard {
-    /// The protocol discriminator isn't that of user-network call control (Q.931, 5.8.1).
+    /// The protocol discriminator doesn't name user-network call control (Q.931, 5.8.1).
     #[error("another protocol discriminator")]
     Discriminator = 1,
     /// The message ends before its message type (5.8.2).

@@ -55,7 +55,7 @@ impl<'a> Message<'a> {
 ghost use Rattle.std.specs.Prelude.{◌≡◌, ◌≤◌, length, option_map};
 ghost use Rattle.q931_codec.specs.Contents.{dialled_digits, is_called_number};
 
-/// Whether contents are those of a called party number (4.5.8): they have an octet, and not more than 21.
+/// Whether a called party number (4.5.8) may have these contents: they have an octet, and not more than 21.
 pub fn is_called_number(contents: &[u8]) -> bool
     ensures { result ≡ is_called_number contents.now }
 {

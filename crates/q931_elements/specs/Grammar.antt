@@ -22,7 +22,7 @@ abbrev pub element_of : Item → InformationElement
 element_of (SingleOctet octet) = record { code = octet; contents = [] }
 element_of (VariableLength code contents) = record { code = code; contents = contents }
 
--- 1001 0xxx: from here on the elements are those of another codeset (4.5.3)
+-- 1001 0xxx: from here on the elements are of another codeset (4.5.3)
 abbrev pub IsLockingShift : ℕ → Type 0
 IsLockingShift octet = (0x90 ≤ octet) × (octet < 0x98)
 

@@ -64,7 +64,7 @@ fn draw_event(
     })
 }
 
-// A slot that is mostly idle: the first idle one of seven, or the last of them.
+// A slot that is mostly idle: the first of seven slots that is idle, or the last of the seven.
 fn draw_spare(random: &mut Random, yardstick: &Yardstick) -> Slot {
     let lines = yardstick.external().max(1);
     for _ in 0..6 {

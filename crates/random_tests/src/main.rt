@@ -1,7 +1,7 @@
 //! The test of the headline: pseudo-random traces through the whole exchange, whose reports are
-//! compared with those of plain programs in the very order that the threads took.
+//! compared with the reports of plain programs in the very order that the threads took.
 //!
-//! `random_tests TRACES` draws that many traces of nails, whose octets are compared with those of
+//! `random_tests TRACES` draws that many traces of nails, whose octets are compared with the octets of
 //! a delay line; that many with seats too, compared with the definitions' own program; and that
 //! many of calls and tones, compared with a plain program of calls. They are for one to eight call
 //! processors, and their segments are of any length. Two meters that keep every call have to say the
@@ -45,7 +45,7 @@ const SEED: u64 = 1976;
 const EVENTS: u32 = 250;
 
 /// Runs a trace in threads in any case, as the program decides, and in threads on a strict fabric, and
-/// counts it where each report is that of the plain program. Whether they are.
+/// counts it where each report is the plain program's. Whether they are.
 ///
 /// No run leaves more than what is said of its order, so that there is nothing to drop where memory runs
 /// out in the next.
@@ -112,7 +112,7 @@ fn run<R: Print + Eprint + Threads + Wait + Sync>(
     Ok(orders.is_whole(traces))
 }
 
-/// Draws a trace of calls, counts it and runs it. Whether all reports were those of the plain program.
+/// Draws a trace of calls, counts it and runs it. Whether all reports were the plain program's.
 fn run_one_of_calls<R: Threads + Wait + Sync>(
     rt: &R,
     alloc: Global,
@@ -125,8 +125,8 @@ fn run_one_of_calls<R: Threads + Wait + Sync>(
     run_each_way(rt, alloc, &drawn.script, &drawn.setting, orders)
 }
 
-/// Runs n traces of calls and prints what they came to. Whether all reports were those of the
-/// plain program, and each act, each cause of a refusal, each tone and each chain of moved paths came.
+/// Runs n traces of calls and prints what they came to. Whether all reports were the
+/// plain program's, and each act, each cause of a refusal, each tone and each chain of moved paths came.
 fn run_calls<R: Print + Eprint + Threads + Wait + Sync>(
     rt: &R,
     alloc: Global,

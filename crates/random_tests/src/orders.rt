@@ -94,7 +94,7 @@ fn is_within(posts: &[Post], few: &[bool], one: u32, next: u32) -> bool {
     one.segment == next.segment && few.get(one.segment as usize).map_or(false, |few| *few)
 }
 
-// Whether an order is that of the file.
+// Whether an order is the file's.
 fn is_file_order(order: &[u32]) -> bool {
     order
         .iter()

@@ -12,7 +12,7 @@ use Rattle.rearrange_chain.specs.declared.moves.Move.{Move}
 use Rattle.rearrange_chain.specs.Chain.{lifted, placed, exchanged, ChangesBy}
 use Rattle.rearrange_chain.specs.InTurn.{CanLift, CanPlace}
 
--- a list of moves has one of a row from a slot, of a row to a slot
+-- in a list of moves no path of a row leaves a slot; no path of a row comes to a slot
 abbrev pub LeavesNone : List Move → ℕ → ℕ → Type 0
 LeavesNone moves i s = (k : ℕ) (v : Move) → slice_get moves k ≡ Some v → v.row ≡ i → v.old ≡ s → ⊥
 

@@ -157,7 +157,7 @@ pub numbered_is : (look : End → ℕ → Option ℕ) (a b lines : ℕ) (start :
 unfolding numbered
 numbered_is look a b lines start k e h = rw h refl
 
--- The list of a chain is that of its walk: each move is of the path over which the walk goes on
+-- A chain has the list of its walk: each move is of the path over which the walk goes on
 pub record IsStep (look : End → ℕ → Option ℕ) (a b : ℕ) (start : End) (k : ℕ) (v : Move) : Type 0 where
   pub near : End
   pub line : ℕ

@@ -1,5 +1,5 @@
 -- How room is made in Paull's matrix for one path more, by moving live paths along the shorter of two alternating chains.
--- The rule and its chains are those of M. C. Paull, "Reswitching of connection networks", Bell System Technical Journal 41 (1962); in terms
+-- The rule and its chains are from M. C. Paull, "Reswitching of connection networks", Bell System Technical Journal 41 (1962); in terms
 -- of graphs the chains are Kempe's. That the chain from a column never comes to the row that room is made in is what proves the
 -- Slepian-Duguid theorem: as many slots are enough as a line has places. That the shorter is taken is this exchange's own.
 use Rattle.std.specs.Prelude.{◌≡◌, ℕ, zero, suc, ◌-◌, ◌*◌, ◌++◌, Bool, nat_lt, length, if◌then◌else◌, Option, Some, None, unwrap_or, List, [], ◌∷◌, ◌≢◌, All, AllPairs}
@@ -32,7 +32,7 @@ abbrev pub chain : (End → ℕ → Option ℕ) → ℕ → End → ℕ → ℕ 
 chain look zero end a b = []
 chain look (suc n) end a b = elim (look end a) [ None ↦ [] | Some line ↦ move_of end line a b ∷ chain look n (far_end end line) b a ]
 
--- moves that are listed already, and behind them those of the chain from a column, for at most twice as many in all as there are lines
+-- moves that are listed already, and behind them the moves of the chain from a column, for at most twice as many in all as there are lines
 abbrev pub with_chain : Matrix → List Move → ℕ → ℕ → ℕ → List Move
 with_chain m moves j a b = moves ++ chain (far_line m) (2 * m.lines - length moves) (Column j) a b
 

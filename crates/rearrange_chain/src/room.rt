@@ -42,7 +42,7 @@ use std::sync::ledger::Ledger;
 /// path of the column in `a`, the path in `b` of the row where that one ends, the next one in `a`
 /// and so on form the column's chain; the row's chain begins with the path of the row in `b`. The
 /// two share no row and no column, so with r lines the shorter has at most r - 1 paths. The paths
-/// of the row's chain, where it is strictly shorter, and else those of the column's, exchange `a`
+/// of the row's chain, where it is strictly shorter, and else of the column's, exchange `a`
 /// and `b`, and are listed in the order of their chain. With the row's chain `b` is answered, with
 /// the column's `a`.
 ///
@@ -137,7 +137,7 @@ fn walk_from_row<L: Ledger>(
     walk(matrix, column, a, b, moves, steps);
 }
 
-/// Lists, behind the moves that are listed already, those of the chain from column `j`, whose paths
+/// Lists, behind the moves that are listed already, the moves of the chain from column `j`, whose paths
 /// leave the slots `a` and `b` in turn: from a column to a row in `a`, and on to the next column in
 /// `b`.
 fn walk<L: Ledger>(

@@ -86,7 +86,7 @@ none_read all [] rest so_far none empty =
     rw (← behind) refl
 none_read all (octet ∷ read) rest so_far none empty = absurd (omega arith)
 
--- octets that are as many as a message may have are those of one
+-- octets that are as many as a message may have are a message's
 pub by_count : (front : List ℕ × List ℕ) (read rest : List ℕ) → read ≡ front.0 → rest ≡ front.1 → 1 ≤ length read → length read ≤ 112
     → passing (between 1 112 (length front.0)) front ≡ Some (read, rest)
 by_count front read rest behind left some few = rw (← behind, le-leb 1 (length read) some, le-leb (length read) 112 few) (ap (λ (b : List ℕ). Some (read, b)) (sym left))

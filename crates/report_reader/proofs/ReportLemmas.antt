@@ -107,7 +107,7 @@ lines_append : (xs ys : List Answer) → answer_lines (xs ++ ys) ≡ answer_line
 lines_append [] ys = refl
 lines_append (x ∷ xs) ys = ap (λ (l : List ℕ). answer_line x ++ l) (lines_append xs ys) ∙ sym (append_assoc (answer_line x) (answer_lines xs) (answer_lines ys))
 
--- the answers so far are those of the lines before the rest
+-- the answers so far are spelled by the lines before the rest
 pub record HasRead (bytes : List ℕ) (answers : List Answer) (rest : List ℕ) : Type 0 where
   pub printed : bytes ≡ answer_lines answers ++ rest
   pub normal : All IsNormal answers

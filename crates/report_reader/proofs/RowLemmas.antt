@@ -77,7 +77,7 @@ rows_none all (octet ∷ rest) rows goes some none = by_rounds goes.rounds goes.
     by_rounds zero enough same = absurd (omega arith)
     by_rounds (suc k) enough same = sym same ∙ step_by k rows octet rest None none
 
--- a line that is not behind those of the others
+-- a line that is not behind the lines of the others
 pub rows_below : (all rest others : List ℕ) (rows : List (List ℕ)) (sent : Signal) → GoesOn all rows rest → (length rest ≡ 0 → ⊥) → row_at rest ≡ Some (sent, others)
     → sent.line < length rows → rows_of all ≡ None
 rows_below all [] others rows sent goes some found below = absurd (some refl)
@@ -148,7 +148,7 @@ parts_pushed line rows row above busy =
     one_part : (n : ℕ) → n ≡ line → parts n (row ∷ []) ≡ on_line line row
     one_part n at = rw (at, busy) (append-nil (on_line line row))
 
--- rows that are read are those of a frame
+-- rows that are read are a frame's
 rows_pushed : (line : ℕ) (rows : List (List ℕ)) (row : List ℕ) → AreRows rows → length rows ≤ line → line < 32 → IsRow row → is_idle row ≡ false → AreRows (rows_before line rows ++ row ∷ [])
 rows_pushed line rows row so_far above below fine busy =
     let gap : ℕ = line - length rows in
@@ -256,7 +256,7 @@ length_before : (line : ℕ) (rows : List (List ℕ)) (row : List ℕ) → lengt
 length_before line rows row above =
     omega (arith, length-append (rows_before line rows) (row ∷ []), length-append rows (replicate (line - length rows) idle_row), length-replicate (line - length rows) idle_row)
 
--- the parts of rows from a line on are read behind those of the lines before
+-- the parts of rows from a line on are read behind the parts of the lines before
 abbrev Backs : ℕ → List (List ℕ) → List (List ℕ) → ℕ → Type 0
 Backs k rows more line = length rows ≤ line → All IsRow more → EndsBusy more → (length more ≡ 0 → line ≡ length rows) → line + length more ≤ 32 → length (parts line more) < k
     → rows_in k rows (parts line more) ≡ Some (rows_before line rows ++ more)

@@ -2,7 +2,7 @@
 use Rattle.std.proofs.Common.{◌≡◌, Bool, true, false, Option, Some, None}
 use Rattle.report_reader.specs.Reading.{passing, ◌>>=◌}
 
--- what the first of two steps found, where the second found something
+-- what the first of two steps found, where the next step found something
 pub record Both {A B : Type 0} (first : Option A) (step : A → Option B) (found : B) : Type 0 where
   pub here : A
   pub is : first ≡ Some here

@@ -89,7 +89,7 @@ octets_front [] = ([], [])
 octets_front (high ∷ []) = ([], high ∷ [])
 octets_front (high ∷ low ∷ octets) = onto (octet_of high low) (high ∷ low ∷ octets) (octets_front octets)
 
--- these octets, where they are those of a message
+-- these octets, where they are a message's
 abbrev pub octets_at : List ℕ → Option (List ℕ × List ℕ)
 octets_at octets = passing (between 1 longest_message (length (octets_front octets).0)) (octets_front octets)
 
@@ -133,7 +133,7 @@ idle_row = replicate 30 idle_octet
 abbrev pub rows_before : ℕ → List (List ℕ) → List (List ℕ)
 rows_before line rows = rows ++ replicate (line - length rows) idle_row
 
--- one row more, where its line is behind those of the others
+-- one row more, where its line is behind the lines of the others
 abbrev pub rows_step : List (List ℕ) → Signal × List ℕ → (List (List ℕ) → List ℕ → Option (List (List ℕ))) → Option (List (List ℕ))
 rows_step rows read next = if nat_lt read.0.line (length rows) then None else next (rows_before read.0.line rows ++ read.0.octets ∷ []) read.1
 

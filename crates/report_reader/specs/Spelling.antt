@@ -82,7 +82,7 @@ pub record IsReport (bytes : List ℕ) (answers : List Answer) : Type 0 where
   pub printed : bytes ≡ answer_lines answers
   pub normal : All IsNormal answers
 
--- line n of bytes is the first that spells no answer or that no line feed ends: the lines before it are those of answers, and no line behind
+-- line n of bytes is the first that spells no answer or that no line feed ends: the lines before it spell answers, and no line behind
 -- them does both
 pub record IsFaultyAt (bytes : List ℕ) (n : ℕ) : Type 0 where
   pub before : List Answer

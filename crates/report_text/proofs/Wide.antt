@@ -1,4 +1,4 @@
--- Rows with idle octets behind those of a line or a message.
+-- Rows with idle octets behind the octets of a line or a message.
 use Rattle.std.proofs.Common.{◌≡◌, ℕ, ◌+◌, ◌*◌, ◌-◌, ◌/◌, ◌%◌, ◌<◌, ◌≤◌, Bool, true, false, ◌&&◌, eqb, List, [], ◌∷◌, ◌++◌, length, take, drop, set, slice_index, replicate, refl, ap, ◌∙◌, arith, append_assoc}
 use Rattle.std.specs.List.{list_all}
 use Rattle.std.proofs.lemmas.List.{append-nil, take-append-le, take_all, drop_all, drop_at}
@@ -25,7 +25,7 @@ unfolding encode_with
 encode-append t [] ys = refl
 encode-append t (x ∷ xs) ys = rw (encode-append t xs ys) refl
 
--- the digits of octets come before those of more octets
+-- the digits of octets come before the digits of more octets
 pub encode_front : (t xs ys : List ℕ) → take (2 * length xs) (encode_with t (xs ++ ys)) ≡ encode_with t xs
 encode_front t xs ys =
     let len = length-encode_with t xs in

@@ -299,7 +299,7 @@ module _ {J : Type 0} (trace : Trace) (segment : ℕ) (wj : J → ℕ) (kj : J �
   seen_same n low (x ∷ js) d j (inl same) = subst (λ (y : J). (kj y).seen ≡ v.seen) same d.2.seen_is
   seen_same n low (x ∷ js) d j (inr more) = seen_same (n + 1) (wj x + 1) js d.3 j more
 
-  -- what holds of the history that seat 0 has seen holds of that of each new seat
+  -- what holds of the history that seat 0 has seen holds of each new seat's
   pub each_at : (P : List Entry → Type 0) (n low : ℕ) (js : List J) → AreDealt trace segment v n low (map (λ (j : J). (wj j, kj j)) js) → P v.seen → All (λ (j : J). P (kj j).seen) js
   each_at P n low js d here = in_all (λ (j : J). P (kj j).seen) js (λ j i. subst P (sym (seen_same n low js d j i)) here)
 

@@ -11,6 +11,6 @@ abbrev pub largest_part : List ℕ → ℕ
 largest_part [] = 0
 largest_part (n ∷ ns) = max n (largest_part ns)
 
--- the events that are done beside the largest part: those of all other workers
+-- the events that are done beside the largest part: all other workers' events
 abbrev pub events_beside : List ℕ → ℕ
 events_beside loads = events_of_all loads - largest_part loads

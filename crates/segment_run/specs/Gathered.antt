@@ -1,8 +1,8 @@
 -- What came of all workers of a segment, once their seats are joined. Source: this exchange's own.
-use Rattle.std.specs.Prelude.{◌≡◌, ℕ, ◌+◌, ◌≤◌, List, length, map, vec_capacity}
+use Rattle.std.specs.Prelude.{◌≡◌, ℕ, ◌+◌, ◌≤◌, IsTrue, List, length, map, vec_capacity}
 use Rattle.exchange_events.specs.declared.trace.Trace.{Trace}
 use Rattle.seat_history.specs.declared.known.Known.{Known}
-use Rattle.exchange_core.specs.Boards.{Board}
+use Rattle.exchange_core.specs.Boards.{Board, turns_of}
 use Rattle.exchange_events.specs.Sizes.{Dimensions}
 use Rattle.tone_rules.specs.Tables.{table_of}
 use Rattle.call_processor.specs.declared.worked.Placed.{Placed}
@@ -13,7 +13,7 @@ use Rattle.segment_run.specs.Merging.{AreApart}
 use Rattle.segment_run.specs.Merging.{IsMerged, Keep}
 use Rattle.segment_run.specs.Merging.{all_of}
 use Rattle.segment_run.specs.Rooms.{HasRoom}
-use Rattle.segment_run.specs.Segment.{AreAnswered, HasGrown, RanWhole}
+use Rattle.segment_run.specs.Segment.{AreAnswered, HasGrown, IsChief, Ran, RanWhole}
 
 -- no workplace was lost, and all lists have the room that a workroom keeps
 pub record IsComplete {T E K : Type 0} (g : Gathered T E K) : Type 0 where
@@ -24,7 +24,7 @@ pub record IsComplete {T E K : Type 0} (g : Gathered T E K) : Type 0 where
   pub done : HasRoom g.crew.done
 
 -- From v to w all workers did their whole parts, the engine and the tool are ready for the next frame, and at the used workplaces the answers are
--- kept, which put together are those of what the history grew by.
+-- kept, which put together answer what the history grew by.
 pub record AllDone {T E K : Type 0} (holds : K → List Placed → Type 0) (plays : Plays) (carries : Carrying E) (next : E → ℕ) (sizes : E → Dimensions) (board : Board) (trace : Trace) (segment : ℕ) (v w : Known) (g : Gathered T E K) : Type 0 where
   pub whole : RanWhole trace segment v w
   pub long : HasGrown trace segment v w
@@ -34,3 +34,9 @@ pub record AllDone {T E K : Type 0} (holds : K → List Placed → Type 0) (play
   pub apart : AreApart parts
   pub many : length (all_of parts) ≡ length (events_of_segment trace segment)
   pub answered : (answers : List Placed) → IsMerged parts answers → AreAnswered plays (table_of trace.tones) board v w (map (λ (p : Placed). p.answer) answers)
+
+-- From v to w each worker did the first events of its part and seat 0 joined all others; where all parts are whole, all of it was done and answered.
+pub record HasWorked {T E K : Type 0} (holds : K → List Placed → Type 0) (plays : Plays) (carries : Carrying E) (next : E → ℕ) (sizes : E → Dimensions) (board : Board) (trace : Trace) (segment : ℕ) (v w : Known) (g : Gathered T E K) : Type 0 where
+  pub chief : IsChief (turns_of board) w
+  pub ran : Ran trace segment v w
+  pub done : IsTrue g.whole → AllDone holds plays carries next sizes board trace segment v w g

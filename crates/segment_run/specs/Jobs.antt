@@ -33,7 +33,7 @@ HasProcessed holds known board trace segment j f = HasWorked holds known board (
 abbrev pub HaveProcessed : {T K : Type 0} → (K → List Placed → Type 0) → (T → Known) → Board → Trace → ℕ → List (Job T K) → List (Finished T K) → Type 0
 HaveProcessed holds known board trace segment jobs done = AllZip (HasProcessed holds known board trace segment) jobs done
 
--- what is said of the octets of an answer of the worker with this number: those of a frame are what the engine plays, and no other answer has any
+-- what is said of the octets of an answer of the worker with this number: a frame's are what the engine plays, and no other answer has any
 abbrev pub HasItsOctets : Plays → (Kind → List ℕ) → Board → Trace → ℕ → Known → Placed → Type 0
 HasItsOctets plays tones board trace i w p = (i ≡ trace.processors → HasFrame plays tones board w p) × (i < trace.processors → has_no_octets p)
 

@@ -33,7 +33,7 @@ pub record IsChief (turns : ℕ) (v : Known) : Type 0 where
 abbrev pub new_events : Known → Known → List ℕ
 new_events v w = order_of (unseen v.seen w.seen)
 
--- those of these events that the worker does
+-- the ones among these events that the worker does
 abbrev pub of_worker : Trace → Worker → List ℕ → List ℕ
 of_worker trace worker events = filter (is_its trace worker) events
 
@@ -53,7 +53,7 @@ pub record Ran (trace : Trace) (segment : ℕ) (v w : Known) : Type 0 where
 abbrev pub RanWhole : Trace → ℕ → Known → Known → Type 0
 RanWhole trace segment v w = (worker : Worker) → of_worker trace worker (new_events v w) ≡ part_of trace segment worker
 
--- the answer is that of the history's event at this place: it keeps the exchange's reply after the history before it, and the octets of a frame
+-- the answer is for the history's event at this place: it keeps the exchange's reply after the history before it, and the octets of a frame
 -- are those that the engine plays; of another event it has none
 pub record IsAnswered (plays : Plays) (tones : Kind → List ℕ) (board : Board) (history : List Entry) (place : ℕ) (a : Answer) : Type 0 where
   pub reply : Reply

@@ -15,7 +15,7 @@ pub struct SegmentAnswer<C> {
 }
 
 /// What is handed back of a segment whose answers are kept by a keeper. `T` is the type of the workers'
-/// seats, and `K` that of the keepers.
+/// seats, and `K` the type of the keepers.
 #[derive(Drop)]
 pub struct SegmentDone<T, C, K> {
     /// The engine, which carries the frames of the history.

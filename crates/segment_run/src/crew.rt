@@ -24,7 +24,7 @@ pub struct Crew<T, K> {
     pub done: Vec<Finished<T, K>>,
 }
 
-/// The call processors with this job and those of the crew, all at once; the last of them to start is
+/// The call processors of this job and of the crew, all at once; the last of them to start is
 /// the caller. Hands back what came of them, in the order of the jobs.
 pub fn call_processors<B: Switchboard, G: Gate, K: Keeper, R: Threads + Wait + Sync>(
     rt: &R,

@@ -23,7 +23,7 @@ fn next_run<K: Keeper>(used: &[Workplace<K>]) -> Option<(usize, u32, u32)>
     found
 }
 
-// The first of two events, where there was one before, with the place of the first of the others.
+// What was found or an event of workplace i, whichever is earlier, with the first place of all others.
 fn earlier(found: Option<(usize, u32, u32)>, i: usize, place: u32) -> (usize, u32, u32)
     ensures { result ≡ first_of_two found i place }
 {

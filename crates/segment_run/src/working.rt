@@ -1,9 +1,8 @@
 //! All workers of a segment at work, and what they did.
-ghost use Rattle.std.specs.Prelude.{◌≡◌, ◌≤◌, ℕ, IsTrue, slice_index};
-ghost use Rattle.exchange_core.specs.Boards.{turns_of};
+ghost use Rattle.std.specs.Prelude.{◌≡◌, ◌≤◌, ℕ, slice_index};
 ghost use Rattle.call_processor.specs.Frames.{IsReadyFor};
-ghost use Rattle.segment_run.specs.Gathered.{AllDone, IsComplete};
-ghost use Rattle.segment_run.specs.Segment.{IsChief, MayRun, Ran};
+ghost use Rattle.segment_run.specs.Gathered.{HasWorked, IsComplete};
+ghost use Rattle.segment_run.specs.Segment.{MayRun};
 ghost use Rattle.segment_run.specs.Team.{load};
 
 use crate::crew::Crew;
@@ -56,10 +55,8 @@ pub fn work_all<B: Switchboard, G: Gate, C: Carrier, K: Keeper, R: Threads + Wai
     requires loads { (i : ℕ) → i ≤ trace.now.processors → slice_index loads.now i ≡ load trace.now segment i }
     requires ready { IsReadyFor C.carries C.next C.sizes (B.board board.now) (B.known seat.old) engine tool }
     ensures seated { B.seated board.now seat.new }
-    ensures chief { IsChief (turns_of (B.board board.now)) (B.known seat.new) }
-    ensures ran { Ran trace.now segment (B.known seat.old) (B.known seat.new) }
     ensures complete { IsComplete result }
-    ensures done { IsTrue result.whole → AllDone K.holds C.plays C.carries C.next C.sizes (B.board board.now)
+    ensures works { HasWorked K.holds C.plays C.carries C.next C.sizes (B.board board.now)
         trace.now segment (B.known seat.old) (B.known seat.new) result }
 {
     let Workroom {

@@ -9,9 +9,9 @@ use std::marker::Model;
 // Eight call processors and the frame worker.
 const WORKERS: usize = 9;
 
-/// What the workers of a segment need, kept for those of the next one: a workplace for each of up to
+/// What the workers of a segment need, kept for the workers of the next one: a workplace for each of up to
 /// nine, and the lists of their jobs and of what came of them. `T` is the type of
-/// their seats, and `K` that of their keepers.
+/// their seats, and `K` the type of their keepers.
 ///
 /// Contracts see how many workers it has room for.
 #[derive(Drop)]

@@ -4,7 +4,7 @@
 //! [`cross`] gives each outgoing line, in each internal slot, the octet of the incoming line that
 //! the control memory names there, and the idle octet where it names none (`octets`).
 //! [`cross_shared`] does so by halves of the lines, in threads of their own where that pays, and
-//! [`cross_by_halves`] where they have as many octets as the caller says: their clauses are those of
+//! [`cross_by_halves`] where they have as many octets as the caller says: they have the clauses of
 //! [`cross`]. None says that the halves ran at once.
 //!
 //! It uses `circuit_model`, `frame_buffer` and `control_memory`.

@@ -3,7 +3,7 @@
 use circuit_model::Slot;
 use std::alloc::AllocError;
 
-/// The call state of a leg (ITU-T Q.931 (05/98), 2.1.2); the numbers are those of 4.5.7.
+/// The call state of a leg (ITU-T Q.931 (05/98), 2.1.2); the numbers are from 4.5.7.
 #[derive(Clone, Copy, PartialEq, Eq)]
 pub enum State {
     /// Overlap sending.
@@ -78,7 +78,7 @@ pub(crate) fn leg_at(legs: &[Leg], x: Slot) -> Option<Leg> {
 }
 
 /// The leg that a message on a line is for. The flag is set in messages to the side that chose the
-/// reference, so that of a message from a caller is clear.
+/// reference, so it is clear in a message from a caller.
 pub(crate) fn leg_named(legs: &[Leg], line: u8, flag: bool, reference: u16) -> Option<Leg> {
     let side = if flag { Side::Called } else { Side::Caller };
     legs.iter().copied().find(|leg| leg.at.line == line

@@ -4,7 +4,7 @@
 //! reply to each: the numbers of moved paths, the messages that are sent, the call records. It
 //! walks over lists of legs, paths, ports and numbers. It reads and writes messages of ITU-T Q.931
 //! (05/98) by code of its own, and has its own call table and number plan, so that two programs
-//! which were written apart can be compared. Circuits, and what is heard by them, are those of
+//! which were written apart can be compared. Circuits, and what is heard by them, come from
 //! `plain_model`.
 //!
 //! It is proved safe, and each call returns. No clause says what it returns: that is compared.

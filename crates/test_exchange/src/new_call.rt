@@ -124,7 +124,7 @@ impl PlainExchange {
         Ok(())
     }
 
-    // The named slot where it is idle, else the lowest idle one of the line.
+    // The named slot where it is idle, else the line's lowest idle slot.
     fn caller_slot(&self, line: u8, channel: Channel) -> Result<Slot, Refusal>
         ensures { IfOk result (λ x. x.place < 30) }
     {

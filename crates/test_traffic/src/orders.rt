@@ -10,7 +10,7 @@ pub fn of_event<T>(things: &[T], number: u32) -> Option<&T> {
     things.get(number.checked_sub(1)? as usize)
 }
 
-/// Whether an order holds every event once, none before one of an earlier segment, and none before an
+/// Whether an order holds every event once, none before an event of an earlier segment, and none before an
 /// earlier one of its own worker in its segment.
 pub fn is_lawful(posts: &[Post], order: &[u32]) -> bool {
     let mut segment = 0;

@@ -28,7 +28,7 @@ pub struct Script {
 }
 
 impl Script {
-    /// A trace of n call processors. The text is that of the lines before its first event.
+    /// A trace of n call processors. The text has the lines before its first event.
     pub fn new(alloc: Global, text: String, processors: u8) -> Script {
         Script {
             text,

@@ -181,7 +181,7 @@ impl Setting {
 
 /// Draws a trace of n events, for one to eight call processors: calls on several lines with the
 /// replies of both sides, beside nails, seats, frees and frames. Some traces begin with a line that is all
-/// but full, or with many nails; some give tones. The users are those of file order.
+/// but full, or with many nails; some give tones. The users act on what happens in file order.
 pub fn draw_traffic(alloc: Global, random: &mut Random, events: u32) -> Result<Drawn, AllocError> {
     let setting = Setting::draw(alloc, random)?;
     let processors = 1 + random.below(8);
@@ -292,7 +292,7 @@ fn draw_circuit(random: &mut Random, exchange: &PlainExchange) -> PlainEvent {
     }
 }
 
-// A slot that is mostly idle: the first idle one of seven, or the last of them.
+// A slot that is mostly idle: the first of seven slots that is idle, or the last of the seven.
 fn draw_spare(random: &mut Random, exchange: &PlainExchange) -> Slot {
     let lines = exchange.external().max(1);
     for _ in 0..6 {

@@ -81,7 +81,8 @@ fn has_line(
 #[test]
 fn each_answer_has_its_line(rt: HostRuntime) -> Result<(), Fail> {
     let alloc = rt.alloc();
-    // Lines 0, 9 and 31 send an octet other than idle: at the first place, at the last, and at both.
+    // Three lines send octets other than idle: line 0 at the first place, line 9 at the last, line 31 at
+    // both.
     let mut octets = [[IDLE; 30]; 32];
     octets[0][0] = 0x2A;
     octets[9][29] = 0x0F;

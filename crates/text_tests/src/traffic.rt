@@ -1,4 +1,4 @@
-// Traces beside those of a program outside, and Adler-32 sums of its octets by zlib.
+// Traces beside the traces of a program outside, and Adler-32 sums of its octets by zlib.
 use std::test::Fail;
 use traffic_gen::generate;
 

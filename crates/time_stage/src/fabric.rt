@@ -10,7 +10,7 @@ use crate::interchange::{incoming, outgoing};
 use control_memory::Image;
 use frame_buffer::{Crossed, FrameBuffer, Highway};
 
-/// The three stages in a row, under one control memory: where its tables are those of a legal
+/// The three stages in a row, under one control memory: where its tables say a legal
 /// layout, each outlet gets the octet of the inlet of its path, and every other slot is idle.
 ///
 /// This is the theorem of the three stages, for tests and measures. An engine does not call it: it

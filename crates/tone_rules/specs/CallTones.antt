@@ -22,6 +22,6 @@ is_given tones kind = nat_lt 0 (length (table_of tones kind))
 abbrev pub if_given : Tones → Kind → Option Kind
 if_given tones kind = if is_given tones kind then Some kind else None
 
--- the tone that a leg's slot gets: that of its state and cause, where it is given
+-- the tone that a leg's slot gets: its state and cause choose it, where it is given
 abbrev pub tone_given : Tones → ℕ → ℕ → Option Kind
 tone_given tones state cause = option_and_then (if_given tones) (tone_for state cause)

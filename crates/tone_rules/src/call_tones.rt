@@ -22,7 +22,7 @@ pub fn tone_for(state: u8, cause: u8) -> Option<Kind>
     }
 }
 
-/// The tone that the slot of such a leg gets: that of [`tone_for`] where the trace gives it, else `None`.
+/// The tone that the slot of such a leg gets: [`tone_for`] names it; `None` where the trace doesn't give it.
 pub fn tone_given(tones: &Tones, state: u8, cause: u8) -> Option<Kind>
     ensures tone { result ≡ tone_given tones.now state cause }
     ensures octets { IfSome result (IsGiven tones.now) }

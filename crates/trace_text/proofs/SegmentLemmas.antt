@@ -1,4 +1,4 @@
--- The segments of a trace: their ends rise, and the last is that of the last event.
+-- The segments of a trace: their ends rise, and the last is the last event's number.
 use Rattle.std.proofs.Common.{◌≡◌, ℕ, ◌+◌, ◌<◌, ◌≤◌, ◌==◌, Bool, true, false, ◌||◌, List, [], ◌∷◌, ◌++◌, length, All, refl, sym, subst, ◌∙◌, inl, inr, arith, append-nil}
 use Rattle.std.specs.Prelude.{AllPairs}
 use Rattle.std.specs.List.{list_any}

@@ -1,4 +1,4 @@
--- The events of a trace are those of an exchange of its size.
+-- The events of a trace fit an exchange of its size.
 use Rattle.std.proofs.Common.{◌≡◌, ◌≢◌, ℕ, ◌+◌, ◌<◌, ◌≤◌, Bool, true, false, nat_lt, nat_le, nat_eq, List, [], ◌∷◌, ◌++◌, length, Option, Some, None, option_and_then, ok_or, Result, Ok, Err, All, replicate, slice_set, refl, arith, sym, ◌∙◌, inl, inr, is_some, slice_index_or, if◌then◌else◌, ◌&&◌, ◌||◌, codes, length-append, ap, subst}
 use Rattle.std.specs.Prelude.{IfSome}
 use Rattle.std.specs.List.{list_all}
@@ -308,7 +308,7 @@ header_sizes (name ∷ version ∷ external ∷ bridges ∷ processors ∷ []) s
     ]
 header_sizes (a ∷ b ∷ c ∷ d ∷ e ∷ f ∷ others) sizes h = absurd (grind (arith, h))
 
--- what a line says is sound behind the lines so far: the sizes are those of an exchange, and a number or an event is one of that exchange
+-- what a line says is sound behind the lines so far: the sizes are an exchange's, and a number or an event fits that exchange
 abbrev pub IsOfExchange : Option Sizes → (Sizes → Type 0) → Type 0
 IsOfExchange known fits = (sizes : Sizes) × (known ≡ Some sizes) × fits sizes
 

@@ -191,7 +191,7 @@ behind_then h None written = refl
 behind_then h (Some octets) None = refl
 behind_then h (Some octets) (Some more) = refl
 
--- the octets of digits, and those of the digits that follow
+-- the octets of digits, and of the digits that follow
 pub written_both : (digits others : List ℕ) → length digits % 2 ≡ 0 → octets_written (digits ++ others) ≡ option_and_then (λ octets. behind octets (octets_written others)) (octets_written digits)
 written_both [] others even = sym (behind_nothing (octets_written others))
 written_both (x ∷ []) others even = absurd (omega arith)

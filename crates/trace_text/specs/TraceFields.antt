@@ -1,5 +1,5 @@
 -- The fields of a trace's lines: lines, slots and rooms of the exchange, octets as hexadecimal digits, sizes. Source: this exchange's own;
--- the channels are those of ITU-T Q.931 (05/98), section 4.5.13.
+-- the channels are from ITU-T Q.931 (05/98), section 4.5.13.
 use Rattle.std.specs.Prelude.{ℕ, ◌+◌, ◌-◌, ◌*◌, Bool, ◌&&◌, nat_lt, nat_le, ◌==◌, List, [], ◌∷◌, length, codes, Option, Some, None, option_and_then, is_some, Result, Ok, Err, if◌then◌else◌}
 use Rattle.std.specs.Str.{bytes_eq}
 use Rattle.circuit_model.specs.Channels.{between, place_of}

@@ -211,7 +211,7 @@ abbrev pub by_words : SoFar → ℕ → List (List ℕ) → Result Said Reason
 by_words so_far external [] = Ok said.Nothing
 by_words so_far external (first ∷ others) = by_kind so_far external (kind_of first) others
 
--- a line after the header: all its octets are printable, and its words are those of its kind
+-- a line after the header: all its octets are printable, and its words are as its kind has them
 abbrev pub after_header : SoFar → ℕ → List ℕ → Result Said Reason
 after_header so_far external line = if list_all is_printable line then by_words so_far external (words line) else Err reason.Word
 

@@ -1,4 +1,4 @@
--- The timers that a trace gives. Source: this exchange's own; their names are those of ITU-T Q.931 (05/98), 9.1, table 9-1.
+-- The timers that a trace gives. Source: this exchange's own; their names are from ITU-T Q.931 (05/98), 9.1, table 9-1.
 use Rattle.std.specs.Prelude.{ℕ, ◌==◌, List, codes, Option, Some, None, unwrap_or, if◌then◌else◌}
 use Rattle.std.specs.Str.{bytes_eq}
 use Rattle.call_timers.specs.declared.timers.Timers.{Timers}

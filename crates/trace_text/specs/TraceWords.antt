@@ -26,7 +26,7 @@ abbrev pub two : List (List ℕ) → Option (List ℕ × List ℕ)
 two (one ∷ other ∷ []) = Some (one, other)
 two others = None
 
--- one word or two, where there are no others; the second is empty where there is one
+-- one word or two, where there are no others; where there is one, an empty word comes behind it
 abbrev pub one_or_two : List (List ℕ) → Option (List ℕ × List ℕ)
 one_or_two (one ∷ []) = Some (one, [])
 one_or_two (one ∷ other ∷ []) = Some (one, other)

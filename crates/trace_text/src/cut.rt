@@ -61,8 +61,8 @@ pub(crate) fn two_words(line: &[u8]) -> Option<(&[u8], &[u8])>
     Some((one, other))
 }
 
-/// The words of what is left of a line, where they are one or two. The second is empty where there is
-/// one.
+/// The words of what is left of a line, where they are one or two. Where there is one, an empty word
+/// comes behind it.
 pub(crate) fn one_or_two_words(line: &[u8]) -> Option<(&[u8], &[u8])>
     ensures { option_map (λ both. (both.0.now, both.1.now)) result ≡ one_or_two (words line.now) }
 {

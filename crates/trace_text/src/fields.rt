@@ -53,7 +53,7 @@ pub(crate) fn room_of_word(word: &[u8]) -> Option<u8>
     numeral_within(0, 63, word)
 }
 
-/// The sizes that the words of a line give, where they are those of a header.
+/// The sizes that the words of a line give, where they are a header's.
 pub(crate) fn header_of(line: &[u8]) -> Option<Sizes>
     ensures { result ≡ header (words line.now) }
 {

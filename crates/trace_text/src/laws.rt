@@ -21,8 +21,8 @@ pub fn some_reading()
         ⊎ ((number : ℕ) × (why : Reason) × IsRefused bytes number why) }
 {}
 
-/// What bytes say is sound: the sizes are those of an exchange, the lines of the numbers and each
-/// event are those of an exchange with as many external lines as the header gives, there are not too
+/// What bytes say is sound: the sizes are an exchange's, the lines of the numbers and each
+/// event fit an exchange with as many external lines as the header gives, there are not too
 /// many events, and each is in a segment.
 pub fn traces_are_sound()
     ensures { (bytes : List ℕ) (t : Trace) → IsTrace bytes t → IsSound t }

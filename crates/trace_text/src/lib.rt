@@ -5,7 +5,7 @@
 //! - [`read_trace`] returns a trace exactly where the bytes are one (`read`, `reads_each`), and
 //!   else the first line that fails with its first failing check (`refused`, `refuses_each`).
 //! - All bytes have one reading, a trace or a refusal ([`one_reading`], [`some_reading`]).
-//! - Every trace that is read is sound: its lines exist, and its sizes are those of an exchange
+//! - Every trace that is read is sound: its lines exist, and its sizes are an exchange's
 //!   ([`traces_are_sound`]).
 //!
 //! It uses `circuit_model`, `number_plan`, `tone_rules`, `call_timers` and `exchange_events`, and

@@ -22,7 +22,7 @@ const LONGEST_TONE: usize = 8000;
 fn is_digit(octet: u8) -> bool
     ensures { result ≡ is_digit octet }
 {
-    // A letter of either case is looked at as one of lower case.
+    // A letter of either case is looked at as its lower case.
     octet.wrapping_sub(b'0') < 10 || (octet | 0x20).wrapping_sub(b'a') < 6
 }
 

@@ -89,7 +89,7 @@ part_fits line state within =
     let row = octets_fit 30 state in
     record { line_is = within; each = row.0; thirty = row.1 }
 
--- the far line is another one of the eight
+-- the far line is another of the eight
 abbrev pub IsFar : ℕ → Option ℕ → Type 0
 IsFar caller None = Unit {0}
 IsFar caller (Some far) = (far < 8) × (far ≢ caller)

@@ -12,46 +12,62 @@ use Rattle.hex.specs.Hex.{encode_upper, encode_with, upper_digits}
 use Rattle.traffic_gen.specs.Fitting.{Fits, FitsPart, FitsParts, is_digit, is_octet, is_printable}
 use Rattle.traffic_gen.specs.Lines.{Line, Part, Header, ToLine, ToRoom, Nail, Message, Frame, Sync, channel_at, line_text, part_text, slot_text}
 
+-- ---- what each octet of a text has
+
+pub both_have : (p : ℕ → Bool) (xs ys : List ℕ) → list_all p xs ≡ true → list_all p ys ≡ true → list_all p (xs ++ ys) ≡ true
+both_have p xs ys left right = list_all-append p xs ys ∙ rw (left, right) refl
+
+pub decimal_has : (p : ℕ → Bool) → ((n : ℕ) → n < 10 → p (48 + n) ≡ true) → (n : ℕ) → n < 2 ^ 64 → list_all p (decimal n) ≡ true
+decimal_has p digit n fits = decimal_by_steps (λ n text. list_all p text ≡ true)
+    (λ n small. let has = digit n small in rw has refl)
+    (λ n text big front. both_have p text ((48 + n % 10) ∷ []) front (let has = digit (n % 10) (mod_below n 10 (omega arith)) in rw has refl))
+    n fits
+
+pub number_has : (p : ℕ → Bool) → ((digit : ℕ) → is_digit digit ≡ true → p digit ≡ true) → (number : List ℕ) → list_all is_digit number ≡ true → list_all p number ≡ true
+number_has p digit_has [] each = refl
+number_has p digit_has (digit ∷ number) each =
+    let parts = and_parts (is_digit digit) (list_all is_digit number) each in
+    let first = digit_has digit parts.0 in
+    let rest = number_has p digit_has number parts.1 in
+    rw (first, rest) refl
+
+-- hexadecimal digits
+pub octets_have : (p : ℕ → Bool) → ((value : ℕ) → value < 16 → p (slice_index upper_digits value) ≡ true) → (octets : List ℕ) → list_all is_octet octets ≡ true → list_all p (encode_upper octets) ≡ true
+unfolding encode_with
+octets_have p glyph_has [] each = refl
+octets_have p glyph_has (octet ∷ octets) each =
+    let parts = and_parts (is_octet octet) (list_all is_octet octets) each in
+    let below : octet < 256 = ltb-true octet 256 parts.0 in
+    let high = glyph_has (octet / 16) (omega arith) in
+    let low = glyph_has (octet % 16) (omega arith) in
+    let rest = octets_have p glyph_has octets parts.1 in
+    rw (high, low, rest) refl
+
+-- ---- printable octets
+
 abbrev IsPrintable : List ℕ → Type 0
 IsPrintable text = list_all is_printable text ≡ true
 
 both : (xs ys : List ℕ) → IsPrintable xs → IsPrintable ys → IsPrintable (xs ++ ys)
-both xs ys left right = list_all-append is_printable xs ys ∙ rw (left, right) refl
+both = both_have is_printable
 
 digit_prints : (n : ℕ) → n < 10 → is_printable (48 + n) ≡ true
 digit_prints n small = grind (arith, nat_tests)
 
 decimal_prints : (n : ℕ) → n < 2 ^ 64 → IsPrintable (decimal n)
-decimal_prints n fits = decimal_by_steps (λ n text. IsPrintable text)
-    (λ n small. let digit = digit_prints n small in rw digit refl)
-    (λ n text big front. both text ((48 + n % 10) ∷ []) front (let digit = digit_prints (n % 10) (mod_below n 10 (omega arith)) in rw digit refl))
-    n fits
-
--- hexadecimal digits
-glyph_prints : (value : ℕ) → value < 16 → is_printable (slice_index upper_digits value) ≡ true
-glyph_prints value within = agree_below_at (λ v. is_printable (slice_index upper_digits v)) (λ v. true) 16 value refl within
-
-octets_print : (octets : List ℕ) → list_all is_octet octets ≡ true → IsPrintable (encode_upper octets)
-unfolding encode_with
-octets_print [] each = refl
-octets_print (octet ∷ octets) each =
-    let parts = and_parts (is_octet octet) (list_all is_octet octets) each in
-    let below : octet < 256 = ltb-true octet 256 parts.0 in
-    let high = glyph_prints (octet / 16) (omega arith) in
-    let low = glyph_prints (octet % 16) (omega arith) in
-    let rest = octets_print octets parts.1 in
-    rw (high, low, rest) refl
+decimal_prints = decimal_has is_printable digit_prints
 
 digit_is_printable : (digit : ℕ) → is_digit digit ≡ true → is_printable digit ≡ true
 digit_is_printable digit is = grind (arith, nat_tests)
 
 number_prints : (number : List ℕ) → list_all is_digit number ≡ true → IsPrintable number
-number_prints [] each = refl
-number_prints (digit ∷ number) each =
-    let parts = and_parts (is_digit digit) (list_all is_digit number) each in
-    let first = digit_is_printable digit parts.0 in
-    let rest = number_prints number parts.1 in
-    rw (first, rest) refl
+number_prints = number_has is_printable digit_is_printable
+
+glyph_prints : (value : ℕ) → value < 16 → is_printable (slice_index upper_digits value) ≡ true
+glyph_prints value within = agree_below_at (λ v. is_printable (slice_index upper_digits v)) (λ v. true) 16 value refl within
+
+octets_print : (octets : List ℕ) → list_all is_octet octets ≡ true → IsPrintable (encode_upper octets)
+octets_print = octets_have is_printable glyph_prints
 
 -- the pieces of a line
 channel_by : (place : ℕ) (low : Bool) → place < 30 → cond low (place + 1) (place + 2) < 32

@@ -7,7 +7,7 @@ use Rattle.traffic_gen.specs.declared.callee.Callee.{Callee}
 use Rattle.traffic_gen.specs.declared.callee.Callee.TheVariants as callee
 use Rattle.traffic_gen.specs.declared.call.Call.{Call}
 
--- the number at which a callee is reached: 20 to 27 are those of the lines 0 to 7, 30 is the room's
+-- the number at which a callee is reached: 20 to 27 reach the lines 0 to 7, 30 is the room's
 abbrev pub number_of : Callee → List ℕ
 number_of (callee.Line line) = codes "2" ++ decimal line
 number_of callee.Room = codes "30"

@@ -9,7 +9,7 @@ use crate::draws::Draws;
 use crate::lines::{put_nail, put_number, put_sync};
 use std::alloc::{AllocError, Global};
 
-// Room for the lines before the first call, and for those of a call, in octets: a call of three
+// Room for the lines before the first call, and for the lines of a call, in octets: a call of three
 // frames in which two lines speak takes 517.
 const ROOM_BEFORE: usize = 1500;
 

@@ -152,7 +152,7 @@ fn traces_are_answered_by_their_reports(rt: HostRuntime) -> Result<(), Fail> {
     Ok(())
 }
 
-// The octets of a frame are those of the engine that the call is given.
+// The octets of a frame come from the engine that the call is given.
 #[test]
 fn another_engine_is_heard(rt: HostRuntime) -> Result<(), Fail> {
     let alloc = rt.alloc();
@@ -284,8 +284,8 @@ fn cut_at(
     Ok((ended, said))
 }
 
-// The report of the first segment is more than one piece, so it is written before the second begins,
-// which ends a call.
+// The report of the first segment is more than one piece, so it is written before the next segment
+// begins, which ends a call.
 #[test]
 fn a_run_is_cut_between_segments(rt: HostRuntime) -> Result<(), Fail> {
     let alloc = rt.alloc();

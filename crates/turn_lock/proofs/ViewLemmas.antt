@@ -62,7 +62,7 @@ module _ {C : Type 0} (f : View C → ℕ) where
   total_none [] none = refl
   total_none (x ∷ xs) none = let a = weigh_dead x.setting (f x) (λ live. none 0 x (refl, live)) in omega (arith, total_none xs (λ j u sit. none (suc j) u sit))
 
-  -- the sum is that of the one live view
+  -- the sum is the one live view's
   pub total_alone : (vs : List (View C)) (id : ℕ) (v : View C) → Sits vs id v → ((j : ℕ) (u : View C) → Sits vs j u → j ≢ id → ⊥) → total f vs ≡ f v
   total_alone [] id v sits alone = absurd (some-ne-none v (sym sits.0))
   total_alone (x ∷ xs) zero v sits alone = let a = weighs x v sits.0 sits.1 in omega (arith, total_none xs (λ j u sit. alone (suc j) u sit (λ e. omega arith)))

@@ -1,5 +1,5 @@
 -- The rule of the lock: what holds between any two moves. It has seven parts.
--- Source: this exchange's own. The two words are those of the ticket lock: J. M. Mellor-Crummey and M. L. Scott, "Algorithms for
+-- Source: this exchange's own. The two words are a ticket lock's: J. M. Mellor-Crummey and M. L. Scott, "Algorithms for
 -- scalable synchronization on shared-memory multiprocessors", ACM Transactions on Computer Systems 9 (1), 1991, section 2.2.
 use Rattle.std.specs.Prelude.{◌≡◌, ◌≢◌, ℕ, ◌+◌, ◌<◌, ◌≤◌, ◌^◌, IsTrue, List, length, Option, Some}
 use Rattle.std.specs.List.{AllByRecursion as Every}

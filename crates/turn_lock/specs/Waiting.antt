@@ -1,5 +1,5 @@
 -- What a ticket gives to the seat that holds it, beyond that no two are served at once. Not that a seat is ever served: that takes that whoever's turn
--- it is goes on. Source: this exchange's own; the words "first come, first served" are those of Mellor-Crummey and Scott (`Rule.antt`).
+-- it is goes on. Source: this exchange's own; the words "first come, first served" are Mellor-Crummey's and Scott's (`Rule.antt`).
 use Rattle.std.specs.Prelude.{ℕ, ◌+◌, ◌<◌}
 use Rattle.atomic_table.specs.Table.{State}
 use Rattle.turn_lock.specs.declared.board.View.{View}

@@ -2,7 +2,7 @@
 //!
 //! A *ticket lock* works as the counter of a shop does. There are two numbers on the wall: the next
 //! ticket that is drawn, and the ticket whose turn it is. Who wants to be served draws a ticket, so
-//! that the first number rises by one, waits until the second number is that of the ticket, is
+//! that the first number rises by one, waits until the second number is the ticket's, is
 //! served, and lets the second number rise by one. (J. M. Mellor-Crummey and M. L. Scott, "Algorithms
 //! for scalable synchronization on shared-memory multiprocessors", ACM Transactions on Computer
 //! Systems 9 (1), 1991, section 2.2; an older relative is L. Lamport's bakery algorithm,

@@ -60,7 +60,7 @@ fn tables_are_taken_over_whole(rt: HostRuntime) -> Result<(), AllocError> {
     };
     let mut map = FabricMap::new(rt.alloc(), 1)?;
     let mut image = Image::new(rt.alloc(), 1, 0, SLOTS)?;
-    // In the first internal slot, and in the second, which is empty again.
+    // In internal slot 0, and in internal slot 1, which is empty again.
     assert!(rt; connect(&mut map, from, to, true));
     assert!(rt; connect(&mut map, on(16), on(4), false));
     image.set_heard(at, tone);

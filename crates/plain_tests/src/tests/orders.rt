@@ -14,7 +14,7 @@ fn orders_are_lawful_or_not(rt: HostRuntime) -> Result<(), Fail> {
         ([1, 2, 3, 4, 5].as_slice(), true),
         (&[2, 1, 3, 5, 4], true),
         (&[1, 3, 2, 4, 5], true),
-        // An event of a worker's overtakes an earlier one, or one of an earlier segment.
+        // An event of a worker's overtakes an earlier one, or an event of an earlier segment.
         (&[3, 2, 1, 4, 5], false),
         (&[1, 2, 4, 3, 5], false),
         // One is missing, comes twice, or is none of the trace.

@@ -100,7 +100,8 @@ fn run_next<B: Switchboard, G: Gate, C: Carrier, R: Threads + Wait + Sync>(
     Ok(answer)
 }
 
-// Runs the first segment of a trace of two lines at an exchange of its own, and hands on what the second needs.
+// Runs the first segment of a trace of two lines at an exchange of its own, and hands on what the next
+// one needs.
 fn run_first<'t, C: Carrier, G: Gate, R: Threads + Wait + Sync>(
     rt: &R,
     alloc: Global,

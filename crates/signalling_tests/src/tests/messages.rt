@@ -171,7 +171,7 @@ const CAUSES: [(&[u8], Option<u8>); 7] = [
     (b"\x08\x02\x00\x01\x45\x08\x02\x80\x90", Some(16)),
     (b"\x08\x02\x00\x01\x45\x08\x03\x82\xE0\x18", Some(96)),
     (b"\x08\x02\x00\x01\x45\x08\x03\x02\x80\x91", Some(17)),
-    // No value, in the first cause though not in the second, and a cause of another codeset.
+    // No value, in the first cause though not in the next one, and a cause of another codeset.
     (b"\x08\x02\x00\x01\x45", None),
     (b"\x08\x02\x00\x01\x45\x08\x02\x02\x80", None),
     (b"\x08\x02\x00\x01\x45\x08\x00\x08\x02\x80\x90", None),

@@ -1,4 +1,4 @@
-//! A-law octets and values, beside those of another program.
+//! A-law octets and values, beside another program's.
 use alaw_codec::{CodeTable, compress, expand};
 use std::alloc::AllocError;
 

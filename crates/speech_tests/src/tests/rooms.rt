@@ -33,7 +33,7 @@ static MIXED: [([Option<u8>; 5], [u8; 5]); 6] = [
 ];
 
 /// Rooms of other sizes. The loudest positive octet three times: each sum of two, 8064, saturates. With
-/// one of them as loud below zero, the sum of the other two is 0, which is the idle octet, and the third
+/// one of them as loud below zero, the sum of the two others is 0, which is the idle octet, and the third
 /// still saturates: a total that saturated before the own value is taken out would give other octets.
 /// Alone in a room a member hears the idle octet, and two hear each other unchanged.
 const ROOMS: [(&[Option<u8>], &[u8]); 9] = [

@@ -118,7 +118,7 @@ fn comes_out<R: Wait>(
         && run.baton
 }
 
-// Three seats step a sum in every order, and the other two are joined in either order.
+// Three seats step a sum in every order, and the two others are joined in either order.
 fn in_every_order<R: Wait>(rt: &R, alloc: Global) -> bool {
     let orders = [
         [0, 1, 2],

@@ -29,8 +29,8 @@ side_by_side-crew-requires-clause-ready g c lifetimes outlive =
     let P : List Entry → Type 0 = λ seen. IsReady g.C.Carrier.carries g.C.Carrier.next g.C.Carrier.sizes (g.B.Switchboard.board c.args.board.now) seen c.args.engine c.args.tool in
     each_at c.args.trace.now c.args.segment (λ (j : Job _ _). j.worker) (λ (j : Job _ _). K j.seat) v P (v.made + 1) 0 c.deal-jobs.result.items c.deal-jobs.ensures.dealt c.requires.ready
 
-pub returns-clause-chief : goal.returns-clause-chief
-returns-clause-chief g c =
+pub returns-clause-works : goal.returns-clause-works
+returns-clause-works g c =
     let K = g.B.Switchboard.known in
     let board = g.B.Switchboard.board c.args.board.now in
     let trace = c.args.trace.now in
@@ -77,115 +77,19 @@ returns-clause-chief g c =
       fronts = pairs_all g.K.Keeper.holds board octets part known seat place done (λ f. StartsWith k.seen (K f.seat).seen) jobs workers z c.gather.ensures.fronts;
       settled = λ some. c.gather.ensures.settled (subst (λ (n : ℕ). 0 < n) (pairs_long g.K.Keeper.holds board octets part known seat place done jobs workers z) some);
     } in
-    run_chief board trace c.args.segment number known joined answers whole plays tones g.C.Carrier.carries g.C.Carrier.next sizes v dealt k jobs us c.args.engine c.side_by_side-crew.result.engine c.args.tool c.side_by_side-crew.result.tool r
-
-pub returns-clause-ran : goal.returns-clause-ran
-returns-clause-ran g c =
-    let K = g.B.Switchboard.known in
-    let board = g.B.Switchboard.board c.args.board.now in
-    let trace = c.args.trace.now in
-    let plays = g.C.Carrier.plays in
-    let tones = table_of trace.tones in
-    let number : Job _ _ → ℕ = λ j. j.worker in
-    let known : Job _ _ → Known = λ j. K j.seat in
-    let octets : Job _ _ → Known → Placed → Type 0 = λ j. HasItsOctets plays tones board trace j.worker in
-    let part : Job _ _ → List ℕ = λ j. part_numbered trace c.args.segment j.worker in
-    let seat : Finished _ _ → Known = λ f. K f.seat in
-    let place : Finished _ _ → Workplace _ = λ f. f.workplace in
-    let done : Finished _ _ → Bool = λ f. f.whole in
-    let joined : (Finished _ _) × List Placed → Known = λ u. K u.0.seat in
-    let answers : (Finished _ _) × List Placed → List Placed = λ u. u.1 in
-    let whole : (Finished _ _) × List Placed → Bool = λ u. u.0.whole in
-    let sizes = g.C.Carrier.sizes in
-    let v = K c.args.seat.now in
-    let dealt = K c.deal-jobs.new.seat in
-    let k = K c.gather.new.seat in
-    let jobs = c.deal-jobs.result.items in
-    let workers = c.side_by_side-crew.result.crew.done.items in
-    let z = c.side_by_side-crew.ensures.works in
-    let us = pairs g.K.Keeper.holds board octets part known seat place done jobs workers z in
-    let sound : IsSound trace = subst IsSound (sym c.requires.may.trace_is) ((g.met.B.Switchboard g.world.𝓛 g.world.𝓜 g.world.𝓡 ((λ s x. x), (λ x. x), (λ x. x), λ x. x)).sound_trace c.args.board.now c.args.seat.now c.requires.seated) in
-    let r : Run board trace c.args.segment number known joined answers whole plays tones g.C.Carrier.carries g.C.Carrier.next sizes v dealt k jobs us c.args.engine c.side_by_side-crew.result.engine c.args.tool c.side_by_side-crew.result.tool = record {
-      same = c.requires.may.trace_is;
-      sound = sound;
-      within = c.requires.may.within;
-      chief = c.requires.may.chief;
-      ready = c.requires.ready;
-      few = c.deal-jobs.ensures.few;
-      dealt = c.deal-jobs.ensures.dealt;
-      idle = c.deal-jobs.ensures.idle;
-      seat = c.deal-jobs.ensures.chief;
-      baton = c.deal-jobs.ensures.baton;
-      turns = c.deal-jobs.ensures.turns;
-      all = c.deal-jobs.ensures.all;
-      works = pairs_work g.K.Keeper.holds board octets part known seat place done jobs workers z;
-      octets = pairs_said g.K.Keeper.holds board octets part known seat place done jobs workers z;
-      readies = pairs_zip g.K.Keeper.holds board octets part known seat place done (λ j f. j.worker ≡ trace.processors → IsReady g.C.Carrier.carries g.C.Carrier.next sizes board (K f.seat).seen c.side_by_side-crew.result.engine c.side_by_side-crew.result.tool) jobs workers z c.side_by_side-crew.ensures.ready;
-      idles = c.side_by_side-crew.ensures.idle;
-      joins = c.gather.ensures.seat ∙ ap (after_joins dealt) (sym (pairs_map g.K.Keeper.holds board octets part known seat place done seat jobs workers z));
-      begins = c.gather.ensures.begins;
-      fronts = pairs_all g.K.Keeper.holds board octets part known seat place done (λ f. StartsWith k.seen (K f.seat).seen) jobs workers z c.gather.ensures.fronts;
-      settled = λ some. c.gather.ensures.settled (subst (λ (n : ℕ). 0 < n) (pairs_long g.K.Keeper.holds board octets part known seat place done jobs workers z) some);
-    } in
-    run_ran board trace c.args.segment number known joined answers whole plays tones g.C.Carrier.carries g.C.Carrier.next sizes v dealt k jobs us c.args.engine c.side_by_side-crew.result.engine c.args.tool c.side_by_side-crew.result.tool r
-
-pub returns-clause-done : goal.returns-clause-done
-returns-clause-done g c =
-    λ all.
-    let K = g.B.Switchboard.known in
-    let board = g.B.Switchboard.board c.args.board.now in
-    let trace = c.args.trace.now in
-    let plays = g.C.Carrier.plays in
-    let tones = table_of trace.tones in
-    let number : Job _ _ → ℕ = λ j. j.worker in
-    let known : Job _ _ → Known = λ j. K j.seat in
-    let octets : Job _ _ → Known → Placed → Type 0 = λ j. HasItsOctets plays tones board trace j.worker in
-    let part : Job _ _ → List ℕ = λ j. part_numbered trace c.args.segment j.worker in
-    let seat : Finished _ _ → Known = λ f. K f.seat in
-    let place : Finished _ _ → Workplace _ = λ f. f.workplace in
-    let done : Finished _ _ → Bool = λ f. f.whole in
-    let joined : (Finished _ _) × List Placed → Known = λ u. K u.0.seat in
-    let answers : (Finished _ _) × List Placed → List Placed = λ u. u.1 in
-    let whole : (Finished _ _) × List Placed → Bool = λ u. u.0.whole in
-    let sizes = g.C.Carrier.sizes in
-    let v = K c.args.seat.now in
-    let dealt = K c.deal-jobs.new.seat in
-    let k = K c.gather.new.seat in
-    let jobs = c.deal-jobs.result.items in
-    let workers = c.side_by_side-crew.result.crew.done.items in
-    let z = c.side_by_side-crew.ensures.works in
-    let us = pairs g.K.Keeper.holds board octets part known seat place done jobs workers z in
-    let sound : IsSound trace = subst IsSound (sym c.requires.may.trace_is) ((g.met.B.Switchboard g.world.𝓛 g.world.𝓜 g.world.𝓡 ((λ s x. x), (λ x. x), (λ x. x), λ x. x)).sound_trace c.args.board.now c.args.seat.now c.requires.seated) in
-    let r : Run board trace c.args.segment number known joined answers whole plays tones g.C.Carrier.carries g.C.Carrier.next sizes v dealt k jobs us c.args.engine c.side_by_side-crew.result.engine c.args.tool c.side_by_side-crew.result.tool = record {
-      same = c.requires.may.trace_is;
-      sound = sound;
-      within = c.requires.may.within;
-      chief = c.requires.may.chief;
-      ready = c.requires.ready;
-      few = c.deal-jobs.ensures.few;
-      dealt = c.deal-jobs.ensures.dealt;
-      idle = c.deal-jobs.ensures.idle;
-      seat = c.deal-jobs.ensures.chief;
-      baton = c.deal-jobs.ensures.baton;
-      turns = c.deal-jobs.ensures.turns;
-      all = c.deal-jobs.ensures.all;
-      works = pairs_work g.K.Keeper.holds board octets part known seat place done jobs workers z;
-      octets = pairs_said g.K.Keeper.holds board octets part known seat place done jobs workers z;
-      readies = pairs_zip g.K.Keeper.holds board octets part known seat place done (λ j f. j.worker ≡ trace.processors → IsReady g.C.Carrier.carries g.C.Carrier.next sizes board (K f.seat).seen c.side_by_side-crew.result.engine c.side_by_side-crew.result.tool) jobs workers z c.side_by_side-crew.ensures.ready;
-      idles = c.side_by_side-crew.ensures.idle;
-      joins = c.gather.ensures.seat ∙ ap (after_joins dealt) (sym (pairs_map g.K.Keeper.holds board octets part known seat place done seat jobs workers z));
-      begins = c.gather.ensures.begins;
-      fronts = pairs_all g.K.Keeper.holds board octets part known seat place done (λ f. StartsWith k.seen (K f.seat).seen) jobs workers z c.gather.ensures.fronts;
-      settled = λ some. c.gather.ensures.settled (subst (λ (n : ℕ). 0 < n) (pairs_long g.K.Keeper.holds board octets part known seat place done jobs workers z) some);
-    } in
-    let all_done : All (λ (u : (Finished _ _) × List Placed). IsTrue (whole u)) us = pairs_all g.K.Keeper.holds board octets part known seat place done (λ f. IsTrue f.whole) jobs workers z (subst (All (λ (f : Finished _ _). IsTrue f.whole)) c.as_slice.ensures.value (c.all_whole-whole.ensures.0 all)) in
     record {
-      whole = run_whole board trace c.args.segment number known joined answers whole plays tones g.C.Carrier.carries g.C.Carrier.next sizes v dealt k jobs us c.args.engine c.side_by_side-crew.result.engine c.args.tool c.side_by_side-crew.result.tool r all_done;
-      long = run_long board trace c.args.segment number known joined answers whole plays tones g.C.Carrier.carries g.C.Carrier.next sizes v dealt k jobs us c.args.engine c.side_by_side-crew.result.engine c.args.tool c.side_by_side-crew.result.tool r all_done;
-      ready = run_ready board trace c.args.segment number known joined answers whole plays tones g.C.Carrier.carries g.C.Carrier.next sizes v dealt k jobs us c.args.engine c.side_by_side-crew.result.engine c.args.tool c.side_by_side-crew.result.tool r;
-      parts = reverse (map answers us);
-      kept = subst (λ (l : List (Workplace _)). Keep g.K.Keeper.holds l (reverse (map answers us))) (sym c.gather.ensures.workplaces) (pairs_keep g.K.Keeper.holds board octets part known seat place done jobs workers z);
-      apart = run_apart board trace c.args.segment number known joined answers whole plays tones g.C.Carrier.carries g.C.Carrier.next sizes v dealt k jobs us c.args.engine c.side_by_side-crew.result.engine c.args.tool c.side_by_side-crew.result.tool r all_done;
-      many = run_many board trace c.args.segment number known joined answers whole plays tones g.C.Carrier.carries g.C.Carrier.next sizes v dealt k jobs us c.args.engine c.side_by_side-crew.result.engine c.args.tool c.side_by_side-crew.result.tool r all_done;
-      answered = run_answered board trace c.args.segment number known joined answers whole plays tones g.C.Carrier.carries g.C.Carrier.next sizes v dealt k jobs us c.args.engine c.side_by_side-crew.result.engine c.args.tool c.side_by_side-crew.result.tool r all_done;
+      chief = run_chief board trace c.args.segment number known joined answers whole plays tones g.C.Carrier.carries g.C.Carrier.next sizes v dealt k jobs us c.args.engine c.side_by_side-crew.result.engine c.args.tool c.side_by_side-crew.result.tool r;
+      ran = run_ran board trace c.args.segment number known joined answers whole plays tones g.C.Carrier.carries g.C.Carrier.next sizes v dealt k jobs us c.args.engine c.side_by_side-crew.result.engine c.args.tool c.side_by_side-crew.result.tool r;
+      done = λ all.
+          let all_done : All (λ (u : (Finished _ _) × List Placed). IsTrue (whole u)) us = pairs_all g.K.Keeper.holds board octets part known seat place done (λ f. IsTrue f.whole) jobs workers z (subst (All (λ (f : Finished _ _). IsTrue f.whole)) c.as_slice.ensures.value (c.all_whole-whole.ensures.0 all)) in
+          record {
+            whole = run_whole board trace c.args.segment number known joined answers whole plays tones g.C.Carrier.carries g.C.Carrier.next sizes v dealt k jobs us c.args.engine c.side_by_side-crew.result.engine c.args.tool c.side_by_side-crew.result.tool r all_done;
+            long = run_long board trace c.args.segment number known joined answers whole plays tones g.C.Carrier.carries g.C.Carrier.next sizes v dealt k jobs us c.args.engine c.side_by_side-crew.result.engine c.args.tool c.side_by_side-crew.result.tool r all_done;
+            ready = run_ready board trace c.args.segment number known joined answers whole plays tones g.C.Carrier.carries g.C.Carrier.next sizes v dealt k jobs us c.args.engine c.side_by_side-crew.result.engine c.args.tool c.side_by_side-crew.result.tool r;
+            parts = reverse (map answers us);
+            kept = subst (λ (l : List (Workplace _)). Keep g.K.Keeper.holds l (reverse (map answers us))) (sym c.gather.ensures.workplaces) (pairs_keep g.K.Keeper.holds board octets part known seat place done jobs workers z);
+            apart = run_apart board trace c.args.segment number known joined answers whole plays tones g.C.Carrier.carries g.C.Carrier.next sizes v dealt k jobs us c.args.engine c.side_by_side-crew.result.engine c.args.tool c.side_by_side-crew.result.tool r all_done;
+            many = run_many board trace c.args.segment number known joined answers whole plays tones g.C.Carrier.carries g.C.Carrier.next sizes v dealt k jobs us c.args.engine c.side_by_side-crew.result.engine c.args.tool c.side_by_side-crew.result.tool r all_done;
+            answered = run_answered board trace c.args.segment number known joined answers whole plays tones g.C.Carrier.carries g.C.Carrier.next sizes v dealt k jobs us c.args.engine c.side_by_side-crew.result.engine c.args.tool c.side_by_side-crew.result.tool r all_done;
+          };
     }
