@@ -19,6 +19,7 @@
 #include "yardstick/speech.h"
 #include "yardstick/messages.h"
 #include "yardstick/calls.h"
+#include "yardstick/expiries.h"
 
 static void start(void) {
     memset(live.in, NO_CELL, sizeof live.in);
@@ -30,6 +31,7 @@ static void start(void) {
     memset(halves, IDLE, sizeof halves);
     memset(highways, IDLE, sizeof highways);
     memset(crossed, IDLE, sizeof crossed);
+    memset(none_before, 0xFF, sizeof none_before);
     if (!bridges) return;
     for (int octet = 0; octet < 256; octet++) linear[octet] = expand(octet);
     for (int v = -MOST; v <= MOST; v++) codes[v + MOST] = compress(v);
@@ -48,7 +50,7 @@ int main(int count, char **words) {
         case SEAT: seat(e->x, e->room); break;
         case FREE: free_slot(e->x); break;
         case SIGNAL: message(e->x.line, messages + e->first, e->length); break;
-        case FRAME: frame(e); break;
+        case FRAME: expire(frame(e)); break;
         }
         put("\n");
         if (out_len >= PIECE) flush();

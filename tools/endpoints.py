@@ -149,10 +149,9 @@ class Endpoints:
     def receive(self, line, octets):
         """What the endpoint on a line answers to a message of the exchange; None where it is nothing."""
         message = read_message(octets)
-        if message.kind == SETUP:
-            self.legs.append(Leg(line, message.reference, False, IS_CALLED, message.channel[0]))
-            return None
         leg = self._named(line, message)
+        if leg is None and message.kind == SETUP:
+            self.legs.append(Leg(line, message.reference, False, IS_CALLED, message.channel[0]))
         return None if leg is None else self._take(leg, message)
 
     def _named(self, line, message):

@@ -3,7 +3,8 @@
 What its messages say of a call: a SETUP that CALL PROCEEDING or SETUP ACKNOWLEDGE answers
 begins a leg on the caller's line, and the SETUP that goes out for it begins the other, at once or
 after INFORMATION with the rest of the number. A leg ends with RELEASE, RELEASE COMPLETE or a STATUS
-of the null state from its user, with RELEASE COMPLETE to it, or by RESTART.
+of the null state from its user, with RELEASE COMPLETE to it, by RESTART, or without a word, in the frame in
+which T308 runs out after RELEASE was sent to it twice.
 """
 
 from __future__ import annotations
@@ -24,7 +25,7 @@ from q931 import (
     Message,
     read_message,
 )
-from reading import Arrival, Frame, Free, Nail, Refused, Seat, Slot
+from reading import PLACES, Arrival, Frame, Free, Nail, Refused, Seat, Slot, place_of_channel
 
 
 @dataclass(eq=False)
@@ -32,6 +33,14 @@ class Leg:
     call: Call
     slot: Slot
     dials: bool  # whether more digits are awaited
+    releases: int = 0  # how often RELEASE was sent to it
+    since: int = 0  # the next frame when it was sent last
+
+    def note(self, row):
+        """Counts what is sent to it."""
+        if row.message.kind == RELEASE:
+            self.releases += 1
+            self.since = row.frame
 
 
 @dataclass(frozen=True)
@@ -63,7 +72,8 @@ class Call:
 class Run:
     """The calls of a run so far, and the slots that are taken."""
 
-    def __init__(self):
+    def __init__(self, timers):
+        self.timers = timers
         self.calls = []
         self.on_no_call = []
         self.frames = 0
@@ -73,7 +83,7 @@ class Run:
 
     def take(self, event, reply):
         if isinstance(event, Frame):
-            self.frames = reply.frame + 1
+            self._frame(reply)
         elif isinstance(event, Arrival):
             self._message(event, reply)
         elif isinstance(event, Nail) and reply.word == "granted":
@@ -86,6 +96,34 @@ class Run:
             other = self._partner.pop(event.slot, event.slot)
             self._partner.pop(other, None)
             self.taken -= {event.slot, other}
+
+    def _frame(self, reply):
+        """A frame ends the legs whose users were sent RELEASE twice and have waited, and sends what is due of others."""
+        self.frames = reply.frame + 1
+        for name, leg in list(self._legs.items()):
+            is_over = leg.releases == 2 and leg.since + self.timers["T308"] <= reply.frame
+            if is_over and place_of_channel(leg.slot.channel) == reply.frame % PLACES:
+                self._end(name)
+        for line, octets in reply.sent:
+            message = sent_message(octets, reply.event)
+            row = Row(reply.event, self.frames, line, True, message)
+            name = key(line, message, 1)
+            if name in self._legs:
+                self._sent_in_frame(name, row)
+            else:
+                self.on_no_call.append(row)
+
+    def _sent_in_frame(self, name, row):
+        leg, message = self._legs[name], row.message
+        call = leg.call
+        call.rows.append(replace(row, leg=leg))
+        leg.note(row)
+        if message.kind in (DISCONNECT, RELEASE_COMPLETE) and call.cleared is None:
+            call.cleared = row.frame, 28 if leg.dials else 18
+        if message.kind == DISCONNECT:
+            leg.dials = False
+        elif message.kind == RELEASE_COMPLETE:
+            self._end(name)
 
     def _message(self, event, reply):
         message = read_message(event.octets)
@@ -186,7 +224,10 @@ class Run:
         call.rows.append(replace(row, leg=leg))
         for line, message in sent:
             to = self._legs.get(key(line, message, 1), leg)
-            call.rows.append(Row(row.event, row.frame, line, True, message, to))
+            out = Row(row.event, row.frame, line, True, message, to)
+            call.rows.append(out)
+            if to is not None:
+                to.note(out)
 
     def _on_none(self, row, sent):
         self.on_no_call.append(row)

@@ -8,7 +8,7 @@ from __future__ import annotations
 
 import re
 
-from reading import NUMERAL, Refused, place_of_channel
+from reading import NUMERAL, USUAL_TIMERS, Refused, place_of_channel
 
 CAPITALS = re.compile(r"[A-Z]+")
 SPELLINGS = {
@@ -27,6 +27,7 @@ KINDS = {
     "CAUSE": (NUMERAL, "the value of a cause"),
     "DIGITS": (re.compile(r"[0-9]{1,20}"), "1 to 20 digits"),
     "HEX": (re.compile(r"(?:[0-9A-Fa-f]{2}){0,260}"), "at most 260 octets in hexadecimal"),
+    "TIMER": (re.compile("|".join(USUAL_TIMERS)), "the name of a timer such as T303"),
     "FILE": (re.compile(r".+"), "the name of a file"),
 }
 

@@ -45,6 +45,7 @@ class Trace:
         self.asked = []  # the lines without comments, and without the octets of frames
         self.events = 0
         self.answered = 0  # the events whose replies were looked at
+        self.has_messages = False
 
     def note(self, text):
         self.add(f"# {text}")
@@ -57,6 +58,7 @@ class Trace:
         if self.events == MOST_EVENTS:
             raise Refused(f"the trace has more than {MOST_EVENTS} events")
         self.events += 1
+        self.has_messages |= text.startswith("M")
         self.add(text)
         self.asked.append(text if asked is None else asked)
 
@@ -74,6 +76,14 @@ class Trace:
         trace = "".join(line + "\n" for line in self.asked).encode()
         first, self.answered = self.answered, self.events
         return [pair for reply in replies_of(program_at(self.program), trace, first) for pair in reply.sent]
+
+    def quiet_frames(self, count):
+        """How many of the next n frames pass before the exchange is heard: up to the first that sends something."""
+        if not self.has_messages:
+            return count
+        trace = "".join(line + "\n" for line in [*self.asked, *["F"] * count]).encode()
+        replies = replies_of(program_at(self.program), trace, self.events)
+        return next((at for at, frame in enumerate(replies, start=1) if frame.sent), count)
 
     def text(self):
         return "".join(line + "\n" for line in self.lines).encode(*TEXT)

@@ -25,6 +25,9 @@ MOST_MESSAGE_DIGITS = 520
 FRAME_DIGITS = 2 * PLACES
 MOST_TONE_DIGITS = 16_000
 
+# The timers of calls, and how many frames each runs where a trace does not say.
+USUAL_TIMERS = {"T302": 120_000, "T303": 32_000, "T305": 240_000, "T308": 32_000, "T310": 80_000}
+
 
 class Refused(Exception):
     """A file is no trace or no report; the text says where and why."""
@@ -94,6 +97,7 @@ class Trace:
     bridges: int
     processors: int
     numbers: dict  # digits to ("line", L) or ("room", R)
+    timers: dict  # names to frames; a timer that isn't given has its usual value
     events: tuple
 
 
@@ -211,7 +215,7 @@ class TraceReader:
         self.tones[kind] = hexadecimal(octets, 2, MOST_TONE_DIGITS)
 
     def timer(self, name, frames):
-        if name not in ("T302", "T303", "T305", "T308", "T310") or name in self.timers:
+        if name not in USUAL_TIMERS or name in self.timers:
             raise Fault("word")
         self.timers[name] = numeral(frames)
         if not self.timers[name]:
@@ -281,7 +285,7 @@ def read_trace(path):
             raise Refused(f"{path} is no trace: line {number}, {fault}") from None
     if reader.sizes is None:
         raise Refused(f"{path} is no trace: line {len(lines) + 1}, header")
-    return Trace(*reader.sizes, reader.numbers, tuple(reader.events))
+    return Trace(*reader.sizes, reader.numbers, USUAL_TIMERS | reader.timers, tuple(reader.events))
 
 
 # ---- reports
@@ -289,8 +293,9 @@ def read_trace(path):
 COUNT = "(0|[1-9][0-9]{0,9})"
 PLAIN = re.compile(f"{COUNT} (busy|noport|freed|notnailed)")
 JOINED = re.compile(f"{COUNT} (granted|seated) {COUNT} {COUNT}")
-MESSAGE = re.compile(f"{COUNT} message(?: moved {COUNT} {COUNT})?((?: [0-9]{{1,2}}:(?:[0-9A-F]{{2}})+)*)")
-FRAME = re.compile(f"{COUNT} frame {COUNT}((?: [0-9]{{1,2}}:[0-9A-F]{{{FRAME_DIGITS}}})*)")
+SIGNAL = "[0-9]{1,2}:(?:[0-9A-F]{2})+"
+MESSAGE = re.compile(f"{COUNT} message(?: moved {COUNT} {COUNT})?((?: {SIGNAL})*)")
+FRAME = re.compile(f"{COUNT} frame {COUNT}((?: send {SIGNAL})*)((?: [0-9]{{1,2}}:[0-9A-F]{{{FRAME_DIGITS}}})*)")
 
 
 def parts(text):
@@ -312,8 +317,9 @@ def reply(line):
         moved = None if there is None else (int(there), int(back))
         return Reply(int(event), "message", moved=moved, sent=parts(sent))
     if match := FRAME.fullmatch(line):
-        event, frame, octets = match.groups()
-        return Reply(int(event), "frame", frame=int(frame), octets=dict(parts(octets)))
+        event, frame, sent, octets = match.groups()
+        sent = parts(sent.replace(" send ", " "))
+        return Reply(int(event), "frame", sent=sent, frame=int(frame), octets=dict(parts(octets)))
     return None
 
 

@@ -6,12 +6,15 @@ typedef enum {
 } State;
 
 // A leg holds a slot of its line. The reference of a called leg was chosen here, a caller's by the
-// user; `other` is the slot of the other leg, where that is the peer.
+// user; `other` is the slot of the other leg, where that is the peer. A leg has the cause with which it was cleared,
+// waits since a frame, and may have been sent its last message again.
 typedef struct {
     uint8_t state, called;
     enum { ALONE, LEG, ROOM } peer;
     uint16_t reference;
     Slot other;
+    uint8_t cause, resent;
+    uint32_t since;
 } Leg;
 
 static Leg legs[EXTERNAL][PLACES];
@@ -23,8 +26,49 @@ static uint32_t references[EXTERNAL];
 
 static Leg *leg(Slot x) { return &legs[x.line][x.place]; }
 
+// One more than the timer of a state, 0 where it has none.
+static const uint8_t timer_in[RELEASE_REQUEST + 1] = {
+    [OVERLAP_SENDING] = T302 + 1, [PRESENT] = T303 + 1, [INCOMING_PROCEEDING] = T310 + 1,
+    [DISCONNECT_INDICATION] = T305 + 1, [RELEASE_REQUEST] = T308 + 1,
+};
+
+// No leg at this place of any line is due before this frame.
+static uint32_t none_before[PLACES];
+
+// The frame in which a leg is due.
+static uint32_t due(const Leg *l) {
+    unsigned timer = timer_in[l->state];
+    if (!timer) return NEVER;
+    uint32_t end = l->since + timers[timer - 1];
+    return end < l->since ? NEVER : end;
+}
+
+// The leg waits from the next frame on.
+static void wait(Slot x) {
+    Leg *l = leg(x);
+    l->since = frame_number;
+    uint32_t end = due(l);
+    if (end < none_before[x.place]) none_before[x.place] = end;
+}
+
+static void enter(Slot x, State state) {
+    leg(x)->state = state;
+    leg(x)->resent = 0;
+    wait(x);
+}
+
+// What was sent last to a leg that was called, or is to release: its part of the report.
+enum { MOST_KEPT = 200 };
+static struct { uint8_t text[MOST_KEPT], length; } kept[EXTERNAL][PLACES];
+
+static void keep(Slot x, size_t from) {
+    kept[x.line][x.place].length = out_len - from;
+    memcpy(kept[x.line][x.place].text, out + from, out_len - from);
+}
+
 static void add_leg(Slot x, Leg l) {
     *leg(x) = l;
+    wait(x);
     add(taken, x);
     add(held, x);
     if (l.called) {
@@ -61,8 +105,9 @@ static void put_status(Slot x, Cause cause) {
 static void clear_leg(Slot x, Cause cause) {
     Leg *l = leg(x);
     clear(x);
-    l->state = DISCONNECT_INDICATION;
+    enter(x, DISCONNECT_INDICATION);
     l->peer = ALONE;
+    l->cause = cause;
     int heard = cause == USER_BUSY && sound(x, BUSY);
     put_to(x, l, DISCONNECT);
     put_cause(cause);
@@ -76,8 +121,8 @@ static void clear_peer(Leg l, Cause cause) {
 
 static void alert(Slot x) {
     Slot y = leg(x)->other;
-    leg(x)->state = RECEIVED;
-    leg(y)->state = DELIVERED;
+    enter(x, RECEIVED);
+    enter(y, DELIVERED);
     int heard = sound(y, RINGBACK);
     put_to(y, leg(y), ALERTING);
     if (heard) put_progress();
@@ -85,7 +130,8 @@ static void alert(Slot x) {
 
 static void answer(Slot x) {
     Slot y = leg(x)->other;
-    leg(x)->state = leg(y)->state = ACTIVE;
+    enter(x, ACTIVE);
+    enter(y, ACTIVE);
     clear(y);
     put(" moved ");
     pair(y, x);
@@ -96,9 +142,11 @@ static void answer(Slot x) {
 static void disconnect_call(Slot x, Cause cause) {
     Leg l = *leg(x);
     clear(x);
-    leg(x)->state = RELEASE_REQUEST;
+    enter(x, RELEASE_REQUEST);
     leg(x)->peer = ALONE;
+    size_t from = out_len;
     put_to(x, &l, RELEASE);
+    keep(x, from);
     clear_peer(l, cause);
 }
 
@@ -224,12 +272,14 @@ static void call_line(uint16_t reference, const Route *r, const Element said[SAI
     add_leg(x, (Leg){ OUTGOING_PROCEEDING, 0, LEG, reference, y });
     add_leg(y, (Leg){ PRESENT, 1, LEG, __builtin_ctz(~references[y.line]) + 1, x });
     put_proceeding(x, is_new);
+    size_t from = out_len;
     put_to(y, leg(y), SETUP);
     put_octet(SENDING_COMPLETE);
     put_element(BEARER, said[BEARER_SAID].at, said[BEARER_SAID].length);
     put_channel(y.place);
     for (Said k = CALLING_SAID; k < SAID; k++)
         if (said[k].length && said[k].length <= most[k]) put_element(said[k].code, said[k].at, said[k].length);
+    keep(y, from);
 }
 
 static void call_room(uint16_t reference, const Route *r, int is_new) {
@@ -281,6 +331,7 @@ static void take_digits(Slot x, const Message *m) {
     if (fault) clear_leg(x, fault);
     else if (r.to->found == TO_ROOM) call_room(leg(x)->reference, &r, 0);
     else if (r.to->found == TO_LINE) call_line(leg(x)->reference, &r, said, 0);
+    else wait(x);
 }
 
 // ---- Messages to a leg
@@ -298,7 +349,7 @@ static int is_done(Slot x, const Message *m) {
         return 1;
     case CALL_PROCEEDING:
         if (state != PRESENT) return 0;
-        leg(x)->state = INCOMING_PROCEEDING;
+        enter(x, INCOMING_PROCEEDING);
         return 1;
     case ALERTING:
         if (state != PRESENT && state != INCOMING_PROCEEDING) return 0;

@@ -1,6 +1,6 @@
 // The report.
 
-static uint8_t out[PIECE + 4096]; // a frame's line has at most 32 * 64 octets, and its numbers
+static uint8_t out[PIECE + 16384]; // a frame's line has at most 32 * 64 characters of octets, its numbers, and 64 messages
 static size_t out_len;
 
 static void flush(void) {

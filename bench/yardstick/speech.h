@@ -130,11 +130,13 @@ static void send(void) {
     }
 }
 
-static void frame(const Event *e) {
+// Answers where in the report the octets of the frame begin.
+static size_t frame(const Event *e) {
     Image *now = &images[frame_number & 1], *before = &images[~frame_number & 1];
     Row *filling = halves[frame_number & 1], *filled = halves[~frame_number & 1];
     put(" frame ");
     put_number(frame_number);
+    size_t octets = out_len;
     write_image(now);
     if (changes != now->changes) {
         changes = now->changes;
@@ -149,4 +151,5 @@ static void frame(const Event *e) {
     cross(now, filled);
     memcpy(filling, rows[e->first], external * sizeof(Row));
     frame_number++;
+    return octets;
 }

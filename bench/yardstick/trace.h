@@ -16,6 +16,10 @@ typedef struct { const uint8_t *at, *end; } Word;
 typedef enum { RINGBACK, BUSY } ToneKind;
 typedef struct { uint8_t octets[TONE]; unsigned length; } Tone; // no octets: it isn't given
 
+// How many frames a leg may wait in a state; a timer that isn't given has the usual value.
+enum { T302, T303, T305, T308, T310, TIMERS };
+static uint32_t timers[TIMERS] = { 120000, 32000, 240000, 32000, 80000 };
+
 static Tone tones[2];
 static Event events[MOST_EVENTS];
 static unsigned changes; // Of meters, of which the yardstick has none.
@@ -193,15 +197,16 @@ static void read_tone(Word *words, size_t count) {
     tone->length = read_hex(words[2], tone->octets, TONE);
 }
 
-// A timer's line. No timer runs yet, so that it is enough to know which were given.
 static void read_timer(Word *words, size_t count) {
-    static int given[5];
+    static int given[TIMERS];
     if (event_count || count != 3) refuse("word");
-    int timer = is(words[1], "T302") ? 0 : is(words[1], "T303") ? 1 : is(words[1], "T305") ? 2
-        : is(words[1], "T308") ? 3 : is(words[1], "T310") ? 4 : -1;
-    if (timer < 0 || given[timer]) refuse("word");
+    int timer = is(words[1], "T302") ? T302 : is(words[1], "T303") ? T303 : is(words[1], "T305") ? T305
+        : is(words[1], "T308") ? T308 : is(words[1], "T310") ? T310 : TIMERS;
+    if (timer == TIMERS || given[timer]) refuse("word");
     given[timer] = 1;
-    if (number(&words[2], 0) < 1) refuse("number");
+    int frames = number(&words[2], 0);
+    if (frames < 1) refuse("number");
+    timers[timer] = frames;
 }
 
 // Room for the octets of one more message.

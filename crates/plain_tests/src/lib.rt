@@ -1,5 +1,6 @@
 //! The tests of the plain programs: worked exchanges and calls, whose octets were found by hand, and
-//! that each course of a call is drawn, and which orders of events are lawful.
+//! what is done for legs that wait too long, that each course of a call is drawn, and which orders of events
+//! are lawful.
 //!
 //! They are here and not beside what they test, so that each of those crates is proved once. The
 //! crate promises nothing.

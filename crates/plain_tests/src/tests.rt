@@ -2,4 +2,5 @@
 mod calls;
 mod circuits;
 mod orders;
+mod timers;
 mod traffic;

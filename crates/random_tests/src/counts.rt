@@ -1,7 +1,7 @@
 use crate::draw::Trial;
 use crate::orders::Taken;
 use test_exchange::Chains;
-use test_traffic::{Counts as Courses, Drawn, LONGEST_TONE, Script};
+use test_traffic::{Counts as Courses, Drawn, Expiries, LONGEST_TONE, Script};
 
 /// How many traces there were, how many of them leave their workers a choice, in how many of those the
 /// threads took another order than the file's, and of how many segments the caller did all events and
@@ -127,6 +127,7 @@ pub struct CallCounts {
     pub courses: Courses,
     pub tones: Tones,
     pub moves: Moves,
+    pub expiries: Expiries,
 }
 
 impl CallCounts {
@@ -136,6 +137,7 @@ impl CallCounts {
             courses: Courses::new(),
             tones: Tones::default(),
             moves: Moves::default(),
+            expiries: Expiries::new(),
         }
     }
 
@@ -143,10 +145,14 @@ impl CallCounts {
         self.courses.add(&drawn.counts);
         self.tones.add(drawn);
         self.moves.add(drawn);
+        self.expiries.add(&drawn.expiries);
     }
 
-    /// Whether each course, each tone and each chain of moved paths came.
+    /// Whether each course, each tone, each chain of moved paths and each expiry came.
     pub fn is_whole(&self) -> bool {
-        self.courses.is_whole() && self.tones.is_whole() && self.moves.is_whole()
+        self.courses.is_whole()
+            && self.tones.is_whole()
+            && self.moves.is_whole()
+            && self.expiries.is_whole()
     }
 }

@@ -3,7 +3,7 @@
 //!
 //! `random_tests TRACES` draws that many traces of nails, whose octets are compared with the octets of
 //! a delay line; that many with seats too, compared with the definitions' own program; and that
-//! many of calls and tones, compared with a plain program of calls. They are for one to eight call
+//! many of calls, tones and timers, compared with a plain program of calls. They are for one to eight call
 //! processors, and their segments are of any length. Two meters that keep every call have to say the
 //! calls that the plain program saw end, in that order. Each trace is run three times: all segments in
 //! threads, as the program decides, where small ones have to come in the order of the file, and in threads
@@ -145,6 +145,8 @@ fn run_calls<R: Print + Eprint + Threads + Wait + Sync>(
     println!(rt; "calls: in file order {courses}")?;
     print_moves(rt, counts.moves)?;
     print_tones(rt, counts.tones)?;
+    let expiries = counts.expiries;
+    println!(rt; "calls: in file order timers ran out {expiries}")?;
     Ok(orders.is_whole(traces) && counts.is_whole())
 }
 

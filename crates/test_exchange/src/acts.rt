@@ -2,12 +2,12 @@
 
 use crate::elements::Received;
 use crate::exchange::PlainExchange;
-use crate::legs::{Leg, Peer, State, leg_at, replace_leg};
+use crate::legs::{Leg, Peer, State, leg_at};
 use crate::sent::{Course, Sent};
 use crate::table::{Act, act_of, clearing_cause};
 use crate::types::{
     ALERTING, CONNECT, CONNECT_ACKNOWLEDGE, DISCONNECT, NAMED_TYPES, NOT_COMPATIBLE_WITH_STATE,
-    RELEASE, RELEASE_COMPLETE, RESPONSE_TO_STATUS_ENQUIRY, TYPE_NOT_IMPLEMENTED, USER_BUSY,
+    RELEASE_COMPLETE, RESPONSE_TO_STATUS_ENQUIRY, TYPE_NOT_IMPLEMENTED, USER_BUSY,
 };
 use crate::writing::{add_cause, add_progress, bare_message};
 use circuit_model::Kind;
@@ -48,8 +48,9 @@ impl PlainExchange {
         Ok(cause)
     }
 
-    fn set_state(&mut self, leg: Leg, state: State) {
-        replace_leg(&mut self.legs, Leg { state, ..leg });
+    /// The leg goes to a state.
+    pub(crate) fn set_state(&mut self, leg: Leg, state: State) {
+        self.replace(Leg { state, ..leg });
     }
 
     /// The leg that a leg is in a call with.
@@ -97,21 +98,18 @@ impl PlainExchange {
         sent: &mut Sent,
     ) -> Result<(), AllocError> {
         self.stand_alone(leg, State::Releasing);
-        sent.tell(alloc, leg, RELEASE)?;
+        self.send_release(alloc, leg, None, sent)?;
         self.clear_peer(alloc, leg, cause, sent)
     }
 
     // The leg is cleared, and waits for its user in this state.
     fn stand_alone(&mut self, leg: Leg, state: State) {
         self.forget(leg);
-        replace_leg(
-            &mut self.legs,
-            Leg {
-                state,
-                peer: Peer::Alone,
-                ..leg
-            },
-        );
+        self.replace(Leg {
+            state,
+            peer: Peer::Alone,
+            ..leg
+        });
     }
 
     /// The leg is gone.
@@ -120,9 +118,10 @@ impl PlainExchange {
         self.legs.retain(|held| held.at != leg.at);
     }
 
-    // The circuits of a leg's slot are taken away, and the number that its user dials.
+    // The circuits of a leg's slot are taken away, the number that its user dials, and what was kept.
     fn forget(&mut self, leg: Leg) {
         self.clear(leg.at);
+        self.drop_kept(leg.at);
         self.waiting.retain(|passed| passed.at != leg.at);
     }
 
@@ -148,7 +147,7 @@ impl PlainExchange {
         cause: u8,
         sent: &mut Sent,
     ) -> Result<(), AllocError> {
-        self.stand_alone(leg, State::Disconnected);
+        self.stand_alone(Leg { cause, ..leg }, State::Disconnected);
         let sounds = cause == USER_BUSY && self.sound(leg.at, Kind::Busy)?;
         let mut octets = bare_message(alloc, leg.side, leg.reference, DISCONNECT)?;
         add_cause(&mut octets, cause)?;

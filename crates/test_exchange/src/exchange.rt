@@ -3,13 +3,14 @@
 ghost use Rattle.std.specs.Prelude.{◌<◌, IfSome, IfOk};
 
 use crate::elements::receive;
-use crate::legs::{Leg, Peer, State, leg_at, leg_named};
+use crate::legs::{Leg, Peer, State, leg_at, leg_named, put_leg, replace_leg};
 use crate::no_leg::answer_without_leg;
 use crate::numbers::Number;
 use crate::passed::Passed;
 use crate::paths::{Chains, Paths};
 use crate::ports::Ports;
 use crate::sent::{CallRecord, Course, Party, Sent};
+use crate::timers::{Expired, Kept, PlainTimers};
 use crate::types::SETUP;
 use circuit_model::{Circuit, Kind, PLACES, Slot};
 use plain_model::{Exchange, find_heard};
@@ -29,6 +30,10 @@ pub struct PlainExchange {
     pub(crate) waiting: Vec<Passed>,
     pub(crate) numbers: Vec<Number>,
     tones: PlainTones,
+    pub(crate) timers: PlainTimers,
+    // What may have to be sent again.
+    pub(crate) kept: Vec<Kept>,
+    pub(crate) expired: Vec<Expired>,
     // How often the two tones were put on a slot.
     rung: u32,
     busy: u32,
@@ -54,8 +59,8 @@ impl PlainTones {
 }
 
 impl PlainExchange {
-    /// An exchange with the given numbers of internal slots, external and bridge lines, this number plan and these
-    /// tones, before its first event.
+    /// An exchange with the given numbers of internal slots, external and bridge lines, this number plan, these
+    /// tones and the usual timers, before its first event.
     pub fn new(
         alloc: Global,
         slots: u8,
@@ -73,9 +78,17 @@ impl PlainExchange {
             waiting: Vec::new(alloc),
             numbers,
             tones,
+            timers: PlainTimers::usual(),
+            kept: Vec::new(alloc),
+            expired: Vec::new(alloc),
             rung: 0,
             busy: 0,
         }
+    }
+
+    /// The same exchange with these timers.
+    pub fn with_timers(self, timers: PlainTimers) -> PlainExchange {
+        PlainExchange { timers, ..self }
     }
 
     /// How many external lines there are.
@@ -86,6 +99,11 @@ impl PlainExchange {
     /// The legs of the calls.
     pub fn legs(&self) -> &[Leg] {
         self.legs.as_slice()
+    }
+
+    /// What was done for legs that had waited too long, in order.
+    pub fn expired(&self) -> &[Expired] {
+        self.expired.as_slice()
     }
 
     /// The number plan.
@@ -143,18 +161,44 @@ impl PlainExchange {
         is_nailed
     }
 
-    /// Passes the boundary of a frame, and tells its number. None past the greatest number.
+    /// Passes the boundary of a frame, tells its number, and does what is due of the legs then. None past the
+    /// greatest number.
     pub fn boundary(
         &mut self,
         alloc: Global,
         input: &[Option<[u8; 30]>],
-    ) -> Result<Option<u32>, AllocError> {
+    ) -> Result<Option<(u32, Sent)>, AllocError> {
         let frame = self.circuits.next_frame();
         if frame == u32::MAX {
             return Ok(None);
         }
         self.circuits.frame(alloc, input)?;
-        Ok(Some(frame))
+        let mut sent = Sent::new(alloc);
+        self.expire(alloc, frame, &mut sent)?;
+        Ok(Some((frame, sent)))
+    }
+
+    /// Puts a leg, in place of the one that holds its slot if there is one. It waits from the next frame on.
+    pub(crate) fn put(&mut self, leg: Leg) -> Result<(), AllocError> {
+        self.drop_kept(leg.at);
+        let leg = self.begun(leg);
+        put_leg(&mut self.legs, leg)
+    }
+
+    /// Puts a leg in place of the one that holds its slot. It waits from the next frame on.
+    pub(crate) fn replace(&mut self, leg: Leg) {
+        self.drop_kept(leg.at);
+        let leg = self.begun(leg);
+        replace_leg(&mut self.legs, leg);
+    }
+
+    // The leg as it begins to wait.
+    fn begun(&self, leg: Leg) -> Leg {
+        Leg {
+            since: self.next_frame(),
+            resent: false,
+            ..leg
+        }
     }
 
     /// The octet that is heard on a slot in a frame.
@@ -273,8 +317,8 @@ impl PlainExchange {
         Ok(calls)
     }
 
-    // Tells of a call where its caller isn't in the call any more.
-    fn tell_if_ended(
+    /// Tells of a call where its caller isn't in the call any more.
+    pub(crate) fn tell_if_ended(
         &self,
         call: CallRecord,
         cause: u8,

@@ -59,6 +59,12 @@ pub struct Leg {
     pub side: Side,
     /// What it is in a call with.
     pub peer: Peer,
+    /// With which cause it was cleared; 0 where it wasn't.
+    pub cause: u8,
+    /// The first frame that it has waited in its state, or for more digits, or since a message was sent again.
+    pub since: u32,
+    /// Whether a message was sent again in this state.
+    pub resent: bool,
 }
 
 impl Leg {

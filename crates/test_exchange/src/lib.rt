@@ -2,7 +2,8 @@
 //!
 //! [`PlainExchange`] takes the events of a trace one by one, and returns what the exchange has to
 //! reply to each: the numbers of moved paths, the messages that are sent, the call records. It
-//! walks over lists of legs, paths, ports and numbers. It reads and writes messages of ITU-T Q.931
+//! walks over lists of legs, paths, ports and numbers, and in a frame over the legs that have waited too
+//! long. It reads and writes messages of ITU-T Q.931
 //! (05/98) by code of its own, and has its own call table and number plan, so that two programs
 //! which were written apart can be compared. Circuits, and what is heard by them, come from
 //! `plain_model`.
@@ -29,6 +30,7 @@ mod restart;
 mod sent;
 mod setup;
 mod table;
+mod timers;
 pub mod types;
 mod writing;
 
@@ -40,3 +42,4 @@ pub use report::{PlainEvent, PlainRun, append_octets};
 pub use sent::{CallRecord, Course, Party, Sent, Signal};
 pub use setup::Refusal;
 pub use table::Act;
+pub use timers::{Expired, Expiry, PlainTimers};

@@ -5,7 +5,7 @@ ghost use Rattle.std.specs.Prelude.{◌<◌, IfOk, IfSome};
 use crate::channels::place_of_channel;
 use crate::elements::Received;
 use crate::exchange::PlainExchange;
-use crate::legs::{Leg, Peer, Side, State, new_reference, put_leg};
+use crate::legs::{Leg, Peer, Side, State, new_reference};
 use crate::numbers::{Found, Target, are_digits, look};
 use crate::passed::Passed;
 use crate::sent::{Course, Sent};
@@ -73,6 +73,9 @@ impl PlainExchange {
             reference: setup.reference,
             side: Side::Caller,
             peer: Peer::Alone,
+            cause: 0,
+            since: self.next_frame(),
+            resent: false,
         };
         match target {
             None => self.wait_for_digits(alloc, caller, passed, sent)?,
@@ -168,7 +171,7 @@ impl PlainExchange {
     ) -> Result<(), AllocError>
         requires { caller.at.place < 30 }
     {
-        put_leg(&mut self.legs, caller)?;
+        self.put(caller)?;
         self.keep(passed)?;
         sent.course = Course::Overlap;
         tell_channel(
@@ -196,24 +199,23 @@ impl PlainExchange {
         let reference = new_reference(self.legs(), called.line);
         let state = State::CallProceeding;
         let peer = Peer::Leg(called);
-        put_leg(
-            &mut self.legs,
-            Leg {
-                state,
-                peer,
-                ..caller
-            },
-        )?;
-        self.legs.push(Leg {
+        self.put(Leg {
+            state,
+            peer,
+            ..caller
+        })?;
+        self.put(Leg {
             at: called,
             state: State::Present,
             reference,
             side: Side::Called,
             peer: Peer::Leg(caller.at),
+            ..caller
         })?;
         sent.course = Course::Offered;
         tell_channel(alloc, caller, CALL_PROCEEDING, channel, sent)?;
-        sent.send(called.line, passed.setup(alloc, reference, called.place)?)
+        let setup = passed.setup(alloc, reference, called.place)?;
+        self.send_and_keep(alloc, called, setup, sent)
     }
 
     // The caller is seated, and learns that the room has answered.
@@ -229,14 +231,11 @@ impl PlainExchange {
     {
         let state = State::Active;
         let peer = Peer::Room(room);
-        put_leg(
-            &mut self.legs,
-            Leg {
-                state,
-                peer,
-                ..caller
-            },
-        )?;
+        self.put(Leg {
+            state,
+            peer,
+            ..caller
+        })?;
         sent.course = Course::Seated;
         sent.moved = self.seat(alloc, caller.at, room)?;
         tell_channel(alloc, caller, CALL_PROCEEDING, channel, sent)?;

@@ -70,6 +70,7 @@ impl PlainExchange {
             None => {
                 sent.course = Course::MoreDigits;
                 self.keep(passed)?;
+                self.replace(leg);
             }
             Some(target) => {
                 self.lead(alloc, leg, &passed, target, None, sent)?;

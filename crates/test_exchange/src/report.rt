@@ -124,10 +124,15 @@ impl PlainRun {
     }
 
     fn frame(&mut self, alloc: Global, input: &[Option<[u8; 30]>]) -> Result<(), AllocError> {
-        let Some(frame) = self.exchange.boundary(alloc, input)? else {
+        let Some((frame, sent)) = self.exchange.boundary(alloc, input)? else {
             return Ok(());
         };
+        self.records.extend_from_slice(sent.records.as_slice())?;
         write!(self.report, "frame {frame}")?;
+        for signal in &sent.sends {
+            write!(self.report, " send {}:", signal.line)?;
+            append_octets(&mut self.report, signal.octets.as_slice())?;
+        }
         for line in 0..self.exchange.external() {
             self.line(frame, line)?;
         }

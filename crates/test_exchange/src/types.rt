@@ -87,6 +87,10 @@ pub const SENDING_COMPLETE: u8 = 0xA1;
 pub const NORMAL_CLEARING: u8 = 16;
 /// Cause: user busy.
 pub const USER_BUSY: u8 = 17;
+/// Cause: no user responding.
+pub const NO_USER_RESPONDING: u8 = 18;
+/// Cause: invalid number format, which is an incomplete number too.
+pub const INVALID_NUMBER: u8 = 28;
 /// Cause: response to STATUS ENQUIRY.
 pub const RESPONSE_TO_STATUS_ENQUIRY: u8 = 30;
 /// Cause: temporary failure.
@@ -97,3 +101,5 @@ pub const INVALID_CALL_REFERENCE: u8 = 81;
 pub const TYPE_NOT_IMPLEMENTED: u8 = 97;
 /// Cause: message not compatible with call state.
 pub const NOT_COMPATIBLE_WITH_STATE: u8 = 101;
+/// Cause: recovery on timer expiry.
+pub const TIMER_EXPIRY: u8 = 102;

@@ -3,7 +3,8 @@
 //!
 //! [`draw_traffic`] looks at the legs of a plain exchange that takes the same events, so that most
 //! messages are expected ones, and calls come far. The rest are unexpected, damaged or no messages
-//! at all. [`Counts`] tells how often each course of a message came, and [`is_lawful`] which orders the
+//! at all. In some traces frames come in runs, so that legs wait too long. [`Counts`] tells how often each
+//! course of a message came, [`Expiries`] how often each timer ran out, and [`is_lawful`] which orders the
 //! events of a trace may take. It is proved safe; no clause says what is drawn.
 //!
 //! It uses `circuit_model` and `test_exchange`.
@@ -11,6 +12,7 @@
 
 mod counts;
 mod dialling;
+mod expiries;
 mod orders;
 mod random;
 mod script;
@@ -18,6 +20,7 @@ mod traffic;
 mod users;
 
 pub use counts::Counts;
+pub use expiries::Expiries;
 pub use orders::{MOST_WORKERS, is_lawful, of_event};
 pub use random::Random;
 pub use script::{Post, Script};

@@ -3,13 +3,15 @@
 ghost use Rattle.std.specs.Prelude.{◌<◌};
 
 use crate::counts::Counts;
+use crate::expiries::Expiries;
 use crate::random::Random;
 use crate::script::Script;
 use crate::users::draw_message;
 use circuit_model::Slot;
 use std::alloc::{AllocError, Global};
 use test_exchange::{
-    Chains, Number, PlainEvent, PlainExchange, PlainRun, PlainTones, Target, append_octets,
+    Chains, Number, PlainEvent, PlainExchange, PlainRun, PlainTimers, PlainTones, Target,
+    append_octets,
 };
 
 /// A trace of calls, and what the plain exchange makes of it in file order.
@@ -27,6 +29,8 @@ pub struct Drawn {
     pub chains: Chains,
     /// How often ringing tone and busy tone were put on a slot.
     pub sounded: (u32, u32),
+    /// What was done for legs that had waited too long.
+    pub expiries: Expiries,
 }
 
 // How many internal slots a fabric has: one where paths may have to move, and one where none ever does.
@@ -99,6 +103,47 @@ fn append_tone(text: &mut String, name: &str, octets: &[u8]) -> Result<(), Alloc
     text.push_str("\n")
 }
 
+// A timer: mostly of a few frames, else of the usual number or of the most that a trace can give.
+fn draw_timer(random: &mut Random, usual: u32) -> u32 {
+    match random.below(8) {
+        0 => usual,
+        1 => 999_999_999,
+        _ => 1 + u32::from(random.below(3)),
+    }
+}
+
+// The usual timers, or some that run out.
+fn draw_timers(random: &mut Random) -> PlainTimers {
+    let usual = PlainTimers::usual();
+    if random.once_in(5) {
+        return usual;
+    }
+    PlainTimers {
+        t302: draw_timer(random, usual.t302),
+        t303: draw_timer(random, usual.t303),
+        t305: draw_timer(random, usual.t305),
+        t308: draw_timer(random, usual.t308),
+        t310: draw_timer(random, usual.t310),
+    }
+}
+
+// Adds the timers that haven't their usual values.
+fn append_timers(text: &mut String, timers: &PlainTimers) -> Result<(), AllocError> {
+    let usual = PlainTimers::usual();
+    for (name, frames, usual) in [
+        ("T302", timers.t302, usual.t302),
+        ("T303", timers.t303, usual.t303),
+        ("T305", timers.t305, usual.t305),
+        ("T308", timers.t308, usual.t308),
+        ("T310", timers.t310, usual.t310),
+    ] {
+        if frames != usual {
+            write!(text, "timer {name} {frames}\n")?;
+        }
+    }
+    Ok(())
+}
+
 /// How often segments end: after an event once in n times. With 1 each event has a segment of
 /// its own, and with 255 most traces are one segment.
 pub fn draw_pace(random: &mut Random) -> u8
@@ -114,13 +159,14 @@ pub fn draw_pace(random: &mut Random) -> u8
     }
 }
 
-/// The lines, numbers and tones of a trace.
+/// The lines, numbers, tones and timers of a trace.
 #[derive(Drop)]
 pub struct Setting {
     external: u8,
     bridges: u8,
     numbers: Vec<Number>,
     tones: PlainTones,
+    timers: PlainTimers,
 }
 
 impl Setting {
@@ -140,6 +186,7 @@ impl Setting {
                 ringback: draw_tone(alloc, random)?,
                 busy: draw_tone(alloc, random)?,
             },
+            timers: draw_timers(random),
         })
     }
 
@@ -160,6 +207,7 @@ impl Setting {
         append_numbers(&mut text, self.numbers.as_slice())?;
         append_tone(&mut text, "ringback", self.tones.ringback.as_slice())?;
         append_tone(&mut text, "busy", self.tones.busy.as_slice())?;
+        append_timers(&mut text, &self.timers)?;
         Ok(text)
     }
 
@@ -175,13 +223,22 @@ impl Setting {
             ringback: Vec::from_slice(alloc, self.tones.ringback.as_slice())?,
             busy: Vec::from_slice(alloc, self.tones.busy.as_slice())?,
         };
-        Ok(PlainExchange::new(alloc, slots, self.external, self.bridges, numbers, tones))
+        let exchange = PlainExchange::new(
+            alloc,
+            slots,
+            self.external,
+            self.bridges,
+            numbers,
+            tones,
+        );
+        Ok(exchange.with_timers(self.timers))
     }
 }
 
 /// Draws a trace of n events, for one to eight call processors: calls on several lines with the
 /// replies of both sides, beside nails, seats, frees and frames. Some traces begin with a line that is all
-/// but full, or with many nails; some give tones. The users act on what happens in file order.
+/// but full, or with many nails; in some frames come in runs of thirty and more; most give tones, and timers
+/// of few frames. The users act on what happens in file order.
 pub fn draw_traffic(alloc: Global, random: &mut Random, events: u32) -> Result<Drawn, AllocError> {
     let setting = Setting::draw(alloc, random)?;
     let processors = 1 + random.below(8);
@@ -189,9 +246,14 @@ pub fn draw_traffic(alloc: Global, random: &mut Random, events: u32) -> Result<D
     let mut script = Script::new(alloc, setting.header(alloc, processors)?, processors);
     let mut run = PlainRun::new(alloc, setting.exchange(alloc, false)?);
     let mut counts = Counts::new();
-    let crowd = Crowd::draw(random);
+    let mut pauses = Pauses::draw(random);
+    let crowd = Crowd::draw(random, &pauses);
     for number in 0..events {
-        let event = draw_next(alloc, random, crowd, number, run.exchange())?;
+        let event = if pauses.has_frame(random) {
+            draw_pause(alloc, random, run.exchange().external())?
+        } else {
+            draw_next(alloc, random, crowd, number, run.exchange())?
+        };
         if let Some(course) = run.step(alloc, &event)? {
             counts.note(course);
         }
@@ -204,6 +266,7 @@ pub fn draw_traffic(alloc: Global, random: &mut Random, events: u32) -> Result<D
         moved: run.paths_moved(),
         chains: run.exchange().chains(),
         sounded: run.exchange().tones_given(),
+        expiries: Expiries::of(run.exchange().expired()),
     })
 }
 
@@ -232,15 +295,56 @@ struct Crowd {
 }
 
 impl Crowd {
-    fn draw(random: &mut Random) -> Crowd
+    // None where the users pause.
+    fn draw(random: &mut Random, pauses: &Pauses) -> Crowd
         ensures { result.within < 16 }
     {
         let (within, circuits) = match random.below(4) {
+            _ if pauses.times > 0 => (0, 0),
             0 => (0, 0),
             1 => (10 + random.below(6), 0),
             _ => (0, 60 + random.below(100)),
         };
         Crowd { within, circuits }
+    }
+}
+
+// Runs of frames: one begins once in n events, never with 0, and has these left.
+#[derive(Drop)]
+struct Pauses {
+    times: u8,
+    left: u8,
+}
+
+impl Pauses {
+    fn draw(random: &mut Random) -> Pauses {
+        Pauses {
+            times: random.pick(&[0, 0, 40]),
+            left: 0,
+        }
+    }
+
+    // Whether the next event is a frame of a run, which has thirty at least: in thirty each place has its turn.
+    fn has_frame(&mut self, random: &mut Random) -> bool {
+        if self.left > 0 {
+            self.left -= 1;
+            return true;
+        }
+        if self.times > 0 && random.once_in(self.times) {
+            self.left = 29 + random.below(60);
+            return true;
+        }
+        false
+    }
+}
+
+// A frame of a run, mostly one in which nothing arrives.
+fn draw_pause(alloc: Global, random: &mut Random, lines: u8) -> Result<PlainEvent, AllocError> {
+    if random.once_in(8) {
+        draw_frame(alloc, random, lines)
+    } else {
+        let input = vec![in alloc; None; usize::from(lines)]?;
+        Ok(PlainEvent::Frame(input))
     }
 }
 

@@ -1,0 +1,68 @@
+// What is done in the turn of a frame for the legs that have waited too long.
+
+static void send_again(Slot x) {
+    leg(x)->resent = 1;
+    wait(x);
+    put_text((const char *)kept[x.line][x.place].text, kept[x.line][x.place].length);
+}
+
+static void give_up(Slot x) {
+    Leg l = *leg(x);
+    remove_leg(x);
+    put_to(x, &l, RELEASE_COMPLETE);
+    put_cause(TIMER_EXPIRY);
+}
+
+// The slot isn't cleared: a tone that is heard goes on.
+static void ask_for_release(Slot x) {
+    size_t from = out_len;
+    enter(x, RELEASE_REQUEST);
+    put_to(x, leg(x), RELEASE);
+    put_cause(leg(x)->cause);
+    keep(x, from);
+}
+
+static void clear_caller(Leg l) {
+    if (l.peer != LEG) return;
+    put(" send");
+    clear_leg(l.other, NO_USER_RESPONDING);
+}
+
+static void run_out(Slot x) {
+    Leg l = *leg(x);
+    if (l.state == RELEASE_REQUEST && l.resent) {
+        remove_leg(x);
+        return;
+    }
+    put(" send");
+    switch (l.state) {
+    case OVERLAP_SENDING: clear_leg(x, INVALID_NUMBER); break;
+    case DISCONNECT_INDICATION: ask_for_release(x); break;
+    case INCOMING_PROCEEDING: clear_leg(x, TIMER_EXPIRY); clear_caller(l); break;
+    default:
+        if (l.resent) {
+            give_up(x);
+            clear_caller(l);
+        } else {
+            send_again(x);
+        }
+    }
+}
+
+// Behind a frame, whose octets begin here in the report: what is sent is reported before them. What a slot hears is
+// that of the world before, so they are written first.
+static void expire(size_t octets) {
+    static uint8_t said[EXTERNAL * 2 * CELLS];
+    uint32_t f = frame_number - 1, next = NEVER;
+    unsigned place = f % PLACES;
+    if (none_before[place] > f) return;
+    size_t length = out_len - octets;
+    memcpy(said, out + octets, length);
+    out_len = octets;
+    for (unsigned line = 0; line < external; line++)
+        if (due(&legs[line][place]) <= f) run_out((Slot){ line, place });
+    for (unsigned line = 0; line < external; line++)
+        if (due(&legs[line][place]) < next) next = due(&legs[line][place]);
+    none_before[place] = next;
+    put_text((const char *)said, length);
+}

@@ -1,0 +1,208 @@
+//! The timers of calls, as this plain program counts them: each leg says since which frame it has waited.
+
+use crate::exchange::PlainExchange;
+use crate::legs::{Leg, State, leg_at};
+use crate::sent::Sent;
+use crate::types::{INVALID_NUMBER, NO_USER_RESPONDING, RELEASE, RELEASE_COMPLETE, TIMER_EXPIRY};
+use crate::writing::{add_cause, bare_message};
+use circuit_model::{PLACES, Slot};
+use std::alloc::{AllocError, Global};
+
+// Frames in a second.
+const SECOND: u32 = 8000;
+
+/// How many frames a leg may wait, by the timers of ITU-T Q.931 (05/98), 9.1.
+#[derive(Clone, Copy)]
+pub struct PlainTimers {
+    /// For more digits.
+    pub t302: u32,
+    /// For any answer to a SETUP.
+    pub t303: u32,
+    /// For the RELEASE that answers a DISCONNECT.
+    pub t305: u32,
+    /// For the answer to a RELEASE.
+    pub t308: u32,
+    /// For what follows the called user's CALL PROCEEDING.
+    pub t310: u32,
+}
+
+impl PlainTimers {
+    /// What a trace has that gives no timer.
+    pub fn usual() -> PlainTimers {
+        PlainTimers {
+            t302: 15 * SECOND,
+            t303: 4 * SECOND,
+            t305: 30 * SECOND,
+            t308: 4 * SECOND,
+            t310: 10 * SECOND,
+        }
+    }
+}
+
+/// What is done for a leg that has waited too long.
+#[derive(Clone, Copy, PartialEq, Eq)]
+pub enum Expiry {
+    /// A caller who dials in parts is cleared.
+    Digits,
+    /// SETUP is sent once more.
+    SetupAgain,
+    /// The called user, who was sent SETUP twice, is given up.
+    SetupOver,
+    /// The called user, who has been silent since its CALL PROCEEDING, is cleared.
+    Proceeding,
+    /// RELEASE follows DISCONNECT.
+    Disconnect,
+    /// RELEASE is sent once more.
+    ReleaseAgain,
+    /// The leg, whose user was sent RELEASE twice, is gone.
+    ReleaseOver,
+}
+
+/// An expiry in the turn of a frame.
+#[derive(Clone, Copy)]
+pub struct Expired {
+    /// The number of the frame.
+    pub frame: u32,
+    /// The slot of the leg.
+    pub at: Slot,
+    /// What was done.
+    pub expiry: Expiry,
+}
+
+/// What was sent to the user at a slot and may have to be sent again.
+#[derive(Drop)]
+pub(crate) struct Kept {
+    at: Slot,
+    octets: Vec<u8>,
+}
+
+// How long a leg may wait in its state, and what is done then.
+fn limit(leg: Leg, timers: PlainTimers) -> Option<(u32, Expiry)> {
+    match leg.state {
+        State::Overlap => Some((timers.t302, Expiry::Digits)),
+        State::Present if leg.resent => Some((timers.t303, Expiry::SetupOver)),
+        State::Present => Some((timers.t303, Expiry::SetupAgain)),
+        State::Incoming => Some((timers.t310, Expiry::Proceeding)),
+        State::Disconnected => Some((timers.t305, Expiry::Disconnect)),
+        State::Releasing if leg.resent => Some((timers.t308, Expiry::ReleaseOver)),
+        State::Releasing => Some((timers.t308, Expiry::ReleaseAgain)),
+        State::CallProceeding | State::Delivered | State::Alerted | State::Active => None,
+    }
+}
+
+impl PlainExchange {
+    /// Looks at one place of each line behind the boundary of a frame, and does what is due of the legs there.
+    pub(crate) fn expire(
+        &mut self,
+        alloc: Global,
+        frame: u32,
+        sent: &mut Sent,
+    ) -> Result<(), AllocError> {
+        let place = (frame % u32::from(PLACES)) as u8;
+        for line in 0..self.external {
+            let at = Slot { line, place };
+            if let Some((leg, expiry)) = self.due(at, frame) {
+                let calls = self.calls(alloc)?;
+                self.run_out(alloc, leg, expiry, sent)?;
+                for call in &calls {
+                    self.tell_if_ended(*call, NO_USER_RESPONDING, sent)?;
+                }
+                self.expired.push(Expired { frame, at, expiry })?;
+            }
+        }
+        Ok(())
+    }
+
+    // The leg at a slot, where it has waited long enough for something to be done.
+    fn due(&self, at: Slot, frame: u32) -> Option<(Leg, Expiry)> {
+        let leg = leg_at(self.legs(), at)?;
+        let (frames, expiry) = limit(leg, self.timers)?;
+        let waited = frame.checked_sub(leg.since)?;
+        if waited < frames {
+            return None;
+        }
+        Some((leg, expiry))
+    }
+
+    fn run_out(
+        &mut self,
+        alloc: Global,
+        leg: Leg,
+        expiry: Expiry,
+        sent: &mut Sent,
+    ) -> Result<(), AllocError> {
+        match expiry {
+            Expiry::Digits => self.clear_leg(alloc, leg, INVALID_NUMBER, sent),
+            Expiry::SetupAgain | Expiry::ReleaseAgain => self.send_again(alloc, leg, sent),
+            Expiry::SetupOver => {
+                self.remove(leg);
+                let mut octets = bare_message(alloc, leg.side, leg.reference, RELEASE_COMPLETE)?;
+                add_cause(&mut octets, TIMER_EXPIRY)?;
+                sent.send(leg.at.line, octets)?;
+                self.clear_peer(alloc, leg, NO_USER_RESPONDING, sent)
+            }
+            Expiry::Proceeding => {
+                self.clear_leg(alloc, leg, TIMER_EXPIRY, sent)?;
+                self.clear_peer(alloc, leg, NO_USER_RESPONDING, sent)
+            }
+            Expiry::Disconnect => {
+                self.set_state(leg, State::Releasing);
+                self.send_release(alloc, leg, Some(leg.cause), sent)
+            }
+            Expiry::ReleaseOver => {
+                self.remove(leg);
+                Ok(())
+            }
+        }
+    }
+
+    // The last message once more.
+    fn send_again(&mut self, alloc: Global, leg: Leg, sent: &mut Sent) -> Result<(), AllocError> {
+        let since = self.next_frame();
+        for held in self.legs.iter_mut() {
+            if held.at == leg.at {
+                held.since = since;
+                held.resent = true;
+            }
+        }
+        if let Some(kept) = self.kept.iter().find(|kept| kept.at == leg.at) {
+            let octets = Vec::from_slice(alloc, kept.octets.as_slice())?;
+            sent.send(leg.at.line, octets)?;
+        }
+        Ok(())
+    }
+
+    /// Sends RELEASE to the user of a leg, with a cause or without, and keeps it.
+    pub(crate) fn send_release(
+        &mut self,
+        alloc: Global,
+        leg: Leg,
+        cause: Option<u8>,
+        sent: &mut Sent,
+    ) -> Result<(), AllocError> {
+        let mut octets = bare_message(alloc, leg.side, leg.reference, RELEASE)?;
+        if let Some(cause) = cause {
+            add_cause(&mut octets, cause)?;
+        }
+        self.send_and_keep(alloc, leg.at, octets, sent)
+    }
+
+    /// Sends a message to the user at a slot, and keeps it.
+    pub(crate) fn send_and_keep(
+        &mut self,
+        alloc: Global,
+        at: Slot,
+        octets: Vec<u8>,
+        sent: &mut Sent,
+    ) -> Result<(), AllocError> {
+        self.drop_kept(at);
+        let copy = Vec::from_slice(alloc, octets.as_slice())?;
+        self.kept.push(Kept { at, octets: copy })?;
+        sent.send(at.line, octets)
+    }
+
+    /// Forgets what was kept for a slot.
+    pub(crate) fn drop_kept(&mut self, at: Slot) {
+        self.kept.retain(|kept| kept.at != at);
+    }
+}
