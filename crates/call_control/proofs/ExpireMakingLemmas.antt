@@ -65,6 +65,6 @@ pub nothing_due : (s : Setting) (frame place : ℕ) (timers : Timers) (w : World
 nothing_due s frame place timers w map legs sends moved told holds no_sends no_moves no_told same_timers at none =
     let here : NoneDue s.timers legs.held (frame % 30) frame = subst (λ (p : ℕ). NoneDue s.timers legs.held p frame) at (subst (λ (t : Timers). NoneDue t legs.held place frame) (sym same_timers) none) in
     let quiet : (line : ℕ) → IfSome (leg_at w.legs (slot_looked_at frame line)) (λ leg. due_of s.timers frame leg ≡ None) = λ line.
-        subst (λ (ls : Legs). IfSome (leg_at ls (slot_looked_at frame line)) (λ leg. due_of s.timers frame leg ≡ None)) holds.legs_are (here line) in
+    subst (λ (ls : Legs). IfSome (leg_at ls (slot_looked_at frame line)) (λ leg. due_of s.timers frame leg ≡ None)) holds.legs_are (here line) in
     subst (λ (b : MessageOutcome). Makes s.dimensions map legs sends moved b.making × (told ≡ b.recorded)) (sym (none_due s frame w quiet s.dimensions.external))
     (record { holds = holds; sent = no_sends; moves = no_moves }, no_told)

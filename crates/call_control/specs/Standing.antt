@@ -1,7 +1,11 @@
 -- The world that a map of circuits and a table of legs hold. Source: this exchange's own.
 use Rattle.std.specs.Prelude.{◌≡◌, ℕ, List, Option}
 use Rattle.circuit_map.specs.Connections.{Connections, Represents}
+use Rattle.circuit_model.specs.declared.channel.Slot.{Slot}
+use Rattle.tone_rules.specs.declared.tones.Tones.{Tones}
+use Rattle.call_timers.specs.declared.timers.Timers.{Timers}
 use Rattle.exchange_events.specs.declared.signal.Signal.{Signal}
+use Rattle.call_profile.specs.Expiring.{expire_slot}
 use Rattle.call_profile.specs.Legs.{Legs}
 use Rattle.call_profile.specs.Operations.{Operation, Making, making_after_all}
 use Rattle.exchange_events.specs.declared.outbox.Outbox.{Outbox}
@@ -48,6 +52,12 @@ abbrev pub PerformsBy : (Legs → List Operation) → Connections → Legs → O
 PerformsBy operations map legs out map' legs' out' =
     (d : Dimensions) (m : Making) → Makes d map legs out.sends out.moved m
     → Makes d map' legs' out'.sends out'.moved (making_after_all d m (operations m.world.legs))
+
+-- so was what is asked for in a frame where the timer of the leg at a slot has run out, with these tones and timers
+abbrev pub Expires : Tones → Timers → ℕ → Slot → Connections → Legs → Outbox → Connections → Legs → Outbox → Type 0
+Expires tones timers frame x map legs out map' legs' out' =
+    (s : Setting) (m : Making) → s.tones ≡ tones → s.timers ≡ timers → Makes s.dimensions map legs out.sends out.moved m
+    → Makes s.dimensions map' legs' out'.sends out'.moved (making_after_all s.dimensions m (expire_slot s frame m.world.legs x))
 
 -- so were these, without anything sent or moved
 abbrev pub PerformsQuietly : List Operation → Connections → Legs → Connections → Legs → Type 0

@@ -7,17 +7,16 @@ ghost use Rattle.q931_codec.specs.Outgoing.{outgoing_of};
 ghost use Rattle.call_states.specs.Acts.{is_among};
 ghost use Rattle.exchange_events.specs.Limits.{most_records, most_sends};
 ghost use Rattle.exchange_events.specs.Sizes.{Setting, Dimensions};
-ghost use Rattle.q931_codec.specs.Causes.{no_user_responding, recovery_on_timer_expiry};
-ghost use Rattle.call_profile.specs.Acts.{clear_with, message_to, peer_of};
+ghost use Rattle.q931_codec.specs.Causes.{no_user_responding};
+ghost use Rattle.call_profile.specs.Acts.{message_to, peer_of};
 ghost use Rattle.call_profile.specs.EndedCalls.{record_ended, record_of_expiry, expired_records};
-ghost use Rattle.call_profile.specs.Expiring.{timed_state, send_again, give_up, ask_for_release, clear_peer, on_expiry, expire_slot, outcome_of_lines};
+ghost use Rattle.call_profile.specs.Expiring.{timed_state, send_again, give_up, ask_for_release, setup_over, proceeding_over, on_expiry, outcome_of_lines};
 ghost use Rattle.call_profile.specs.KeptMessages.{awaiting_answer};
 ghost use Rattle.call_profile.specs.Legs.{kept_at, resent_from};
-ghost use Rattle.call_profile.specs.Operations.{making_after_all, Making};
 ghost use Rattle.call_profile.specs.Peers.{IsThere, PeerIsThere};
 ghost use Rattle.call_profile.specs.World.{World};
 ghost use Rattle.call_control.specs.AtWork.{IsInOrder, EachInOrder};
-ghost use Rattle.call_control.specs.Standing.{Holds, HasMade, Makes, Performs};
+ghost use Rattle.call_control.specs.Standing.{Expires, Holds, HasMade, Performs};
 
 use crate::acts::in_release_request;
 use crate::operations::CallControl;
@@ -87,19 +86,11 @@ impl<P: PathMap> CallControl<P> {
     }
 
     // Looks at the leg that holds a slot, where one does.
-    fn expire_slot(
-        &mut self,
-        out: &mut Outbox,
-        tones: &Tones,
-        timers: &Timers,
-        frame: u32,
-        x: Slot,
-    )
+    fn expire_slot(&mut self, out: &mut Outbox, tones: &Tones, timers: &Timers, frame: u32, x: Slot)
         requires work { (s : Setting) × (w : World) × (s.tones ≡ tones.now) × (s.timers ≡ timers.now) × IsInOrder s self.old.map self.old.legs w }
         requires external { IsExternal self.old.map.external x }
         requires room { (length out.old.sends + 1 < most_sends) × (length out.old.records < most_records) }
-        ensures makes { (s : Setting) (m : Making) → s.tones ≡ tones.now → s.timers ≡ timers.now → Makes s.dimensions self.old.map self.old.legs out.old.sends out.old.moved m
-            → Makes s.dimensions self.new.map self.new.legs out.new.sends out.new.moved (making_after_all s.dimensions m (expire_slot s frame m.world.legs x)) }
+        ensures makes { Expires tones.now timers.now frame x self.old.map self.old.legs out.old self.new.map self.new.legs out.new }
         ensures records { (s : Setting) (w : World) → s.timers ≡ timers.now → Holds s.dimensions self.old.map self.old.legs w
             → out.new.records ≡ out.old.records ++ expired_records s frame w x }
         ensures few { (length out.new.sends ≤ length out.old.sends + 2) × (length out.new.records ≤ length out.old.records + 1) }
@@ -182,7 +173,7 @@ impl<P: PathMap> CallControl<P> {
         requires peer { peer ≡ peer_of self.old.legs held.leg.peer }
         requires peer_there { PeerIsThere self.old.map.external held peer }
         requires room { (length out.old.sends + 1 < most_sends) × (length out.old.records < most_records) }
-        ensures makes { Performs (give_up held ++ clear_peer tones.now self.old.legs held) self.old.map self.old.legs out.old self.new.map self.new.legs out.new }
+        ensures makes { Performs (setup_over tones.now self.old.legs held) self.old.map self.old.legs out.old self.new.map self.new.legs out.new }
         ensures records { (d : Dimensions) (w : World) → Holds d self.old.map self.old.legs w
             → out.new.records ≡ out.old.records ++ cons_option (record_ended w held no_user_responding) [] }
         ensures few { (length out.new.sends ≤ length out.old.sends + 2) × (length out.new.records ≤ length out.old.records + 1) }
@@ -202,7 +193,7 @@ impl<P: PathMap> CallControl<P> {
         requires peer { peer ≡ peer_of self.old.legs held.leg.peer }
         requires peer_there { PeerIsThere self.old.map.external held peer }
         requires room { (length out.old.sends + 1 < most_sends) × (length out.old.records < most_records) }
-        ensures makes { Performs (clear_with tones.now recovery_on_timer_expiry held ++ clear_peer tones.now self.old.legs held) self.old.map self.old.legs out.old self.new.map self.new.legs out.new }
+        ensures makes { Performs (proceeding_over tones.now self.old.legs held) self.old.map self.old.legs out.old self.new.map self.new.legs out.new }
         ensures records { (d : Dimensions) (w : World) → Holds d self.old.map self.old.legs w
             → out.new.records ≡ out.old.records ++ cons_option (record_ended w held no_user_responding) [] }
         ensures few { (length out.new.sends ≤ length out.old.sends + 2) × (length out.new.records ≤ length out.old.records + 1) }
@@ -228,7 +219,11 @@ impl<P: PathMap> CallControl<P> {
         ensures sizes { SameSizes self.old.map self.new.map }
     {
         self.remove_leg(held);
-        let message = with_cause(&held.leg, MessageKind::ReleaseComplete, RECOVERY_ON_TIMER_EXPIRY);
+        let message = with_cause(
+            &held.leg,
+            MessageKind::ReleaseComplete,
+            RECOVERY_ON_TIMER_EXPIRY,
+        );
         send(out, held.slot.line, &message);
     }
 

@@ -46,11 +46,19 @@ ask_for_release h = Expect h.slot (in_release_request h.leg) (release_for h.leg 
 abbrev pub clear_peer : Tones → Legs → Held → List Operation
 clear_peer tones legs h = with_peer (peer_of legs h.leg.peer) (clear_with tones no_user_responding)
 
+-- the called user didn't answer the SETUP, sent twice
+abbrev pub setup_over : Tones → Legs → Held → List Operation
+setup_over tones legs h = give_up h ++ clear_peer tones legs h
+
+-- it is neither alerted nor answers, so that both legs are cleared
+abbrev pub proceeding_over : Tones → Legs → Held → List Operation
+proceeding_over tones legs h = clear_with tones recovery_on_timer_expiry h ++ clear_peer tones legs h
+
 abbrev pub on_expiry : Tones → Legs → Held → Expiry → List Operation
 on_expiry tones legs h expiry.Digits = clear_with tones invalid_number_format h
 on_expiry tones legs h expiry.SetupAgain = send_again h (kept_at legs h.slot)
-on_expiry tones legs h expiry.SetupOver = give_up h ++ clear_peer tones legs h
-on_expiry tones legs h expiry.Proceeding = clear_with tones recovery_on_timer_expiry h ++ clear_peer tones legs h
+on_expiry tones legs h expiry.SetupOver = setup_over tones legs h
+on_expiry tones legs h expiry.Proceeding = proceeding_over tones legs h
 on_expiry tones legs h expiry.Disconnect = ask_for_release h
 on_expiry tones legs h expiry.ReleaseAgain = send_again h (kept_at legs h.slot)
 on_expiry tones legs h expiry.ReleaseOver = remove_leg h
