@@ -132,7 +132,8 @@ impl<P: PathMap> CallControl<P> {
         ensures map { self.new.map ≡ self.old.map }
         ensures makes { PerformsQuietly (Wait x leg pending ∷ []) self.old.map self.old.legs self.new.map self.new.legs }
     {
-        self.legs.wait(x, from_frame(self.map.next_frame(), leg), pending);
+        self.legs
+            .wait(x, from_frame(self.map.next_frame(), leg), pending);
     }
 
     /// Lets a leg hold a slot from the next frame on, in place of any other; this message goes to its user, and is
