@@ -8,4 +8,5 @@ pub mod AtWorkLemmas
 pub mod ActMakingLemmas
 pub mod SetupMakingLemmas
 pub mod RestartMakingLemmas
+pub mod ExpireMakingLemmas
 pub mod DigitsMakingLemmas

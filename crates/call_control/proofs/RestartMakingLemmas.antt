@@ -31,14 +31,18 @@ there_of : (external : ℕ) (h : Held) (o : Option Held) → PeerIsThere externa
 there_of external h None is = tt
 there_of external h (Some other) is = is.0
 
-pub peer_there : (d : Dimensions) (tones : Tones) (map : Connections) (legs : Legs) (w : World) → Holds d map legs w → LegsStand d.external tones w → (h : Held) → IsExternal map.external h.slot
-    → leg_at legs h.slot ≡ Some h.leg → (o : Option Held) → o ≡ peer_of legs h.leg.peer → IfSome o (λ other. IsThere map.external other)
-peer_there d tones map legs w holds stand h within at o is =
+pub peer_is_there : (d : Dimensions) (tones : Tones) (map : Connections) (legs : Legs) (w : World) → Holds d map legs w → LegsStand d.external tones w → (h : Held) → IsExternal map.external h.slot
+    → leg_at legs h.slot ≡ Some h.leg → (o : Option Held) → o ≡ peer_of legs h.leg.peer → PeerIsThere map.external h o
+peer_is_there d tones map legs w holds stand h within at o is =
     let size : map.external ≡ d.external = ap (λ (e : Dimensions). e.external) holds.sizes in
     let in_world : IsExternal d.external h.slot = subst (λ n. IsExternal n h.slot) size within in
     let at_world : leg_at w.legs h.slot ≡ Some h.leg = ap (λ ls. leg_at ls h.slot) (sym holds.legs_are) ∙ at in
     let there = subst (λ n. PeerIsThere n h (peer_of w.legs h.leg.peer)) (sym size) (peer_there_too d.external tones w h stand in_world at_world) in
-    there_of map.external h o (subst (PeerIsThere map.external h) (sym (is ∙ ap (λ ls. peer_of ls h.leg.peer) holds.legs_are)) there)
+    subst (PeerIsThere map.external h) (sym (is ∙ ap (λ ls. peer_of ls h.leg.peer) holds.legs_are)) there
+
+pub peer_there : (d : Dimensions) (tones : Tones) (map : Connections) (legs : Legs) (w : World) → Holds d map legs w → LegsStand d.external tones w → (h : Held) → IsExternal map.external h.slot
+    → leg_at legs h.slot ≡ Some h.leg → (o : Option Held) → o ≡ peer_of legs h.leg.peer → IfSome o (λ other. IsThere map.external other)
+peer_there d tones map legs w holds stand h within at o is = there_of map.external h o (peer_is_there d tones map legs w holds stand h within at o is)
 
 pub external_of : (external : ℕ) (o : Option Held) → IfSome o (λ other. IsThere external other) → IfSome o (λ other. IsExternal external other.slot)
 external_of external None is = tt

@@ -3,8 +3,10 @@ use Rattle.std.specs.Prelude.{◌≡◌, List}
 use Rattle.number_plan.specs.declared.plan.Number.{Number}
 use Rattle.tone_rules.specs.declared.tones.Tones.{Tones}
 use Rattle.circuit_map.specs.Connections.{Connections}
+use Rattle.circuit_model.specs.Holding.{Valid}
+use Rattle.call_timers.specs.declared.timers.Timers.{Timers}
 use Rattle.call_profile.specs.Legs.{Legs}
-use Rattle.call_profile.specs.LegStanding.{CallsStand}
+use Rattle.call_profile.specs.LegStanding.{CallsStand, LegsStand}
 use Rattle.exchange_events.specs.Sizes.{Setting}
 use Rattle.exchange_events.specs.Sound.{IsPlanned}
 use Rattle.call_control.specs.Standing.{Holds}
@@ -30,3 +32,13 @@ EachWithTones tones map legs Says = (s : Setting) (w : World) → s.tones ≡ to
 
 abbrev pub EachWithPlan : List Number → Connections → Legs → (Setting → World → Type 0) → Type 0
 EachWithPlan plan map legs Says = (s : Setting) (w : World) → s.plan ≡ plan → IsAtWork s map legs w → Says s w
+
+-- map and legs are those of this world, in which circuits and legs are consistent
+pub record IsInOrder (s : Setting) (map : Connections) (legs : Legs) (w : World) : Type 0 where
+  pub holds : Holds s.dimensions map legs w
+  pub circuits : Valid s.dimensions.bridges w.holding
+  pub stand : LegsStand s.dimensions.external s.tones w
+
+-- what is said of each setting with these tones and timers, and each such world
+abbrev pub EachInOrder : Tones → Timers → Connections → Legs → (Setting → World → Type 0) → Type 0
+EachInOrder tones timers map legs Says = (s : Setting) (w : World) → s.tones ≡ tones → s.timers ≡ timers → IsInOrder s map legs w → Says s w

@@ -252,6 +252,7 @@ impl<P: PathMap> CallControl<P> {
         ensures makes { Performs (with_peer peer (clear_with tones.now cause)) self.old.map self.old.legs out.old self.new.map self.new.legs out.new }
         ensures few { length out.new.sends ≤ length out.old.sends + 1 }
         ensures moved { out.new.moved ≡ out.old.moved }
+        ensures records { out.new.records ≡ out.old.records }
         ensures sizes { SameSizes self.old.map self.new.map }
     {
         if let Some(other) = peer {
@@ -266,8 +267,10 @@ impl<P: PathMap> CallControl<P> {
         requires room { length out.old.sends < most_sends }
         requires cause { cause < 128 }
         ensures makes { Performs (clear_with tones.now cause held) self.old.map self.old.legs out.old self.new.map self.new.legs out.new }
+        ensures count { length self.new.legs.held ≡ length self.old.legs.held }
         ensures few { length out.new.sends ≤ length out.old.sends + 1 }
         ensures moved { out.new.moved ≡ out.old.moved }
+        ensures records { out.new.records ≡ out.old.records }
         ensures sizes { SameSizes self.old.map self.new.map }
     {
         let alone = in_disconnect_indication(cause, held.leg);
@@ -287,8 +290,8 @@ fn in_state(state: u8, leg: Leg) -> Leg
     Leg { state, ..leg }
 }
 
-// The leg alone, asked to release its channel.
-fn in_release_request(leg: Leg) -> Leg
+/// The leg alone, asked to release its channel.
+pub(crate) fn in_release_request(leg: Leg) -> Leg
     ensures { result ≡ in_release_request leg }
 {
     Leg {

@@ -5,9 +5,10 @@
 //!   of it what its definition says.
 //! - Its `message` is answered as the profile says (`reply`), and makes the profile's next world
 //!   (`world`), whatever the octets are. It moves few paths (`few`), and takes no memory.
+//! - Its `expire` is the turn of a frame: what is done for the legs whose timers have run out (`makes`, `records`).
 //! - [`read_ahead`] reads of a message, before its turn, what its octets and the plan of numbers decide.
 //!
-//! It uses `circuit_model`, `control_memory`, `circuit_map`, `q931_codec`, `call_states`,
+//! It uses `circuit_model`, `control_memory`, `circuit_map`, `q931_codec`, `call_timers`, `call_states`,
 //! `clearing_rules`, `tone_rules`, `number_plan`, `exchange_events`, `call_profile` and `leg_table`, and the kit's
 //! `arrayvec`.
 #![tactic(auto)]
@@ -16,6 +17,7 @@ mod acts;
 mod asked;
 mod digits;
 mod ended_calls;
+mod expiring;
 mod messages;
 mod new_call;
 mod operations;

@@ -149,6 +149,7 @@ impl<P: PathMap> CallControl<P> {
         ensures count { length self.new.legs.held ≡ length self.old.legs.held }
         ensures sends { length out.new.sends ≡ length out.old.sends + 1 }
         ensures moved { out.new.moved ≡ out.old.moved }
+        ensures records { out.new.records ≡ out.old.records }
         ensures map { self.new.map ≡ self.old.map }
     {
         let octets = write(message);

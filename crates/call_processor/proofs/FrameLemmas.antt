@@ -27,7 +27,7 @@ use Rattle.call_profile.specs.Step.{next, world_after_all, events_of}
 use Rattle.exchange_core.specs.Working.{Entry, IsNumbered, IsOfSize, IsToolFor, ShowsWorld, order_of}
 use Rattle.call_profile.specs.World.{World, start, pass}
 use Rattle.call_profile.proofs.HistoryLemmas.{made, made_pass}
-use Rattle.call_profile.proofs.QuietEventLemmas.{SameFrames, same_self, then_same as same_then, quiet}
+use Rattle.call_profile.proofs.QuietEventLemmas.{SameFrames, same_self, then_same as same_then, quiet, passed_same}
 use Rattle.call_profile.proofs.RunLemmas.{few_events, world_next}
 use Rattle.exchange_core.proofs.StepLemmas.{fits_all, world_more}
 use Rattle.call_processor.specs.Parts.{does, is_its}
@@ -155,11 +155,13 @@ module _ {E : Type 0} (carries : Carrying E) (frames : E → ℕ) (sizes : E →
       → IsReady carries frames sizes board seen after (Image later)
   ready_after history seen by n input after image later number is size same carried count sized =
       let d = (setting_at board).dimensions in
-      let longer : world_at board seen ≡ pass (world_at board history) input =
+      let w = world_at board history in
+      let longer : world_at board seen ≡ next (setting_at board) w (Frame input) =
       ap (world_at board) is ∙ world_more (record { trace = board.trace; slots = board.slots; bound = board.bound; journal = history }) by n (Frame input) number in
+      let passed = passed_same (setting_at board) w input in
       record {
-        carried = subst (CarriesFrames carries after) (sym longer) carried;
-        number = subst (λ (v : World). frames after ≡ v.holding.next) (sym longer) count;
+        carried = subst (CarriesFrames carries after) (sym longer) (still_carried (pass w input) (next (setting_at board) w (Frame input)) after passed carried);
+        number = subst (λ (v : World). frames after ≡ v.holding.next) (sym longer) (count ∙ sym passed.next);
         sized = sized;
         image = record {
           external = omega (arith, size.external, same.external);

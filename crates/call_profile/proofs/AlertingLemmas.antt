@@ -1,5 +1,5 @@
 -- A called user's progress towards an answer, and the answer, keep the legs consistent.
-use Rattle.std.proofs.Common.{◌≡◌, ℕ, true, false, [], ◌∷◌, Option, Some, None, refl, sym, ◌∙◌, subst, arith, length-set}
+use Rattle.std.proofs.Common.{◌≡◌, ℕ, true, false, [], ◌∷◌, Option, Some, None, refl, sym, ◌∙◌, subst, arith, length-set, inl, inr}
 use Rattle.std.specs.Prelude.{IsTrue, ◌==◌}
 use Rattle.std.proofs.lemmas.Grind.{common_steps}
 use Rattle.circuit_model.specs.declared.channel.Slot.{Slot}
@@ -46,8 +46,10 @@ silent_waiting tones leg (Some (Tone kind to since)) waits may =
     let not_four : (leg.state == call_delivered) ≡ false = grind (arith, common_steps, waits) in
     let not_twelve : (leg.state == disconnect_indication) ≡ false = grind (arith, common_steps, waits) in
     let none = no_tone tones leg not_four not_twelve in
-    let wrong : None ≡ Some kind = sym none ∙ may in
-    absurd cc
+    elim may [
+      | inl sounds ↦ let wrong : None ≡ Some kind = sym none ∙ sounds in absurd cc
+      | inr left ↦ let is_left = left.0 in absurd (grind (arith, common_steps, waits, is_left))
+    ]
 silent_waiting tones leg (Some (Pair from to since)) waits may = absurd (grind (arith, common_steps, waits, may.0))
 silent_waiting tones leg (Some (Member room at since)) waits may = absurd (grind (arith, common_steps, waits, may.0))
 

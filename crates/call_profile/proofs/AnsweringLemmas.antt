@@ -1,5 +1,5 @@
 -- An answered call always finds both slots silent, and is connected.
-use Rattle.std.proofs.Common.{◌≡◌, ℕ, ◌<◌, Bool, true, false, List, [], ◌∷◌, ◌++◌, Option, Some, None, refl, sym, ◌∙◌, ap, arith, if◌then◌else◌}
+use Rattle.std.proofs.Common.{◌≡◌, ℕ, ◌<◌, Bool, true, false, List, [], ◌∷◌, ◌++◌, Option, Some, None, refl, sym, ◌∙◌, ap, arith, if◌then◌else◌, inl, inr}
 use Rattle.std.specs.Prelude.{Contains, ◌==◌}
 use Rattle.std.proofs.lemmas.Grind.{common_steps}
 use Rattle.std.proofs.lemmas.List.Elements.{Contains-append_right}
@@ -97,8 +97,10 @@ module _ (external : ℕ) (tones : Tones) (w : World) (x : Slot) (leg : Leg) (ri
       let not_four : (leg.state == call_delivered) ≡ false = grind (arith, common_steps, ringing_state) in
       let not_twelve : (leg.state == disconnect_indication) ≡ false = grind (arith, common_steps, ringing_state) in
       let none = no_tone tones leg not_four not_twelve in
-      let wrong : None ≡ Some k = sym none ∙ may in
-      absurd cc
+      elim may [
+        | inl sounds ↦ let wrong : None ≡ Some k = sym none ∙ sounds in absurd cc
+        | inr left ↦ let is_left = left.0 in absurd (grind (arith, common_steps, ringing_state, is_left))
+      ]
   silent_by (Some (Pair from to since)) may = absurd (grind (arith, common_steps, ringing_state, may.0))
   silent_by (Some (Member room to since)) may = absurd (grind (arith, common_steps, ringing_state, may.0))
 

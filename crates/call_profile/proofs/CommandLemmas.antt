@@ -10,7 +10,7 @@ use Rattle.circuit_model.proofs.Slots.{true_or_false}
 use Rattle.circuit_model.proofs.Validity.{valid-clear, valid-connect, valid-seat, valid-frame}
 use Rattle.call_states.specs.declared.leg.Leg.{Leg}
 use Rattle.tone_rules.specs.declared.tones.Tones.{Tones}
-use Rattle.exchange_events.specs.declared.trace.Event.TheVariants.{Nail, Seat, Free, Frame}
+use Rattle.exchange_events.specs.declared.trace.Event.TheVariants.{Nail, Seat, Free}
 use Rattle.exchange_events.specs.Sizes.{Setting, Dimensions}
 use Rattle.call_profile.specs.Step.{may_nail, may_seat, next}
 use Rattle.circuit_model.specs.FrameInput.{Input}
@@ -18,7 +18,7 @@ use Rattle.call_profile.specs.IdleSlots.{idle, is_nailed}
 use Rattle.call_profile.specs.LegStanding.{LegStands, LegsStand, HasPeer, MayHear}
 use Rattle.call_profile.specs.Legs.{Legs, leg_at}
 use Rattle.exchange_events.specs.Sound.{Fits}
-use Rattle.call_profile.specs.World.{World, obey, is_full}
+use Rattle.call_profile.specs.World.{World, obey, is_full, pass}
 use Rattle.call_profile.proofs.HearingLemmas.{IsStrange, clear_keeps, connect_keeps, seat_keeps}
 use Rattle.call_profile.proofs.ClearingLemmas.{Kept}
 
@@ -124,8 +124,8 @@ module _ (s : Setting) (w : World) (valid : Valid s.dimensions.bridges w.holding
     | inr not_now ↦ rw not_now (valid, stand)
   ]
 
-  pub frame_kept : (input : Input) → Kept s.dimensions s.tones (next s w (Frame input))
-  frame_kept input = (
+  pub pass_kept : (input : Input) → Kept s.dimensions s.tones (pass w input)
+  pass_kept input = (
     valid-frame s.dimensions.bridges w.holding valid,
-    still_stand s.dimensions.external s.tones w (next s w (Frame input)) refl stand (λ z l in_z at_z. refl),
+    still_stand s.dimensions.external s.tones w (pass w input) refl stand (λ z l in_z at_z. refl),
   )

@@ -24,6 +24,7 @@ use Rattle.clearing_rules.specs.UnknownReference.{answer_without_call}
 use Rattle.number_plan.specs.declared.plan.Number.{Number}
 use Rattle.call_profile.specs.ActCourse.{course_of}
 use Rattle.call_profile.specs.Calls.{Request, For_leg, New_call, On_no_call, Restarts, Unanswered, request_of, answer_back, outcome_for}
+use Rattle.call_profile.specs.Expiring.{slot_looked_at, expire_slot}
 use Rattle.call_profile.specs.IdleSlots.{idle, is_nailed}
 use Rattle.call_profile.specs.LegStanding.{CallsStand}
 use Rattle.q931_codec.specs.Outgoing.{encoding}
@@ -40,7 +41,8 @@ use Rattle.call_profile.specs.IsMade.{IsMade, HasOctets, ports_after_all}
 use Rattle.call_profile.specs.Step.{may_nail, may_seat, next, world_after_all}
 use Rattle.call_profile.specs.World.{World, start, obey, pass, is_full}
 use Rattle.call_profile.proofs.ClearingLemmas.{Kept}
-use Rattle.call_profile.proofs.CommandLemmas.{both_true}
+use Rattle.call_profile.proofs.CommandLemmas.{both_true, pass_kept}
+use Rattle.call_profile.proofs.ExpiringLemmas.{slot_may, slot_fine, each_line, place_within}
 use Rattle.call_profile.proofs.StandingLegLemmas.{start_stands, happened_kept}
 use Rattle.call_profile.proofs.PermittedLemmas.{act_may, call_may, answer_may}
 use Rattle.call_profile.proofs.RestartedSlotLemmas.{each_below}
@@ -193,6 +195,18 @@ module _ (s : Setting) (w : World) (line : ℕ) (octets : List ℕ) (planned : I
   made_received (Restarts r) is = made_restarted r
   made_received Unanswered is = made
 
+-- ---- a world after a frame
+
+made_turn : (s : Setting) (w : World) (input : Input) → CallsStand s w → IsMade s.dimensions s.tones w → IsMade s.dimensions s.tones (next s w (Frame_event input))
+made_turn s w input stands made =
+    let f : ℕ = w.holding.next in
+    (each_line s f (pass w input) (λ a. IsMade s.dimensions s.tones a.making.world × Kept s.dimensions s.tones a.making.world) (made_pass s.dimensions s.tones w made input, pass_kept s w stands.circuits stands.legs input) (λ a line small k.
+        let x : Slot = slot_looked_at f line in
+        let within = place_within s.dimensions.external f line small in (
+          made_performed_all s.dimensions s.tones s.plan a.making (expire_slot s f a.making.world.legs x) (slot_may s f a.making x k.1 within s.plan) k.0,
+          slot_fine s f a.making x k.1 within,
+        )) s.dimensions.external (omega arith)).0
+
 -- ---- a world after an event
 
 pub made_next : (s : Setting) (w : World) (e : Event) → IsPlanned s → Fits s.dimensions.external e → CallsStand s w → IsMade s.dimensions s.tones w → IsMade s.dimensions s.tones (next s w e)
@@ -217,7 +231,7 @@ made_next s w (Free x) planned fits stands made = elim (true_or_false (is_nailed
 ]
 made_next s w (Message line octets) planned fits stands made =
     made_received s w line octets planned fits stands made (request_of w.legs line octets) refl
-made_next s w (Frame_event input) planned fits stands made = made_pass s.dimensions s.tones w made input
+made_next s w (Frame_event input) planned fits stands made = made_turn s w input stands made
 
 pub made_start : (d : Dimensions) (tones : Tones) → IsMade d tones (start d)
 made_start d tones = record { commands = []; within = tt; allowed = tt; circuits = refl; ports = refl; held = refl; seated = refl; sounding = All-nil (HasOctets tones); arrived = refl }

@@ -1,5 +1,11 @@
 pub mod Permitted
 pub mod EarlierFrameLemmas
+pub mod ExpiryStateLemmas
+pub mod ExpiredLegLemmas
+pub mod BothDisconnectedLemmas
+pub mod ExpiringLemmas
+pub mod NoneDueLemmas
+pub mod ExpiredRecordLemmas
 pub mod GivenToneLemmas
 pub mod RestartedSlotLemmas
 pub mod RefusalLemmas

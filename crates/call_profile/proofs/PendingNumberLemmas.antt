@@ -3,6 +3,7 @@ use Rattle.std.proofs.Common.{◌≡◌, ℕ, zero, suc, ◌*◌, inl, inr, Bool
 use Rattle.std.specs.Prelude.{◌≤◌, IfSome, replicate, slice_set}
 use Rattle.std.proofs.lemmas.List.{length-replicate}
 use Rattle.circuit_model.specs.declared.channel.Slot.{Slot}
+use Rattle.circuit_model.specs.FrameInput.{Input}
 use Rattle.circuit_model.specs.Extent.{IsExternal}
 use Rattle.control_memory.specs.Layout.{number_of}
 use Rattle.control_memory.proofs.Steps.{same_number, number_inside}
@@ -19,6 +20,7 @@ use Rattle.exchange_events.specs.Sizes.{Setting, Dimensions}
 use Rattle.exchange_events.specs.Sound.{Fits, IsPlanned}
 use Rattle.call_profile.specs.ActCourse.{course_of}
 use Rattle.call_profile.specs.Calls.{Request, For_leg, New_call, On_no_call, Restarts, Unanswered, request_of, answer_back, outcome_for}
+use Rattle.call_profile.specs.Expiring.{slot_looked_at, expire_slot}
 use Rattle.call_profile.specs.IdleSlots.{is_nailed}
 use Rattle.call_profile.specs.Legs.{Legs, from_frame, resent_from, leg_at, pending_at, no_legs}
 use Rattle.call_profile.specs.LegStanding.{CallsStand}
@@ -32,6 +34,8 @@ use Rattle.call_profile.specs.Waiting.{IsWaiting, MayWait, NumbersPend}
 use Rattle.call_profile.specs.World.{World, pass}
 use Rattle.call_profile.proofs.BesideLemmas.{same_or_apart}
 use Rattle.call_profile.proofs.ClearingLemmas.{Kept}
+use Rattle.call_profile.proofs.CommandLemmas.{pass_kept}
+use Rattle.call_profile.proofs.ExpiringLemmas.{slot_may, slot_fine, each_line, place_within}
 use Rattle.call_profile.proofs.KeptMessageLemmas.{awaits_by, digits_keep_none, kept_from, kept_anew, kept_there, written_wait, wait_on}
 use Rattle.call_profile.proofs.ToneLemmas.{sounding_next}
 use Rattle.call_profile.proofs.Permitted.{IsPermitted, ArePermitted}
@@ -127,6 +131,19 @@ module _ (s : Setting) (w : World) (line : ℕ) (octets : List ℕ) (planned : I
       )) 30 (omega arith)).0
   received Unanswered is = before
 
+-- ---- a frame
+
+turn_stands : (s : Setting) (w : World) (input : Input) → CallsStand s w → EntriesStand s.dimensions.external s.plan (next s w (Frame input))
+turn_stands s w input stands =
+    let f : ℕ = w.holding.next in
+    let passed : EntriesStand s.dimensions.external s.plan (pass w input) = (stands.numbers, wait_on s.dimensions.external f (pass w input).holding.next w.legs (omega arith) stands.waits) in
+    (each_line s f (pass w input) (λ a. EntriesStand s.dimensions.external s.plan a.making.world × Kept s.dimensions s.tones a.making.world) (passed, pass_kept s w stands.circuits stands.legs input) (λ a line small k.
+        let x : Slot = slot_looked_at f line in
+        let within = place_within s.dimensions.external f line small in (
+          performed_all s.dimensions s.tones s.plan a.making (expire_slot s f a.making.world.legs x) (slot_may s f a.making x k.1 within s.plan) k.0,
+          slot_fine s f a.making x k.1 within,
+        )) s.dimensions.external (omega arith)).0
+
 -- ---- an event
 
 either_stand : (external : ℕ) (plan : List Number) (b : Bool) (v w : World) → EntriesStand external plan v → EntriesStand external plan w → EntriesStand external plan (if b then v else w)
@@ -138,7 +155,7 @@ entries_stand s w (Nail x y) planned fits stands = either_stand s.dimensions.ext
 entries_stand s w (Seat x room) planned fits stands = either_stand s.dimensions.external s.plan (may_seat s.dimensions w x) _ w (stands.numbers, stands.waits) (stands.numbers, stands.waits)
 entries_stand s w (Free x) planned fits stands = either_stand s.dimensions.external s.plan (is_nailed w x) _ w (stands.numbers, stands.waits) (stands.numbers, stands.waits)
 entries_stand s w (Message line octets) planned fits stands = received s w line octets planned fits stands (request_of w.legs line octets) refl
-entries_stand s w (Frame input) planned fits stands = (stands.numbers, wait_on s.dimensions.external w.holding.next (pass w input).holding.next w.legs (omega arith) stands.waits)
+entries_stand s w (Frame input) planned fits stands = turn_stands s w input stands
 
 -- ---- before the first event
 

@@ -171,7 +171,7 @@ clear_permitted d tones plan m cause c there small =
     } in
     (there.within, (goes, (record { within = sound.within; idle = sound.idle; octets = sound.octets }, (sends, tt))))
 
-peer_permitted : (d : Dimensions) (tones : Tones) (plan : List Number) (m : Making) (h : Held) (cause : ℕ) (o : Option Held) → PeerIsThere d.external h o → cause < 128
+pub peer_permitted : (d : Dimensions) (tones : Tones) (plan : List Number) (m : Making) (h : Held) (cause : ℕ) (o : Option Held) → PeerIsThere d.external h o → cause < 128
     → ArePermitted d tones plan m (with_peer o (clear_with tones cause))
 peer_permitted d tones plan m h cause None there small = tt
 peer_permitted d tones plan m h cause (Some c) there small = clear_permitted d tones plan m cause c there.0 small

@@ -15,7 +15,9 @@ use Rattle.call_profile.specs.Restarts.{restart_slot}
 use Rattle.exchange_events.specs.Sizes.{Setting, Dimensions}
 use Rattle.call_profile.specs.Setup.{course_of_setup}
 use Rattle.call_profile.specs.Step.{next, may_nail, may_seat}
-use Rattle.call_profile.specs.World.{World, obey}
+use Rattle.call_profile.specs.Expiring.{slot_looked_at, expire_slot}
+use Rattle.call_profile.specs.World.{World, obey, pass}
+use Rattle.call_profile.proofs.ExpiringLemmas.{each_line}
 use Rattle.call_profile.proofs.RestartedSlotLemmas.{each_below}
 use Rattle.call_profile.proofs.ToneLemmas.{sounding_next}
 
@@ -70,3 +72,10 @@ quiet s w (Seat x room) other = either_same (may_seat s.dimensions w x) w (obey 
 quiet s w (Free x) other = either_same (is_nailed w x) w (obey s.dimensions w (Clear x)) (record { inputs = refl; held = refl; seated = refl; next = refl })
 quiet s w (Message line octets) other = received_same s w line (request_of w.legs line octets)
 quiet s w (Frame input) other = absurd (other input refl)
+
+-- what a frame does after its boundary leaves the frames as they are, this one among them
+pub passed_same : (s : Setting) (w : World) (input : Input) → SameFrames (pass w input) (next s w (Frame input))
+passed_same s w input =
+    let f : ℕ = w.holding.next in
+    each_line s f (pass w input) (λ a. SameFrames (pass w input) a.making.world) (record { inputs = refl; held = refl; seated = refl; next = refl })
+    (λ a line small same. then_same (pass w input) a.making.world _ same (performed_all_same s.dimensions a.making (expire_slot s f a.making.world.legs (slot_looked_at f line)))) s.dimensions.external (omega arith)

@@ -56,7 +56,7 @@ told_cause a = unwrap_or (cause_of_act a) 0
 not_called : (leg : Leg) → leg.side ≡ Called → is_calling (Some leg) ≡ false
 not_called leg is = rw is refl
 
-called_silent : (legs after : Legs) (x : Slot) (leg : Leg) → leg_at legs x ≡ Some leg → leg.side ≡ Called → GoesOn legs after x
+pub called_silent : (legs after : Legs) (x : Slot) (leg : Leg) → leg_at legs x ≡ Some leg → leg.side ≡ Called → GoesOn legs after x
 called_silent legs after x leg at is calls =
     let e : is_calling (Some leg) ≡ true = sym (ap is_calling at) ∙ calls in
     let f = not_called leg is in
@@ -74,7 +74,7 @@ left_silent leg next o (inr waits) = rw waits (and_false _)
 pub disconnected_silent : (next cause : ℕ) (leg : Leg) → is_calling (Some (from_frame next (in_disconnect_indication cause leg))) ≡ false
 disconnected_silent next cause leg = and_false _
 
-same_goes_on : (before after : Legs) (x : Slot) → leg_at after x ≡ leg_at before x → GoesOn before after x
+pub same_goes_on : (before after : Legs) (x : Slot) → leg_at after x ≡ leg_at before x → GoesOn before after x
 same_goes_on before after x same calls = ap is_calling same ∙ calls
 
 -- ---- once the leg's slot is cleared, and the leg waits for its release or is gone

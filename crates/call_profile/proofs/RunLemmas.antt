@@ -2,6 +2,7 @@
 use Rattle.std.proofs.Common.{◌≡◌, ℕ, ◌+◌, ◌≤◌, Bool, true, false, List, [], ◌∷◌, ◌++◌, length, Option, Some, None, refl, ◌∙◌, ap, arith, if◌then◌else◌}
 use Rattle.std.specs.List.{cons_option}
 use Rattle.std.proofs.lemmas.List.Elements.{filter_map-append}
+use Rattle.circuit_model.specs.FrameInput.{Input}
 use Rattle.exchange_events.specs.declared.trace.Event.{Event}
 use Rattle.exchange_events.specs.declared.trace.Event.TheVariants.{Nail, Seat, Free, Message, Frame}
 use Rattle.call_states.specs.Acts.{act_on}
@@ -16,7 +17,9 @@ use Rattle.exchange_events.specs.Orders.{event_at}
 use Rattle.exchange_events.specs.Sizes.{Setting, Dimensions}
 use Rattle.call_profile.specs.Setup.{course_of_setup}
 use Rattle.call_profile.specs.Step.{next, world_after_all, events_of, may_nail, may_seat}
-use Rattle.call_profile.specs.World.{World}
+use Rattle.call_profile.specs.Expiring.{slot_looked_at, expire_slot}
+use Rattle.call_profile.specs.World.{World, pass}
+use Rattle.call_profile.proofs.ExpiringLemmas.{each_line}
 use Rattle.call_profile.proofs.RestartedSlotLemmas.{each_below}
 use Rattle.call_profile.proofs.ToneLemmas.{sounding_next}
 
@@ -61,6 +64,12 @@ received_next s w line (Restarts r) =
     (λ a place small same. performed_all_next s.dimensions a.making (restart_slot s.tones r a.making.world.legs (record { line = line; place = place })) ∙ same) 30 (omega arith)
 received_next s w line Unanswered = refl
 
+turn_next : (s : Setting) (w : World) (input : Input) → (next s w (Frame input)).holding.next ≡ w.holding.next + 1
+turn_next s w input =
+    let f : ℕ = w.holding.next in
+    each_line s f (pass w input) (λ a. a.making.world.holding.next ≡ f + 1) refl
+    (λ a line small same. performed_all_next s.dimensions a.making (expire_slot s f a.making.world.legs (slot_looked_at f line)) ∙ same) s.dimensions.external (omega arith)
+
 either_next : (b : Bool) (v w : World) → v.holding.next ≡ w.holding.next → (if b then v else w).holding.next ≤ w.holding.next + 1
 either_next true v w same = omega (arith, same)
 either_next false v w same = omega arith
@@ -70,7 +79,7 @@ next_next s w (Nail x y) = either_next (may_nail w x y) _ w refl
 next_next s w (Seat x room) = either_next (may_seat s.dimensions w x) _ w refl
 next_next s w (Free x) = either_next (is_nailed w x) _ w refl
 next_next s w (Message line octets) = let same = received_next s w line (request_of w.legs line octets) in omega (arith, same)
-next_next s w (Frame input) = omega arith
+next_next s w (Frame input) = let one = turn_next s w input in omega (arith, one)
 
 pub world_next : (s : Setting) (w : World) (es : List Event) → (world_after_all s w es).holding.next ≤ w.holding.next + length es
 world_next s w [] = omega arith

@@ -3,6 +3,7 @@ use Rattle.std.proofs.Common.{◌≡◌, ℕ, zero, suc, ◌*◌, ◌<◌, List,
 use Rattle.std.specs.Prelude.{All, replicate}
 use Rattle.std.proofs.lemmas.List.{length-replicate}
 use Rattle.circuit_model.specs.declared.channel.Slot.{Slot}
+use Rattle.circuit_model.specs.FrameInput.{Input}
 use Rattle.circuit_model.proofs.Validity.{valid-empty}
 use Rattle.q931_codec.specs.Outgoing.{OutgoingMessage}
 use Rattle.q931_codec.specs.Reading.{reading}
@@ -19,9 +20,10 @@ use Rattle.control_memory.specs.Layout.{number_of}
 use Rattle.call_states.specs.declared.leg.Leg.{Leg}
 use Rattle.call_profile.specs.Legs.{leg_at, no_legs}
 use Rattle.exchange_events.specs.Sizes.{Setting}
-use Rattle.call_profile.specs.World.{World, start}
+use Rattle.call_profile.specs.World.{World, start, pass}
 use Rattle.call_profile.proofs.ClearingLemmas.{Kept}
-use Rattle.call_profile.proofs.CommandLemmas.{nail_kept, seat_kept, free_kept, frame_kept}
+use Rattle.call_profile.proofs.CommandLemmas.{nail_kept, seat_kept, free_kept, pass_kept}
+use Rattle.call_profile.proofs.ExpiringLemmas.{lines_kept}
 use Rattle.call_profile.proofs.MessageToLegLemmas.{leg_kept}
 use Rattle.call_profile.proofs.NamedLegLemmas.{received_stands}
 use Rattle.call_profile.proofs.RestartLemmas.{below_kept}
@@ -52,6 +54,11 @@ module _ (s : Setting) (w : World) (line : ℕ) (octets : List ℕ) (planned : I
   received_kept (Restarts r) is = below_kept s.dimensions s.tones r line w can.0 (stands.circuits, stands.legs) 30 (omega arith)
   received_kept Unanswered is = (stands.circuits, stands.legs)
 
+-- the legs whose turn it is in a frame, one after another
+turn_kept : (s : Setting) (w : World) (input : Input) → CallsStand s w → Kept s.dimensions s.tones (next s w (Frame input))
+turn_kept s w input stands =
+    lines_kept s w.holding.next (pass w input) (pass_kept s w stands.circuits stands.legs input) s.dimensions.external (omega arith)
+
 pub happened_kept : (s : Setting) (w : World) (e : Event) → IsPlanned s → Fits s.dimensions.external e → CallsStand s w → CallsStand s (next s w e)
 happened_kept s w (Nail x y) planned fits stands = kept_stands s (next s w (Nail x y)) (nail_kept s w stands.circuits stands.legs x y fits) (entries_stand s w (Nail x y) planned fits stands)
 happened_kept s w (Seat x room) planned fits stands = kept_stands s (next s w (Seat x room)) (seat_kept s w stands.circuits stands.legs x room fits) (entries_stand s w (Seat x room) planned fits stands)
@@ -59,7 +66,7 @@ happened_kept s w (Free x) planned fits stands = kept_stands s (next s w (Free x
 happened_kept s w (Message line octets) planned fits stands =
     kept_stands s (next s w (Message line octets)) (received_kept s w line octets planned fits stands (request_of w.legs line octets) refl)
     (entries_stand s w (Message line octets) planned fits stands)
-happened_kept s w (Frame input) planned fits stands = kept_stands s (next s w (Frame input)) (frame_kept s w stands.circuits stands.legs input) (entries_stand s w (Frame input) planned fits stands)
+happened_kept s w (Frame input) planned fits stands = kept_stands s (next s w (Frame input)) (turn_kept s w input stands) (entries_stand s w (Frame input) planned fits stands)
 
 -- ---- whole runs
 

@@ -51,7 +51,7 @@ module _ (h : Holding) (x : Slot) (idle : is_idle h.circuits x ≡ true) where
   -- a leg that gets the tone of its state and cause hears what it may
   may_sound : (tones : Tones) (leg : Leg) → leg.state ≢ active → (o : Option Kind) → tone_of tones leg ≡ o → MayHear tones leg (option_map (λ kind. Tone kind x h.next) o)
   may_sound tones leg quiet None is = (quiet, is)
-  may_sound tones leg quiet (Some kind) is = is
+  may_sound tones leg quiet (Some kind) is = inl is
 
   pub sounds : (tones : Tones) (leg : Leg) → leg.state ≢ active → MayHear tones leg (heard_by (with_tone h x (tone_of tones leg)).circuits x)
   sounds tones leg quiet = subst (MayHear tones leg) (sym (heard_sounding (tone_of tones leg))) (may_sound tones leg quiet (tone_of tones leg) refl)

@@ -1,5 +1,5 @@
 -- What holds of a leg in overlap sending.
-use Rattle.std.proofs.Common.{◌≡◌, false, Option, Some, None, refl, sym, ◌∙◌, ap, subst, arith}
+use Rattle.std.proofs.Common.{◌≡◌, false, Option, Some, None, refl, sym, ◌∙◌, ap, subst, arith, inl, inr}
 use Rattle.std.specs.Prelude.{◌==◌}
 use Rattle.std.proofs.lemmas.Grind.{common_steps}
 use Rattle.circuit_model.specs.declared.channel.Slot.{Slot}
@@ -28,8 +28,10 @@ silent_in_overlap tones leg (Some (Tone kind to since)) is may =
     let not_four : (leg.state == call_delivered) ≡ false = grind (arith, common_steps, is) in
     let not_twelve : (leg.state == disconnect_indication) ≡ false = grind (arith, common_steps, is) in
     let none = no_tone tones leg not_four not_twelve in
-    let wrong : None ≡ Some kind = sym none ∙ may in
-    absurd cc
+    elim may [
+      | inl sounds ↦ let wrong : None ≡ Some kind = sym none ∙ sounds in absurd cc
+      | inr left ↦ let is_left = left.0 in absurd (grind (arith, common_steps, is, is_left))
+    ]
 silent_in_overlap tones leg (Some (Pair from to since)) is may = absurd (grind (arith, common_steps, is, may.0))
 silent_in_overlap tones leg (Some (Member room at since)) is may = absurd (grind (arith, common_steps, is, may.0))
 

@@ -2,7 +2,9 @@
 use Rattle.std.specs.Prelude.{ℕ, List, [], Option, Some, None, option_and_then, if◌then◌else◌}
 use Rattle.std.specs.List.{cons_option}
 use Rattle.circuit_model.specs.declared.channel.Slot.{Slot}
-use Rattle.q931_codec.specs.Causes.{temporary_failure}
+use Rattle.q931_codec.specs.Causes.{no_user_responding, temporary_failure}
+use Rattle.call_timers.specs.declared.expiry.Expiry.{Expiry}
+use Rattle.call_timers.specs.declared.expiry.Expiry.TheVariants as expiry
 use Rattle.call_states.specs.Acts.{cause_of_act}
 use Rattle.call_states.specs.declared.act.Act.{Act}
 use Rattle.call_states.specs.declared.leg.Side.{Side}
@@ -13,7 +15,9 @@ use Rattle.call_states.specs.declared.leg.Held.{Held}
 use Rattle.exchange_events.specs.declared.record.CallRecord.{CallRecord}
 use Rattle.call_profile.specs.Acts.{peer_of}
 use Rattle.call_profile.specs.CallRecords.{is_calling, record_of}
+use Rattle.call_profile.specs.Expiring.{due_of}
 use Rattle.call_profile.specs.Legs.{held_at}
+use Rattle.exchange_events.specs.Sizes.{Setting}
 use Rattle.call_profile.specs.World.{World}
 
 -- the caller's leg of a leg's call: that leg itself, or its peer
@@ -36,3 +40,13 @@ record_of_act w h a = option_and_then (record_ended w h) (cause_of_act a)
 -- the records of what the restart of a slot ends
 abbrev pub slot_records : Restart → World → Slot → List CallRecord
 slot_records r w x = if is_restarted r x.place then cons_option (option_and_then (λ h. record_ended w h temporary_failure) (held_at w.legs x)) [] else []
+
+-- the record of what an expiry ends
+abbrev pub record_of_expiry : World → Held → Expiry → Option CallRecord
+record_of_expiry w h expiry.SetupOver = record_ended w h no_user_responding
+record_of_expiry w h expiry.Proceeding = record_ended w h no_user_responding
+record_of_expiry w h _ = None
+
+-- the records of what expires in a frame at a slot
+abbrev pub expired_records : Setting → ℕ → World → Slot → List CallRecord
+expired_records s frame w x = cons_option (option_and_then (λ h. option_and_then (record_of_expiry w h) (due_of s.timers frame h.leg)) (held_at w.legs x)) []

@@ -1,7 +1,8 @@
 -- When the legs of a world are consistent. Source: this exchange's own; the states are those of ITU-T Q.931 (05/98), 2.1.2.
-use Rattle.std.specs.Prelude.{◌≡◌, ◌≢◌, ℕ, ◌*◌, ◌^◌, ◌<◌, ◌≤◌, ◌&&◌, ◌||◌, ◌==◌, Bool, IsTrue, List, [], ◌∷◌, length, Option, Some, None}
+use Rattle.std.specs.Prelude.{◌≡◌, ◌≢◌, ℕ, ◌*◌, ◌^◌, ◌<◌, ◌≤◌, ◌⊎◌, ◌&&◌, ◌||◌, ◌==◌, Bool, IsTrue, List, [], ◌∷◌, length, Option, Some, None}
 use Rattle.circuit_model.specs.declared.channel.Slot.{Slot}
 use Rattle.circuit_model.specs.declared.circuit.Circuit.{Circuit}
+use Rattle.circuit_model.specs.declared.circuit.Kind.{Kind}
 use Rattle.circuit_model.specs.declared.circuit.Circuit.TheVariants.{Pair, Member, Tone}
 use Rattle.circuit_model.specs.Circuits.{heard_by}
 use Rattle.circuit_model.specs.Extent.{IsExternal}
@@ -14,6 +15,7 @@ use Rattle.call_states.specs.declared.leg.Peer.TheVariants as peer
 use Rattle.call_states.specs.declared.leg.Side.{Side}
 use Rattle.call_states.specs.declared.leg.Side.TheVariants.{Caller, Called}
 use Rattle.tone_rules.specs.declared.tones.Tones.{Tones}
+use Rattle.tone_rules.specs.CallTones.{tone_given}
 use Rattle.call_profile.specs.Acts.{tone_of}
 use Rattle.call_profile.specs.Legs.{Legs, leg_at}
 use Rattle.exchange_events.specs.Sizes.{Setting}
@@ -50,11 +52,16 @@ HasPeer external legs x leg peer.Alone = IsTrue (is_among alone leg.state)
 HasPeer external legs x leg (peer.Leg y) = IsExternal external y × ((other : Leg) × (leg_at legs y ≡ Some other) × IsInCall leg.side x leg y other)
 HasPeer external legs x leg (peer.Room room) = (leg.side ≡ Caller) × (leg.state ≡ active)
 
--- by what a leg's slot hears: in state active by the connection with its peer or by its seat; else by the tone of its state and cause exactly
--- where the trace gives that tone, and by nothing where there is none
+-- the tone of a leg is that of its state and cause. One that was asked to release its call because its user didn't answer DISCONNECT may keep the
+-- tone that it heard
+abbrev pub MaySound : Tones → Leg → Kind → Type 0
+MaySound tones leg kind = (tone_of tones leg ≡ Some kind) ⊎ ((leg.state ≡ release_request) × (tone_given tones disconnect_indication leg.cause ≡ Some kind))
+
+-- by what a leg's slot hears: in state active by the connection with its peer or by its seat; else by its tone exactly where the trace gives
+-- that tone, and by nothing where there is none
 abbrev pub MayHear : Tones → Leg → Option Circuit → Type 0
 MayHear tones leg None = (leg.state ≢ active) × (tone_of tones leg ≡ None)
-MayHear tones leg (Some (Tone kind to since)) = tone_of tones leg ≡ Some kind
+MayHear tones leg (Some (Tone kind to since)) = MaySound tones leg kind
 MayHear tones leg (Some (Pair from to since)) = (leg.state ≡ active) × (leg.peer ≡ peer.Leg from)
 MayHear tones leg (Some (Member room at since)) = (leg.state ≡ active) × (leg.peer ≡ peer.Room room)
 

@@ -10,6 +10,7 @@ pub mod Restarts
 pub mod Setup
 pub mod Digits
 pub mod ActCourse
+pub mod Expiring
 pub mod Calls
 pub mod Waiting
 pub mod KeptMessages

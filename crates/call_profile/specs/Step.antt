@@ -9,9 +9,11 @@ use Rattle.exchange_events.specs.declared.reply.Reply.{Reply}
 use Rattle.exchange_events.specs.declared.reply.Reply.TheVariants.{Granted, Busy, Seated, NoPort, Freed, NotNailed, Sent as Sent_reply, Frame as Frame_reply}
 use Rattle.exchange_events.specs.Orders.{event_at}
 use Rattle.call_profile.specs.Calls.{MessageAnswer, after_message, answer_to}
+use Rattle.call_profile.specs.Expiring.{outcome_of_frame}
 use Rattle.call_profile.specs.IdleSlots.{idle, is_nailed}
 use Rattle.exchange_events.specs.Sizes.{Setting, Dimensions}
-use Rattle.call_profile.specs.World.{World, obey, pass, is_full, nail_reply, seat_reply}
+use Rattle.call_profile.specs.Restarts.{MessageOutcome}
+use Rattle.call_profile.specs.World.{World, obey, is_full, nail_reply, seat_reply}
 
 -- two slots can be nailed together where both are idle; one can be seated where it is idle and a port is free
 abbrev pub may_nail : World → Slot → Slot → Bool
@@ -24,6 +26,10 @@ may_seat d w x = idle w x && not (is_full d w)
 abbrev pub message_reply : MessageAnswer → Reply
 message_reply a = Sent_reply a.sends a.moved a.records
 
+-- the answer to a frame: its number, and what was sent and recorded in its turn
+abbrev pub frame_reply : ℕ → MessageOutcome → Reply
+frame_reply number a = Frame_reply number a.making.sends a.recorded
+
 -- what an event is answered
 abbrev pub reply : Setting → World → Event → Reply
 reply s w (Nail x y) = if may_nail w x y then nail_reply s.dimensions w.layout x y else Busy
@@ -33,7 +39,7 @@ reply s w (Seat x room) =
     else seat_reply s.dimensions w.layout x (port_of s.dimensions.external (ports_with x w.ports) x)
 reply s w (Free x) = if is_nailed w x then Freed else NotNailed
 reply s w (Message line octets) = message_reply (answer_to s w line octets)
-reply s w (Frame input) = Frame_reply w.holding.next [] []
+reply s w (Frame input) = frame_reply w.holding.next (outcome_of_frame s w input)
 
 -- what an event makes of the world; where it is refused, nothing
 abbrev pub next : Setting → World → Event → World
@@ -41,7 +47,7 @@ next s w (Nail x y) = if may_nail w x y then obey s.dimensions w (Connect x y) e
 next s w (Seat x room) = if may_seat s.dimensions w x then obey s.dimensions w (Take_seat x room) else w
 next s w (Free x) = if is_nailed w x then obey s.dimensions w (Clear x) else w
 next s w (Message line octets) = after_message s w line octets
-next s w (Frame input) = pass w input
+next s w (Frame input) = (outcome_of_frame s w input).making.world
 
 -- an answer says that at most n paths moved, each way
 abbrev pub MovesAtMost : ℕ → Reply → Type 0

@@ -6,6 +6,7 @@ use Rattle.circuit_model.specs.declared.circuit.Circuit.{Circuit}
 use Rattle.circuit_model.specs.declared.circuit.Circuit.TheVariants.{Pair, Tone}
 use Rattle.circuit_model.specs.declared.circuit.Kind.TheVariants.{Ringback, Busy}
 use Rattle.number_plan.specs.declared.target.Target.TheVariants as target
+use Rattle.call_timers.specs.Expiries.{usual}
 use Rattle.tone_rules.specs.declared.tones.Tones.{Tones}
 use Rattle.exchange_events.specs.declared.record.CallRecord.{CallRecord}
 use Rattle.exchange_events.specs.declared.record.Party.TheVariants as party
@@ -28,6 +29,7 @@ two_lines = record {
   dimensions = record { external = 2; bridges = 0; slots = 30 };
   plan = record { digits = 0x31 ∷ 0x30 ∷ 0x31 ∷ []; target = target.Line 1 } ∷ [];
   tones = silent;
+  timers = usual;
 }
 
 abbrev pub one_line : ℕ → Setting
@@ -35,6 +37,7 @@ one_line bridges = record {
   dimensions = record { external = 1; bridges = bridges; slots = 30 };
   plan = record { digits = 0x33 ∷ 0x30 ∷ []; target = target.Room 0 } ∷ [];
   tones = silent;
+  timers = usual;
 }
 
 -- what the events of a run are answered, from the first on
@@ -239,6 +242,7 @@ own_line = record {
   dimensions = record { external = 1; bridges = 0; slots = 30 };
   plan = record { digits = 0x31 ∷ 0x30 ∷ []; target = target.Line 0 } ∷ [];
   tones = silent;
+  timers = usual;
 }
 
 -- the interface is restarted, and with it both legs of the call: nobody gets a message

@@ -1,6 +1,6 @@
 //! What the expiry of a timer asks for, and when.
 
-ghost use Rattle.std.specs.Prelude.{◌≡◌};
+ghost use Rattle.std.specs.Prelude.{◌≡◌, ◌<◌, ℕ, None};
 ghost use Rattle.call_timers.specs.Expiries.{due, expiry_in, frames_to};
 
 use crate::timers::Timers;
@@ -39,6 +39,17 @@ pub fn due(state: u8, resent: bool, since: u32, frame: u32, timers: &Timers) -> 
         Some(expiry)
     } else {
         None
+    }
+}
+
+/// A frame before which nothing is due of such a leg: the one in which its timer runs out. Where that is none below
+/// 2^32, or the state has no timer, the last number there is.
+pub fn first_due(state: u8, resent: bool, since: u32, timers: &Timers) -> u32
+    ensures { (frame : ℕ) → frame < result → due state resent since frame timers.now ≡ None }
+{
+    match expiry_in(state, resent) {
+        Some(expiry) => since.saturating_add(frames_to(timers, expiry)),
+        None => u32::MAX,
     }
 }
 

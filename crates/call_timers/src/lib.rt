@@ -3,6 +3,7 @@
 //!
 //! - [`due`] returns what the expiry of a leg's timer asks for, exactly where the timer of its state
 //!   has run out, however large the numbers of frames are.
+//! - [`first_due`] is a frame before which nothing is due.
 //! - [`Timers::usual`] returns the values of a trace that gives none.
 //! - In the states that have no timer nothing is ever due ([`law_of_untimed_states`]).
 //!
@@ -15,6 +16,6 @@ mod expiry;
 mod laws;
 mod timers;
 
-pub use expiry::{Expiry, due};
+pub use expiry::{Expiry, due, first_due};
 pub use laws::{law_of_untimed_states, worked_expiries, worked_waits};
 pub use timers::Timers;

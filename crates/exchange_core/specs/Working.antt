@@ -14,6 +14,7 @@ use Rattle.call_profile.specs.Legs.{Legs}
 use Rattle.exchange_events.specs.Orders.{IsEvent, event_at}
 use Rattle.exchange_events.specs.Sizes.{Setting, Dimensions}
 use Rattle.exchange_events.specs.Sound.{IsSound, setting_of}
+use Rattle.call_control.specs.AtWork.{IsAtWork}
 use Rattle.call_control.specs.Standing.{Holds}
 use Rattle.call_profile.specs.Step.{events_of, world_after_all}
 use Rattle.call_profile.specs.World.{World, exchange_lines, start}
@@ -59,6 +60,18 @@ pub record IsWorking (x : Working) (map : Connections) (legs : Legs) (room : ℕ
   pub holds : Holds (setting x).dimensions map legs (world_of x)
   pub bound : map.bound ≡ x.bound
   pub reserved : length x.trace.events ≤ room
+
+-- ---- a step
+
+-- what is said of each setting with the plan, the tones and the timers of a trace, and each world for which the map and the legs are at work
+abbrev pub EachOfTrace : Trace → Connections → Legs → (Setting → World → Type 0) → Type 0
+EachOfTrace trace map legs Says =
+    (s : Setting) (w : World) → s.plan ≡ trace.plan → s.tones ≡ trace.tones → s.timers ≡ trace.timers → IsAtWork s map legs w → Says s w
+
+-- what is said of some such setting and world
+abbrev pub SomeOfTrace : Trace → Connections → Legs → (Setting → World → Type 0) → Type 0
+SomeOfTrace trace map legs Says =
+    (s : Setting) × (w : World) × (s.plan ≡ trace.plan) × (s.tones ≡ trace.tones) × (s.timers ≡ trace.timers) × IsAtWork s map legs w × Says s w
 
 -- ---- the tool of a step
 

@@ -1,16 +1,16 @@
 //! The core, and one step of it.
-ghost use Rattle.std.specs.Prelude.{◌≡◌, ◌+◌, ◌<◌, ◌++◌, [], ◌∷◌, length, IfOk, IfSome, None};
+ghost use Rattle.std.specs.Prelude.{◌≡◌, ◌+◌, ◌<◌, ◌≤◌, ◌++◌, [], ◌∷◌, length, IfOk, IfSome, None};
 ghost use Rattle.exchange_events.specs.declared.trace.Event.{Event as An_event};
 ghost use Rattle.exchange_events.specs.Orders.{IsEvent};
 ghost use Rattle.exchange_events.specs.Responses.{reply_of};
 ghost use Rattle.exchange_events.specs.Sound.{IsSound, setting_of, Fits};
 ghost use Rattle.call_profile.specs.Step.{reply, next, MovesAtMost};
 ghost use Rattle.exchange_core.specs.Ahead.{IsReadAt, IsReadOf};
-ghost use Rattle.exchange_core.specs.Working.{IsNumbered, IsLaid, JoinsItsCircuits, IsToolFor, ShowsWorld, setting, world_of};
-ghost use Rattle.call_profile.specs.World.{start, World, pass};
+ghost use Rattle.exchange_core.specs.Working.{IsNumbered, IsLaid, JoinsItsCircuits, IsToolFor, ShowsWorld, EachOfTrace, SomeOfTrace, setting, world_of};
+ghost use Rattle.exchange_events.specs.declared.reply.Reply.TheVariants as An_answer;
+ghost use Rattle.call_profile.specs.World.{start, World};
 ghost use Rattle.circuit_model.specs.FrameInput.{Input};
 ghost use Rattle.circuit_map.specs.Connections.{SameSizes};
-ghost use Rattle.call_control.specs.AtWork.{EachAtWork, SomeAtWork};
 ghost use Rattle.exchange_events.specs.Sizes.{Dimensions};
 ghost use Rattle.call_control.specs.Standing.{Holds};
 ghost use Rattle.exchange_events.specs.declared.trace.Event.TheVariants as event;
@@ -22,10 +22,8 @@ use circuit_map::CircuitMap;
 use control_memory::PathMap;
 use exchange_events::{Event, Outbox, Reply, Response, Trace};
 use leg_table::LegTable;
-use number_plan::Plan;
 use std::alloc::{AllocError, Global};
 use std::marker::Model;
-use tone_rules::Tones;
 
 /// The exchange without its octets, at work on a trace: the live circuits with their paths and
 /// conference ports, the legs of the calls, and the journal of the events that were done.
@@ -73,7 +71,7 @@ impl<'t, P: PathMap + Drop> Core<'t, P> {
         Ok(Core {
             trace,
             control: CallControl {
-                legs: LegTable::new(alloc, trace.external)?,
+                legs: LegTable::new(alloc, trace.external, trace.timers)?,
                 map: CircuitMap::new(alloc, paths, trace.external, trace.bridges)?,
             },
             journal,
@@ -136,15 +134,7 @@ impl<'t, P: PathMap> Core<'t, P> {
         out.clear();
         let trace = self.trace;
         let event_done = trace.event(event);
-        let response = happen(
-            &mut self.control,
-            &trace.plan,
-            &trace.tones,
-            event_done,
-            tool,
-            out,
-            ahead,
-        );
+        let response = happen(&mut self.control, trace, event_done, tool, out, ahead);
         // Any look at the map tells that its paths are laid legally.
         let _next = self.control.map.next_frame();
         self.journal.push_reserved((by, event));
@@ -170,20 +160,20 @@ impl<'t, P: PathMap> Core<'t, P> {
 // Does an event, whichever it is. A frame's boundary is written into the tool.
 fn happen<P: PathMap>(
     control: &mut CallControl<P>,
-    plan: &Plan,
-    tones: &Tones,
+    trace: &Trace,
     event: &Event,
     tool: &mut Tool,
     out: &mut Outbox,
     ahead: Option<ReadAhead>,
 ) -> Response
-    requires work { SomeAtWork plan.now tones.now control.old.map control.old.legs (λ s w. IsToolFor s.dimensions event.now tool.old) }
+    requires work { SomeOfTrace trace.now control.old.map control.old.legs (λ s w. IsToolFor s.dimensions event.now tool.old) }
+    requires lines { (trace.now.external ≡ control.old.map.external) × (trace.now.external ≤ 32) }
     requires fits { Fits control.old.map.external event.now }
-    requires ahead { IfSome ahead (IsReadOf plan.now event.now) }
+    requires ahead { IfSome ahead (IsReadOf trace.now.plan event.now) }
     requires room { control.old.map.next < 65535 }
     requires fresh { (out.old.sends ≡ []) × (out.old.moved ≡ None) × (out.old.records ≡ []) }
-    ensures reply { EachAtWork plan.now tones.now control.old.map control.old.legs (λ s w. reply_of result out.new ≡ reply s w event.now) }
-    ensures world { EachAtWork plan.now tones.now control.old.map control.old.legs (λ s w.
+    ensures reply { EachOfTrace trace.now control.old.map control.old.legs (λ s w. reply_of result out.new ≡ reply s w event.now) }
+    ensures world { EachOfTrace trace.now control.old.map control.old.legs (λ s w.
         Holds s.dimensions control.new.map control.new.legs (next s w event.now)) }
     ensures few { MovesAtMost control.old.map.bound (reply_of result out.new) }
     ensures shows { (d : Dimensions) (w : World) → Holds d control.old.map control.old.legs w → ShowsWorld w event.now tool.new }
@@ -195,26 +185,37 @@ fn happen<P: PathMap>(
         Event::Seat(x, room) => seat(control, *x, *room),
         Event::Free(x) => free(control, *x),
         Event::Message(line, octets) => {
-            control.message(out, plan, tones, *line, octets.as_slice(), ahead);
+            let octets = octets.as_slice();
+            control.message(out, &trace.plan, &trace.tones, *line, octets, ahead);
             Response::Sent
         }
-        Event::Frame(_) => Response::Frame(frame(control, tool)),
+        Event::Frame(_) => Response::Frame(frame(control, trace, tool, out)),
     }
 }
 
-// The boundary of a frame; its number.
-fn frame<P: PathMap>(control: &mut CallControl<P>, tool: &mut Tool) -> u32
-    requires tool { (d : Dimensions) × (w : World) × Holds d control.old.map control.old.legs w × IsToolFor d (event.Frame []) tool.old }
+// The turn of a frame: its boundary, and then what is done for the legs whose timers have run out. Its number.
+fn frame<P: PathMap>(
+    control: &mut CallControl<P>,
+    trace: &Trace,
+    tool: &mut Tool,
+    out: &mut Outbox,
+) -> u32
+    requires work { SomeOfTrace trace.now control.old.map control.old.legs (λ s w. IsToolFor s.dimensions (event.Frame []) tool.old) }
+    requires lines { (trace.now.external ≡ control.old.map.external) × (trace.now.external ≤ 32) }
     requires room { control.old.map.next < 65535 }
-    ensures number { (d : Dimensions) (w : World) → Holds d control.old.map control.old.legs w → result ≡ w.holding.next }
-    ensures world { (d : Dimensions) (w : World) (input : Input) → Holds d control.old.map control.old.legs w
-        → Holds d control.new.map control.new.legs (pass w input) }
+    requires fresh { (out.old.sends ≡ []) × (out.old.moved ≡ None) × (out.old.records ≡ []) }
+    ensures reply { EachOfTrace trace.now control.old.map control.old.legs (λ s w.
+        (input : Input) → An_answer.Frame result out.new.sends out.new.records ≡ reply s w (event.Frame input)) }
+    ensures world { EachOfTrace trace.now control.old.map control.old.legs (λ s w.
+        (input : Input) → Holds s.dimensions control.new.map control.new.legs (next s w (event.Frame input))) }
     ensures shows { (d : Dimensions) (w : World) → Holds d control.old.map control.old.legs w → ShowsWorld w (event.Frame []) tool.new }
     ensures tool { (d : Dimensions) → IsToolFor d (event.Frame []) tool.old → IsToolFor d (event.Frame []) tool.new }
     ensures sizes { SameSizes control.old.map control.new.map }
 {
-    match tool {
+    let number = match tool {
         Tool::Image(image) => boundary(control, image),
         Tool::Nothing => unreachable!(),
-    }
+    };
+    control.expire(out, &trace.tones, &trace.timers, trace.external, number);
+    number
 }

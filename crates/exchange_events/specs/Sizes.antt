@@ -2,10 +2,12 @@
 use Rattle.std.specs.Prelude.{List}
 use Rattle.number_plan.specs.declared.plan.Number.{Number}
 use Rattle.tone_rules.specs.declared.tones.Tones.{Tones}
+use Rattle.call_timers.specs.declared.timers.Timers.{Timers}
 pub use Rattle.circuit_model.specs.Dimensions.{Dimensions}
 
--- how large an exchange is, its plan of numbers, and the octets of its tones
+-- how large an exchange is, its plan of numbers, the octets of its tones, and how long its timers run
 pub record Setting : Type 0 where
   pub dimensions : Dimensions
   pub plan : List Number
   pub tones : Tones
+  pub timers : Timers

@@ -63,6 +63,7 @@ setting_of slots trace = record {
   dimensions = record { external = trace.external; bridges = trace.bridges; slots = slots };
   plan = trace.plan;
   tones = trace.tones;
+  timers = trace.timers;
 }
 
 -- an exchange of 1 to 32 external and at most 2 bridge lines and of 1 to 8 call processors; the lines of its plan exist; its events are not too

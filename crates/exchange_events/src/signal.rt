@@ -37,6 +37,18 @@ impl Encoded {
     {
         self.octets.as_slice()
     }
+
+    /// The same octets once more. It takes no memory.
+    pub fn copy(&self) -> Encoded
+        ensures { result ≡ self.now }
+    {
+        let mut octets = ArrayVec::new();
+        match octets.try_extend_from_slice(self.octets.as_slice()) {
+            Ok(()) => {}
+            Err(_) => unreachable!(),
+        }
+        Encoded { octets }
+    }
 }
 
 /// A message that goes to the user of a line.

@@ -26,6 +26,8 @@ use Rattle.exchange_events.specs.Sizes.{Setting, Dimensions}
 use Rattle.exchange_events.specs.Sound.{setting_of}
 use Rattle.call_profile.specs.Step.{MovesAtMost, events_of, may_nail, next, reply, run, world_after_all}
 use Rattle.exchange_core.specs.Working.{Entry, IsNumbered, order_of, world_after}
+use Rattle.call_profile.proofs.QuietEventLemmas.{passed_same}
+use Rattle.call_profile.specs.Expiring.{outcome_of_frame}
 use Rattle.call_profile.specs.World.{World, is_full, pass, seat_reply, start}
 use Rattle.exchange_core.proofs.StepLemmas.{world_more}
 use Rattle.tone_rules.specs.Tables.{table_of}
@@ -132,9 +134,12 @@ module _ (plays : Plays) (tones : Kind → List ℕ) (board : Board) (front : Li
   rows_of (Message line octets) is = command_line kept_rows (sent (Message line octets)) n (setting_at board) here (Message line octets) (λ input e. cc)
   rows_of (Frame input) is =
       let p = played input is in
+      let same = passed_same (setting_at board) here input in
       let lines : kept_rows ≡ lines_sent (octet_of a.octets) board.trace.external = ap (lines_sent (octet_of a.octets)) p.lines in
-      ap (λ (rows : List (List ℕ)). frame_line rows n here.holding.next [])
-      (lines ∙ sent_played board.trace.external (plays tones (pass here input).inputs (pass here input).held here.holding.next) a.octets p.played)
+      ap (λ (rows : List (List ℕ)). frame_line rows n here.holding.next (outcome_of_frame (setting_at board) here input).making.sends)
+      (lines
+      ∙ sent_played board.trace.external (plays tones (pass here input).inputs (pass here input).held here.holding.next) a.octets p.played
+      ∙ (λ i. lines_sent (λ y. plays tones (sym same.inputs i) (sym same.held i) here.holding.next y) board.trace.external))
 
   -- the line of an answer is that of its event, after this history
   answer_is : (e : Event) (r : Reply) → a.event ≡ n → IsNumbered board.trace n e → AnswersAt board front n r → a.reply ≡ kept_of r

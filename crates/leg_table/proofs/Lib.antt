@@ -1,3 +1,4 @@
 pub mod LegKeyLemmas
 pub mod KeptNumberLemmas
 pub mod LegWordLemmas
+pub mod DueBoundLemmas

@@ -9,6 +9,8 @@ use Rattle.call_profile.specs.KeptMessages.{awaiting_answer}
 use Rattle.call_profile.specs.Legs.{Legs}
 use Rattle.leg_table.specs.declared.notes.Note.{Note}
 use Rattle.leg_table.specs.declared.notes.Note.TheVariants.{Number, Message}
+use Rattle.call_timers.specs.declared.timers.Timers.{Timers}
+use Rattle.leg_table.specs.DueBounds.{AreBoundsOf}
 use Rattle.leg_table.specs.LegKeys.{AreKeysOf}
 
 abbrev pub number_in : Note → Option Pending
@@ -43,6 +45,7 @@ keeping_all legs notes = shown_all (List ℕ) keeping legs notes
 abbrev pub legs_kept : List (Option Leg) → List Note → Legs
 legs_kept legs notes = record { held = legs; pending = counting_all legs notes; kept = keeping_all legs notes }
 
-pub record IsTable (lines : ℕ) (legs : List (Option Leg)) (keys : List ℕ) (notes : List Note) : Type 0 where
+pub record IsTable (lines : ℕ) (timers : Timers) (legs : List (Option Leg)) (keys : List ℕ) (notes : List Note) (bounds : List ℕ) : Type 0 where
   pub found : AreKeysOf lines legs keys
   pub room : length notes ≡ 30 * lines
+  pub due : AreBoundsOf timers legs bounds

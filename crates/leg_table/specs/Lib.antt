@@ -1,2 +1,3 @@
 pub mod LegKeys
 pub mod KeptNumbers
+pub mod DueBounds

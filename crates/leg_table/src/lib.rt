@@ -7,10 +7,14 @@
 //!   reference of a new called leg: each in one pass over a row of keys (`LegKeys`), without a branch.
 //! - `pending` is the number of a leg in overlap sending, and `kept` the message of one that waits for the answer to it
 //!   ([`Note`]). None of these takes memory: `new` made the room.
+//! - `may_be_due` says of a frame that no leg at a place is due, without a look at one, and `settle` sees to it that it
+//!   does so again once the legs there were looked at.
 //!
-//! It uses `circuit_model`, `control_memory`, `q931_codec`, `call_states`, `exchange_events` and `call_profile`.
+//! It uses `circuit_model`, `control_memory`, `q931_codec`, `call_states`, `call_timers`, `exchange_events` and
+//! `call_profile`.
 #![tactic(auto)]
 
+mod due_bounds;
 mod leg_keys;
 mod notes;
 mod table;

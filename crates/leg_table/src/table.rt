@@ -7,12 +7,15 @@ ghost use Rattle.call_states.specs.Acts.{is_among};
 ghost use Rattle.call_states.specs.Status.{FitsMessages};
 ghost use Rattle.call_profile.specs.KeptMessages.{awaiting_answer};
 ghost use Rattle.leg_table.specs.KeptNumbers.{counting_all, keeping_all};
+ghost use Rattle.leg_table.specs.DueBounds.{NoneDue};
 ghost use Rattle.leg_table.specs.LegKeys.{IsRowOf};
 ghost use Rattle.call_profile.specs.Legs.{no_legs, leg_at, pending_at, kept_at, with_leg, with_waiting, with_kept, without_leg, leg_named, held_at, new_reference};
 
+use crate::due_bounds::{BOUNDS, NEVER, due_from, due_from_at, lower};
 use crate::leg_keys::{NO_KEY, ROW, key_named, key_of, places_with, references_in};
 use crate::notes::Note;
 use call_states::{Held, Leg, Pending};
+use call_timers::Timers;
 use circuit_model::{PLACES, Slot};
 use exchange_events::Encoded;
 use q931_codec::states::{CALL_PRESENT, OVERLAP_SENDING, RELEASE_REQUEST};
@@ -23,7 +26,8 @@ use std::marker::Model;
 /// number, the leg that holds it, the number that is pending there, and the message that is kept there.
 ///
 /// Beside the legs is a row of keys for each line, by which a message finds its leg in one pass
-/// without a branch, and for each slot room for a number that is pending, or a message that is kept.
+/// without a branch, and for each slot room for a number that is pending, or a message that is kept. And for
+/// each place the table knows a frame before which no leg there is due.
 #[derive(Drop)]
 pub struct LegTable {
     lines: u8,
@@ -33,6 +37,9 @@ pub struct LegTable {
     // What is kept at each slot. It counts by the state of the slot's leg, so that nothing is cleared when the
     // leg leaves that state.
     notes: Vec<Note>,
+    timers: Timers,
+    // For each place, a frame before which nothing is due of the legs there.
+    bounds: [u32; BOUNDS],
 }
 
 impl Model for LegTable {
@@ -43,12 +50,12 @@ impl Model for LegTable {
 
     ghost view = { λ t. legs_kept t.legs.items t.notes.items };
 
-    ghost invariant = { λ t. IsTable t.lines t.legs.items t.keys.items t.notes.items };
+    ghost invariant = { λ t. IsTable t.lines t.timers t.legs.items t.keys.items t.notes.items t.bounds };
 }
 
 impl LegTable {
-    /// No legs on the slots of n external lines.
-    pub fn new(alloc: Global, external: u8) -> Result<LegTable, AllocError>
+    /// No legs on the slots of n external lines, in an exchange with these timers.
+    pub fn new(alloc: Global, external: u8, timers: Timers) -> Result<LegTable, AllocError>
         ensures { IfOk result (λ t. t ≡ no_legs external) }
     {
         let lines = usize::from(external);
@@ -57,6 +64,8 @@ impl LegTable {
             legs: vec![in alloc; None; usize::from(PLACES) * lines]?,
             keys: vec![in alloc; NO_KEY; ROW * lines]?,
             notes: vec![in alloc; Note::Number(Pending::default()); usize::from(PLACES) * lines]?,
+            timers,
+            bounds: [NEVER; BOUNDS],
         })
     }
 
@@ -95,6 +104,7 @@ impl LegTable {
         requires unanswered { is_among awaiting_answer leg.state ≡ false }
         ensures { self.new ≡ with_leg self.old x leg }
     {
+        lower(&mut self.bounds, x.place, due_from(leg, &self.timers));
         self.legs[x.number()] = Some(leg);
         self.keys[key_index(x)] = key_of(leg);
     }
@@ -108,6 +118,7 @@ impl LegTable {
         ensures { self.new ≡ with_waiting self.old x leg pending }
     {
         keep(&mut self.notes, x, Note::Number(pending));
+        lower(&mut self.bounds, x.place, due_from(leg, &self.timers));
         self.legs[x.number()] = Some(leg);
         self.keys[key_index(x)] = key_of(leg);
     }
@@ -121,6 +132,7 @@ impl LegTable {
         ensures { self.new ≡ with_kept self.old x leg message }
     {
         keep(&mut self.notes, x, Note::Message(message));
+        lower(&mut self.bounds, x.place, due_from(leg, &self.timers));
         self.legs[x.number()] = Some(leg);
         self.keys[key_index(x)] = key_of(leg);
     }
@@ -133,6 +145,27 @@ impl LegTable {
     {
         self.legs[x.number()] = None;
         self.keys[key_index(x)] = NO_KEY;
+    }
+
+    /// Whether a leg at this place may be due in a frame, by these timers.
+    pub fn may_be_due(&self, place: u8, frame: u32, timers: &Timers) -> bool
+        requires place { place < 30 }
+        ensures { result ≡ false → NoneDue timers.now self.now.held place frame }
+    {
+        if self.timers != *timers {
+            return true;
+        }
+        self.bounds[usize::from(place)] <= frame
+    }
+
+    /// Looks at the legs at a place, so that of each frame before the first in which one of them is due it is
+    /// known again that none is.
+    pub fn settle(&mut self, place: u8)
+        requires place { place < 30 }
+        ensures { self.new ≡ self.old }
+    {
+        let first = due_from_at(&self.legs, self.lines, place, &self.timers);
+        self.bounds[usize::from(place)] = first;
     }
 
     /// The leg of a line that a message with this flag and call reference value is for.

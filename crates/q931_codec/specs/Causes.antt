@@ -10,6 +10,9 @@ normal_call_clearing = 16
 abbrev pub user_busy : ℕ
 user_busy = 17
 
+abbrev pub no_user_responding : ℕ
+no_user_responding = 18
+
 abbrev pub invalid_number_format : ℕ
 invalid_number_format = 28
 
@@ -45,3 +48,6 @@ invalid_element_contents = 100
 
 abbrev pub message_not_compatible_with_call_state : ℕ
 message_not_compatible_with_call_state = 101
+
+abbrev pub recovery_on_timer_expiry : ℕ
+recovery_on_timer_expiry = 102

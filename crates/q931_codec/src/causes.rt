@@ -9,6 +9,9 @@ pub const NORMAL_CALL_CLEARING: u8 = 16;
 /// User busy. The exchange never gives it by itself: a user does, and the other one hears busy tone.
 pub const USER_BUSY: u8 = 17;
 
+/// No user responding.
+pub const NO_USER_RESPONDING: u8 = 18;
+
 /// Invalid number format (address incomplete).
 pub const INVALID_NUMBER_FORMAT: u8 = 28;
 
@@ -44,3 +47,6 @@ pub const INVALID_ELEMENT_CONTENTS: u8 = 100;
 
 /// Message not compatible with call state.
 pub const MESSAGE_NOT_COMPATIBLE_WITH_CALL_STATE: u8 = 101;
+
+/// Recovery on timer expiry.
+pub const RECOVERY_ON_TIMER_EXPIRY: u8 = 102;

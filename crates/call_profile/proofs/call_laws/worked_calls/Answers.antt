@@ -2,10 +2,11 @@ use Rattle.std.proofs.Common.{refl}
 use Rattle.q931_elements.specs.Reading.{elements_of, elements_within}
 use Rattle.call_profile.specs.Legs.{slots_of}
 use Rattle.call_profile.specs.Restarts.{outcome_below}
+use Rattle.call_profile.specs.Expiring.{outcome_of_lines}
 use Rattle.call_profile.proofs.call_laws.worked_calls.Goals as goal
 
 pub returns-clause-whole : goal.returns-clause-whole
-unfolding elements_of elements_within slots_of
+unfolding outcome_of_lines elements_of elements_within slots_of
 returns-clause-whole c = refl
 
 pub returns-clause-channel : goal.returns-clause-channel
@@ -61,11 +62,11 @@ unfolding elements_of elements_within slots_of
 returns-clause-rings c = refl
 
 pub returns-clause-busy : goal.returns-clause-busy
-unfolding elements_of elements_within slots_of
+unfolding outcome_of_lines elements_of elements_within slots_of
 returns-clause-busy c = refl
 
 pub returns-clause-sounds_busy : goal.returns-clause-sounds_busy
-unfolding elements_of elements_within slots_of
+unfolding outcome_of_lines elements_of elements_within slots_of
 returns-clause-sounds_busy c = refl
 
 pub returns-clause-other_cause : goal.returns-clause-other_cause

@@ -17,16 +17,19 @@ frame_tool d input other (tool.Image image) is = is
 frame_tool d input other tool.Nothing is = absurd is
 
 pub returns-in-Nail-clause-reply : goal.returns-in-Nail-clause-reply
-returns-in-Nail-clause-reply g c s w plan tones work = rw c.in-Nail.is (c.nail.ensures.reply c.args.out.now s w work.holds)
+returns-in-Nail-clause-reply g c s w plan tones timers work = rw c.in-Nail.is (c.nail.ensures.reply c.args.out.now s w work.holds)
 
 pub returns-in-Nail-clause-world : goal.returns-in-Nail-clause-world
-returns-in-Nail-clause-world g c s w plan tones work = rw c.in-Nail.is (c.nail.ensures.world s w work.holds)
+returns-in-Nail-clause-world g c s w plan tones timers work = rw c.in-Nail.is (c.nail.ensures.world s w work.holds)
 
 pub returns-in-Free-clause-reply : goal.returns-in-Free-clause-reply
-returns-in-Free-clause-reply g c s w plan tones work = rw c.in-Free.is (c.free.ensures.reply c.args.out.now s w work.holds)
+returns-in-Free-clause-reply g c s w plan tones timers work = rw c.in-Free.is (c.free.ensures.reply c.args.out.now s w work.holds)
 
 pub returns-in-Frame-clause-world : goal.returns-in-Frame-clause-world
-returns-in-Frame-clause-world g c s w plan tones work = rw c.in-Frame.is (c.frame.ensures.world s.dimensions w c.in-Frame.field-0 work.holds)
+returns-in-Frame-clause-world g c s w plan tones timers work = rw c.in-Frame.is (c.frame.ensures.world s w plan tones timers work c.in-Frame.field-0)
+
+pub returns-in-Frame-clause-reply : goal.returns-in-Frame-clause-reply
+returns-in-Frame-clause-reply g c s w plan tones timers work = rw c.in-Frame.is (c.frame.ensures.reply s w plan tones timers work c.in-Frame.field-0)
 
 pub returns-in-Frame-clause-tool : goal.returns-in-Frame-clause-tool
 returns-in-Frame-clause-tool g c d fits =
@@ -36,5 +39,5 @@ returns-in-Frame-clause-tool g c d fits =
 
 pub message-requires-clause-ahead : goal.message-requires-clause-ahead
 message-requires-clause-ahead g c =
-    subst (λ (octets : List ℕ). IfSome c.args.ahead (IsReadAhead c.args.plan.now octets)) (sym c.as_slice.ensures)
-    (subst (λ (e : Event). IfSome c.args.ahead (IsReadOf c.args.plan.now e)) c.in-Message.is c.requires.ahead)
+    subst (λ (octets : List ℕ). IfSome c.args.ahead (IsReadAhead c.args.trace.now.plan octets)) (sym c.as_slice-octets.ensures)
+    (subst (λ (e : Event). IfSome c.args.ahead (IsReadOf c.args.trace.now.plan e)) c.in-Message.is c.requires.ahead)

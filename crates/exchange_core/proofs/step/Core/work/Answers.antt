@@ -14,7 +14,7 @@ happen-response-requires-clause-work g c =
     let e = c.event-event_done.result.now in
     let f = facts _ c.args.self.now _ _ _ c.args.event e c.self.view_is c.self.invariant c.requires.known c.event-event_done.ensures in
     let tools = subst (λ (x : Working). (e : Event) → IsNumbered x.trace c.args.event e → IsToolFor (setting x).dimensions e c.args.tool.now) (sym c.self.view_is) c.requires.tool in
-    (_, _, refl, refl, f.at, tools e f.number)
+    (_, _, refl, refl, refl, f.at, tools e f.number)
 
 pub happen-response-requires-clause-fits : goal.happen-response-requires-clause-fits
 happen-response-requires-clause-fits g c =
@@ -46,14 +46,14 @@ invariant_of-self g c =
     let done = c.happen-response.ensures in
     subst (λ room. IsWorking grown c.happen-response.new.control.map c.happen-response.new.control.legs room) (sym c.push_reserved.ensures.capacity)
     (stepped own _ _ _ c.args.by c.args.event e c.happen-response.new.control.map c.happen-response.new.control.legs c.push_reserved.new.self.items
-    c.self.invariant f.known f.number c.push_reserved.ensures.items (done.world (setting own) (world_of own) refl refl f.at) done.sizes.bound done.sizes.slots refl)
+    c.self.invariant f.known f.number c.push_reserved.ensures.items (done.world (setting own) (world_of own) refl refl refl f.at) done.sizes.bound done.sizes.slots refl)
 
 pub returns-clause-reply : goal.returns-clause-reply
 returns-clause-reply g c =
     let e = c.event-event_done.result.now in
     let f = facts _ c.args.self.now _ _ _ c.args.event e c.self.view_is c.self.invariant c.requires.known c.event-event_done.ensures in
     of_each _ c.args.self.now c.args.event e (λ (x : Working) (e : Event). reply_of c.happen-response.result c.happen-response.new.out ≡ reply (setting x) (world_of x) e) c.self.view_is f.number
-    (c.happen-response.ensures.reply _ _ refl refl f.at)
+    (c.happen-response.ensures.reply _ _ refl refl refl f.at)
 
 pub returns-clause-world : goal.returns-clause-world
 returns-clause-world g c =
@@ -88,3 +88,9 @@ returns-clause-laid g c = is_laid _ _ _ _ (invariant_of-self g c) c.next_frame-n
 
 pub returns-clause-joins : goal.returns-clause-joins
 returns-clause-joins g c = joins_its _ _ _ _ (invariant_of-self g c)
+
+pub happen-response-requires-clause-lines : goal.happen-response-requires-clause-lines
+happen-response-requires-clause-lines g c =
+    let e = c.event-event_done.result.now in
+    let f = facts _ c.args.self.now _ _ _ c.args.event e c.self.view_is c.self.invariant c.requires.known c.event-event_done.ensures in
+    (sym (ap (λ (d : Dimensions). d.external) f.at.holds.sizes), c.self.invariant.sound.few)

@@ -1,0 +1,271 @@
+//! The turn of a frame: what is done for the legs whose timers have run out.
+ghost use Rattle.std.specs.Prelude.{◌≡◌, ◌<◌, ◌≤◌, ◌+◌, ◌*◌, ◌%◌, ◌++◌, [], true, None, Some, length};
+ghost use Rattle.std.specs.List.{cons_option};
+ghost use Rattle.circuit_model.specs.Extent.{IsExternal};
+ghost use Rattle.circuit_map.specs.Connections.{SameSizes};
+ghost use Rattle.q931_codec.specs.Outgoing.{outgoing_of};
+ghost use Rattle.call_states.specs.Acts.{is_among};
+ghost use Rattle.exchange_events.specs.Limits.{most_records, most_sends};
+ghost use Rattle.exchange_events.specs.Sizes.{Setting, Dimensions};
+ghost use Rattle.q931_codec.specs.Causes.{no_user_responding, recovery_on_timer_expiry};
+ghost use Rattle.call_profile.specs.Acts.{clear_with, message_to, peer_of};
+ghost use Rattle.call_profile.specs.EndedCalls.{record_ended, record_of_expiry, expired_records};
+ghost use Rattle.call_profile.specs.Expiring.{timed_state, send_again, give_up, ask_for_release, clear_peer, on_expiry, expire_slot, outcome_of_lines};
+ghost use Rattle.call_profile.specs.KeptMessages.{awaiting_answer};
+ghost use Rattle.call_profile.specs.Legs.{kept_at, resent_from};
+ghost use Rattle.call_profile.specs.Operations.{making_after_all, Making};
+ghost use Rattle.call_profile.specs.Peers.{IsThere, PeerIsThere};
+ghost use Rattle.call_profile.specs.World.{World};
+ghost use Rattle.call_control.specs.AtWork.{IsInOrder, EachInOrder};
+ghost use Rattle.call_control.specs.Standing.{Holds, HasMade, Makes, Performs};
+
+use crate::acts::in_release_request;
+use crate::operations::CallControl;
+use crate::sending::{message_to, record_also, send};
+use call_states::{Held, Leg};
+use call_timers::{Expiry, Timers, due};
+use circuit_model::{PLACES, Slot};
+use control_memory::PathMap;
+use exchange_events::{Outbox, Signal};
+use q931_codec::causes::{INVALID_NUMBER_FORMAT, NO_USER_RESPONDING, RECOVERY_ON_TIMER_EXPIRY};
+use q931_codec::{MessageKind, Outgoing};
+use tone_rules::Tones;
+
+impl<P: PathMap> CallControl<P> {
+    /// Looks at one leg of each external line, lowest line first, in the turn of a frame that has passed its
+    /// boundary: does what is asked for where its timer has run out, and records the calls that this ends, in the
+    /// same order. Where none of them may be due it does nothing.
+    pub fn expire(
+        &mut self,
+        out: &mut Outbox,
+        tones: &Tones,
+        timers: &Timers,
+        external: u8,
+        frame: u32,
+    )
+        requires work { (s : Setting) × (w : World) × (s.tones ≡ tones.now) × (s.timers ≡ timers.now) × IsInOrder s self.old.map self.old.legs w }
+        requires lines { (external ≡ self.old.map.external) × (external ≤ 32) }
+        requires fresh { (out.old.sends ≡ []) × (out.old.moved ≡ None) × (out.old.records ≡ []) }
+        ensures makes { EachInOrder tones.now timers.now self.old.map self.old.legs (λ s w.
+            HasMade s self.new.map self.new.legs out.new (outcome_of_lines s frame w s.dimensions.external).making) }
+        ensures records { EachInOrder tones.now timers.now self.old.map self.old.legs (λ s w.
+            out.new.records ≡ (outcome_of_lines s frame w s.dimensions.external).recorded) }
+        ensures moved { out.new.moved ≡ None }
+        ensures sizes { SameSizes self.old.map self.new.map }
+    {
+        let place = (frame % u32::from(PLACES)) as u8;
+        if self.legs.may_be_due(place, frame, timers) {
+            self.expire_place(out, tones, timers, external, frame, place);
+            self.legs.settle(place);
+        }
+    }
+
+    // Looks at the legs of this place of each external line, lowest line first.
+    fn expire_place(
+        &mut self,
+        out: &mut Outbox,
+        tones: &Tones,
+        timers: &Timers,
+        external: u8,
+        frame: u32,
+        place: u8,
+    )
+        requires work { (s : Setting) × (w : World) × (s.tones ≡ tones.now) × (s.timers ≡ timers.now) × IsInOrder s self.old.map self.old.legs w }
+        requires lines { (external ≡ self.old.map.external) × (external ≤ 32) }
+        requires place { place ≡ frame % 30 }
+        requires fresh { (out.old.sends ≡ []) × (out.old.moved ≡ None) × (out.old.records ≡ []) }
+        ensures makes { EachInOrder tones.now timers.now self.old.map self.old.legs (λ s w.
+            HasMade s self.new.map self.new.legs out.new (outcome_of_lines s frame w s.dimensions.external).making) }
+        ensures records { EachInOrder tones.now timers.now self.old.map self.old.legs (λ s w.
+            out.new.records ≡ (outcome_of_lines s frame w s.dimensions.external).recorded) }
+        ensures moved { out.new.moved ≡ None }
+        ensures sizes { SameSizes self.old.map self.new.map }
+    {
+        for line in 0..external {
+            self.expire_slot(out, tones, timers, frame, Slot { line, place });
+        }
+    }
+
+    // Looks at the leg that holds a slot, where one does.
+    fn expire_slot(
+        &mut self,
+        out: &mut Outbox,
+        tones: &Tones,
+        timers: &Timers,
+        frame: u32,
+        x: Slot,
+    )
+        requires work { (s : Setting) × (w : World) × (s.tones ≡ tones.now) × (s.timers ≡ timers.now) × IsInOrder s self.old.map self.old.legs w }
+        requires external { IsExternal self.old.map.external x }
+        requires room { (length out.old.sends + 1 < most_sends) × (length out.old.records < most_records) }
+        ensures makes { (s : Setting) (m : Making) → s.tones ≡ tones.now → s.timers ≡ timers.now → Makes s.dimensions self.old.map self.old.legs out.old.sends out.old.moved m
+            → Makes s.dimensions self.new.map self.new.legs out.new.sends out.new.moved (making_after_all s.dimensions m (expire_slot s frame m.world.legs x)) }
+        ensures records { (s : Setting) (w : World) → s.timers ≡ timers.now → Holds s.dimensions self.old.map self.old.legs w
+            → out.new.records ≡ out.old.records ++ expired_records s frame w x }
+        ensures few { (length out.new.sends ≤ length out.old.sends + 2) × (length out.new.records ≤ length out.old.records + 1) }
+        ensures moved { out.new.moved ≡ out.old.moved }
+        ensures sizes { SameSizes self.old.map self.new.map }
+    {
+        let Some(leg) = self.legs.at(x) else {
+            return;
+        };
+        let Some(expiry) = due(leg.state, leg.resent, leg.since, frame, timers) else {
+            return;
+        };
+        let held = Held { slot: x, leg };
+        let peer = self.peer_of(leg.peer);
+        self.on_expiry(out, tones, held, peer, expiry);
+    }
+
+    // Does what the expiry of a leg's timer asks for, and records the call that this ends.
+    fn on_expiry(
+        &mut self,
+        out: &mut Outbox,
+        tones: &Tones,
+        held: Held,
+        peer: Option<Held>,
+        expiry: Expiry,
+    )
+        requires there { IsThere self.old.map.external held }
+        requires count { length self.old.legs.held ≡ 30 * self.old.map.external }
+        requires peer { peer ≡ peer_of self.old.legs held.leg.peer }
+        requires peer_there { PeerIsThere self.old.map.external held peer }
+        requires state { held.leg.state ≡ timed_state expiry }
+        requires cause { held.leg.cause < 128 }
+        requires room { (length out.old.sends + 1 < most_sends) × (length out.old.records < most_records) }
+        ensures makes { Performs (on_expiry tones.now self.old.legs held expiry) self.old.map self.old.legs out.old self.new.map self.new.legs out.new }
+        ensures records { (d : Dimensions) (w : World) → Holds d self.old.map self.old.legs w
+            → out.new.records ≡ out.old.records ++ cons_option (record_of_expiry w held expiry) [] }
+        ensures few { (length out.new.sends ≤ length out.old.sends + 2) × (length out.new.records ≤ length out.old.records + 1) }
+        ensures moved { out.new.moved ≡ out.old.moved }
+        ensures sizes { SameSizes self.old.map self.new.map }
+    {
+        match expiry {
+            Expiry::Digits => self.clear_leg(out, tones, held, INVALID_NUMBER_FORMAT),
+            Expiry::SetupAgain | Expiry::ReleaseAgain => self.send_again(out, held),
+            Expiry::SetupOver => self.setup_over(out, tones, held, peer),
+            Expiry::Proceeding => self.proceeding_over(out, tones, held, peer),
+            Expiry::Disconnect => self.ask_for_release(out, held),
+            Expiry::ReleaseOver => self.remove_leg(held),
+        }
+    }
+
+    // The user of a leg is sent once more what is kept of it.
+    fn send_again(&mut self, out: &mut Outbox, held: Held)
+        requires there { IsThere self.old.map.external held }
+        requires count { length self.old.legs.held ≡ 30 * self.old.map.external }
+        requires state { is_among awaiting_answer held.leg.state ≡ true }
+        requires room { length out.old.sends < most_sends }
+        ensures makes { Performs (send_again held (kept_at self.old.legs held.slot)) self.old.map self.old.legs out.old self.new.map self.new.legs out.new }
+        ensures few { length out.new.sends ≤ length out.old.sends + 1 }
+        ensures moved { out.new.moved ≡ out.old.moved }
+        ensures records { out.new.records ≡ out.old.records }
+        ensures map { self.new.map ≡ self.old.map }
+    {
+        let Some(octets) = self.legs.kept(held.slot) else {
+            return;
+        };
+        let again = octets.copy();
+        let octets = again.copy();
+        let leg = resent_from(self.map.next_frame(), held.leg);
+        self.legs.expect(held.slot, leg, octets);
+        out.sends.push(Signal {
+            line: held.slot.line,
+            octets: again,
+        });
+    }
+
+    // The called user didn't answer the SETUP: its leg is gone, and its caller is cleared.
+    fn setup_over(&mut self, out: &mut Outbox, tones: &Tones, held: Held, peer: Option<Held>)
+        requires there { IsThere self.old.map.external held }
+        requires count { length self.old.legs.held ≡ 30 * self.old.map.external }
+        requires peer { peer ≡ peer_of self.old.legs held.leg.peer }
+        requires peer_there { PeerIsThere self.old.map.external held peer }
+        requires room { (length out.old.sends + 1 < most_sends) × (length out.old.records < most_records) }
+        ensures makes { Performs (give_up held ++ clear_peer tones.now self.old.legs held) self.old.map self.old.legs out.old self.new.map self.new.legs out.new }
+        ensures records { (d : Dimensions) (w : World) → Holds d self.old.map self.old.legs w
+            → out.new.records ≡ out.old.records ++ cons_option (record_ended w held no_user_responding) [] }
+        ensures few { (length out.new.sends ≤ length out.old.sends + 2) × (length out.new.records ≤ length out.old.records + 1) }
+        ensures moved { out.new.moved ≡ out.old.moved }
+        ensures sizes { SameSizes self.old.map self.new.map }
+    {
+        let call = self.record_ended(held, peer, NO_USER_RESPONDING);
+        self.give_up(out, held);
+        self.clear_peer(out, tones, peer, NO_USER_RESPONDING);
+        record_also(&mut out.records, call);
+    }
+
+    // The called user is neither alerted nor answers: both legs are cleared.
+    fn proceeding_over(&mut self, out: &mut Outbox, tones: &Tones, held: Held, peer: Option<Held>)
+        requires there { IsThere self.old.map.external held }
+        requires count { length self.old.legs.held ≡ 30 * self.old.map.external }
+        requires peer { peer ≡ peer_of self.old.legs held.leg.peer }
+        requires peer_there { PeerIsThere self.old.map.external held peer }
+        requires room { (length out.old.sends + 1 < most_sends) × (length out.old.records < most_records) }
+        ensures makes { Performs (clear_with tones.now recovery_on_timer_expiry held ++ clear_peer tones.now self.old.legs held) self.old.map self.old.legs out.old self.new.map self.new.legs out.new }
+        ensures records { (d : Dimensions) (w : World) → Holds d self.old.map self.old.legs w
+            → out.new.records ≡ out.old.records ++ cons_option (record_ended w held no_user_responding) [] }
+        ensures few { (length out.new.sends ≤ length out.old.sends + 2) × (length out.new.records ≤ length out.old.records + 1) }
+        ensures moved { out.new.moved ≡ out.old.moved }
+        ensures sizes { SameSizes self.old.map self.new.map }
+    {
+        let call = self.record_ended(held, peer, NO_USER_RESPONDING);
+        self.clear_leg(out, tones, held, RECOVERY_ON_TIMER_EXPIRY);
+        self.clear_peer(out, tones, peer, NO_USER_RESPONDING);
+        record_also(&mut out.records, call);
+    }
+
+    // The leg is gone, and its user is sent RELEASE COMPLETE.
+    fn give_up(&mut self, out: &mut Outbox, held: Held)
+        requires there { IsThere self.old.map.external held }
+        requires count { length self.old.legs.held ≡ 30 * self.old.map.external }
+        requires room { length out.old.sends < most_sends }
+        ensures makes { Performs (give_up held) self.old.map self.old.legs out.old self.new.map self.new.legs out.new }
+        ensures count { length self.new.legs.held ≡ length self.old.legs.held }
+        ensures sends { length out.new.sends ≡ length out.old.sends + 1 }
+        ensures moved { out.new.moved ≡ out.old.moved }
+        ensures records { out.new.records ≡ out.old.records }
+        ensures sizes { SameSizes self.old.map self.new.map }
+    {
+        self.remove_leg(held);
+        let message = with_cause(&held.leg, MessageKind::ReleaseComplete, RECOVERY_ON_TIMER_EXPIRY);
+        send(out, held.slot.line, &message);
+    }
+
+    // The user didn't release the call: it is sent RELEASE with the cause that the leg was cleared with.
+    fn ask_for_release(&mut self, out: &mut Outbox, held: Held)
+        requires there { IsThere self.old.map.external held }
+        requires count { length self.old.legs.held ≡ 30 * self.old.map.external }
+        requires cause { held.leg.cause < 128 }
+        requires room { length out.old.sends < most_sends }
+        ensures makes { Performs (ask_for_release held) self.old.map self.old.legs out.old self.new.map self.new.legs out.new }
+        ensures few { length out.new.sends ≤ length out.old.sends + 1 }
+        ensures moved { out.new.moved ≡ out.old.moved }
+        ensures records { out.new.records ≡ out.old.records }
+        ensures map { self.new.map ≡ self.old.map }
+    {
+        let release = with_cause(&held.leg, MessageKind::Release, held.leg.cause);
+        self.expect(out, held.slot, in_release_request(held.leg), &release);
+    }
+}
+
+// A message of a type to the user of a leg, with a cause alone.
+fn with_cause(leg: &Leg, kind: MessageKind, cause: u8) -> Outgoing<'static>
+    ensures { outgoing_of result ≡ record (message_to leg.now kind) { cause = Some cause } }
+{
+    Outgoing {
+        cause: Some(cause),
+        ..message_to(leg, kind)
+    }
+}
+
+// A leg that waits in its state anew from this frame on, since what it got was sent again.
+fn resent_from(next: u32, leg: Leg) -> Leg
+    ensures { result ≡ resent_from next leg }
+{
+    Leg {
+        since: next,
+        resent: true,
+        ..leg
+    }
+}

@@ -1,0 +1,100 @@
+-- What the expiry of a leg's timer makes, and the turn of a frame: ITU-T Q.931 (05/98), 9.1, table 9-1, with 5.1.3 (T302), 5.2.4 (T303), 5.2.5.3
+-- (T310) and 5.3 (T305, T308). When a leg is looked at, and what becomes of the rest of its call, is this exchange's own profile.
+use Rattle.std.specs.Prelude.{ℕ, zero, suc, ◌%◌, List, [], ◌∷◌, ◌++◌, Option, Some, None}
+use Rattle.circuit_model.specs.declared.channel.Slot.{Slot}
+use Rattle.circuit_model.specs.FrameInput.{Input}
+use Rattle.q931_codec.specs.declared.kind.MessageKind.TheVariants as kind
+use Rattle.q931_codec.specs.CallStates.{overlap_sending, call_present, incoming_call_proceeding, disconnect_indication, release_request}
+use Rattle.q931_codec.specs.Causes.{invalid_number_format, no_user_responding, recovery_on_timer_expiry}
+use Rattle.q931_codec.specs.Outgoing.{OutgoingMessage}
+use Rattle.call_timers.specs.Expiries.{due}
+use Rattle.call_timers.specs.declared.expiry.Expiry.{Expiry}
+use Rattle.call_timers.specs.declared.expiry.Expiry.TheVariants as expiry
+use Rattle.call_timers.specs.declared.timers.Timers.{Timers}
+use Rattle.call_states.specs.declared.leg.Held.{Held}
+use Rattle.call_states.specs.declared.leg.Leg.{Leg}
+use Rattle.tone_rules.specs.declared.tones.Tones.{Tones}
+use Rattle.exchange_events.specs.Sizes.{Setting}
+use Rattle.call_profile.specs.Acts.{message_to, send_to, in_release_request, peer_of, with_peer, clear_with, remove_leg}
+use Rattle.call_profile.specs.Legs.{Legs, kept_at, held_at}
+use Rattle.call_profile.specs.Operations.{Operation, Clear, Expect, Repeat, Remove, making_at}
+use Rattle.call_profile.specs.Restarts.{MessageOutcome, outcome_then}
+use Rattle.call_profile.specs.World.{World, pass}
+
+-- ---- what each expiry asks for
+
+abbrev pub release_for : Leg → ℕ → OutgoingMessage
+release_for leg cause = record (message_to leg kind.Release) { cause = Some cause }
+
+abbrev pub release_complete_for : Leg → ℕ → OutgoingMessage
+release_complete_for leg cause = record (message_to leg kind.ReleaseComplete) { cause = Some cause }
+
+-- the user of a leg is sent once more what is kept of it
+abbrev pub send_again : Held → Option (List ℕ) → List Operation
+send_again h None = []
+send_again h (Some octets) = Repeat h octets ∷ []
+
+-- the called user didn't answer the SETUP: its leg is gone
+abbrev pub give_up : Held → List Operation
+give_up h = Clear h.slot ∷ Remove h.slot ∷ send_to h (release_complete_for h.leg recovery_on_timer_expiry) ∷ []
+
+-- the user didn't release the call: it is sent RELEASE with the cause that it was cleared with, and hears what it heard
+abbrev pub ask_for_release : Held → List Operation
+ask_for_release h = Expect h.slot (in_release_request h.leg) (release_for h.leg h.leg.cause) ∷ []
+
+-- the caller of a user who doesn't respond is cleared
+abbrev pub clear_peer : Tones → Legs → Held → List Operation
+clear_peer tones legs h = with_peer (peer_of legs h.leg.peer) (clear_with tones no_user_responding)
+
+abbrev pub on_expiry : Tones → Legs → Held → Expiry → List Operation
+on_expiry tones legs h expiry.Digits = clear_with tones invalid_number_format h
+on_expiry tones legs h expiry.SetupAgain = send_again h (kept_at legs h.slot)
+on_expiry tones legs h expiry.SetupOver = give_up h ++ clear_peer tones legs h
+on_expiry tones legs h expiry.Proceeding = clear_with tones recovery_on_timer_expiry h ++ clear_peer tones legs h
+on_expiry tones legs h expiry.Disconnect = ask_for_release h
+on_expiry tones legs h expiry.ReleaseAgain = send_again h (kept_at legs h.slot)
+on_expiry tones legs h expiry.ReleaseOver = remove_leg h
+
+-- the state whose timer it is
+abbrev pub timed_state : Expiry → ℕ
+timed_state expiry.Digits = overlap_sending
+timed_state expiry.SetupAgain = call_present
+timed_state expiry.SetupOver = call_present
+timed_state expiry.Proceeding = incoming_call_proceeding
+timed_state expiry.Disconnect = disconnect_indication
+timed_state expiry.ReleaseAgain = release_request
+timed_state expiry.ReleaseOver = release_request
+
+-- ---- a leg, in a frame
+
+abbrev pub due_of : Timers → ℕ → Leg → Option Expiry
+due_of timers frame leg = due leg.state leg.resent leg.since frame timers
+
+abbrev pub if_due : Tones → Legs → Held → Option Expiry → List Operation
+if_due tones legs h None = []
+if_due tones legs h (Some e) = on_expiry tones legs h e
+
+abbrev pub expire_leg : Setting → ℕ → Legs → Option Held → List Operation
+expire_leg s frame legs None = []
+expire_leg s frame legs (Some h) = if_due s.tones legs h (due_of s.timers frame h.leg)
+
+abbrev pub expire_slot : Setting → ℕ → Legs → Slot → List Operation
+expire_slot s frame legs x = expire_leg s frame legs (held_at legs x)
+
+-- ---- a frame's turn
+
+-- each frame looks at the legs of one place, so that each leg is looked at in every thirtieth frame
+abbrev pub slot_looked_at : ℕ → ℕ → Slot
+slot_looked_at frame line = record { line = line; place = frame % 30 }
+
+abbrev pub outcome_on_line : Setting → ℕ → ℕ → MessageOutcome → MessageOutcome
+outcome_on_line s frame line a = outcome_then s.dimensions no_user_responding a (expire_slot s frame a.making.world.legs (slot_looked_at frame line))
+
+-- the first n lines, lowest first, each in the world that those before it left
+unfoldable pub outcome_of_lines : Setting → ℕ → World → ℕ → MessageOutcome
+outcome_of_lines s frame w zero = record { making = making_at w; recorded = [] }
+outcome_of_lines s frame w (suc line) = outcome_on_line s frame line (outcome_of_lines s frame w line)
+
+-- the frame passes, and then the legs are looked at whose turn it is
+abbrev pub outcome_of_frame : Setting → World → Input → MessageOutcome
+outcome_of_frame s w input = outcome_of_lines s w.holding.next (pass w input) s.dimensions.external
