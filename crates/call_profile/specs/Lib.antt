@@ -29,4 +29,5 @@ pub mod Recorded
 pub mod WorkedMessages
 pub mod WorkedOverlap
 pub mod WorkedDigits
+pub mod WorkedExpiries
 pub mod CallsTold

@@ -33,4 +33,4 @@ pub use command_laws::{law_of_granted_nails, law_of_refusals};
 pub use laws::{later_frames_change_nothing, worlds_are_made};
 pub use leg_laws::{law_of_progress, law_of_records, law_of_references, law_of_restarts};
 pub use legs::is_for;
-pub use worked::{worked_digits, worked_messages, worked_overlap};
+pub use worked::{worked_digits, worked_expiries, worked_messages, worked_overlap};
