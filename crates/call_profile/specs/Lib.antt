@@ -30,4 +30,5 @@ pub mod WorkedMessages
 pub mod WorkedOverlap
 pub mod WorkedDigits
 pub mod WorkedExpiries
+pub mod ExpiryBounds
 pub mod CallsTold

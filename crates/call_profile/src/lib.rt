@@ -26,8 +26,8 @@ mod legs;
 mod worked;
 
 pub use call_laws::{
-    law_of_answered_calls, law_of_digits, law_of_legs, law_of_paths, law_of_refused_calls,
-    worked_calls,
+    law_of_answered_calls, law_of_digits, law_of_expiries, law_of_legs, law_of_paths,
+    law_of_refused_calls, worked_calls,
 };
 pub use command_laws::{law_of_granted_nails, law_of_refusals};
 pub use laws::{later_frames_change_nothing, worlds_are_made};
