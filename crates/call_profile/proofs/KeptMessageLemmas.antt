@@ -1,5 +1,5 @@
 -- Each leg waits in its state since a frame, and what is kept is kept where a leg waits for the answer.
-use Rattle.std.proofs.Common.{◌≡◌, ◌≢◌, ℕ, zero, suc, ◌*◌, ◌≤◌, inl, inr, true, false, List, [], ◌∷◌, length, Option, Some, None, refl, sym, ◌∙◌, ap, subst, arith, get_or, length-set, get_or-set_same, get_or-set_other}
+use Rattle.std.proofs.Common.{◌≡◌, ◌≢◌, ℕ, zero, suc, ◌*◌, ◌≤◌, inl, inr, true, false, List, Option, Some, None, refl, sym, ◌∙◌, subst, arith, get_or, length-set, get_or-set_same, get_or-set_other}
 use Rattle.std.specs.Prelude.{replicate, slice_set, IfSome}
 use Rattle.std.proofs.lemmas.List.{length-replicate}
 use Rattle.circuit_model.specs.declared.channel.Slot.{Slot}

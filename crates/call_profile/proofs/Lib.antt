@@ -5,6 +5,7 @@ pub mod ExpiredLegLemmas
 pub mod BothDisconnectedLemmas
 pub mod ExpiringLemmas
 pub mod NoneDueLemmas
+pub mod ExpirySendLemmas
 pub mod ExpiredRecordLemmas
 pub mod GivenToneLemmas
 pub mod RestartedSlotLemmas

@@ -21,7 +21,7 @@ use Rattle.tone_rules.specs.declared.tones.Tones.{Tones}
 use Rattle.call_states.specs.declared.leg.Held.{Held}
 use Rattle.exchange_events.specs.declared.record.CallRecord.{CallRecord}
 use Rattle.call_profile.specs.ActCourse.{course_of}
-use Rattle.call_profile.specs.Acts.{in_release_request, in_disconnect_indication, in_state, peer_of, with_peer, clear_with, on_disconnect, on_release, remove_leg, on_alerting, on_connect}
+use Rattle.call_profile.specs.Acts.{in_release_request, in_disconnect_indication, peer_of, with_peer, clear_with, on_disconnect, on_release, remove_leg, on_alerting, on_connect}
 use Rattle.call_profile.specs.CallRecords.{is_calling, records, records_by}
 use Rattle.call_profile.specs.Calls.{making_by}
 use Rattle.call_profile.specs.EndedCalls.{caller_in, record_calling, record_ended, record_of_act}

@@ -29,4 +29,6 @@ pub mod Recorded
 pub mod WorkedMessages
 pub mod WorkedOverlap
 pub mod WorkedDigits
+pub mod WorkedExpiries
+pub mod ExpiryBounds
 pub mod CallsTold

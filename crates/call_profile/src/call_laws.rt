@@ -14,6 +14,8 @@ ghost use Rattle.call_profile.specs.Calls.{For_leg, after_message, answer_to, ou
 ghost use Rattle.q931_codec.specs.declared.message.Message.{Message};
 ghost use Rattle.exchange_events.specs.declared.trace.Event.{Event};
 ghost use Rattle.exchange_events.specs.declared.trace.Event.TheVariants as event;
+ghost use Rattle.circuit_model.specs.FrameInput.{Input};
+ghost use Rattle.call_profile.specs.ExpiryBounds.{SendsFew, RecordsFew};
 ghost use Rattle.call_profile.specs.KeptMessages.{EachBegan, EachIsKept, NoneElseIsKept};
 ghost use Rattle.call_profile.specs.LegStanding.{CallsStand};
 ghost use Rattle.call_states.specs.declared.leg.Held.{Held};
@@ -112,4 +114,11 @@ pub fn law_of_digits()
         → digits_refusal s w x called m ≡ Some switching_equipment_congestion → WantsPort s w (called_with called m) }
     ensures unrecorded { (s : Setting) (w : World) (line : ℕ) (h : Held) (m : Message) → act_on h.leg.state m ≡ act.Digits
         → (outcome_for s w line (For_leg h m)).recorded ≡ [] }
+{}
+
+/// The turn of a frame sends at most two messages for each external line, and records at most one call for
+/// each. So what a step may send, 64 messages, is enough for 32 lines.
+pub fn law_of_expiries()
+    ensures sends { (s : Setting) (w : World) (input : Input) → SendsFew s w input }
+    ensures records { (s : Setting) (w : World) (input : Input) → CallsStand s w → RecordsFew s w input }
 {}

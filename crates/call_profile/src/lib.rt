@@ -26,11 +26,11 @@ mod legs;
 mod worked;
 
 pub use call_laws::{
-    law_of_answered_calls, law_of_digits, law_of_legs, law_of_paths, law_of_refused_calls,
-    worked_calls,
+    law_of_answered_calls, law_of_digits, law_of_expiries, law_of_legs, law_of_paths,
+    law_of_refused_calls, worked_calls,
 };
 pub use command_laws::{law_of_granted_nails, law_of_refusals};
 pub use laws::{later_frames_change_nothing, worlds_are_made};
 pub use leg_laws::{law_of_progress, law_of_records, law_of_references, law_of_restarts};
 pub use legs::is_for;
-pub use worked::{worked_digits, worked_messages, worked_overlap};
+pub use worked::{worked_digits, worked_expiries, worked_messages, worked_overlap};

@@ -1,5 +1,5 @@
-use Rattle.std.proofs.Common.{refl, ◌∙◌, ap, [], ◌∷◌, subst, sym}
-use Rattle.q931_codec.specs.Outgoing.{OutgoingMessage, outgoing_of}
+use Rattle.std.proofs.Common.{[], ◌∷◌, subst}
+use Rattle.q931_codec.specs.Outgoing.{OutgoingMessage}
 use Rattle.call_states.specs.declared.leg.Leg.{Leg}
 use Rattle.call_profile.specs.Operations.{Put, Expect, Send, making_after, making_after_all}
 use Rattle.call_profile.specs.Setup.{call_proceeding, called_leg, offer}

@@ -1,4 +1,4 @@
-use Rattle.std.proofs.Common.{refl, rules, ◌≡◌, ◌++◌, [], ◌∷◌, List, ◌∙◌, ap, sym}
+use Rattle.std.proofs.Common.{refl, rules, ◌≡◌, ◌++◌, [], ◌∷◌, ◌∙◌, ap}
 use Rattle.q931_codec.specs.Outgoing.{encoding, outgoing_of}
 use Rattle.call_states.specs.declared.leg.Leg.{Leg}
 use Rattle.exchange_events.specs.declared.signal.Signal.{Signal}

@@ -1,8 +1,8 @@
-use Rattle.std.proofs.Common.{refl, ◌∙◌, ap, [], ◌∷◌, subst, sym}
+use Rattle.std.proofs.Common.{[], ◌∷◌, subst}
 use Rattle.q931_codec.specs.declared.kind.MessageKind.TheVariants as kind
-use Rattle.q931_codec.specs.Outgoing.{OutgoingMessage, outgoing_of}
+use Rattle.q931_codec.specs.Outgoing.{OutgoingMessage}
 use Rattle.call_states.specs.declared.leg.Leg.{Leg}
-use Rattle.call_profile.specs.Acts.{message_to, in_release_request}
+use Rattle.call_profile.specs.Acts.{message_to}
 use Rattle.call_profile.specs.Operations.{Clear, Expect, making_after, making_after_all}
 use Rattle.call_control.specs.Standing.{Makes}
 use Rattle.call_control.proofs.MakingLemmas.{makes_clear}

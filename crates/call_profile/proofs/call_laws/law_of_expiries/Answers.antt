@@ -1,0 +1,12 @@
+use Rattle.std.proofs.Common.{arith}
+use Rattle.call_profile.specs.World.{pass}
+use Rattle.call_profile.proofs.CommandLemmas.{pass_kept}
+use Rattle.call_profile.proofs.ExpirySendLemmas.{lines_send, lines_record}
+use Rattle.call_profile.proofs.call_laws.law_of_expiries.Goals as goal
+
+pub returns-clause-sends : goal.returns-clause-sends
+returns-clause-sends c s w input = lines_send s w.holding.next (pass w input) s.dimensions.external
+
+pub returns-clause-records : goal.returns-clause-records
+returns-clause-records c s w input stands =
+    lines_record s w.holding.next (pass w input) (pass_kept s w stands.circuits stands.legs input) s.dimensions.external (omega arith)
