@@ -49,8 +49,8 @@ static void run_out(Slot x) {
     }
 }
 
-// Behind a frame, whose octets begin here in the report: what is sent is reported before them. What a slot hears is
-// that of the world before, so they are written first.
+// Behind a frame, whose octets begin here in the report: what is sent is reported before them. What a slot hears
+// belongs to the world before, so they are written first.
 static void expire(size_t octets) {
     static uint8_t said[EXTERNAL * 2 * CELLS];
     uint32_t f = frame_number - 1, next = NEVER;

@@ -33,7 +33,7 @@ EachWithTones tones map legs Says = (s : Setting) (w : World) → s.tones ≡ to
 abbrev pub EachWithPlan : List Number → Connections → Legs → (Setting → World → Type 0) → Type 0
 EachWithPlan plan map legs Says = (s : Setting) (w : World) → s.plan ≡ plan → IsAtWork s map legs w → Says s w
 
--- map and legs are those of this world, in which circuits and legs are consistent
+-- map and legs represent this world, in which circuits and legs are consistent
 pub record IsInOrder (s : Setting) (map : Connections) (legs : Legs) (w : World) : Type 0 where
   pub holds : Holds s.dimensions map legs w
   pub circuits : Valid s.dimensions.bridges w.holding

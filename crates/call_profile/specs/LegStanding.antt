@@ -52,7 +52,7 @@ HasPeer external legs x leg peer.Alone = IsTrue (is_among alone leg.state)
 HasPeer external legs x leg (peer.Leg y) = IsExternal external y × ((other : Leg) × (leg_at legs y ≡ Some other) × IsInCall leg.side x leg y other)
 HasPeer external legs x leg (peer.Room room) = (leg.side ≡ Caller) × (leg.state ≡ active)
 
--- the tone of a leg is that of its state and cause. One that was asked to release its call because its user didn't answer DISCONNECT may keep the
+-- a leg has the tone of its state and cause. One that was asked to release its call because its user didn't answer DISCONNECT may keep the
 -- tone that it heard
 abbrev pub MaySound : Tones → Leg → Kind → Type 0
 MaySound tones leg kind = (tone_of tones leg ≡ Some kind) ⊎ ((leg.state ≡ release_request) × (tone_given tones disconnect_indication leg.cause ≡ Some kind))

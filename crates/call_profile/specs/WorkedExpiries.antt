@@ -1,4 +1,4 @@
--- Worked expiries of timers, on which the definitions are evaluated. Source: this exchange's own; the octets are those of ITU-T Q.931 (05/98), section 4.
+-- Worked expiries of timers, on which the definitions are evaluated. Source: this exchange's own; the octets are from ITU-T Q.931 (05/98), section 4.
 use Rattle.std.specs.Prelude.{ℕ, false, List, [], ◌∷◌}
 use Rattle.call_timers.specs.Expiries.{usual}
 use Rattle.exchange_events.specs.declared.record.CallRecord.{CallRecord}

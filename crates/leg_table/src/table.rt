@@ -158,8 +158,8 @@ impl LegTable {
         self.bounds[usize::from(place)] <= frame
     }
 
-    /// Looks at the legs at a place, so that of each frame before the first in which one of them is due it is
-    /// known again that none is.
+    /// Looks at the legs at a place, and notes the first frame in which one of them may be due: before it
+    /// nothing is looked at.
     pub fn settle(&mut self, place: u8)
         requires place { place < 30 }
         ensures { self.new ≡ self.old }

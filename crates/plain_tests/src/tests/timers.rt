@@ -17,7 +17,7 @@ enum Step {
 
 use Step::{Frames, Message};
 
-/// A worked example: its timers, its steps, and the lines of the report but for frames that send nothing.
+/// A worked example: its timers, its steps, and the lines of the report except frames that send nothing.
 struct Worked {
     timers: PlainTimers,
     steps: &'static [Step],
@@ -155,7 +155,7 @@ fn run_of(alloc: Global, worked: &Worked) -> Result<PlainRun, Fail> {
     Ok(run)
 }
 
-// Whether the lines of a report are the wanted ones, beside those of frames that have their number alone.
+// Whether the lines of a report are the wanted ones, beside the lines of frames that have their number alone.
 fn is_wanted(report: &str, wanted: &[&str]) -> bool {
     let mut left = wanted.iter();
     for line in report.lines() {
