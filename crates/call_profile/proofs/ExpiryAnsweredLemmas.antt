@@ -18,9 +18,9 @@ use Rattle.call_states.specs.declared.leg.Side.TheVariants.{Caller, Called}
 use Rattle.tone_rules.specs.declared.tones.Tones.{Tones}
 use Rattle.exchange_events.specs.Sizes.{Setting, Dimensions}
 use Rattle.call_profile.specs.Acts.{peer_of, with_peer, clear_with}
-use Rattle.call_profile.specs.Expiring.{timed_state, send_again, give_up, clear_peer, on_expiry, due_of, if_due, expire_leg, expire_slot, slot_looked_at, outcome_of_lines}
+use Rattle.call_profile.specs.Expiring.{timed_state, send_again, clear_peer, on_expiry, due_of, if_due, expire_leg, expire_slot, slot_looked_at, outcome_of_lines}
 use Rattle.call_profile.specs.Legs.{Legs, resent_from, leg_at, kept_at}
-use Rattle.call_profile.specs.LegStanding.{LegsStand, HasPeer, IsInCall, AreOneCall, are_matched}
+use Rattle.call_profile.specs.LegStanding.{HasPeer, IsInCall, are_matched}
 use Rattle.call_profile.specs.Operations as op
 use Rattle.call_profile.specs.Operations.{Operation, Making, begun, making_after, making_after_all}
 use Rattle.call_profile.specs.World.{World}
@@ -156,8 +156,8 @@ module _ (s : Setting) (frame : ℕ) (m : Making) (kept : Kept s.dimensions s.to
 pub answered_stay : (s : Setting) (frame : ℕ) (w : World) → Kept s.dimensions s.tones w → (z : Slot) (leg : Leg) → IsExternal s.dimensions.external z → leg_at w.legs z ≡ Some leg → leg.state ≡ active
     → leg_at (outcome_of_lines s frame w s.dimensions.external).making.world.legs z ≡ Some leg
 answered_stay s frame w kept z leg in_z at up = (
-  each_line s frame w (λ a. Kept s.dimensions s.tones a.making.world × (leg_at a.making.world.legs z ≡ Some leg)) (kept, at)
-  (λ a line small so_far. (
-    slot_fine s frame a.making (slot_looked_at frame line) so_far.0 (place_within s.dimensions.external frame line small),
-    slot_stays s frame a.making so_far.0 (slot_looked_at frame line) (place_within s.dimensions.external frame line small) z in_z leg so_far.1 up,
-  )) s.dimensions.external (omega arith)).1
+    each_line s frame w (λ a. Kept s.dimensions s.tones a.making.world × (leg_at a.making.world.legs z ≡ Some leg)) (kept, at)
+    (λ a line small so_far. (
+      slot_fine s frame a.making (slot_looked_at frame line) so_far.0 (place_within s.dimensions.external frame line small),
+      slot_stays s frame a.making so_far.0 (slot_looked_at frame line) (place_within s.dimensions.external frame line small) z in_z leg so_far.1 up,
+    )) s.dimensions.external (omega arith)).1
