@@ -1,19 +1,15 @@
 -- Which calls are recorded where a timer runs out.
-use Rattle.std.proofs.Common.{◌≡◌, ℕ, ◌*◌, Bool, true, false, inl, inr, List, [], ◌++◌, length, Option, Some, None, refl, sym, ◌∙◌, ap, subst, arith, length-set, if◌then◌else◌}
-use Rattle.std.specs.Prelude.{option_map, option_and_then, ◌&&◌, ◌==◌}
+use Rattle.std.proofs.Common.{◌≡◌, ℕ, Bool, true, false, inl, inr, List, [], ◌++◌, Option, Some, None, refl, sym, ◌∙◌, ap, subst}
+use Rattle.std.specs.Prelude.{option_map, option_and_then, ◌&&◌}
 use Rattle.std.specs.List.{cons_option}
-use Rattle.std.proofs.lemmas.Grind.{common_steps}
 use Rattle.circuit_model.specs.declared.channel.Slot.{Slot}
 use Rattle.circuit_model.specs.Extent.{IsExternal}
-use Rattle.control_memory.specs.Layout.{number_of}
 use Rattle.q931_codec.specs.Causes.{invalid_number_format, no_user_responding, recovery_on_timer_expiry}
-use Rattle.q931_codec.specs.CallStates.{outgoing_call_proceeding, call_delivered, active}
 use Rattle.call_timers.specs.declared.expiry.Expiry.{Expiry}
 use Rattle.call_timers.specs.declared.expiry.Expiry.TheVariants as expiry
 use Rattle.call_states.specs.Acts.{is_among}
 use Rattle.call_states.specs.declared.leg.Held.{Held}
 use Rattle.call_states.specs.declared.leg.Leg.{Leg}
-use Rattle.call_states.specs.declared.leg.Peer.{Peer}
 use Rattle.call_states.specs.declared.leg.Peer.TheVariants as peer
 use Rattle.call_states.specs.declared.leg.Side.{Side}
 use Rattle.call_states.specs.declared.leg.Side.TheVariants.{Called}
@@ -24,13 +20,13 @@ use Rattle.call_profile.specs.Acts.{in_disconnect_indication, in_release_request
 use Rattle.call_profile.specs.CallRecords.{before_clearing, is_calling, records}
 use Rattle.call_profile.specs.EndedCalls.{caller_in, record_calling, record_ended, record_of_expiry, expired_records}
 use Rattle.call_profile.specs.Expiring.{timed_state, send_again, give_up, ask_for_release, clear_peer, on_expiry, due_of, if_due, expire_leg, expire_slot}
-use Rattle.call_profile.specs.LegStanding.{LegsStand, AreOneCall}
-use Rattle.call_profile.specs.Legs.{Legs, leg_at, kept_at, with_entry, resent_from}
+use Rattle.call_profile.specs.LegStanding.{AreOneCall}
+use Rattle.call_profile.specs.Legs.{leg_at, kept_at, with_entry, resent_from}
 use Rattle.call_profile.specs.Operations.{Operation, Making, begun, making_after_all}
 use Rattle.call_profile.specs.World.{World}
 use Rattle.call_profile.proofs.AnsweringLemmas.{caller_of}
 use Rattle.call_profile.proofs.BesideLemmas.{look, entry_here, entry_else, same_or_apart}
-use Rattle.call_profile.proofs.ClearingLemmas.{Kept, held_there, peers_apart}
+use Rattle.call_profile.proofs.ClearingLemmas.{Kept, held_there}
 use Rattle.call_profile.proofs.ExpiryStateLemmas.{due_state}
 use Rattle.call_profile.proofs.LegTableLemmas.{both_else, both_second}
 use Rattle.call_profile.proofs.EndedCallLemmas.{GoesOn, no_record_where_calling, one_record}
@@ -94,11 +90,11 @@ module _ (d : Dimensions) (tones : Tones) (m : Making) (x : Slot) (leg : Leg) (k
         let two : Leg = begun w (in_disconnect_indication no_user_responding other) in
         let is_peer : peer_of w.legs leg.peer ≡ Some k = ap (peer_of w.legs) c.1 ∙ held_there w.legs y other at_y in
         let apart : y ≡ x → ⊥ = λ same.
-            let e : Some leg ≡ Some other = sym at ∙ ap (leg_at w.legs) (sym same) ∙ at_y in
-            let legs_same : leg ≡ other = cc in
-            let sides : leg.side ≡ other.side = ap (λ (l : Leg). l.side) legs_same in
-            let wrong = sym call.is_called ∙ sides ∙ call.calls in
-            cc in
+        let e : Some leg ≡ Some other = sym at ∙ ap (leg_at w.legs) (sym same) ∙ at_y in
+        let legs_same : leg ≡ other = cc in
+        let sides : leg.side ≡ other.side = ap (λ (l : Leg). l.side) legs_same in
+        let wrong = sym call.is_called ∙ sides ∙ call.calls in
+        cc in
         let v : World = (making_after_all d m (clear_with tones recovery_on_timer_expiry h ++ clear_with tones no_user_responding k)).world in
         let over : is_calling (leg_at v.legs y) ≡ false =
         ap is_calling (both_second d.external w.legs x y (Some one) (Some two) kept.1.count within c.2 apart) ∙ disconnected_silent w.holding.next no_user_responding other in

@@ -1,7 +1,7 @@
 -- Whatever expires, each operation that is done for it is permitted, and the legs stay consistent.
-use Rattle.std.proofs.Common.{◌≡◌, ℕ, zero, suc, ◌<◌, ◌≤◌, true, inl, inr, List, [], ◌∷◌, ◌++◌, Option, Some, None, refl, sym, ◌∙◌, ap, subst, arith}
+use Rattle.std.proofs.Common.{◌≡◌, ℕ, zero, suc, ◌<◌, ◌≤◌, true, inl, List, [], ◌∷◌, ◌++◌, Option, Some, None, refl, sym, ◌∙◌, subst, arith}
 use Rattle.std.proofs.lemmas.Grind.{common_steps}
-use Rattle.std.specs.Prelude.{option_map, ◌%◌}
+use Rattle.std.specs.Prelude.{option_map}
 use Rattle.circuit_model.specs.declared.channel.Slot.{Slot}
 use Rattle.circuit_model.specs.Extent.{IsExternal}
 use Rattle.q931_codec.specs.declared.kind.MessageKind.TheVariants as kind
@@ -18,12 +18,12 @@ use Rattle.call_states.specs.declared.leg.Peer.TheVariants as peer
 use Rattle.number_plan.specs.declared.plan.Number.{Number}
 use Rattle.tone_rules.specs.declared.tones.Tones.{Tones}
 use Rattle.exchange_events.specs.Sizes.{Setting, Dimensions}
-use Rattle.call_profile.specs.Acts.{in_release_request, in_disconnect_indication, peer_of, with_peer, clear_with, remove_leg}
+use Rattle.call_profile.specs.Acts.{in_release_request, peer_of, with_peer, clear_with, remove_leg}
 use Rattle.call_profile.specs.Expiring.{timed_state, release_for, release_complete_for, send_again, give_up, ask_for_release, clear_peer, on_expiry, due_of, if_due, expire_leg, expire_slot, slot_looked_at, outcome_on_line, outcome_of_lines}
 use Rattle.call_profile.specs.KeptMessages.{IsAwaited}
-use Rattle.call_profile.specs.LegStanding.{LegStands, LegsStand, HasPeer, IsInCall, alone}
-use Rattle.call_profile.specs.Legs.{Legs, from_frame, leg_at, held_at, kept_at}
-use Rattle.call_profile.specs.Operations.{Operation, Making, begun, making_at, making_after, making_after_all}
+use Rattle.call_profile.specs.LegStanding.{LegStands, HasPeer, alone}
+use Rattle.call_profile.specs.Legs.{Legs, leg_at, kept_at}
+use Rattle.call_profile.specs.Operations.{Operation, Making, making_at, making_after, making_after_all}
 use Rattle.call_profile.specs.Peers.{IsThere, PeerIsThere}
 use Rattle.call_profile.specs.Restarts.{MessageOutcome}
 use Rattle.call_profile.specs.World.{World}
@@ -32,7 +32,7 @@ use Rattle.call_profile.proofs.ClearingLemmas.{Kept, held_there, peers_of, clear
 use Rattle.call_profile.proofs.DigitsLemmas.{cleared_kept}
 use Rattle.call_profile.proofs.ExpiredLegLemmas.{waits_anew, release_asked}
 use Rattle.call_profile.proofs.ExpiryStateLemmas.{due_state, is_alone}
-use Rattle.call_profile.proofs.Permitted.{IsPermitted, ArePermitted}
+use Rattle.call_profile.proofs.Permitted.{ArePermitted}
 use Rattle.call_profile.proofs.PermittedActLemmas.{is_there, peer_there_too, clear_permitted, peer_permitted, message_writable}
 
 permitted_both : (d : Dimensions) (tones : Tones) (plan : List Number) (m : Making) (os ps : List Operation) → ArePermitted d tones plan m os → ArePermitted d tones plan (making_after_all d m os) ps

@@ -1,8 +1,6 @@
 -- A frame's turn sends at most two messages for each line, and records at most one call.
-use Rattle.std.proofs.Common.{◌≡◌, ℕ, zero, suc, ◌+◌, ◌*◌, ◌≤◌, List, [], ◌∷◌, ◌++◌, length, Option, Some, None, refl, sym, ◌∙◌, ap, subst, arith, length-append}
+use Rattle.std.proofs.Common.{◌≡◌, ℕ, zero, suc, ◌+◌, ◌*◌, ◌≤◌, List, [], ◌∷◌, ◌++◌, length, Option, Some, None, sym, subst, arith, length-append}
 use Rattle.std.specs.List.{cons_option}
-use Rattle.circuit_model.specs.FrameInput.{Input}
-use Rattle.circuit_model.specs.declared.channel.Slot.{Slot}
 use Rattle.q931_codec.specs.Causes.{no_user_responding}
 use Rattle.q931_codec.specs.Outgoing.{encoding}
 use Rattle.call_timers.specs.declared.expiry.Expiry.{Expiry}
@@ -14,7 +12,7 @@ use Rattle.exchange_events.specs.declared.signal.Signal.{Signal}
 use Rattle.exchange_events.specs.Sizes.{Setting, Dimensions}
 use Rattle.call_profile.specs.Acts.{peer_of, with_peer, clear_with}
 use Rattle.call_profile.specs.CallRecords.{records}
-use Rattle.call_profile.specs.Expiring.{send_again, give_up, clear_peer, on_expiry, due_of, if_due, expire_leg, expire_slot, slot_looked_at, outcome_on_line, outcome_of_lines}
+use Rattle.call_profile.specs.Expiring.{send_again, on_expiry, due_of, if_due, expire_leg, expire_slot, slot_looked_at, outcome_of_lines}
 use Rattle.call_profile.specs.Legs.{Legs, held_at, kept_at}
 use Rattle.call_profile.specs.Operations as op
 use Rattle.call_profile.specs.Operations.{Operation, Making, making_after, making_after_all}

@@ -1,5 +1,5 @@
 -- In which state a leg is whose timer has run out, and that it is alone in three of them.
-use Rattle.std.proofs.Common.{◌≡◌, ℕ, Bool, true, false, inl, inr, Option, Some, None, refl, sym, ◌∙◌, ap, subst, arith, eqb-true, if◌then◌else◌}
+use Rattle.std.proofs.Common.{◌≡◌, ℕ, Bool, true, false, inl, inr, Option, Some, None, refl, ap, subst, arith, eqb-true, if◌then◌else◌}
 use Rattle.std.specs.Prelude.{◌+◌, ◌==◌, nat_le, option_and_then}
 use Rattle.std.proofs.lemmas.Grind.{common_steps}
 use Rattle.circuit_model.specs.declared.channel.Slot.{Slot}

@@ -201,11 +201,11 @@ made_turn : (s : Setting) (w : World) (input : Input) → CallsStand s w → IsM
 made_turn s w input stands made =
     let f : ℕ = w.holding.next in
     (each_line s f (pass w input) (λ a. IsMade s.dimensions s.tones a.making.world × Kept s.dimensions s.tones a.making.world) (made_pass s.dimensions s.tones w made input, pass_kept s w stands.circuits stands.legs input) (λ a line small k.
-        let x : Slot = slot_looked_at f line in
-        let within = place_within s.dimensions.external f line small in (
-          made_performed_all s.dimensions s.tones s.plan a.making (expire_slot s f a.making.world.legs x) (slot_may s f a.making x k.1 within s.plan) k.0,
-          slot_fine s f a.making x k.1 within,
-        )) s.dimensions.external (omega arith)).0
+    let x : Slot = slot_looked_at f line in
+    let within = place_within s.dimensions.external f line small in (
+      made_performed_all s.dimensions s.tones s.plan a.making (expire_slot s f a.making.world.legs x) (slot_may s f a.making x k.1 within s.plan) k.0,
+      slot_fine s f a.making x k.1 within,
+    )) s.dimensions.external (omega arith)).0
 
 -- ---- a world after an event
 

@@ -6,6 +6,7 @@ pub mod BothDisconnectedLemmas
 pub mod ExpiringLemmas
 pub mod NoneDueLemmas
 pub mod ExpirySendLemmas
+pub mod ExpiryAnsweredLemmas
 pub mod ExpiredRecordLemmas
 pub mod GivenToneLemmas
 pub mod RestartedSlotLemmas

@@ -138,11 +138,11 @@ turn_stands s w input stands =
     let f : ℕ = w.holding.next in
     let passed : EntriesStand s.dimensions.external s.plan (pass w input) = (stands.numbers, wait_on s.dimensions.external f (pass w input).holding.next w.legs (omega arith) stands.waits) in
     (each_line s f (pass w input) (λ a. EntriesStand s.dimensions.external s.plan a.making.world × Kept s.dimensions s.tones a.making.world) (passed, pass_kept s w stands.circuits stands.legs input) (λ a line small k.
-        let x : Slot = slot_looked_at f line in
-        let within = place_within s.dimensions.external f line small in (
-          performed_all s.dimensions s.tones s.plan a.making (expire_slot s f a.making.world.legs x) (slot_may s f a.making x k.1 within s.plan) k.0,
-          slot_fine s f a.making x k.1 within,
-        )) s.dimensions.external (omega arith)).0
+    let x : Slot = slot_looked_at f line in
+    let within = place_within s.dimensions.external f line small in (
+      performed_all s.dimensions s.tones s.plan a.making (expire_slot s f a.making.world.legs x) (slot_may s f a.making x k.1 within s.plan) k.0,
+      slot_fine s f a.making x k.1 within,
+    )) s.dimensions.external (omega arith)).0
 
 -- ---- an event
 

@@ -1,6 +1,5 @@
 -- Worked expiries of timers, on which the definitions are evaluated. Source: this exchange's own; the octets are from ITU-T Q.931 (05/98), section 4.
 use Rattle.std.specs.Prelude.{ℕ, false, List, [], ◌∷◌}
-use Rattle.call_timers.specs.Expiries.{usual}
 use Rattle.exchange_events.specs.declared.record.CallRecord.{CallRecord}
 use Rattle.exchange_events.specs.declared.record.Party.TheVariants as party
 use Rattle.exchange_events.specs.declared.reply.Reply.{Reply}

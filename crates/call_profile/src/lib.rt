@@ -1,10 +1,11 @@
 //! The rules of calls, as definitions that are read from top to bottom: `Step` says what each event is
 //! answered and makes of the world, `Calls` what a message asks for, `ActCourse`, `Digits`, `Setup` and `Restarts` what
-//! is then done, one operation after another (`Operations`). Except [`is_for`], its functions are laws of these:
+//! is then done, one operation after another (`Operations`), `Expiring` what a frame does. Except [`is_for`], its functions are laws of these:
 //!
 //! - Every event keeps the legs consistent, and a number pending where a leg waits for the rest of it
 //!   ([`law_of_legs`]). A refused command changes nothing
 //!   ([`law_of_refusals`]), nor does a refused SETUP ([`law_of_refused_calls`]).
+//! - The turn of a frame, in which timers run out (`Expiring`), sends and records little ([`law_of_expiries`]).
 //! - A number that is dialled on is refused for lack of a slot or a port alone, and nothing is recorded of it
 //!   ([`law_of_digits`]).
 //! - What is sent does not depend on the layout ([`law_of_paths`]); an answered call and a granted nail get
