@@ -19,22 +19,12 @@ use Step::{Frames, Message};
 
 /// A worked example: its timers, its steps, and the lines of the report except frames that send nothing.
 struct Worked {
-    timers: PlainTimers,
+    /// The frames of T302, T303, T305, T308 and T310.
+    timers: [u32; 5],
     steps: &'static [Step],
     wanted: &'static [&'static str],
     /// When the one call ended, if there was one.
     ended: Option<u32>,
-}
-
-// Of a caller who dials in parts, called users, DISCONNECT, RELEASE and CALL PROCEEDING.
-const fn timers(t302: u32, t303: u32, t305: u32, t308: u32, t310: u32) -> PlainTimers {
-    PlainTimers {
-        t302,
-        t303,
-        t305,
-        t308,
-        t310,
-    }
 }
 
 const LONG: u32 = 999_999_999;
@@ -46,7 +36,7 @@ const OFFERED: &str =
 
 const WORKED: [Worked; 6] = [
     Worked {
-        timers: timers(LONG, 1, LONG, LONG, LONG),
+        timers: [LONG, 1, LONG, LONG, LONG],
         steps: &[SETUP, Frames(61)],
         wanted: &[
             OFFERED,
@@ -56,7 +46,7 @@ const WORKED: [Worked; 6] = [
         ended: Some(61),
     },
     Worked {
-        timers: timers(LONG, LONG, 1, 1, LONG),
+        timers: [LONG, LONG, 1, 1, LONG],
         steps: &[
             Message(0, "080200010504038090A370028031"),
             Message(0, "080200017B70028039"),
@@ -73,7 +63,7 @@ const WORKED: [Worked; 6] = [
         ended: None,
     },
     Worked {
-        timers: timers(LONG, 1, LONG, LONG, 40),
+        timers: [LONG, 1, LONG, LONG, 40],
         steps: &[SETUP, Message(1, "0802800102"), Frames(61)],
         wanted: &[
             OFFERED,
@@ -83,7 +73,7 @@ const WORKED: [Worked; 6] = [
         ended: Some(61),
     },
     Worked {
-        timers: timers(30, LONG, LONG, LONG, LONG),
+        timers: [30, LONG, LONG, LONG, LONG],
         steps: &[
             Message(0, "080200010504038090A370028031"),
             Frames(30),
@@ -101,7 +91,7 @@ const WORKED: [Worked; 6] = [
         ended: None,
     },
     Worked {
-        timers: timers(LONG, 29, LONG, LONG, LONG),
+        timers: [LONG, 29, LONG, LONG, LONG],
         steps: &[Frames(1), SETUP, Frames(30)],
         wanted: &[
             "2 message 0:08028001021803A98381 1:0802000105A104038090A31803A98381700480313031",
@@ -110,7 +100,7 @@ const WORKED: [Worked; 6] = [
         ended: None,
     },
     Worked {
-        timers: timers(LONG, 30, LONG, LONG, LONG),
+        timers: [LONG, 30, LONG, LONG, LONG],
         steps: &[Frames(1), SETUP, Frames(60)],
         wanted: &[
             "2 message 0:08028001021803A98381 1:0802000105A104038090A31803A98381700480313031",
@@ -145,10 +135,21 @@ fn take(alloc: Global, run: &mut PlainRun, step: Step) -> Result<(), Fail> {
     Ok(())
 }
 
+fn timers_of(frames: [u32; 5]) -> PlainTimers {
+    let [t302, t303, t305, t308, t310] = frames;
+    PlainTimers {
+        t302,
+        t303,
+        t305,
+        t308,
+        t310,
+    }
+}
+
 fn run_of(alloc: Global, worked: &Worked) -> Result<PlainRun, Fail> {
     let tones = PlainTones::none(alloc);
     let exchange = PlainExchange::new(alloc, 30, 2, 0, numbers(alloc)?, tones);
-    let mut run = PlainRun::new(alloc, exchange.with_timers(worked.timers));
+    let mut run = PlainRun::new(alloc, exchange.with_timers(timers_of(worked.timers)));
     for step in worked.steps {
         take(alloc, &mut run, *step)?;
     }

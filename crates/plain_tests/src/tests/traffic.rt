@@ -1,24 +1,27 @@
-//! That pseudo-random traces of calls come to each course of a message.
+//! That pseudo-random traces of calls come to each course of a message, and to each expiry of a timer.
 use std::alloc::{AllocError, Global};
 use std::test::Fail;
-use test_traffic::{Counts, Random, draw_traffic};
+use test_traffic::{Counts, Expiries, Random, draw_traffic};
 
-// Draws n traces, and tells what became of their messages and how many paths were moved.
-fn draw(alloc: Global, traces: u32, events: u32) -> Result<(Counts, u32), AllocError> {
+// Draws n traces, and tells what became of their messages, which timers ran out, and how many paths were
+// moved.
+fn draw(alloc: Global, traces: u32, events: u32) -> Result<(Counts, Expiries, u32), AllocError> {
     let mut random = Random::new(1976);
     let mut counts = Counts::new();
+    let mut expiries = Expiries::new();
     let mut moved = 0u32;
     for _ in 0..traces {
         let drawn = draw_traffic(alloc, &mut random, events)?;
         counts.add(&drawn.counts);
+        expiries.add(&drawn.expiries);
         moved = moved.saturating_add(drawn.moved);
     }
-    Ok((counts, moved))
+    Ok((counts, expiries, moved))
 }
 
 #[test]
 fn each_course_is_drawn(rt: HostRuntime) -> Result<(), Fail> {
-    let (counts, moved) = draw(rt.alloc(), 40, 250)?;
-    assert!(rt; counts.is_whole() && moved > 0);
+    let (counts, expiries, moved) = draw(rt.alloc(), 80, 250)?;
+    assert!(rt; counts.is_whole() && expiries.is_whole() && moved > 0);
     Ok(())
 }
