@@ -4,6 +4,7 @@ use Rattle.circuit_model.specs.declared.channel.Slot.{Slot}
 use Rattle.circuit_model.specs.declared.circuit.Circuit.{Circuit}
 use Rattle.circuit_model.specs.declared.circuit.Kind.{Kind}
 use Rattle.circuit_model.specs.FrameInput.{Input}
+pub use Rattle.circuit_model.specs.Hears.{Plays}
 use Rattle.circuit_model.specs.Ports.{Ports}
 use Rattle.frame_engine.specs.Frames.{PlaysOut}
 use Rattle.exchange_core.specs.declared.tool.Tool.{Tool}
@@ -15,10 +16,6 @@ use Rattle.exchange_core.specs.Working.{Entry, IsNumbered, IsToolFor}
 use Rattle.exchange_events.specs.Sizes.{Dimensions}
 use Rattle.call_profile.specs.World.{World, pass}
 use Rattle.call_processor.specs.declared.worked.Placed.{Placed}
-
--- what an engine plays on a slot in a frame, given the tones and each frame's input and circuits
-abbrev pub Plays : Type 0
-Plays = (Kind → List ℕ) → List Input → List (List Circuit) → ℕ → Slot → ℕ
 
 -- which frames an engine of some type carries: their inputs, circuits and conference ports
 abbrev pub Carrying : Type 0 → Type 1

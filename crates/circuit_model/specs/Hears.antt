@@ -45,3 +45,7 @@ heard_through tones inputs held f (Some (Tone kind y since)) = tone_octet (tones
 -- the octet that slot y hears in frame f, given each frame's input and circuits
 abbrev pub hears : (Kind → List ℕ) → List Input → List (List Circuit) → ℕ → Slot → ℕ
 hears tones inputs held f y = heard_through tones inputs held f (heard_by (circuits_of held f) y)
+
+-- what an engine plays on a slot in a frame, given the tones and each frame's input and circuits
+abbrev pub Plays : Type 0
+Plays = (Kind → List ℕ) → List Input → List (List Circuit) → ℕ → Slot → ℕ

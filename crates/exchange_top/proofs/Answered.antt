@@ -32,9 +32,9 @@ use Rattle.tone_rules.specs.Tables.{table_of}
 use Rattle.call_processor.specs.Frames.{IsPlayed, Plays}
 use Rattle.segment_run.specs.Segment.{AreAnswered, IsAnswered, new_events}
 use Rattle.segment_run.proofs.OrderLemmas.{order_grown}
-use Rattle.report_text.specs.Report.{answer_line, frame_line, lines_sent, octet_of, report_line}
+use Rattle.report_text.specs.Report.{answer_line, answer_lines, frame_line, lines_sent, octet_of, report_line}
 use Rattle.exchange_top.specs.Outcomes.{MovesFew}
-use Rattle.exchange_top.specs.Report.{Played, report, event_line, event_lines, answer_lines, report_with, sent_at}
+use Rattle.report_text.specs.RunReport.{Played, report, event_line, event_lines, report_with, sent_at}
 use Rattle.exchange_top.specs.Running.{GrewFew, fabric_at, grown_calls, grown_lines}
 use Rattle.exchange_top.specs.Telling.{calls_answered}
 use Rattle.call_profile.specs.CallsTold.{calls_ended, calls_told, calls_kept}

@@ -16,8 +16,7 @@ use Rattle.line_list.specs.declared.listing.Listing.{Listing}
 use Rattle.line_list.specs.declared.listing.Listing.TheVariants as listing
 use Rattle.line_list.specs.Lines.{Line, calls_of, line_of, listed, text_of}
 use Rattle.call_profile.specs.CallsTold.{calls_kept}
-use Rattle.report_text.specs.Report.{answer_line}
-use Rattle.exchange_top.specs.Report.{answer_lines}
+use Rattle.report_text.specs.Report.{answer_line, answer_lines}
 use Rattle.exchange_top.specs.Running.{AreOfAnswers, GrewFew, grown_calls, grown_lines}
 use Rattle.exchange_top.specs.Telling.{calls_answered}
 use Rattle.exchange_top.proofs.Answered.{calls_told_of, few_told, lines_told}

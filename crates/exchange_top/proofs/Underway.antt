@@ -21,7 +21,7 @@ use Rattle.exchange_top.specs.Outcomes.{EndsWithSegment, IsFlushed, IsInterrupte
 use Rattle.line_list.specs.Lines.{listed}
 use Rattle.exchange_top.specs.Telling.{Telling}
 use Rattle.call_profile.specs.CallsTold.{calls_told}
-use Rattle.exchange_top.specs.Report.{report}
+use Rattle.report_text.specs.RunReport.{report}
 use Rattle.exchange_top.specs.Running.{GrewFew, fabric_at, grown_calls, grown_lines}
 use Rattle.exchange_top.specs.Streams.{AppendsFront}
 use Rattle.exchange_top.proofs.Answered.{calls_grown, few_grown, text_grown}

@@ -18,12 +18,12 @@ use Rattle.exchange_events.specs.Sound.{setting_of}
 use Rattle.exchange_core.specs.Working.{world_after}
 use Rattle.exchange_events.specs.Sizes.{Dimensions}
 use Rattle.call_profile.specs.World.{World}
-use Rattle.call_processor.specs.Frames.{Carrying, Plays}
+use Rattle.call_processor.specs.Frames.{Carrying, CarriesFrames, Plays}
+use Rattle.report_text.specs.RunReport.{report}
 use Rattle.line_list.specs.declared.listing.Listing.{Listing}
 use Rattle.line_list.specs.declared.listing.Listing.TheVariants as listing
 use Rattle.line_list.specs.Lines.{listed}
 use Rattle.exchange_top.specs.Outcomes.{Fabric, IsInterrupted, IsRunWhole, IsUnwritten}
-use Rattle.exchange_top.specs.Report.{HandsOut, report}
 use Rattle.exchange_top.specs.Streams.{AppendsFront}
 use Rattle.exchange_top.specs.Summary.{summary_text}
 use Rattle.exchange_top.specs.Telling.{AreTold, AreToldBeyond, Telling}
@@ -99,6 +99,11 @@ IsUnfinished status = (status ≡ 3) ⊎ (status ≡ 4) ⊎ (status ≡ 5)
 abbrev pub fabric_of : Bool → Trace → Fabric
 fabric_of true trace = record { slots = 59; most_moves = most_strict_moves (trace.external + trace.bridges) }
 fabric_of false trace = record { slots = 30; most_moves = most_moves (trace.external + trace.bridges) }
+
+-- the engine that a call hands out has these dimensions, and carries the frames of the world
+abbrev pub HandsOut : {E : Type 0} → (E → Dimensions) → Carrying E → Option E → Dimensions → World → Type 0
+HandsOut sizes carries None d w = ⊥
+HandsOut sizes carries (Some e) d w = (sizes e ≡ d) × CarriesFrames carries e w
 
 -- what is said of the engine that is handed out: that it has these dimensions, and carries the frames of this world
 abbrev pub Handing : Type 1

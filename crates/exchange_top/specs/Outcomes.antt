@@ -15,7 +15,7 @@ use Rattle.segment_run.specs.Segments.{IsDoneBelow}
 use Rattle.call_processor.specs.Frames.{Plays}
 use Rattle.line_list.specs.declared.listing.Listing.{Listing}
 use Rattle.line_list.specs.Lines.{listed}
-use Rattle.exchange_top.specs.Report.{report}
+use Rattle.report_text.specs.RunReport.{report}
 use Rattle.exchange_top.specs.Streams.{AppendsFront}
 use Rattle.exchange_top.specs.Telling.{Telling}
 use Rattle.call_profile.specs.CallsTold.{calls_told}

@@ -12,7 +12,7 @@ use Rattle.line_list.specs.declared.listing.Listing.{Listing}
 use Rattle.line_list.specs.Lines.{Line, line_of, listed, text_of}
 use Rattle.exchange_top.specs.Outcomes.{Fabric}
 use Rattle.exchange_events.specs.declared.record.CallRecord.{CallRecord}
-use Rattle.exchange_top.specs.Report.{event_lines}
+use Rattle.report_text.specs.RunReport.{event_lines}
 use Rattle.exchange_top.specs.Telling.{Telling}
 use Rattle.call_profile.specs.CallsTold.{calls_ended}
 

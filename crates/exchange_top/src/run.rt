@@ -9,7 +9,7 @@ ghost use Rattle.shared_exchange.specs.Sharing.{IsSeated};
 ghost use Rattle.call_processor.specs.Frames.{CarriesFrames, IsReady};
 ghost use Rattle.line_list.specs.Lines.{listed};
 ghost use Rattle.exchange_top.specs.Outcomes.{IsInterrupted, IsRunWhole, IsUnwritten};
-ghost use Rattle.exchange_top.specs.Report.{report};
+ghost use Rattle.report_text.specs.RunReport.{report};
 ghost use Rattle.exchange_top.specs.Telling.{AreTold, AreToldBeyond};
 ghost use Rattle.exchange_top.specs.Running.{IsUnused};
 

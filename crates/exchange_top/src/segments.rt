@@ -13,7 +13,7 @@ ghost use Rattle.segment_run.specs.Segments.{IsDoneBelow};
 ghost use Rattle.exchange_top.specs.declared.run.RunFault.TheVariants.{Memory, Write};
 ghost use Rattle.line_list.specs.Lines.{calls_of, listed, text_of};
 ghost use Rattle.exchange_top.specs.Outcomes.{IsFlushed, IsInterrupted, IsRunWhole, IsUnwritten};
-ghost use Rattle.exchange_top.specs.Report.{report};
+ghost use Rattle.report_text.specs.RunReport.{report};
 ghost use Rattle.exchange_top.specs.Running.{AddsText, AreOfAnswers, GrewFew, GrowthIsTold, fabric_at};
 ghost use Rattle.exchange_top.specs.Streams.{AppendsFront};
 ghost use Rattle.exchange_top.specs.Telling.{AreTold, AreToldBeyond, AreToldFront};

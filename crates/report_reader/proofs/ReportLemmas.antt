@@ -4,10 +4,10 @@ use Rattle.std.proofs.lemmas.Bool.{cases_lt}
 use Rattle.std.proofs.lemmas.List.{append-nil}
 use Rattle.std.proofs.lemmas.List.Elements.{All-nil, All-head, All-tail, All-push}
 use Rattle.exchange_events.specs.declared.answer.Answer.{Answer}
-use Rattle.report_text.specs.Report.{answer_line}
+use Rattle.report_text.specs.Report.{answer_line, answer_lines}
 use Rattle.report_reader.specs.declared.report.ReportFault.{ReportFault}
 use Rattle.report_reader.specs.declared.report.ReportFault.TheVariants.{Memory, Line}
-use Rattle.report_reader.specs.Spelling.{is_unbroken, IsFault, IsFaultyAt, IsNormal, IsReport, Spells, answer_lines}
+use Rattle.report_reader.specs.Spelling.{is_unbroken, IsFault, IsFaultyAt, IsNormal, IsReport, Spells}
 use Rattle.report_reader.specs.Reading.{reading}
 use Rattle.report_reader.proofs.FeedLemmas.{IsCut, broken, cut_of, same_line}
 use Rattle.report_reader.proofs.LineLemmas.{line_of, line_spells, line_unbroken, one_spelled, spelled}

@@ -8,7 +8,7 @@ use Rattle.exchange_events.specs.declared.answer.Answer.{Answer}
 use Rattle.exchange_events.specs.declared.answer.Kept.{Kept}
 use Rattle.exchange_events.specs.declared.answer.Kept.TheVariants.{Granted, Busy, Seated, NoPort, Freed, NotNailed, Sent, Frame}
 use Rattle.exchange_events.specs.declared.signal.Signal.{Signal}
-use Rattle.report_text.specs.Report.{answer_line}
+use Rattle.report_text.specs.Report.{answer_line, answer_lines}
 use Rattle.report_reader.specs.declared.report.ReportFault.{ReportFault}
 use Rattle.report_reader.specs.declared.report.ReportFault.TheVariants.{Memory, Line}
 
@@ -76,11 +76,6 @@ pub record Spells (line : List ℕ) (answer : Answer) : Type 0 where
 -- no octet is a line feed
 abbrev pub is_unbroken : List ℕ → Bool
 is_unbroken octets = list_all (λ octet. not (octet == 10)) octets
-
--- the lines of answers, one after another
-abbrev pub answer_lines : List Answer → List ℕ
-answer_lines [] = []
-answer_lines (answer ∷ answers) = answer_line answer ++ answer_lines answers
 
 -- bytes are a report: the lines of answers in normal form
 pub record IsReport (bytes : List ℕ) (answers : List Answer) : Type 0 where

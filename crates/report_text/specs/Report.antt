@@ -77,6 +77,11 @@ report_line octets n (Frame k sends records) = frame_line octets n k sends
 abbrev pub answer_line : Answer → List ℕ
 answer_line answer = report_line (lines_sent (octet_of answer.octets) (length answer.octets)) answer.event answer.reply
 
+-- the lines of answers, one after another
+abbrev pub answer_lines : List Answer → List ℕ
+answer_lines [] = []
+answer_lines (a ∷ answers) = answer_line a ++ answer_lines answers
+
 -- the line of an event, from the response and the outbox of its step
 abbrev pub response_line : List (List ℕ) → ℕ → Response → Outbox → List ℕ
 response_line octets n said outbox = report_line (lines_sent (octet_of octets) (length octets)) n (kept_of (reply_of said outbox))

@@ -4,8 +4,7 @@ use Rattle.std.specs.Io.KnownBytes.{Appends}
 use Rattle.exchange_top.specs.Streams.{AppendsFront}
 use Rattle.exchange_top.specs.Summary.{summary_text}
 use Rattle.generated_trace.specs.Generated.{IsTrafficOf}
-use Rattle.exchange_top.specs.Commands.{Sum_no_memory, Not_begun}
-use Rattle.exchange_top.specs.Report.{HandsOut}
+use Rattle.exchange_top.specs.Commands.{HandsOut, Sum_no_memory, Not_begun}
 use Rattle.exchange_top.proofs.Sums.{keeps, sums_cut, sums_up}
 use Rattle.exchange_top.proofs.Tellings.{none_told}
 use Rattle.trace_text.proofs.SoundLemmas.{sound_trace}

@@ -5,7 +5,7 @@ use Rattle.exchange_core.specs.Working.{order_of}
 use Rattle.exchange_top.specs.declared.run.RunFault.TheVariants.{Memory, Write}
 use Rattle.exchange_top.specs.Outcomes.{IsInterrupted, IsRunWhole, IsUnwritten}
 use Rattle.line_list.specs.Lines.{listed}
-use Rattle.exchange_top.specs.Report.{report}
+use Rattle.report_text.specs.RunReport.{report}
 use Rattle.exchange_top.specs.Running.{fabric_at}
 use Rattle.exchange_top.specs.Telling.{AreTold, AreToldBeyond}
 use Rattle.exchange_top.proofs.Sums.{fits_order, moved}

@@ -8,7 +8,7 @@ use Rattle.std.specs.Io.KnownBytes.{Appends}
 use Rattle.ex_io.specs.Ends.{Rose}
 use Rattle.exchange_top.specs.Outcomes.{IsInterrupted, IsRunWhole, IsUnwritten}
 use Rattle.line_list.specs.Lines.{listed, text_of}
-use Rattle.exchange_top.specs.Report.{report}
+use Rattle.report_text.specs.RunReport.{report}
 use Rattle.exchange_top.specs.Telling.{AreTold, AreToldBeyond}
 use Rattle.exchange_top.proofs.Answered.{calls_grown}
 use Rattle.exchange_top.proofs.Tellings.{both_beyond, both_told, none_told}

@@ -1,19 +1,18 @@
 -- The report of a run. Source: this exchange's own.
-use Rattle.std.specs.Prelude.{◌≡◌, ℕ, List, [], ◌∷◌, ◌++◌, Option, Some, None}
+use Rattle.std.specs.Prelude.{ℕ, List, [], ◌∷◌, ◌++◌}
 use Rattle.circuit_model.specs.declared.channel.Slot.{Slot}
 use Rattle.circuit_model.specs.declared.circuit.Circuit.{Circuit}
 use Rattle.circuit_model.specs.FrameInput.{Input}
+use Rattle.circuit_model.specs.Hears.{Plays}
 use Rattle.tone_rules.specs.Tables.{table_of}
-use Rattle.exchange_events.specs.declared.answer.Answer.{Answer}
 use Rattle.exchange_events.specs.declared.trace.Event.{Event}
 use Rattle.exchange_events.specs.declared.trace.Trace.{Trace}
 use Rattle.exchange_events.specs.Kept.{kept_of}
-use Rattle.exchange_events.specs.Sizes.{Setting, Dimensions}
+use Rattle.exchange_events.specs.Sizes.{Setting}
 use Rattle.exchange_events.specs.Sound.{setting_of}
 use Rattle.call_profile.specs.Step.{next, reply, events_of}
 use Rattle.call_profile.specs.World.{World, start}
-use Rattle.call_processor.specs.Frames.{Plays, Carrying, CarriesFrames}
-use Rattle.report_text.specs.Report.{answer_line, lines_sent, report_line}
+use Rattle.report_text.specs.Report.{lines_sent, report_line}
 
 -- what an engine plays on a slot in a frame once the tones are known, given each frame's input and circuits
 abbrev pub Played : Type 0
@@ -43,13 +42,3 @@ report_with played slots trace order = let s = setting_of slots trace in event_l
 -- the report of a trace whose events happen in this order: a line for each, in that order
 abbrev pub report : Plays → ℕ → Trace → List ℕ → List ℕ
 report plays slots trace order = report_with (plays (table_of trace.tones)) slots trace order
-
--- the lines of answers, one after another
-abbrev pub answer_lines : List Answer → List ℕ
-answer_lines [] = []
-answer_lines (a ∷ answers) = answer_line a ++ answer_lines answers
-
--- the engine that a call hands out has these dimensions, and carries the frames of the world
-abbrev pub HandsOut : {E : Type 0} → (E → Dimensions) → Carrying E → Option E → Dimensions → World → Type 0
-HandsOut sizes carries None d w = ⊥
-HandsOut sizes carries (Some e) d w = (sizes e ≡ d) × CarriesFrames carries e w
