@@ -1,4 +1,5 @@
 pub mod Registers
 pub mod Details
 pub mod Telling
+pub mod Changing
 pub mod Examples

@@ -1,8 +1,11 @@
 // Laws about the definitions alone: these functions do nothing, and their contracts are the laws.
-ghost use Rattle.std.specs.Prelude.{◌≡◌, ◌+◌, ◌^◌, ◌++◌, [], codes};
+ghost use Rattle.std.specs.Prelude.{◌≡◌, ◌+◌, ◌^◌, ◌++◌, ◌∷◌, List, [], codes};
 ghost use Rattle.meters.specs.Details.{Ring, IsRingOf, detail_text, detail_text_with};
-ghost use Rattle.meters.specs.Examples.{three_calls};
+ghost use Rattle.meters.specs.Changing.{Step, Metering, AreEvents, AreMetered, HaveNoted, after_steps, handed_in, lines_of, records_of, steps_text};
+ghost use Rattle.meters.specs.Examples.{first_steps, last_steps, metering_of, three_calls, written_by};
 ghost use Rattle.meters.specs.Registers.{Pegs, Held, register_value, ArePegsOf, IsHeldBy, peg_text, peg_text_with, holding_text, holding_text_with};
+
+use crate::meter::Meter;
 
 /// The law of texts: what a meter that represents some calls would say once it has noted more is
 /// the text over them all. So what it says now is the text over the calls that it represents.
@@ -20,4 +23,29 @@ pub fn worked_texts()
     ensures holding { holding_text three_calls ≡ codes "holding 4008 4000\n" }
     ensures none { (detail_text 3 [] ≡ []) × (peg_text [] ≡ codes "peg 0 0\n") × (holding_text [] ≡ codes "holding 0 0\n") }
     ensures full { register_value (2 ^ 64 + 5) ≡ 18446744073709551615 }
+{}
+
+/// The law of changes: what is written of steps that come one after another, and the meters after them,
+/// is put together of what the first and the others make (`texts`, `meters`). Where no meter is changed,
+/// what is written is the lines of the events, each meter notes all of their records, and the spare ones
+/// are as they were (`lines`, `times`, `noted`).
+pub fn law_of_changes<M: Meter>()
+    ensures texts { (xs ys : List Step) (s : Metering M) → steps_text M.text (xs ++ ys) s ≡ steps_text M.text xs s ++ steps_text M.text ys (after_steps xs s) }
+    ensures meters { (xs ys : List Step) (s : Metering M) → after_steps (xs ++ ys) s ≡ after_steps ys (after_steps xs s) }
+    ensures lines { (steps : List Step) (s : Metering M) → AreEvents steps → steps_text M.text steps s ≡ lines_of steps }
+    ensures times { (steps : List Step) (old spare new now : List M) → AreEvents steps
+        → AreMetered M.stands M.text (after_steps steps (handed_in old spare)) new now → HaveNoted M.stands M.text (records_of steps) old new × (now ≡ spare) }
+    ensures noted { (steps : List Step) (old spare new : List M) → AreEvents steps
+        → HaveNoted M.stands M.text (records_of steps) old new → AreMetered M.stands M.text (after_steps steps (handed_in old spare)) new spare }
+{}
+
+/// A call, a frame and three changes: what is written with one meter on and one spare, and with three of
+/// each; and what the changes leave.
+pub fn worked_changes()
+    ensures pegs { written_by (first_steps ++ last_steps) (peg_text ∷ []) (peg_text ∷ [])
+        ≡ codes "1 message moved 0 0 0:08028001021803A98381 0:0802800107\n2 message\npeg 1 1\n3 frame 0\npeg 0 0\n" }
+    ensures three { written_by (first_steps ++ last_steps) (detail_text 10 ∷ peg_text ∷ holding_text ∷ []) (detail_text 10 ∷ peg_text ∷ holding_text ∷ [])
+        ≡ codes "1 message moved 0 0 0:08028001021803A98381 0:0802800107\n2 message\ncall 0/1 room 0 0 0 16\n3 frame 0\npeg 1 1\nholding 0 0\n" }
+    ensures nothing_left { after_steps (first_steps ++ last_steps) (metering_of (peg_text ∷ []) (peg_text ∷ [])) ≡ metering_of [] [] }
+    ensures one_left { after_steps first_steps (metering_of (peg_text ∷ []) (peg_text ∷ [])) ≡ metering_of (peg_text ∷ []) [] }
 {}

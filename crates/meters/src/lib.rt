@@ -8,6 +8,10 @@
 //! - [`append_summaries`] appends the texts of several meters in order (`texts`), or leaves the
 //!   text as it was (`kept`).
 //!
+//! Meters may be changed in the middle of a run: what a change takes out and puts in, what each meter
+//! notes in its time and what is written is defined here (`specs/Changing.antt`, [`law_of_changes`],
+//! [`worked_changes`]).
+//!
 //! A program may hand in meters of its own, in boxes beside these: `calls_to_line` and `keeper` of
 //! `text_tests` are two.
 //!
@@ -24,7 +28,7 @@ mod texts;
 
 pub use call_detail::CallDetail;
 pub use holding_time::HoldingTime;
-pub use laws::{law_of_texts, worked_texts};
+pub use laws::{law_of_changes, law_of_texts, worked_changes, worked_texts};
 pub use meter::Meter;
 pub use peg_count::PegCount;
 pub use summaries::append_summaries;
