@@ -77,7 +77,7 @@ records-at (count ∷ changes) n = by_test (count == n) (records-at changes n)
     by_test true rest = rest
     by_test false rest = rest
 
--- so they are those of the events alone
+-- so they are the records of the events alone
 pub records-with : (changes : List ℕ) (n : ℕ) (steps : List Step) → records_of (with_changes changes n steps) ≡ records_of steps
 records-with changes n [] = refl
 records-with changes n (Event_done line records ∷ steps) =

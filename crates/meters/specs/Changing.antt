@@ -27,7 +27,7 @@ pub record IsAt (changes : List ℕ) (cursor place : ℕ) : Type 0 where
   pub early : (k : ℕ) → k < cursor → slice_index_or changes k 0 < place
   pub late : (k : ℕ) → cursor ≤ k → k < length changes → place ≤ slice_index_or changes k 0
 
--- and those of this place are before it too
+-- and the changes of this place are before it too
 pub record IsPast (changes : List ℕ) (cursor place : ℕ) : Type 0 where
   pub within : cursor ≤ length changes
   pub early : (k : ℕ) → k < cursor → slice_index_or changes k 0 ≤ place
