@@ -20,6 +20,7 @@
 #![tactic(auto)]
 
 mod call;
+mod changing;
 mod laws;
 mod run;
 mod segments;
@@ -28,4 +29,4 @@ mod summary;
 mod telling;
 
 pub use call::{Outcome, exchange};
-pub use laws::strict_runs_move_nothing;
+pub use laws::{law_of_unchanged_meters, strict_runs_move_nothing};

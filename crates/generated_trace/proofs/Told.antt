@@ -22,7 +22,7 @@ use Rattle.traffic_gen.proofs.Fit.{lines_fit}
 use Rattle.trace_text.specs.declared.said.Said.{Said}
 use Rattle.trace_text.specs.TraceLines.{says}
 use Rattle.trace_text.specs.TraceTimers.{timers_by}
-use Rattle.trace_text.specs.TraceGrammar.{EachSays, IsWhatLinesSay, IsTrace, events_in, numbers_in, plan_of, tones_in, tones_of, timers_in, timers_of, segment_ends, changes_in, sizes_in, so_far}
+use Rattle.trace_text.specs.TraceGrammar.{EachSays, IsWhatLinesSay, IsTrace, events_in, numbers_in, plan_of, tones_in, tones_of, timers_in, timers_of, segment_ends, changes_after, changes_in, sizes_in, so_far}
 use Rattle.trace_text.proofs.TraceHolds.{events-append, sizes_first}
 use Rattle.trace_text.proofs.TraceReadings.{one_trace}
 use Rattle.generated_trace.specs.Told.{said_by}
@@ -256,3 +256,17 @@ events_counted seed calls t few is = ap length (told_so seed calls t few is).eve
 -- octets that were generated are a trace
 pub are_trace : (seed calls : ℕ) (bytes : List ℕ) → calls ≤ 2000 → bytes ≡ traffic seed calls → (t : Trace) × IsTrace bytes t
 are_trace seed calls bytes few made = subst (λ octets. (t : Trace) × IsTrace octets t) (sym made) (some_trace seed calls few)
+
+-- no line changes the meters
+no_changes : (n : ℕ) (ls : List Line) → changes_after n (map said_by ls) ≡ []
+no_changes n [] = refl
+no_changes n (Header external bridges processors ∷ ls) = no_changes n ls
+no_changes n (ToLine number line ∷ ls) = no_changes n ls
+no_changes n (ToRoom number room ∷ ls) = no_changes n ls
+no_changes n (Nail one other place ∷ ls) = no_changes (n + 1) ls
+no_changes n (Message line octets ∷ ls) = no_changes (n + 1) ls
+no_changes n (Frame parts ∷ ls) = no_changes (n + 1) ls
+no_changes n (Sync ∷ ls) = no_changes n ls
+
+pub unchanged : (seed calls : ℕ) (t : Trace) → calls ≤ 2000 → IsTrafficOf seed calls t → t.changes ≡ []
+unchanged seed calls t few is = (told_so seed calls t few is).changes ∙ no_changes 0 (traffic_lines seed calls)

@@ -1,5 +1,5 @@
 //! The law of generated traces.
-ghost use Rattle.std.specs.Prelude.{◌≡◌, ℕ, ◌≤◌, length};
+ghost use Rattle.std.specs.Prelude.{◌≡◌, ℕ, ◌≤◌, [], length};
 ghost use Rattle.exchange_events.specs.declared.trace.Trace.{Trace};
 ghost use Rattle.trace_text.specs.TraceGrammar.{IsWhatLinesSay};
 ghost use Rattle.traffic_gen.specs.Fitting.{event_count};
@@ -7,8 +7,8 @@ ghost use Rattle.traffic_gen.specs.Traffic.{traffic_lines};
 ghost use Rattle.generated_trace.specs.Generated.{HasExchangeSizes, IsTrafficOf, traffic_told};
 
 /// The octets that are generated of a seed are a trace, and one only: what their lines say. The
-/// exchange has eight external lines, one bridge line and four call processors, and there is an event
-/// for each line that is one.
+/// exchange has eight external lines, one bridge line and four call processors, there is an event for
+/// each line that is one, and no meter is changed.
 pub fn law_of_generated_traces()
     ensures some { (seed calls : ℕ) → calls ≤ 2000 → (t : Trace) × IsTrafficOf seed calls t }
     ensures one { (seed calls : ℕ) (t u : Trace) → IsTrafficOf seed calls t → IsTrafficOf seed calls u → t ≡ u }
@@ -16,4 +16,5 @@ pub fn law_of_generated_traces()
     ensures sizes { (seed calls : ℕ) (t : Trace) → calls ≤ 2000 → IsTrafficOf seed calls t → HasExchangeSizes t 8 1 4 }
     ensures events { (seed calls : ℕ) (t : Trace) → calls ≤ 2000 → IsTrafficOf seed calls t
         → length t.events ≡ event_count (traffic_lines seed calls) }
+    ensures changes { (seed calls : ℕ) (t : Trace) → calls ≤ 2000 → IsTrafficOf seed calls t → t.changes ≡ [] }
 {}

@@ -6,6 +6,7 @@ use frame_engine::Engine;
 use gate::Gate;
 use meters::{CallDetail, Meter, append_summaries};
 use std::alloc::{AllocError, Global};
+use std::collections::VecDeque;
 use std::sync::Wait;
 use std::thread::Threads;
 use test_exchange::{CallRecord, Party, PlainEvent, PlainRun};
@@ -244,6 +245,7 @@ fn heard_of<G: Gate, R: Threads + Wait + Sync>(
     let mut meters: Vec<Box<dyn Meter>> = Vec::with_capacity(alloc, 2)?;
     meters.push(Box::new(alloc, CallDetail::new(alloc, CALLS)?)?)?;
     meters.push(Box::new(alloc, CallDetail::new(alloc, CALLS)?)?)?;
+    let mut spare: VecDeque<Box<dyn Meter>> = VecDeque::new(alloc);
     let Ends {
         words,
         mut source,
@@ -257,6 +259,7 @@ fn heard_of<G: Gate, R: Threads + Wait + Sync>(
         &mut sink,
         gate,
         &mut meters,
+        &mut spare,
     );
     what_was_heard(alloc, outcome.status == 0, sink.bytes(), meters.as_slice())
 }

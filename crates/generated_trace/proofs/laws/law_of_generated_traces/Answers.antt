@@ -1,4 +1,4 @@
-use Rattle.generated_trace.proofs.Told.{events_counted, has_sizes, one_told, some_trace, told_so}
+use Rattle.generated_trace.proofs.Told.{events_counted, has_sizes, one_told, some_trace, told_so, unchanged}
 use Rattle.generated_trace.proofs.laws.law_of_generated_traces.Goals as goal
 
 pub returns-clause-some : goal.returns-clause-some
@@ -15,3 +15,6 @@ returns-clause-sizes c = has_sizes
 
 pub returns-clause-events : goal.returns-clause-events
 returns-clause-events c = events_counted
+
+pub returns-clause-changes : goal.returns-clause-changes
+returns-clause-changes c = unchanged
