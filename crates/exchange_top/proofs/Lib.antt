@@ -5,6 +5,7 @@ pub mod Answered
 pub mod Stories
 pub mod Underway
 pub mod Steps
+pub mod Making
 pub mod Kept
 pub mod Tellings
 pub mod Endings

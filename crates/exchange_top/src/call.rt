@@ -360,8 +360,10 @@ fn answer_words<S: Source, K: Sink, G: Gate, C: Carrier, R: Threads + Wait + Syn
 /// gate doesn't ask for threads, the segment is done by the caller, in the order of the trace. The order
 /// in which the events took their turns is `order`; the report has a line for each in that order, and a
 /// summary has a line that counts them and then what the meters say (`docs/FORMATS.md`). The meters
-/// note the calls that end, segment by segment, in that order. The causes of another end are met in
-/// this order: the words, reading, the trace, the run, writing.
+/// note the calls that end, segment by segment, in that order. At each change of the trace, between two
+/// segments, the first of them is taken out, its text goes into the report, and it is dropped; then the
+/// first of `spare` is put in behind the others. Where there is none, that half does nothing. The causes
+/// of another end are met in this order: the words, reading, the trace, the run, writing.
 ///
 /// The octets of a frame are what the engine of type `C` plays. It is handed out where the status is
 /// 0, and then it has as many lines and internal slots as the exchange had, and carries the frames of
@@ -380,9 +382,10 @@ pub fn exchange<S: Source, K: Sink, G: Gate, C: Carrier, R: Threads + Wait + Syn
     spare: &mut VecDeque<Box<dyn Meter>>,
 ) -> Outcome<C>
     // 0 for `run`: all of the input was read, it is a trace, its events were done in an order that is
-    // lawful for it, their report was written, with what the engine plays in each frame, each meter
-    // noted the calls that ended, and the engine has the trace's sizes and carries their frames. With
-    // the flag the fabric is a strict one, and each number of moved paths in the report is 0.
+    // lawful for it, their report was written, with what the engine plays in each frame and what each
+    // meter says that is taken out, the meters that are left noted the calls that ended in their time,
+    // and the engine has the trace's sizes and carries their frames. With the flag the fabric is a
+    // strict one, and each number of moved paths in the report is 0.
     ensures done { result.status ≡ 0 → ReportsRun (parties C.plays C.sizes C.carries result.engine
         (λ m. stands m) (λ m. text m) meters.old.items spare.old.items meters.new.items spare.new.items)
         (texts words.now) (S.left source.old) (S.left source.new) result.order.items (K.written sink.old) (K.written sink.new) }
@@ -401,13 +404,13 @@ pub fn exchange<S: Source, K: Sink, G: Gate, C: Carrier, R: Threads + Wait + Syn
         × (result.order.items ≡ [])
         × Appends (K.written sink.old) (K.written sink.new) words_refusal
         × AreLeft (λ m. stands m) (λ m. text m) meters.old.items spare.old.items meters.new.items spare.new.items [] }
-    // 3: a read failed, nothing was written, and no meter noted a call.
+    // 3: a read failed, nothing was written, no meter was changed, and none noted a call.
     ensures read_failed { result.status ≡ 3 → Rose (S.faults source.old) (S.faults source.new) }
     ensures silent { result.status ≡ 3 → (result.order.items ≡ []) × Keeps (K.written sink.old) (K.written sink.new)
         × AreLeft (λ m. stands m) (λ m. text m) meters.old.items spare.old.items meters.new.items spare.new.items [] }
-    // 4: a write failed; whole segments were run and noted by the meters, and a prefix of their text was
-    // written. 5: there was no memory; behind whole segments maybe one was begun, and what was written
-    // ends with a segment.
+    // 4: a write failed; whole segments were run and noted by the meters, which were changed at their
+    // ends, and a prefix of their text was written. 5: there was no memory; behind whole segments maybe
+    // one was begun, or some of the changes behind it were made, and what was written ends with a segment.
     ensures write_failed { result.status ≡ 4 → Rose (K.faults sink.old) (K.faults sink.new) }
     ensures cut_short { 4 ≤ result.status
         → IsUndone (parties C.plays C.sizes C.carries result.engine

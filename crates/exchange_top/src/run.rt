@@ -55,9 +55,9 @@ impl From<Failed> for RunFault {
 }
 
 /// Runs a trace on a map of paths, segment after segment, each by its call processors and its frame
-/// worker side by side; writes what is listed of it, tells the meters of the calls that end, and notes
-/// the numbers of the events of the journal in `order`, which has room for them. Lines are kept in
-/// `lines` until they are written. Returns the engine that carried the octets.
+/// worker side by side; writes what is listed of it, tells the meters of the calls that end, changes them
+/// where the trace does, and notes the numbers of the events of the journal in `order`, which has room
+/// for them. Lines are kept in `lines` until they are written. Returns the engine that carried the octets.
 ///
 /// # Errors
 ///

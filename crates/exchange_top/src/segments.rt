@@ -53,8 +53,9 @@ pub struct Carried<T, C, L> {
 }
 
 /// Runs the segments of a board's trace one after the other, writes of them what is listed, and tells
-/// the meters of the calls that end. The lines of a segment are written once all of its events are
-/// answered and noted; until then they are kept in `lines`.
+/// the meters of the calls that end. Then the changes behind a segment are made, those before the first
+/// event before any segment. The lines of a segment are written once all of that is done; until then they
+/// are kept in `lines`, and what the meters say that are taken out behind them.
 pub fn report_segments<
     B: Switchboard,
     K: Sink,
