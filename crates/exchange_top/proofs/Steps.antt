@@ -31,6 +31,21 @@ use Rattle.exchange_top.proofs.Tellings.{beyond_none, both_beyond}
 abbrev pub place_of : List ℕ → ℕ → ℕ
 place_of ends k = get_or (0 ∷ ends) k 0
 
+-- the changes of a place, by equal lists and places
+module _ {M : Type 0} {stands : M → List CallRecord → Type 0} {text : M → List CallRecord → List ℕ} {meters spare now now_spare : List M} {all : List ℕ}
+    (changes wanted : List ℕ) (place there : ℕ) (said : List ℕ) (same : changes ≡ wanted) (is : place ≡ there) (silent : said ≡ []) where
+  pub done_moved : {cursor : ℕ} → AreChangesDone stands text changes place meters spare said now now_spare all cursor → AreChangesDone stands text wanted there meters spare [] now now_spare all cursor
+  done_moved {cursor} d =
+      subst (λ (cs : List ℕ). AreChangesDone stands text cs there meters spare [] now now_spare all cursor) same
+      (subst (λ (n : ℕ). AreChangesDone stands text changes n meters spare [] now now_spare all cursor) is
+      (subst (λ (t : List ℕ). AreChangesDone stands text changes place meters spare t now now_spare all cursor) silent d))
+
+  pub begun_moved : AreChangesBegun stands text changes place meters spare said now now_spare all → AreChangesBegun stands text wanted there meters spare [] now now_spare all
+  begun_moved b =
+      subst (λ (cs : List ℕ). AreChangesBegun stands text cs there meters spare [] now now_spare all) same
+      (subst (λ (n : ℕ). AreChangesBegun stands text changes n meters spare [] now now_spare all) is
+      (subst (λ (t : List ℕ). AreChangesBegun stands text changes place meters spare t now now_spare all) silent b))
+
 module _ {M : Type 0} (stands : M → List CallRecord → Type 0) (text : M → List CallRecord → List ℕ) (old spare : List M) (plays : Plays) (l : Listing) (board : Board) where
   abbrev story_of : Known → List Step
   story_of v = story plays l board.slots board.trace (order_of v.seen)

@@ -1,7 +1,7 @@
 -- The changes of meters that are made at a place of a run. Source: this exchange's own.
 use Rattle.std.specs.Prelude.{◌≡◌, ℕ, List, ◌++◌, replicate}
 use Rattle.exchange_events.specs.declared.record.CallRecord.{CallRecord}
-use Rattle.meters.specs.Changing.{AreChangedBy, IsAt, IsPast, Meters_changed, changes_at}
+use Rattle.meters.specs.Changing.{AreChangedBy, IsPast, Meters_changed, changes_at}
 
 -- All changes of a place were made; the cursor is behind them.
 pub record AreChangesDone {M : Type 0} (stands : M → List CallRecord → Type 0) (text : M → List CallRecord → List ℕ) (changes : List ℕ) (place : ℕ)

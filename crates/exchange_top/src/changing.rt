@@ -1,7 +1,8 @@
 //! Meters that are changed in the middle of a run.
 ghost use Rattle.std.specs.Prelude.{◌≡◌, ◌≤◌, ◌++◌, [], List, ℕ, AllPairs, drop, length, map, take, IfOk, OnOk, OnErr};
 ghost use Rattle.std.specs.List.{concat};
-ghost use Rattle.exchange_top.specs.Changes.{AreChangesBegun, AreChangesDone, IsAt};
+ghost use Rattle.meters.specs.Changing.{IsAt};
+ghost use Rattle.exchange_top.specs.Changes.{AreChangesBegun, AreChangesDone};
 
 use meters::Meter;
 use std::alloc::AllocError;
