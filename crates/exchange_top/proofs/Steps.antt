@@ -79,13 +79,13 @@ module _ {M : Type 0} (stands : M → List CallRecord → Type 0) (text : M → 
 
   module _ (k : ℕ) (v w : Known) (meters spares : List M) (cursor : ℕ) (sound : IsSound board.trace) (within : k < length board.trace.segments) (done : IsDoneBelow board.trace k (order_of v.seen))
       (on : AreOn k v meters spares cursor) (ran : Ran board.trace k v w) where
-    grown : List Step
+    abbrev grown : List Step
     grown = grown_steps plays l board v w
 
-    changes : List ℕ
+    abbrev changes : List ℕ
     changes = board.trace.changes
 
-    here : Metering M
+    abbrev here : Metering M
     here = after_steps (story_of v) first
 
     known : All (IsEvent board.trace) (new_events v w)
@@ -106,7 +106,7 @@ module _ {M : Type 0} (stands : M → List CallRecord → Type 0) (text : M → 
 
     -- all of it was done, and its records were noted
     module _ (whole : RanWhole board.trace k v w) (mid : List M) (told : GrowthIsTold (AreTold stands text meters mid) board v w) where
-      there : ℕ
+      abbrev there : ℕ
       there = place_of board.trace.segments (suc k)
 
       here_is : length (order_of v.seen) ≡ place_of board.trace.segments k
@@ -129,7 +129,7 @@ module _ {M : Type 0} (stands : M → List CallRecord → Type 0) (text : M → 
           let some : 1 ≤ length grown = omega (arith, here_is, there_is, rises) in
           is_grown ∙ ap (λ (steps : List Step). story_of v ++ steps) (with-segment changes (length (order_of v.seen)) grown some none ∙ ap (λ (n : ℕ). grown ++ changes_at changes n) there_is)
 
-      then : Metering M
+      abbrev then : Metering M
       then = after_steps grown here
 
       on_then : AreMetered stands text then mid spares
@@ -139,8 +139,10 @@ module _ {M : Type 0} (stands : M → List CallRecord → Type 0) (text : M → 
 
       -- the changes behind it were begun
       module _ (now now_spare : List M) (all : List ℕ) (b : AreChangesBegun stands text changes there mid spares [] now now_spare all) where
-        steps_begun others_begun : List Step
+        abbrev pub steps_begun : List Step
         steps_begun = story_of v ++ (grown ++ replicate b.count Meters_changed)
+
+        abbrev pub others_begun : List Step
         others_begun = replicate b.left Meters_changed
 
         pub begun_are : story_of w ≡ steps_begun ++ others_begun

@@ -70,7 +70,7 @@ steps-lines played listing.Nothing s w (n ∷ order) (e ∷ events) = steps-line
 
 module _ (plays : Plays) (l : Listing) (board : Board) (v w : Known) where
   -- the steps of the events that the history grew by
-  pub grown_steps : List Step
+  abbrev pub grown_steps : List Step
   grown_steps = event_steps (plays (table_of board.trace.tones)) l (setting_at board) (world_at board v.seen) (new_events v w) (events_of board.trace.events (new_events v w))
 
   pub grown_are_events : AreEvents grown_steps
@@ -120,7 +120,7 @@ story_records plays l slots trace order known =
 -- ---- where no meter is changed
 
 module _ (plays : Plays) (l : Listing) (slots : ℕ) (trace : Trace) (order : List ℕ) (unchanged : trace.changes ≡ []) where
-  unchanged_steps : List Step
+  abbrev unchanged_steps : List Step
   unchanged_steps = let s = setting_of slots trace in event_steps (plays (table_of trace.tones)) l s (start s.dimensions) order (events_of trace.events order)
 
   unchanged_is : story plays l slots trace order ≡ unchanged_steps

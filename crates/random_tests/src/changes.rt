@@ -20,7 +20,7 @@ pub struct Changing {
 }
 
 impl Changing {
-    /// Of a script: where it ends a segment, meters are changed up to five times, mostly not at all.
+    /// The trace of a script. Where that ends a segment, meters are changed up to five times, mostly not at all.
     pub fn of(alloc: Global, script: &Script) -> Result<Changing, AllocError> {
         let mut random = Random::new(script.text.len() as u64);
         let mut changing = Changing {
@@ -197,7 +197,7 @@ pub struct Parted {
 }
 
 impl Parted {
-    /// Of a report.
+    /// The lines of a report.
     pub fn of(alloc: Global, report: &str) -> Result<Parted, AllocError> {
         let mut parted = Parted {
             events: String::new(alloc),
