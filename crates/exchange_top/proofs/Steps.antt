@@ -1,5 +1,5 @@
 -- The meters of a run, segment after segment.
-use Rattle.std.proofs.Common.{◌≡◌, ℕ, suc, ◌+◌, ◌<◌, ◌≤◌, List, [], ◌∷◌, ◌++◌, length, get_or, refl, sym, ap, ◌∙◌, subst, arith, add-one, append_assoc, append-nil, length-append}
+use Rattle.std.proofs.Common.{◌≡◌, ℕ, suc, ◌+◌, ◌<◌, ◌≤◌, List, [], ◌∷◌, ◌++◌, length, get_or, Option, refl, sym, ap, ◌∙◌, subst, arith, add-one, append_assoc, append-nil, length-append}
 use Rattle.std.specs.Prelude.{All, replicate}
 use Rattle.exchange_events.specs.declared.record.CallRecord.{CallRecord}
 use Rattle.exchange_events.specs.declared.trace.Trace.{Trace}
@@ -13,7 +13,7 @@ use Rattle.call_profile.specs.CallsTold.{calls_told}
 use Rattle.call_processor.specs.Frames.{Plays}
 use Rattle.line_list.specs.declared.listing.Listing.{Listing}
 use Rattle.line_list.specs.Lines.{listed}
-use Rattle.segment_run.specs.Segment.{Ran, RanWhole, new_events}
+use Rattle.segment_run.specs.Segment.{IsChief, Ran, RanWhole, new_events}
 use Rattle.segment_run.specs.Segments.{IsDoneBelow}
 use Rattle.segment_run.proofs.OrderLemmas.{count_done, grown_known, one_more, order_grown}
 use Rattle.meters.specs.Changing.{Step, Meters_changed, Metering, IsPast, AreMetered, after_steps, changes_at, handed_in, records_of, steps_text, with_changes}
@@ -21,11 +21,13 @@ use Rattle.meters.proofs.Changes.{after-append, law_of_lines, metered-events, me
 use Rattle.meters.proofs.Cursor.{next_above, none_between}
 use Rattle.meters.proofs.Placed.{NoneBetween, records-with, with-segment}
 use Rattle.exchange_top.specs.Changes.{AreChangesBegun, AreChangesDone}
-use Rattle.exchange_top.specs.Running.{GrowthIsTold, grown_calls, grown_lines}
+use Rattle.exchange_top.specs.Outcomes.{IsInterrupted}
+use Rattle.exchange_top.specs.Running.{GrewFew, GrowthIsTold, grown_calls, grown_lines}
 use Rattle.exchange_top.specs.Story.{story}
-use Rattle.exchange_top.specs.Telling.{AreLeft, AreMeteredBeyond, AreTold, AreToldFront}
+use Rattle.exchange_top.specs.Telling.{AreLeft, AreMeteredBeyond, AreTold, AreToldFront, meter_story}
 use Rattle.exchange_top.proofs.Stories.{grown_are_events, grown_length, grown_records, grown_steps, grown_text, story_grown, story_records}
 use Rattle.exchange_top.proofs.Tellings.{beyond_none, both_beyond}
+use Rattle.exchange_top.proofs.Underway.{IsUnderway, begun_segment, underway_more}
 
 -- the place of a segment's beginning: how many events come before it
 abbrev pub place_of : List ℕ → ℕ → ℕ
@@ -104,6 +106,12 @@ module _ {M : Type 0} (stands : M → List CallRecord → Type 0) (text : M → 
     pub calls_before : records_of (story_of v) ≡ calls_told board.slots board.trace (order_of v.seen) ++ []
     calls_before = story_records plays l board.slots board.trace (order_of v.seen) done.lawful.known ∙ sym (append-nil (calls_told board.slots board.trace (order_of v.seen)))
 
+    pub interrupted_segment : (mid : List M) → GrowthIsTold (AreToldFront stands text meters mid) board v w → (before now : Option (List ℕ)) (pending : List ℕ)
+        → IsUnderway plays l board (λ steps. steps_text text steps first) k v before now pending
+        → IsInterrupted plays l board.slots (meter_story stands text old spare mid spares) board.trace (order_of w.seen) before now
+    interrupted_segment mid front before now pending so_far =
+        begun_segment plays l board (meter_story stands text old spare mid spares) k v before now pending so_far w (story_of v) (with_changes changes (length (order_of v.seen)) grown) [] ran is_grown calls_before (beyond_segment mid front)
+
     -- all of it was done, and its records were noted
     module _ (whole : RanWhole board.trace k v w) (mid : List M) (told : GrowthIsTold (AreTold stands text meters mid) board v w) where
       abbrev there : ℕ
@@ -119,7 +127,10 @@ module _ {M : Type 0} (stands : M → List CallRecord → Type 0) (text : M → 
           ap (λ (n : ℕ). length (order_of v.seen) + n) (grown_length plays l board v w known) ∙ (sym long ∙ (all ∙ ap (λ (n : ℕ). place_of board.trace.segments n) (add-one k)))
 
       none : NoneBetween (length (order_of v.seen)) (length (order_of v.seen) + length grown) changes
-      none = rw (here_is, there_is) (none_between board.trace.segments changes (length board.trace.events) k sound.segments sound.changes within cursor on.past)
+      none =
+          subst (λ (n : ℕ). NoneBetween n (length (order_of v.seen) + length grown) changes) (sym here_is)
+          (subst (λ (m : ℕ). NoneBetween (place_of board.trace.segments k) m changes) (sym there_is)
+          (none_between board.trace.segments changes (length board.trace.events) k sound.segments sound.changes within cursor on.past))
 
       rises : place_of board.trace.segments k < there
       rises = next_above board.trace.segments changes (length board.trace.events) k sound.segments sound.changes within
@@ -164,6 +175,11 @@ module _ {M : Type 0} (stands : M → List CallRecord → Type 0) (text : M → 
                 after-append (story_of v) (grown ++ replicate b.count Meters_changed) first ∙ after-append grown (replicate b.count Meters_changed) here in
             rw (at, records-changes b.left) (beyond_none stands text (after_steps (replicate b.count Meters_changed) then) now now_spare (b.made.left then on_then))
 
+        pub interrupted_changes : (before then_written : Option (List ℕ)) (pending : List ℕ) → IsUnderway plays l board (λ steps. steps_text text steps first) k v before then_written pending
+            → IsInterrupted plays l board.slots (meter_story stands text old spare now now_spare) board.trace (order_of w.seen) before then_written
+        interrupted_changes before then_written pending so_far =
+            begun_segment plays l board (meter_story stands text old spare now now_spare) k v before then_written pending so_far w steps_begun others_begun (grown_calls board v w) ran begun_are begun_calls begun_left
+
       -- they were made
       module _ (now now_spare : List M) (all : List ℕ) (cursor_now : ℕ) (d : AreChangesDone stands text changes there mid spares [] now now_spare all cursor_now) where
         pub on_more : AreOn (k + 1) w now now_spare cursor_now
@@ -184,3 +200,15 @@ module _ {M : Type 0} (stands : M → List CallRecord → Type 0) (text : M → 
                 (text-append text grown (changes_at changes there) here
                 ∙ (λ i. (law_of_lines text grown here (grown_are_events plays l board v w) ∙ grown_text plays l board v w) i
                 ++ (ap (λ (steps : List Step). steps_text text steps then) d.are ∙ sym (d.made.said_is then on_then)) i)))
+
+        pub underway_changed : (before then_written : Option (List ℕ)) (pending after : List ℕ) → IsUnderway plays l board (λ steps. steps_text text steps first) k v before then_written pending
+            → IsChief (turns_of board) w → GrewFew board v w → after ≡ pending ++ (listed l (grown_lines plays board v w) ++ all)
+            → IsUnderway plays l board (λ steps. steps_text text steps first) (k + 1) w before then_written after
+        underway_changed before then_written pending after so_far chief few is =
+            underway_more plays l board (λ steps. steps_text text steps first) k v before then_written pending so_far w after (listed l (grown_lines plays board v w) ++ all) chief ran whole text_more is few
+
+-- what is pending with the lines of a segment, and with what meters said behind it
+pub joined : (before grown all said after : List ℕ) → said ≡ [] → after ≡ before ++ grown → after ++ all ≡ (before ++ said) ++ (grown ++ all)
+joined before grown all said after silent is =
+    ap (λ (t : List ℕ). t ++ all) is
+    ∙ (append_assoc before grown all ∙ ap (λ (t : List ℕ). t ++ (grown ++ all)) (sym (append-nil before) ∙ ap (λ (t : List ℕ). before ++ t) (sym silent)))
