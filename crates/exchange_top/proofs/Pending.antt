@@ -82,6 +82,8 @@ front_longer old new bytes more front =
 -- all of the first, and a prefix of the other
 pub front_behind : (old mid new : Option (List ℕ)) (bytes more : List ℕ) → Appends old mid bytes → AppendsFront mid new more → AppendsFront old new (bytes ++ more)
 front_behind old mid new bytes more done front =
-    let n = front.0 in
-    (length bytes + n, omega (arith, front.1, length-append bytes more),
-    subst (λ (xs : List ℕ). Appends old new xs) (sym (take-append-add bytes more n)) (Appends-trans old mid new bytes (take n more) done front.2))
+    let n = front.0 in (
+      length bytes + n,
+      omega (arith, front.1, length-append bytes more),
+      subst (λ (xs : List ℕ). Appends old new xs) (sym (take-append-add bytes more n)) (Appends-trans old mid new bytes (take n more) done front.2),
+    )

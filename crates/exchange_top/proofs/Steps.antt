@@ -67,7 +67,7 @@ module _ {M : Type 0} (stands : M → List CallRecord → Type 0) (text : M → 
     changed_first cursor d =
         let left = d.made.left first (metered-first stands text old spare) in
         let is : story_of v ≡ replicate d.count Meters_changed =
-            ap (λ (u : Known). story_of u) fresh ∙ (append-nil (changes_at board.trace.changes 0) ∙ d.are) in
+        ap (λ (u : Known). story_of u) fresh ∙ (append-nil (changes_at board.trace.changes 0) ∙ d.are) in
         record {
           left = subst (λ (steps : List Step). AreMetered stands text (after_steps steps first) now now_spare) (sym is) left;
           past = d.past;
@@ -172,7 +172,7 @@ module _ {M : Type 0} (stands : M → List CallRecord → Type 0) (text : M → 
         pub begun_left : AreMeteredBeyond (records_of others_begun) stands text (after_steps steps_begun first) now now_spare
         begun_left =
             let at : after_steps steps_begun first ≡ after_steps (replicate b.count Meters_changed) then =
-                after-append (story_of v) (grown ++ replicate b.count Meters_changed) first ∙ after-append grown (replicate b.count Meters_changed) here in
+            after-append (story_of v) (grown ++ replicate b.count Meters_changed) first ∙ after-append grown (replicate b.count Meters_changed) here in
             rw (at, records-changes b.left) (beyond_none stands text (after_steps (replicate b.count Meters_changed) then) now now_spare (b.made.left then on_then))
 
         pub interrupted_changes : (before then_written : Option (List ℕ)) (pending : List ℕ) → IsUnderway plays l board (λ steps. steps_text text steps first) k v before then_written pending
@@ -185,8 +185,8 @@ module _ {M : Type 0} (stands : M → List CallRecord → Type 0) (text : M → 
         pub on_more : AreOn (k + 1) w now now_spare cursor_now
         on_more =
             let at : after_steps (story_of w) first ≡ after_steps (replicate d.count Meters_changed) then =
-                ap (λ (steps : List Step). after_steps steps first) whole_story
-                ∙ (after-append (story_of v) (grown ++ changes_at changes there) first ∙ (after-append grown (changes_at changes there) here ∙ ap (λ (steps : List Step). after_steps steps then) d.are)) in
+            ap (λ (steps : List Step). after_steps steps first) whole_story
+            ∙ (after-append (story_of v) (grown ++ changes_at changes there) first ∙ (after-append grown (changes_at changes there) here ∙ ap (λ (steps : List Step). after_steps steps then) d.are)) in
             record {
               left = subst (λ (s : Metering M). AreMetered stands text s now now_spare) (sym at) (d.made.left then on_then);
               past = subst (λ (n : ℕ). IsPast changes cursor_now (place_of board.trace.segments n)) (sym (add-one k)) d.past;
@@ -197,9 +197,9 @@ module _ {M : Type 0} (stands : M → List CallRecord → Type 0) (text : M → 
             ap (λ (steps : List Step). steps_text text steps first) whole_story
             ∙ (text-append text (story_of v) (grown ++ changes_at changes there) first
             ∙ ap (λ (t : List ℕ). steps_text text (story_of v) first ++ t)
-                (text-append text grown (changes_at changes there) here
-                ∙ (λ i. (law_of_lines text grown here (grown_are_events plays l board v w) ∙ grown_text plays l board v w) i
-                ++ (ap (λ (steps : List Step). steps_text text steps then) d.are ∙ sym (d.made.said_is then on_then)) i)))
+            (text-append text grown (changes_at changes there) here
+            ∙ (λ i. (law_of_lines text grown here (grown_are_events plays l board v w) ∙ grown_text plays l board v w) i
+            ++ (ap (λ (steps : List Step). steps_text text steps then) d.are ∙ sym (d.made.said_is then on_then)) i)))
 
         pub underway_changed : (before then_written : Option (List ℕ)) (pending after : List ℕ) → IsUnderway plays l board (λ steps. steps_text text steps first) k v before then_written pending
             → IsChief (turns_of board) w → GrewFew board v w → after ≡ pending ++ (listed l (grown_lines plays board v w) ++ all)

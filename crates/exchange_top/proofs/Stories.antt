@@ -100,9 +100,9 @@ module _ (plays : Plays) (l : Listing) (board : Board) (v w : Known) where
         let done = event_steps played l s (start s.dimensions) (order_of v.seen) old in
         let long = events_long board.trace (order_of v.seen) before in
         let events : events_of board.trace.events (order_of w.seen) ≡ old ++ new =
-            ap (events_of board.trace.events) (order_grown v w begins) ∙ events_append board.trace (order_of v.seen) (new_events v w) in
+        ap (events_of board.trace.events) (order_grown v w begins) ∙ events_append board.trace (order_of v.seen) (new_events v w) in
         let steps : event_steps played l s (start s.dimensions) (order_of w.seen) (events_of board.trace.events (order_of w.seen)) ≡ done ++ grown_steps =
-            (λ i. event_steps played l s (start s.dimensions) (order_grown v w begins i) (events i)) ∙ steps-append played l s (start s.dimensions) (order_of v.seen) (new_events v w) old new long in
+        (λ i. event_steps played l s (start s.dimensions) (order_grown v w begins i) (events i)) ∙ steps-append played l s (start s.dimensions) (order_of v.seen) (new_events v w) old new long in
         let many = steps-length played l s (start s.dimensions) (order_of v.seen) old long in
         let place : 0 + length done ≡ length (order_of v.seen) = omega (arith, many) in
         ap (λ (es : List Step). changes_at changes 0 ++ with_changes changes 0 es) steps

@@ -135,7 +135,9 @@ fn run_on<
     let Ok(mut order) = Vec::with_capacity(alloc, trace.events.as_slice().len()) else {
         return without_events(alloc, 5);
     };
-    match run(rt, alloc, trace, map, &mut order, lines, sink, gate, meters, spare) {
+    match run(
+        rt, alloc, trace, map, &mut order, lines, sink, gate, meters, spare,
+    ) {
         Ok(engine) => Outcome {
             status: 0,
             order,
@@ -210,7 +212,9 @@ fn answer<K: Sink, G: Gate, C: Carrier, R: Threads + Wait + Sync>(
         Ok(trace) => {
             // The lines take the memory that the input had, so that its pages are not faulted in anew.
             let mut lines: LineList<ReportLines> = LineList::new(alloc, bytes);
-            run_trace(rt, alloc, &trace, strict, &mut lines, sink, gate, meters, spare)
+            run_trace(
+                rt, alloc, &trace, strict, &mut lines, sink, gate, meters, spare,
+            )
         }
         Err(TraceFault::Memory) => without_events(alloc, 5),
         Err(TraceFault::Line { number, reason }) => match refusal(alloc, number, reason) {
@@ -286,7 +290,9 @@ fn run_generated<K: Sink, G: Gate, C: Carrier, R: Threads + Wait + Sync>(
         return without_events(alloc, 5);
     };
     let mut lines: LineList<NoLines> = LineList::new(alloc, Vec::new(alloc));
-    let outcome = run_trace(rt, alloc, &trace, false, &mut lines, sink, gate, meters, spare);
+    let outcome = run_trace(
+        rt, alloc, &trace, false, &mut lines, sink, gate, meters, spare,
+    );
     if outcome.status != 0 {
         return outcome;
     }
@@ -340,7 +346,9 @@ fn answer_words<S: Source, K: Sink, G: Gate, C: Carrier, R: Threads + Wait + Syn
     ensures writes { (result.status ≡ 4) ⊎ (K.faults sink.new ≡ K.faults sink.old) }
 {
     match read_command(alloc, words) {
-        Ok(Command::Run { strict }) => run_input(rt, alloc, strict, source, sink, gate, meters, spare),
+        Ok(Command::Run { strict }) => run_input(
+            rt, alloc, strict, source, sink, gate, meters, spare,
+        ),
         Ok(Command::Generate { seed, calls }) => {
             run_generated(rt, alloc, seed, calls, sink, gate, meters, spare)
         }

@@ -91,7 +91,16 @@ fn ran_at<C: Carrier, G: Gate>(
     let source = MemSource::new(input, 4096, Vec::new(alloc));
     let sink = MemSink::new(alloc, 1_000_000, 4096, Vec::new(alloc))?;
     let mut meters = Vec::new(alloc);
-    Ok(called::<C, G>(rt, alloc, &words, source, sink, gate, &mut meters, &mut VecDeque::new(alloc)))
+    Ok(called::<C, G>(
+        rt,
+        alloc,
+        &words,
+        source,
+        sink,
+        gate,
+        &mut meters,
+        &mut VecDeque::new(alloc),
+    ))
 }
 
 const DELAY: &str = "exchange 1 2 0 1\nnail 0/1 1/1\nsync\n\
@@ -289,7 +298,16 @@ fn cut_at(
     let sink = MemSink::new(alloc, 100_000, 100_000, [write].to_vec(alloc)?)?;
     let mut meters: Vec<Box<dyn Meter>> = Vec::with_capacity(alloc, 1)?;
     meters.push(Box::new(alloc, PegCount::new())?)?;
-    let ended = called::<Engine, OpenGate>(rt, alloc, &words, source, sink, &OpenGate, &mut meters, &mut VecDeque::new(alloc));
+    let ended = called::<Engine, OpenGate>(
+        rt,
+        alloc,
+        &words,
+        source,
+        sink,
+        &OpenGate,
+        &mut meters,
+        &mut VecDeque::new(alloc),
+    );
     let mut said = Vec::new(alloc);
     append_summaries(meters.as_slice(), &mut said)?;
     Ok((ended, said))
@@ -616,7 +634,16 @@ fn told(
     meters.push(Box::new(alloc, CallDetail::new(alloc, 20)?)?)?;
     meters.push(Box::new(alloc, PegCount::new())?)?;
     meters.push(Box::new(alloc, HoldingTime::new())?)?;
-    called::<Marker, OpenGate>(rt, alloc, words, source, sink, &OpenGate, &mut meters, &mut VecDeque::new(alloc));
+    called::<Marker, OpenGate>(
+        rt,
+        alloc,
+        words,
+        source,
+        sink,
+        &OpenGate,
+        &mut meters,
+        &mut VecDeque::new(alloc),
+    );
     let mut text = Vec::new(alloc);
     append_summaries(meters.as_slice(), &mut text)?;
     Ok(text)
@@ -639,8 +666,11 @@ fn generated_calls_are_those_of_their_trace(rt: HostRuntime) -> Result<(), Fail>
 }
 
 // A call to a room, and in the next segment its end.
-const SETUP_TO_ROOM: &str = "exchange 1 1 1 1\nnumber 30 room 0\nM 0 080200010504038090A37003803330\n";
+const SETUP_TO_ROOM: &str =
+    "exchange 1 1 1 1\nnumber 30 room 0\nM 0 080200010504038090A37003803330\n";
+
 const CLEARING: &str = "M 0 080200015A\n";
+
 const ACCEPTED: &str = "1 message moved 0 0 0:08028001021803A98381 0:0802800107\n";
 
 // The report of a trace with as many peg counts that are on and spare ones, and what is left of both.
@@ -709,10 +739,28 @@ fn meters_are_changed_between_segments(rt: HostRuntime) -> Result<(), Fail> {
             "peg 0 0\nand ",
         ),
         // The call ends in the time of the spare one.
-        (1, 2, ["change\n", CLEARING, "", ""], "peg 0 0\n2 message\n", "peg 1 1\nand peg 0 0\n"),
+        (
+            1,
+            2,
+            ["change\n", CLEARING, "", ""],
+            "peg 0 0\n2 message\n",
+            "peg 1 1\nand peg 0 0\n",
+        ),
         // No meter is on at first, or there is no spare one.
-        (0, 1, ["change\n", CLEARING, "", "change\n"], "2 message\npeg 1 1\n", "and "),
-        (2, 0, ["sync\n", CLEARING, "change\n", "F\n"], "2 message\npeg 1 1\n3 frame 0\n", "peg 1 1\nand "),
+        (
+            0,
+            1,
+            ["change\n", CLEARING, "", "change\n"],
+            "2 message\npeg 1 1\n",
+            "and ",
+        ),
+        (
+            2,
+            0,
+            ["sync\n", CLEARING, "change\n", "F\n"],
+            "2 message\npeg 1 1\n3 frame 0\n",
+            "peg 1 1\nand ",
+        ),
         // More changes than meters.
         (
             2,
@@ -726,7 +774,10 @@ fn meters_are_changed_between_segments(rt: HostRuntime) -> Result<(), Fail> {
         let all = [SETUP_TO_ROOM, first, second, third, fourth];
         let (ended, text) = changed(&rt, alloc, &all, count, spares)?;
         assert_eq!(rt; ended.status, 0);
-        assert!(rt; ended.sink.bytes().strip_prefix(ACCEPTED.as_bytes()) == Some(report.as_bytes()), "{report}");
+        assert!(rt;
+            ended.sink.bytes().strip_prefix(ACCEPTED.as_bytes()) == Some(report.as_bytes()),
+            "{report}"
+        );
         assert_eq!(rt; text.as_slice(), left.as_bytes(), "{report}");
     }
     Ok(())

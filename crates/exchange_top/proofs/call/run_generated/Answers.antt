@@ -32,7 +32,7 @@ returns-clause-sums g c =
     let mid = g.K.Sink.written c.run_trace-outcome.new.sink in
     let new = g.K.Sink.written c.sum_up.new.sink in
     let silent = unchanged_text g.C.Carrier.plays listing.Nothing 30 c.in-Ok.trace c.run_trace-outcome.result.order.items (unchanged c.args.seed c.args.calls c.in-Ok.trace c.requires.most is)
-        (λ m. (goal.Meter-dyn g (m.vtable, m.value)).text m.value) (handed_in c.args.meters.now.items c.args.spare.now.items) in
+    (λ m. (goal.Meter-dyn g (m.vtable, m.value)).text m.value) (handed_in c.args.meters.now.items c.args.spare.now.items) in
     let said = ap (λ ms. concat (map (λ m. (goal.Meter-dyn g (m.vtable, m.value)).text m.value []) ms)) c.as_slice.ensures.value in
     sums_up _ c.args.seed c.args.calls c.in-Ok.trace is (HandsOut g.C.Carrier.sizes g.C.Carrier.carries c.sum_up.result.engine)
     _ _ _ _ _ _ _ _ _ _ (search rules) c.run_trace-outcome.ensures.runs c.run_trace-outcome.ensures.writes (ap (λ o. o.items) s.order) silent

@@ -139,7 +139,7 @@ returns-in_err-flush_full-2-clause-unwritten g c write =
     let whole = subst (λ (t : Trace). RanWhole t k v w) c.requires.trace c.in_ok-carried.ensures.whole in
     let d = done_moved _ board.trace.changes _ (place_of board.trace.segments (suc k)) _ changes place c.loop-segment.invariant.silent c.in_ok-made-2.ensures.done in
     let more = underway_changed (λ m. (goal.Meter-dyn g (m.vtable, m.value)).stands m.value) (λ m. (goal.Meter-dyn g (m.vtable, m.value)).text m.value) _ _ g.C.Carrier.plays g.L.ListingKind.listing board k v w _ _ _ sound within so_far.done on ran whole _ c.in_ok-carried.ensures.told _ _ _ _ d _ _ _ (text_of c.report_segment.new.lines ++ c.change_at-in-loop-segment.new.said.items) so_far c.report_segment.ensures.chief c.in_ok-carried.ensures.few
-        (joined _ _ _ _ _ c.loop-segment.invariant.silent c.in_ok-carried.ensures.lines) in
+    (joined _ _ _ _ _ c.loop-segment.invariant.silent c.in_ok-carried.ensures.lines) in
     let on_then = on_more (λ m. (goal.Meter-dyn g (m.vtable, m.value)).stands m.value) (λ m. (goal.Meter-dyn g (m.vtable, m.value)).text m.value) _ _ g.C.Carrier.plays g.L.ListingKind.listing board k v w _ _ _ sound within so_far.done on ran whole _ c.in_ok-carried.ensures.told _ _ _ _ d in
     subst (λ (t : Trace). IsUnwritten g.C.Carrier.plays g.L.ListingKind.listing board.slots (meter_story (λ m. (goal.Meter-dyn g (m.vtable, m.value)).stands m.value) (λ m. (goal.Meter-dyn g (m.vtable, m.value)).text m.value) c.args.meters.now.items c.args.spare.now.items c.change_at-in-loop-segment.new.meters.items c.change_at-in-loop-segment.new.spare.items) t (order_of w.seen) (g.K.Sink.written c.args.sink.now) (g.K.Sink.written c.flush_full-in-loop-segment.new.sink)) (sym c.requires.trace)
     (begun_flush g.C.Carrier.plays g.L.ListingKind.listing board (meter_story (λ m. (goal.Meter-dyn g (m.vtable, m.value)).stands m.value) (λ m. (goal.Meter-dyn g (m.vtable, m.value)).text m.value) c.args.meters.now.items c.args.spare.now.items c.change_at-in-loop-segment.new.meters.items c.change_at-in-loop-segment.new.spare.items) (k + 1) w _ _ _ more _ c.in_err-flush_full-2.ensures.front on_then.left)
@@ -166,7 +166,7 @@ loop-segment-preserved g c =
     let whole = subst (λ (t : Trace). RanWhole t k v w) c.requires.trace c.in_ok-carried.ensures.whole in
     let d = done_moved _ board.trace.changes _ (place_of board.trace.segments (suc k)) _ changes place c.loop-segment.invariant.silent c.in_ok-made-2.ensures.done in
     let more = underway_changed (λ m. (goal.Meter-dyn g (m.vtable, m.value)).stands m.value) (λ m. (goal.Meter-dyn g (m.vtable, m.value)).text m.value) _ _ g.C.Carrier.plays g.L.ListingKind.listing board k v w _ _ _ sound within so_far.done on ran whole _ c.in_ok-carried.ensures.told _ _ _ _ d _ _ _ (text_of c.report_segment.new.lines ++ c.change_at-in-loop-segment.new.said.items) so_far c.report_segment.ensures.chief c.in_ok-carried.ensures.few
-        (joined _ _ _ _ _ c.loop-segment.invariant.silent c.in_ok-carried.ensures.lines) in
+    (joined _ _ _ _ _ c.loop-segment.invariant.silent c.in_ok-carried.ensures.lines) in
     let on_then = on_more (λ m. (goal.Meter-dyn g (m.vtable, m.value)).stands m.value) (λ m. (goal.Meter-dyn g (m.vtable, m.value)).text m.value) _ _ g.C.Carrier.plays g.L.ListingKind.listing board k v w _ _ _ sound within so_far.done on ran whole _ c.in_ok-carried.ensures.told _ _ _ _ d in
     record {
       kept = elim c.in_ok-flush_full-2.ensures.kept [
