@@ -158,6 +158,14 @@ ReportsInput x strict left_old left_new order old new = (bytes : List ℕ) × Is
 abbrev pub ReportsRun : Parties → (words : List (List ℕ)) → (left_old left_new : Option (List ℕ)) → List ℕ → (old new : Option (List ℕ)) → Type 0
 ReportsRun x words left_old left_new order old new = (strict : Bool) → IsRunOn words strict → ReportsInput x strict left_old left_new order old new
 
+-- so it was, by what the types of a source and a sink say of each: the bytes left and the bytes written
+abbrev pub ReportsTo : {A S K : Type 0} → Parties → List (String A) → List ℕ → (S → Option (List ℕ)) → (K → Option (List ℕ)) → (source_old source_new : S) → (sink_old sink_new : K) → Type 0
+ReportsTo x words order left written source_old source_new sink_old sink_new = ReportsRun x (texts words) (left source_old) (left source_new) order (written sink_old) (written sink_new)
+
+-- where the words ask for a generated run, its summary was written
+abbrev pub SumsUp : {K : Type 0} → Parties → (words : List (List ℕ)) → List ℕ → (K → Option (List ℕ)) → (old new : K) → Type 0
+SumsUp x words order written old new = (seed calls : ℕ) → IsGeneration words seed calls → IsSummed x seed calls order (written old) (written new)
+
 -- ---- other ends
 
 -- the bytes were answered by the refusal of the line that they are no trace for
@@ -204,6 +212,10 @@ pub data IsUndone (x : Parties) (status : ℕ) (words : List (List ℕ)) (left_o
   In_generation : (seed calls : ℕ) → IsGeneration words seed calls → IsSumCutShort x status seed calls order old new
       → IsUndone x status words left_old left_new order old new
 
+-- so it was, by what the types of a source and a sink say of each: the bytes left and the bytes written
+abbrev pub IsCutOff : {A S K : Type 0} → Parties → ℕ → List (String A) → List ℕ → (S → Option (List ℕ)) → (K → Option (List ℕ)) → (source_old source_new : S) → (sink_old sink_new : K) → Type 0
+IsCutOff x status words order left written source_old source_new sink_old sink_new = IsUndone x status (texts words) (left source_old) (left source_new) order (written sink_old) (written sink_new)
+
 -- ---- how the parts of a call end
 
 -- how a refusal ends: the line was written and the status is the wanted one, or the write failed; the counts are those of the sink's faults
@@ -225,6 +237,13 @@ pub data Runs (x : Parties) (f : Fabric) (l : Listing) (t : Trace) (status : ℕ
       → Runs x f l t status order old new before after
   Unwritten_from : status ≡ 4 → Rose before after → IsUnwritten x.plays l f.slots x.meters t order old new → Runs x f l t status order old new before after
   No_memory_from : status ≡ 5 → IsInterrupted x.plays l f.slots x.meters t order old new → Runs x f l t status order old new before after
+
+-- so, by what the type of a sink says of each: the bytes written and the faults
+abbrev pub RunsTo : {K : Type 0} → Parties → Fabric → Listing → Trace → ℕ → List ℕ → (K → Option (List ℕ)) → (K → ℕ) → (old new : K) → Type 0
+RunsTo x f l t status order written writes old new = Runs x f l t status order (written old) (written new) (writes old) (writes new)
+
+abbrev pub AnswersTo : {K : Type 0} → Parties → (strict : Bool) → List ℕ → ℕ → List ℕ → (K → Option (List ℕ)) → (K → ℕ) → (old new : K) → Type 0
+AnswersTo x strict bytes status order written writes old new = Answers x strict bytes status order (written old) (written new) (writes old) (writes new)
 
 -- how a run of a generated trace ends
 pub data Sums (x : Parties) (seed calls : ℕ) (status : ℕ) (order : List ℕ) (old new : Option (List ℕ)) (before after : ℕ) : Type 0 where

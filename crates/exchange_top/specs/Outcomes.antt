@@ -17,7 +17,7 @@ use Rattle.line_list.specs.declared.listing.Listing.{Listing}
 use Rattle.meters.specs.Changing.{Step, records_of}
 use Rattle.exchange_top.specs.Story.{story}
 use Rattle.exchange_top.specs.Streams.{AppendsFront}
-use Rattle.exchange_top.specs.Telling.{MeterStory}
+use Rattle.exchange_top.specs.Telling.{AreLeft, AreTold, MeterStory}
 use Rattle.call_profile.specs.CallsTold.{calls_told}
 
 -- the fabric that a trace is run on: how many internal slots it has, and how many live paths a new path moves at the most
@@ -54,6 +54,11 @@ pub record IsRunWhole (plays : Plays) (l : Listing) (fabric : Fabric) (m : Meter
   pub lawful : IsLawful trace order
   pub few : MovesFew fabric trace order
   pub meters : m.left (story plays l fabric.slots trace order)
+
+-- whichever meters the story leaves: each noted the calls that ended, and the spare ones are as they were
+abbrev pub NotesAll : {M : Type 0} → (M → List CallRecord → Type 0) → (M → List CallRecord → List ℕ) → Plays → Listing → ℕ → Trace → List ℕ → Type 0
+NotesAll {M} stands text plays l slots trace order =
+    (old spare new new_spare : List M) → AreLeft stands text old spare new new_spare (story plays l slots trace order) → AreTold stands text old new (calls_told slots trace order) × (new_spare ≡ spare)
 
 -- the text is what is written of the first few segments of an order, with the changes behind them, or it is empty
 pub record EndsWithSegment (plays : Plays) (l : Listing) (slots : ℕ) (written : List Step → List ℕ) (trace : Trace) (order text : List ℕ) : Type 0 where

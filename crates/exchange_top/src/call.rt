@@ -6,7 +6,7 @@ ghost use Rattle.trace_text.specs.declared.fault.Reason.{Reason};
 ghost use Rattle.trace_text.specs.TraceGrammar.{IsTrace, IsRefused};
 ghost use Rattle.exchange_events.specs.declared.trace.Trace.{Trace};
 ghost use Rattle.exchange_events.specs.Sound.{IsSound};
-ghost use Rattle.exchange_top.specs.Commands.{IsRun, IsGeneration, IsNoCommand, IsSummed, IsUndone, IsUnfinished, Refuses, Runs, Sums, Answers, CallEnds, RefusesInput, ReportsRun, RunEnds, fabric_of, most_read, parties, reason_name, refusal, texts, words_refusal};
+ghost use Rattle.exchange_top.specs.Commands.{IsRun, IsGeneration, IsNoCommand, IsCutOff, IsUnfinished, Refuses, RunsTo, Sums, SumsUp, AnswersTo, CallEnds, RefusesInput, ReportsTo, RunEnds, fabric_of, most_read, parties, reason_name, refusal, texts, words_refusal};
 ghost use Rattle.exchange_top.specs.Outcomes.{fabric};
 ghost use Rattle.exchange_top.specs.Running.{IsUnused};
 ghost use Rattle.exchange_top.specs.Streams.{AppendsFront, ConsumesAtMost};
@@ -125,10 +125,10 @@ fn run_on<
     requires sound { IsSound trace.now }
     requires paths { IsUnused (trace.now.external + trace.now.bridges) (P.width map) (P.depth map) (P.layout map) }
     requires blank { lines.old ≡ [] }
-    ensures runs { Runs (parties C.plays C.sizes C.carries result.engine
+    ensures runs { RunsTo (parties C.plays C.sizes C.carries result.engine
         (λ m. stands m) (λ m. text m) meters.old.items spare.old.items meters.new.items spare.new.items)
         (fabric P.depth P.bound map)
-        L.listing trace.now result.status result.order.items (K.written sink.old) (K.written sink.new) (K.faults sink.old) (K.faults sink.new) }
+        L.listing trace.now result.status result.order.items K.written K.faults sink.old sink.new }
     ensures engine { IsSome result.engine ↔ (result.status ≡ 0) }
     ensures writes { (result.status ≡ 4) ⊎ (K.faults sink.new ≡ K.faults sink.old) }
 {
@@ -170,10 +170,10 @@ fn run_trace<K: Sink, G: Gate, C: Carrier, L: ListingKind + Send + Drop, R: Thre
 ) -> Outcome<C>
     requires sound { IsSound trace.now }
     requires blank { lines.old ≡ [] }
-    ensures runs { Runs (parties C.plays C.sizes C.carries result.engine
+    ensures runs { RunsTo (parties C.plays C.sizes C.carries result.engine
         (λ m. stands m) (λ m. text m) meters.old.items spare.old.items meters.new.items spare.new.items)
         (fabric_of strict trace.now)
-        L.listing trace.now result.status result.order.items (K.written sink.old) (K.written sink.new) (K.faults sink.old) (K.faults sink.new) }
+        L.listing trace.now result.status result.order.items K.written K.faults sink.old sink.new }
     ensures engine { IsSome result.engine ↔ (result.status ≡ 0) }
     ensures writes { (result.status ≡ 4) ⊎ (K.faults sink.new ≡ K.faults sink.old) }
 {
@@ -202,9 +202,9 @@ fn answer<K: Sink, G: Gate, C: Carrier, R: Threads + Wait + Sync>(
     meters: &mut Vec<Box<dyn Meter>>,
     spare: &mut VecDeque<Box<dyn Meter>>,
 ) -> Outcome<C>
-    ensures answers { Answers (parties C.plays C.sizes C.carries result.engine
+    ensures answers { AnswersTo (parties C.plays C.sizes C.carries result.engine
         (λ m. stands m) (λ m. text m) meters.old.items spare.old.items meters.new.items spare.new.items)
-        strict bytes.items result.status result.order.items (K.written sink.old) (K.written sink.new) (K.faults sink.old) (K.faults sink.new) }
+        strict bytes.items result.status result.order.items K.written K.faults sink.old sink.new }
     ensures engine { IsSome result.engine ↔ (result.status ≡ 0) }
     ensures writes { (result.status ≡ 4) ⊎ (K.faults sink.new ≡ K.faults sink.old) }
 {
@@ -310,7 +310,8 @@ fn run_input<S: Source, K: Sink, G: Gate, C: Carrier, R: Threads + Wait + Sync>(
     meters: &mut Vec<Box<dyn Meter>>,
     spare: &mut VecDeque<Box<dyn Meter>>,
 ) -> Outcome<C>
-    ensures ends { RunEnds (parties C.plays C.sizes C.carries result.engine (λ m. stands m) (λ m. text m) meters.old.items spare.old.items meters.new.items spare.new.items)
+    ensures ends { RunEnds (parties C.plays C.sizes C.carries result.engine
+        (λ m. stands m) (λ m. text m) meters.old.items spare.old.items meters.new.items spare.new.items)
         strict result.status result.order.items
         S.left S.faults K.written K.faults source.old sink.old source.new sink.new }
     ensures stops { ConsumesAtMost most_read (S.left source.old) (S.left source.new) }
@@ -336,7 +337,8 @@ fn answer_words<S: Source, K: Sink, G: Gate, C: Carrier, R: Threads + Wait + Syn
     meters: &mut Vec<Box<dyn Meter>>,
     spare: &mut VecDeque<Box<dyn Meter>>,
 ) -> Outcome<C>
-    ensures ends { CallEnds (parties C.plays C.sizes C.carries result.engine (λ m. stands m) (λ m. text m) meters.old.items spare.old.items meters.new.items spare.new.items)
+    ensures ends { CallEnds (parties C.plays C.sizes C.carries result.engine
+        (λ m. stands m) (λ m. text m) meters.old.items spare.old.items meters.new.items spare.new.items)
         (texts words.now) result.status result.order.items
         S.left S.faults K.written K.faults source.old sink.old source.new sink.new }
     ensures unread { ¬ IsRun (texts words.now) → source.new ≡ source.old }
@@ -394,14 +396,13 @@ pub fn exchange<S: Source, K: Sink, G: Gate, C: Carrier, R: Threads + Wait + Syn
     // meter says that is taken out, the meters that are left noted the calls that ended in their time,
     // and the engine has the trace's sizes and carries their frames. With the flag the fabric is a
     // strict one, and each number of moved paths in the report is 0.
-    ensures done { result.status ≡ 0 → ReportsRun (parties C.plays C.sizes C.carries result.engine
+    ensures done { result.status ≡ 0 → ReportsTo (parties C.plays C.sizes C.carries result.engine
         (λ m. stands m) (λ m. text m) meters.old.items spare.old.items meters.new.items spare.new.items)
-        (texts words.now) (S.left source.old) (S.left source.new) result.order.items (K.written sink.old) (K.written sink.new) }
+        words.now result.order.items S.left K.written source.old source.new sink.old sink.new }
     // 0 for `gen`: the same for the generated trace, whose summary was written.
-    ensures summed { (seed calls : ℕ) → result.status ≡ 0 → IsGeneration (texts words.now) seed calls
-        → IsSummed (parties C.plays C.sizes C.carries result.engine
+    ensures summed { result.status ≡ 0 → SumsUp (parties C.plays C.sizes C.carries result.engine
         (λ m. stands m) (λ m. text m) meters.old.items spare.old.items meters.new.items spare.new.items)
-        seed calls result.order.items (K.written sink.old) (K.written sink.new) }
+        (texts words.now) result.order.items K.written sink.old sink.new }
     ensures engine { IsSome result.engine ↔ (result.status ≡ 0) }
     // 1: what was read is no trace, and the line that says so was written.
     ensures turned_down { result.status ≡ 1 → IsRun (texts words.now)
@@ -420,11 +421,9 @@ pub fn exchange<S: Source, K: Sink, G: Gate, C: Carrier, R: Threads + Wait + Syn
     // ends, and a prefix of their text was written. 5: there was no memory; behind whole segments maybe
     // one was begun, or some of the changes behind it were made, and what was written ends with a segment.
     ensures write_failed { result.status ≡ 4 → Rose (K.faults sink.old) (K.faults sink.new) }
-    ensures cut_short { 4 ≤ result.status
-        → IsUndone (parties C.plays C.sizes C.carries result.engine
+    ensures cut_short { 4 ≤ result.status → IsCutOff (parties C.plays C.sizes C.carries result.engine
         (λ m. stands m) (λ m. text m) meters.old.items spare.old.items meters.new.items spare.new.items)
-        result.status (texts words.now) (S.left source.old) (S.left source.new)
-        result.order.items (K.written sink.old) (K.written sink.new) }
+        result.status words.now result.order.items S.left K.written source.old source.new sink.old sink.new }
     // There is no other status, and a fault is answered by its own alone.
     ensures statuses { result.status ≤ 5 }
     ensures reads { (result.status ≡ 3) ⊎ (S.faults source.new ≡ S.faults source.old) }

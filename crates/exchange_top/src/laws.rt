@@ -2,16 +2,14 @@
 ghost use Rattle.std.specs.Prelude.{◌≡◌, ℕ, List, [], All, true};
 ghost use Rattle.exchange_events.specs.declared.trace.Trace.{Trace};
 ghost use Rattle.exchange_events.specs.Orders.{IsEvent};
-ghost use Rattle.call_profile.specs.CallsTold.{calls_told};
 ghost use Rattle.circuit_model.specs.Hears.{Plays};
 ghost use Rattle.report_text.specs.RunReport.{report};
 ghost use Rattle.line_list.specs.declared.listing.Listing.{Listing};
 ghost use Rattle.line_list.specs.Lines.{listed};
 ghost use Rattle.meters.specs.Changing.{handed_in, steps_text};
 ghost use Rattle.exchange_top.specs.Commands.{fabric_of};
-ghost use Rattle.exchange_top.specs.Outcomes.{MovesFew, MovesNone};
+ghost use Rattle.exchange_top.specs.Outcomes.{MovesFew, MovesNone, NotesAll};
 ghost use Rattle.exchange_top.specs.Story.{story};
-ghost use Rattle.exchange_top.specs.Telling.{AreLeft, AreTold};
 
 use meters::Meter;
 
@@ -27,7 +25,6 @@ pub fn strict_runs_move_nothing()
 pub fn law_of_unchanged_meters<M: Meter>()
     ensures text { (plays : Plays) (l : Listing) (slots : ℕ) (trace : Trace) (order : List ℕ) (old spare : List M) → trace.changes ≡ []
         → steps_text M.text (story plays l slots trace order) (handed_in old spare) ≡ listed l (report plays slots trace order) }
-    ensures meters { (plays : Plays) (l : Listing) (slots : ℕ) (trace : Trace) (order : List ℕ) (old spare new new_spare : List M) → trace.changes ≡ []
-        → All (IsEvent trace) order → AreLeft M.stands M.text old spare new new_spare (story plays l slots trace order)
-        → AreTold M.stands M.text old new (calls_told slots trace order) × (new_spare ≡ spare) }
+    ensures meters { (plays : Plays) (l : Listing) (slots : ℕ) (trace : Trace) (order : List ℕ) → trace.changes ≡ [] → All (IsEvent trace) order
+        → NotesAll M.stands M.text plays l slots trace order }
 {}

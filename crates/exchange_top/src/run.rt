@@ -97,9 +97,11 @@ pub fn run<
     ensures steady { OnOk result (K.faults sink.new ≡ K.faults sink.old) }
 
     ensures unwritten { IsErrOf result RunFault.Write → IsUnwritten C.plays L.listing (P.depth paths)
-        (meter_story (λ m. stands m) (λ m. text m) meters.old.items spare.old.items meters.new.items spare.new.items) trace.now order.new.items (K.written sink.old) (K.written sink.new) }
+        (meter_story (λ m. stands m) (λ m. text m) meters.old.items spare.old.items meters.new.items spare.new.items)
+        trace.now order.new.items (K.written sink.old) (K.written sink.new) }
     ensures interrupted { IsErrOf result RunFault.Memory → IsInterrupted C.plays L.listing (P.depth paths)
-        (meter_story (λ m. stands m) (λ m. text m) meters.old.items spare.old.items meters.new.items spare.new.items) trace.now order.new.items (K.written sink.old) (K.written sink.new) }
+        (meter_story (λ m. stands m) (λ m. text m) meters.old.items spare.old.items meters.new.items spare.new.items)
+        trace.now order.new.items (K.written sink.old) (K.written sink.new) }
     ensures cause { IsErrOf result RunFault.Write → Rose (K.faults sink.old) (K.faults sink.new) }
     ensures no_fault { IsErrOf result RunFault.Memory → K.faults sink.new ≡ K.faults sink.old }
 {

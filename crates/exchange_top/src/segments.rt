@@ -13,8 +13,8 @@ ghost use Rattle.segment_run.specs.Segments.{IsDoneBelow};
 ghost use Rattle.exchange_top.specs.declared.run.RunFault.TheVariants.{Memory, Write};
 ghost use Rattle.line_list.specs.Lines.{calls_of, text_of};
 ghost use Rattle.meters.specs.Changing.{handed_in, steps_text};
-ghost use Rattle.exchange_top.specs.Outcomes.{IsFlushed, IsInterrupted, IsRunWhole, IsUnwritten};
-ghost use Rattle.exchange_top.specs.Running.{AddsText, AreOfAnswers, GrewFew, GrowthIsTold, fabric_at};
+ghost use Rattle.exchange_top.specs.Outcomes.{IsFlushed, IsRunWhole};
+ghost use Rattle.exchange_top.specs.Running.{AddsText, AreOfAnswers, GrewFew, GrowthIsTold, IsInterruptedBy, IsUnwrittenBy, fabric_at};
 ghost use Rattle.exchange_top.specs.Story.{story};
 ghost use Rattle.exchange_top.specs.Streams.{AppendsFront};
 ghost use Rattle.exchange_top.specs.Telling.{AreTold, AreToldFront, meter_story};
@@ -94,12 +94,12 @@ pub fn report_segments<
     ensures sized { IfOk result (λ e. C.sizes e ≡ (setting_at (B.board board.now)).dimensions) }
     ensures steady { OnOk result (K.faults sink.new ≡ K.faults sink.old) }
 
-    ensures unwritten { IsErrOf result RunFault.Write → IsUnwritten C.plays L.listing (B.board board.now).slots
+    ensures unwritten { IsErrOf result RunFault.Write → IsUnwrittenBy C.plays L.listing (B.board board.now)
         (meter_story (λ m. stands m) (λ m. text m) meters.old.items spare.old.items meters.new.items spare.new.items)
-        trace.now (order_of (B.known seat.new).seen) (K.written sink.old) (K.written sink.new) }
-    ensures interrupted { IsErrOf result RunFault.Memory → IsInterrupted C.plays L.listing (B.board board.now).slots
+        trace.now (B.known seat.new) (K.written sink.old) (K.written sink.new) }
+    ensures interrupted { IsErrOf result RunFault.Memory → IsInterruptedBy C.plays L.listing (B.board board.now)
         (meter_story (λ m. stands m) (λ m. text m) meters.old.items spare.old.items meters.new.items spare.new.items)
-        trace.now (order_of (B.known seat.new).seen) (K.written sink.old) (K.written sink.new) }
+        trace.now (B.known seat.new) (K.written sink.old) (K.written sink.new) }
     ensures cause { IsErrOf result RunFault.Write → Rose (K.faults sink.old) (K.faults sink.new) }
     ensures no_fault { IsErrOf result RunFault.Memory → K.faults sink.new ≡ K.faults sink.old }
 {

@@ -239,6 +239,7 @@ fn words_other_than_run_are_refused_unread(rt: HostRuntime) -> Result<(), Fail> 
             sink,
             &OpenGate,
             &mut Vec::new(alloc),
+            &mut VecDeque::new(alloc),
         );
         assert_eq!(rt; (ended.status, ended.read_faults), (2, 0));
         assert_eq!(rt; ended.sink.bytes(), b"refused words\n".as_slice());
@@ -270,6 +271,7 @@ fn a_failing_read_or_write_ends_the_call(rt: HostRuntime) -> Result<(), Fail> {
             sink,
             &OpenGate,
             &mut Vec::new(alloc),
+            &mut VecDeque::new(alloc),
         );
         assert_eq!(rt;
             (
