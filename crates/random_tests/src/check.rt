@@ -288,8 +288,10 @@ fn heard_of<G: Gate, R: Threads + Wait + Sync>(
         &mut spare,
     );
     // The spare ones come behind the others, to say what they say.
-    while let Some(meter) = spare.pop_front() {
-        meters.push(meter)?;
+    for _ in 0..changing.spare {
+        if let Some(meter) = spare.pop_front() {
+            meters.push(meter)?;
+        }
     }
     what_was_heard(alloc, outcome.status == 0, sink.bytes(), meters.as_slice())
 }

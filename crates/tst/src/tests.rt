@@ -712,8 +712,10 @@ fn changed(
     let mut left = Vec::new(alloc);
     append_summaries(meters.as_slice(), &mut left)?;
     left.extend_from_slice(b"and ")?;
-    while let Some(meter) = spare.pop_front() {
-        meter.summary(&mut left)?;
+    for _ in 0..spares {
+        if let Some(meter) = spare.pop_front() {
+            meter.summary(&mut left)?;
+        }
     }
     Ok((ended, left))
 }
