@@ -99,6 +99,7 @@ class Trace:
     numbers: dict  # digits to ("line", L) or ("room", R)
     timers: dict  # names to frames; a timer that isn't given has its usual value
     events: tuple
+    changes: tuple  # for each change of meters, how many events are before it
 
 
 @dataclass(frozen=True)
@@ -285,7 +286,8 @@ def read_trace(path):
             raise Refused(f"{path} is no trace: line {number}, {fault}") from None
     if reader.sizes is None:
         raise Refused(f"{path} is no trace: line {len(lines) + 1}, header")
-    return Trace(*reader.sizes, reader.numbers, USUAL_TIMERS | reader.timers, tuple(reader.events))
+    timers = USUAL_TIMERS | reader.timers
+    return Trace(*reader.sizes, reader.numbers, timers, tuple(reader.events), tuple(reader.changes))
 
 
 # ---- reports
@@ -295,6 +297,7 @@ PLAIN = re.compile(f"{COUNT} (busy|noport|freed|notnailed)")
 JOINED = re.compile(f"{COUNT} (granted|seated) {COUNT} {COUNT}")
 SIGNAL = "[0-9]{1,2}:(?:[0-9A-F]{2})+"
 MESSAGE = re.compile(f"{COUNT} message(?: moved {COUNT} {COUNT})?((?: {SIGNAL})*)")
+METER = re.compile(f"call [0-9/]+ (?:[0-9/]+|room [0-9]+)(?: {COUNT}){{3}}|(?:peg|holding) [0-9]+ [0-9]+")
 FRAME = re.compile(f"{COUNT} frame {COUNT}((?: send {SIGNAL})*)((?: [0-9]{{1,2}}:[0-9A-F]{{{FRAME_DIGITS}}})*)")
 
 
@@ -323,8 +326,8 @@ def reply(line):
     return None
 
 
-def read_report(path):
-    """The lines of the report in a file, in its order."""
+def read_report(path, changed=False):
+    """The lines of events of the report in a file, in its order. Where meters were changed, theirs are passed over."""
     lines = Path(path).read_bytes().decode("latin-1").split("\n")
     if re.fullmatch(r"refused ([0-9]+ [a-z]+|words)", lines[0]) and lines[1:] == [""]:
         raise Refused(f"{path} is the report of a refusal: {lines[0]}")
@@ -332,7 +335,11 @@ def read_report(path):
         raise Refused(f"{path} is no report: its last line has no end")
     replies = []
     frames = 0
+    passed = 0
     for number, line in enumerate(watched(lines, path), start=1):
+        if changed and METER.fullmatch(line):
+            passed += 1
+            continue
         answer = reply(line)
         if answer is None:
             raise Refused(f"{path} is no report: line {number}")
@@ -341,6 +348,8 @@ def read_report(path):
                 raise Refused(f"{path} is no report: line {number}, frame {frames} is missing")
             frames += 1
         replies.append(answer)
+    if passed:
+        print(f"{path}: {passed} lines of meters passed over", file=sys.stderr)
     return tuple(replies)
 
 
@@ -356,7 +365,7 @@ WORDS_OF = {
 def read_run(trace_path, report_path):
     """A trace, and each of its events with its reply, in the order of the report."""
     trace = read_trace(trace_path)
-    replies = read_report(report_path)
+    replies = read_report(report_path, changed=bool(trace.changes))
     steps = []
     seen = set()
     for number, answer in enumerate(replies, start=1):

@@ -61,7 +61,7 @@ lines_split answers i = ap answer_lines (sym (take-append-drop i answers)) ∙ l
 
 -- ---- an order that goes on
 
-events_long : (trace : Trace) (order : List ℕ) → All (IsEvent trace) order → length order ≡ length (events_of trace.events order)
+pub events_long : (trace : Trace) (order : List ℕ) → All (IsEvent trace) order → length order ≡ length (events_of trace.events order)
 events_long trace [] known = refl
 events_long trace (n ∷ order) known =
     let e = event_there trace n (All-head (IsEvent trace) n order known) in
@@ -80,7 +80,7 @@ run-append : (s : Setting) (w : World) (es fs : List Event) → run s w (es ++ f
 run-append s w [] fs = refl
 run-append s w (e ∷ es) fs = ap (λ (l : List Reply). reply s w e ∷ l) (run-append s (next s w e) es fs)
 
-events_append : (trace : Trace) (order more : List ℕ) → events_of trace.events (order ++ more) ≡ events_of trace.events order ++ events_of trace.events more
+pub events_append : (trace : Trace) (order more : List ℕ) → events_of trace.events (order ++ more) ≡ events_of trace.events order ++ events_of trace.events more
 events_append trace order more = filter_map-append (event_at trace.events) order more
 
 -- the report of a longer order begins with the report of its beginning

@@ -72,12 +72,12 @@ module _ (x : Parties) where
       (subst (λ (g : Fabric). Runs x g l t status order old new before after) is run)
 
   pub answers_refused : (strict : Bool) (bytes : List ℕ) (number : ℕ) (why : Reason) (status : ℕ) (order line : List ℕ) (old new : Option (List ℕ)) (before after : ℕ) → IsRefused bytes number why → order ≡ []
-      → line ≡ refusal number why → x.told [] → Refuses 1 line status old new before after → Answers x strict bytes status order old new before after
+      → line ≡ refusal number why → x.meters.left [] → Refuses 1 line status old new before after → Answers x strict bytes status order old new before after
   answers_refused strict bytes number why status order line old new before after refused none same told (Told_so s written) =
       Turned_down s (record { number = number; why = why; refused = refused; none = none; text = rw same at written }) told
   answers_refused strict bytes number why status order line old new before after refused none same told (Untold s rose cut) = Unwritten s rose (In_refusal s number why refused none (rw same at cut) told)
 
-  pub ends_words : (words : List (List ℕ)) (status : ℕ) (order : List ℕ) (old new : SourceAndSink) → IsNoCommand words → order ≡ [] → x.told []
+  pub ends_words : (words : List (List ℕ)) (status : ℕ) (order : List ℕ) (old new : SourceAndSink) → IsNoCommand words → order ≡ [] → x.meters.left []
       → Refuses 2 words_refusal status old.written new.written old.writes new.writes → Ends x words status order old new
   ends_words words status order old new unasked none told (Told_so s written) = Wrong_words unasked s none written told
   ends_words words status order old new unasked none told (Untold s rose cut) = Words_unwritten unasked s none rose cut told
@@ -112,7 +112,7 @@ module _ (x : Parties) where
   summed_says words status order old new a n (Generated seed calls is (Sum_unwritten s rose cut)) h gen = absurd (omega (arith, s, h))
   summed_says words status order old new a n (Generated seed calls is (Sum_no_memory s cut)) h gen = absurd (omega (arith, s, h))
 
-  pub turned_down_says : (words : List (List ℕ)) (status : ℕ) (order : List ℕ) (old new : SourceAndSink) → Ends x words status order old new → status ≡ 1 → IsRun words × ((bytes : List ℕ) × IsInput old.left new.left bytes × IsTurnedDown bytes order old.written new.written × x.told [])
+  pub turned_down_says : (words : List (List ℕ)) (status : ℕ) (order : List ℕ) (old new : SourceAndSink) → Ends x words status order old new → status ≡ 1 → IsRun words × ((bytes : List ℕ) × IsInput old.left new.left bytes × IsTurnedDown bytes order old.written new.written × x.meters.left [])
   turned_down_says words status order old new (Wrong_words unasked s none text told) h = absurd (omega (arith, s, h))
   turned_down_says words status order old new (Words_unwritten unasked s none rose text told) h = absurd (omega (arith, s, h))
   turned_down_says words status order old new (Unread is s none rose kept told) h = absurd (omega (arith, s, h))
@@ -125,7 +125,7 @@ module _ (x : Parties) where
   turned_down_says words status order old new (Generated seed calls is (Sum_unwritten s rose cut)) h = absurd (omega (arith, s, h))
   turned_down_says words status order old new (Generated seed calls is (Sum_no_memory s cut)) h = absurd (omega (arith, s, h))
 
-  pub wrong_words_says : (words : List (List ℕ)) (status : ℕ) (order : List ℕ) (old new : SourceAndSink) → Ends x words status order old new → status ≡ 2 → IsNoCommand words × (order ≡ []) × Appends old.written new.written words_refusal × x.told []
+  pub wrong_words_says : (words : List (List ℕ)) (status : ℕ) (order : List ℕ) (old new : SourceAndSink) → Ends x words status order old new → status ≡ 2 → IsNoCommand words × (order ≡ []) × Appends old.written new.written words_refusal × x.meters.left []
   wrong_words_says words status order old new (Wrong_words unasked s none text told) h = (unasked, none, text, told)
   wrong_words_says words status order old new (Words_unwritten unasked s none rose text told) h = absurd (omega (arith, s, h))
   wrong_words_says words status order old new (Unread is s none rose kept told) h = absurd (omega (arith, s, h))
@@ -138,7 +138,7 @@ module _ (x : Parties) where
   wrong_words_says words status order old new (Generated seed calls is (Sum_unwritten s rose cut)) h = absurd (omega (arith, s, h))
   wrong_words_says words status order old new (Generated seed calls is (Sum_no_memory s cut)) h = absurd (omega (arith, s, h))
 
-  pub read_failed_says : (words : List (List ℕ)) (status : ℕ) (order : List ℕ) (old new : SourceAndSink) → Ends x words status order old new → status ≡ 3 → Rose old.reads new.reads × (order ≡ []) × Keeps old.written new.written × x.told []
+  pub read_failed_says : (words : List (List ℕ)) (status : ℕ) (order : List ℕ) (old new : SourceAndSink) → Ends x words status order old new → status ≡ 3 → Rose old.reads new.reads × (order ≡ []) × Keeps old.written new.written × x.meters.left []
   read_failed_says words status order old new (Wrong_words unasked s none text told) h = absurd (omega (arith, s, h))
   read_failed_says words status order old new (Words_unwritten unasked s none rose text told) h = absurd (omega (arith, s, h))
   read_failed_says words status order old new (Unread is s none rose kept told) h = (rose, none, kept, told)

@@ -2,7 +2,10 @@ pub mod Reports
 pub mod Parts
 pub mod Pending
 pub mod Answered
+pub mod Stories
 pub mod Underway
+pub mod Steps
+pub mod Making
 pub mod Kept
 pub mod Tellings
 pub mod Endings

@@ -1,7 +1,7 @@
 -- What was written of a report when a run ends.
 use Rattle.std.proofs.Common.{◌≡◌, ℕ, ◌+◌, List, [], ◌++◌, length, take, Option, Result, Ok, Err, OnErr, OnOk, refl, arith, sym, subst, ◌∙◌, ap, length-append, inl, inr}
 use Rattle.std.proofs.KnownBytes.{Appends-nil, Appends-trans}
-use Rattle.std.proofs.lemmas.List.{append_assoc, append-nil}
+use Rattle.std.proofs.lemmas.List.{append_assoc, append-nil, take-append-le}
 use Rattle.std.proofs.Math.Seq.{take-append-add}
 use Rattle.std.specs.Io.KnownBytes.{Appends}
 use Rattle.exchange_top.specs.Outcomes.{IsFlushed}
@@ -70,3 +70,20 @@ module _ (ends : List ℕ → Type 0) where
 -- what is pending of one thing is pending of another, where what ends the one ends the other
 pub pending_also : (ends also : List ℕ → Type 0) → ((text : List ℕ) → ends text → also text) → (old now : Option (List ℕ)) (pending text : List ℕ) → IsPending ends old now pending text → IsPending also old now pending text
 pending_also ends also then old now pending text p = record { done = p.done; written = p.written; rest = p.rest; whole = then p.done p.whole }
+
+-- ---- one text behind another
+
+-- a prefix of the first
+pub front_longer : (old new : Option (List ℕ)) (bytes more : List ℕ) → AppendsFront old new bytes → AppendsFront old new (bytes ++ more)
+front_longer old new bytes more front =
+    let n = front.0 in
+    (n, omega (arith, front.1, length-append bytes more), subst (λ (xs : List ℕ). Appends old new xs) (sym (take-append-le n bytes more front.1)) front.2)
+
+-- all of the first, and a prefix of the other
+pub front_behind : (old mid new : Option (List ℕ)) (bytes more : List ℕ) → Appends old mid bytes → AppendsFront mid new more → AppendsFront old new (bytes ++ more)
+front_behind old mid new bytes more done front =
+    let n = front.0 in (
+      length bytes + n,
+      omega (arith, front.1, length-append bytes more),
+      subst (λ (xs : List ℕ). Appends old new xs) (sym (take-append-add bytes more n)) (Appends-trans old mid new bytes (take n more) done front.2),
+    )

@@ -11,6 +11,7 @@ use Rattle.generated_trace.specs.Generated.{IsTrafficOf}
 use Rattle.line_list.specs.declared.listing.Listing.TheVariants as listing
 use Rattle.exchange_top.specs.Commands.{Handing, Parties, Runs, Whole, Unwritten_from, No_memory_from, Sums, Summed, Sum_unwritten, Sum_no_memory, In_run, In_summary, Before_summary, By_write, By_memory, fabric_of}
 use Rattle.segment_run.specs.Segment.{IsChief}
+use Rattle.exchange_top.specs.Story.{story}
 use Rattle.exchange_top.specs.Streams.{AppendsFront}
 use Rattle.exchange_top.specs.Summary.{summary_text}
 
@@ -40,25 +41,26 @@ module _ (x : Parties) (seed calls : ℕ) (t : Trace) (is : IsTrafficOf seed cal
   -- all was run, and the summary was written, or not
   pub sums_up : (h : Handing) (status status' : ℕ) (order order' : List ℕ) (old mid new : Option (List ℕ)) (faults middle then : ℕ) → status ≡ 0
       → Runs x (fabric_of false t) listing.Nothing t status order old mid faults middle → (status ≡ 4) ⊎ (middle ≡ faults) → order' ≡ order
-      → (status' ≡ 0 → ((d : _) (w : _) → x.handed d w → h d w) × Appends mid new (summary_text t x.said))
+      → x.meters.written (story x.plays listing.Nothing (fabric_of false t).slots t order) ≡ [] → (status' ≡ 0 → ((d : _) (w : _) → x.handed d w → h d w) × Appends mid new (summary_text t x.said))
       → (status' ≡ 4 → Rose middle then × AppendsFront mid new (summary_text t x.said)) → (status' ≡ 5 → Keeps mid new)
       → (status' ≡ 0) ⊎ (status' ≡ 4) ⊎ (status' ≡ 5) → Sums (record x { handed = h }) seed calls status' order' old new faults then
-  sums_up h status status' order order' old mid new faults middle then zero (Whole s run text engine) steady same done unwritten unsaid ends =
+  sums_up h status status' order order' old mid new faults middle then zero (Whole s run text engine) steady same silent done unwritten unsaid ends =
+      let none = rw silent at text in
       elim ends [
         | inl now ↦ Summed now (record {
           trace = t;
           generated = is;
           run = rw same run;
-          text = Appends-trans old mid new [] _ text (done now).1;
+          text = Appends-trans old mid new [] _ none (done now).1;
           engine = rw same ((done now).0 _ _ engine);
         })
         | inr other ↦ elim other [
-          | inl now ↦ Sum_unwritten now (elim steady [ inl four ↦ absurd (omega (arith, four, zero)) | inr kept ↦ rw (sym kept) (unwritten now).0 ]) (In_summary now t is (rw same run) (front_then old mid new _ text (unwritten now).1))
-          | inr now ↦ Sum_no_memory now (Before_summary now t is (rw same run) (kept_none old mid new text (unsaid now)))
+          | inl now ↦ Sum_unwritten now (elim steady [ inl four ↦ absurd (omega (arith, four, zero)) | inr kept ↦ rw (sym kept) (unwritten now).0 ]) (In_summary now t is (rw same run) (front_then old mid new _ none (unwritten now).1))
+          | inr now ↦ Sum_no_memory now (Before_summary now t is (rw same run) (kept_none old mid new none (unsaid now)))
         ]
       ]
-  sums_up h status status' order order' old mid new faults middle then zero (Unwritten_from s rose b) steady same done unwritten unsaid ends = absurd (omega (arith, s, zero))
-  sums_up h status status' order order' old mid new faults middle then zero (No_memory_from s b) steady same done unwritten unsaid ends = absurd (omega (arith, s, zero))
+  sums_up h status status' order order' old mid new faults middle then zero (Unwritten_from s rose b) steady same silent done unwritten unsaid ends = absurd (omega (arith, s, zero))
+  sums_up h status status' order order' old mid new faults middle then zero (No_memory_from s b) steady same silent done unwritten unsaid ends = absurd (omega (arith, s, zero))
 
 -- seat 0's history has an entry for each event at the most
 pub fits_order : (order : List ℕ) (journal : List Entry) (seat : Known) (turns events room : ℕ) → order ≡ [] → journal ≡ seat.seen → IsChief turns seat → turns ≡ events → events ≤ room → length order + length journal ≤ room

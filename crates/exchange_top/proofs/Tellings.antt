@@ -1,24 +1,37 @@
--- Meters that note calls, and then more.
-use Rattle.std.proofs.Common.{ℕ, List, [], ◌++◌, refl}
+-- Meters that note calls and are changed, and then more.
+use Rattle.std.proofs.Common.{◌≡◌, ℕ, List, [], ◌∷◌, ◌++◌, map, refl, sym, ap, ◌∙◌, subst, append-nil}
+use Rattle.std.specs.List.{AllZip}
+use Rattle.std.specs.Prelude.{replicate}
 use Rattle.exchange_events.specs.declared.record.CallRecord.{CallRecord}
-use Rattle.meters.proofs.Zips.{zip-same, zip-then}
-use Rattle.meters.proofs.Told.{told-same, told-then, told_front-none}
-use Rattle.exchange_top.specs.Telling.{AreTold, AreToldBeyond, AreToldFront}
+use Rattle.meters.specs.Changing.{Step, Meters_changed, Metering, Watch, AreMetered, HasNoted, after_steps, begun, handed_in}
+use Rattle.meters.specs.Telling.{IsTold}
+use Rattle.meters.proofs.Changes.{metered-first, zip_compose, zip_other}
+use Rattle.meters.proofs.Zips.{zip-same}
+use Rattle.meters.proofs.Told.{told-equal, told-same, told-then, told_front-none}
+use Rattle.exchange_top.specs.Telling.{AreLeft, AreMeteredBeyond, AreToldFront, IsToldBeyond}
 
 module _ {M : Type 0} (stands : M → List CallRecord → Type 0) (text : M → List CallRecord → List ℕ) where
-  -- meters that nothing happens to
-  pub none_told : (ms : List M) → AreTold stands text ms ms []
-  none_told ms = zip-same _ (λ m. told-same (stands m) (text m)) ms
-
   pub none_front : (ms : List M) (calls : List CallRecord) → AreToldFront stands text ms ms calls
   none_front ms calls = zip-same _ (λ m. told_front-none (told-same (stands m) (text m))) ms
 
-  -- some calls, and then more
-  pub both_told : (ms ns os : List M) (calls more : List CallRecord) → AreTold stands text ms ns calls → AreTold stands text ns os more → AreTold stands text ms os (calls ++ more)
-  both_told ms ns os calls more first second = zip-then _ _ _ (λ m n o one other. told-then one other) ms ns os first second
+  -- meters that nothing happens to
+  pub none_left : (meters spare : List M) → AreLeft stands text meters spare meters spare []
+  none_left meters spare = metered-first stands text meters spare
 
-  pub both_beyond : (ms ns os : List M) (calls more : List CallRecord) → AreTold stands text ms ns calls → AreToldFront stands text ns os more → AreToldBeyond stands text ms os calls more
-  both_beyond ms ns os calls more first second = zip-then _ _ _ (λ m n o one other. (other.0, other.1, other.2, told-then one other.3)) ms ns os first second
+  -- none of more records
+  pub beyond_none : (s : Metering M) (meters spare : List M) → AreMetered stands text s meters spare → AreMeteredBeyond [] stands text s meters spare
+  beyond_none s meters spare a = record {
+    on = zip_other _ _ (λ w m told. ([], [], refl, told-equal (sym (append-nil w.time)) told)) s.on meters a.on;
+    spares = a.spares;
+  }
 
-  pub none_beyond : (ms : List M) → AreToldBeyond stands text ms ms [] []
-  none_beyond ms = zip-same _ (λ m. ([], [], refl, told-same (stands m) (text m))) ms
+  pub none_beyond : (meters spare : List M) → AreMeteredBeyond [] stands text (handed_in meters spare) meters spare
+  none_beyond meters spare = beyond_none (handed_in meters spare) meters spare (none_left meters spare)
+
+  -- the first few of more records
+  pub both_beyond : (s : Metering M) (meters now spare : List M) (more : List CallRecord) → AreMetered stands text s meters spare → AreToldFront stands text meters now more
+      → AreMeteredBeyond more stands text s now spare
+  both_beyond s meters now spare more a front = record {
+    on = zip_compose _ _ _ (λ w m n one other. (other.0, other.1, other.2, told-then one other.3)) s.on meters now a.on front;
+    spares = a.spares;
+  }

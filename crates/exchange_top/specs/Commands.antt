@@ -19,14 +19,14 @@ use Rattle.exchange_core.specs.Working.{world_after}
 use Rattle.exchange_events.specs.Sizes.{Dimensions}
 use Rattle.call_profile.specs.World.{World}
 use Rattle.call_processor.specs.Frames.{Carrying, CarriesFrames, Plays}
-use Rattle.report_text.specs.RunReport.{report}
 use Rattle.line_list.specs.declared.listing.Listing.{Listing}
 use Rattle.line_list.specs.declared.listing.Listing.TheVariants as listing
-use Rattle.line_list.specs.Lines.{listed}
+use Rattle.meters.specs.Changing.{Step}
 use Rattle.exchange_top.specs.Outcomes.{Fabric, IsInterrupted, IsRunWhole, IsUnwritten}
+use Rattle.exchange_top.specs.Story.{story}
 use Rattle.exchange_top.specs.Streams.{AppendsFront}
 use Rattle.exchange_top.specs.Summary.{summary_text}
-use Rattle.exchange_top.specs.Telling.{AreTold, AreToldBeyond, Telling}
+use Rattle.exchange_top.specs.Telling.{MeterStory, meter_story}
 
 -- ---- the commands
 
@@ -110,22 +110,21 @@ abbrev pub Handing : Type 1
 Handing = Dimensions → World → Type 0
 
 -- what a call is given and what becomes of its parties: what its engine plays, what is said of the engine that is handed out, what its meters
--- noted, all calls or some and the first few of more, and what they say in the end
+-- noted by the steps of a run, and what they say in the end
 pub record Parties : Type 1 where
   pub plays : Plays
   pub handed : Handing
-  pub told : Telling
-  pub told_beyond : List CallRecord → Telling
+  pub meters : MeterStory
   pub said : List ℕ
 
 -- the parties of a call: an engine plays so, has these dimensions and carries frames so, and may be handed out; meters represent calls and say a text,
--- before and after
-abbrev pub parties : {M E : Type 0} → Plays → (E → Dimensions) → Carrying E → Option E → (M → List CallRecord → Type 0) → (M → List CallRecord → List ℕ) → List M → List M → Parties
-parties plays sizes carries engine stands text old new = record {
+-- and some of them are on and some spare, before and after
+abbrev pub parties : {M E : Type 0} → Plays → (E → Dimensions) → Carrying E → Option E → (M → List CallRecord → Type 0) → (M → List CallRecord → List ℕ)
+    → (old spare new new_spare : List M) → Parties
+parties plays sizes carries engine stands text old spare new new_spare = record {
   plays = plays;
   handed = HandsOut sizes carries engine;
-  told = AreTold stands text old new;
-  told_beyond = AreToldBeyond stands text old new;
+  meters = meter_story stands text old spare new new_spare;
   said = concat (map (λ m. text m []) new);
 }
 
@@ -133,12 +132,13 @@ parties plays sizes carries engine stands text old new = record {
 abbrev pub IsHandedOut : Handing → Fabric → Trace → List ℕ → Type 0
 IsHandedOut handed f trace order = handed (setting_of f.slots trace).dimensions (world_after f.slots trace order)
 
--- the bytes are a trace, which was run on a strict fabric or on the other, and its report was written, whole
+-- the bytes are a trace, which was run on a strict fabric or on the other, and its report was written, whole, with what each meter that was taken
+-- out says of its time
 pub record IsDone (x : Parties) (strict : Bool) (bytes order : List ℕ) (old new : Option (List ℕ)) : Type 0 where
   pub trace : Trace
   pub is_trace : IsTrace bytes trace
-  pub run : IsRunWhole (fabric_of strict trace) x.told trace order
-  pub text : Appends old new (report x.plays (fabric_of strict trace).slots trace order)
+  pub run : IsRunWhole x.plays listing.Report (fabric_of strict trace) x.meters trace order
+  pub text : Appends old new (x.meters.written (story x.plays listing.Report (fabric_of strict trace).slots trace order))
   pub engine : IsHandedOut x.handed (fabric_of strict trace) trace order
 
 -- the trace generated of this seed with n calls was run, on thirty internal slots, and its summary was written, whole: it ends with what the
@@ -146,7 +146,7 @@ pub record IsDone (x : Parties) (strict : Bool) (bytes order : List ℕ) (old ne
 pub record IsSummed (x : Parties) (seed calls : ℕ) (order : List ℕ) (old new : Option (List ℕ)) : Type 0 where
   pub trace : Trace
   pub generated : IsTrafficOf seed calls trace
-  pub run : IsRunWhole (fabric_of false trace) x.told trace order
+  pub run : IsRunWhole x.plays listing.Nothing (fabric_of false trace) x.meters trace order
   pub text : Appends old new (summary_text trace x.said)
   pub engine : IsHandedOut x.handed (fabric_of false trace) trace order
 
@@ -158,6 +158,14 @@ ReportsInput x strict left_old left_new order old new = (bytes : List ℕ) × Is
 abbrev pub ReportsRun : Parties → (words : List (List ℕ)) → (left_old left_new : Option (List ℕ)) → List ℕ → (old new : Option (List ℕ)) → Type 0
 ReportsRun x words left_old left_new order old new = (strict : Bool) → IsRunOn words strict → ReportsInput x strict left_old left_new order old new
 
+-- so it was, by what the types of a source and a sink say of each: the bytes left and the bytes written
+abbrev pub ReportsTo : {A S K : Type 0} → Parties → List (String A) → List ℕ → (S → Option (List ℕ)) → (K → Option (List ℕ)) → (source_old source_new : S) → (sink_old sink_new : K) → Type 0
+ReportsTo x words order left written source_old source_new sink_old sink_new = ReportsRun x (texts words) (left source_old) (left source_new) order (written sink_old) (written sink_new)
+
+-- where the words ask for a generated run, its summary was written
+abbrev pub SumsUp : {K : Type 0} → Parties → (words : List (List ℕ)) → List ℕ → (K → Option (List ℕ)) → (old new : K) → Type 0
+SumsUp x words order written old new = (seed calls : ℕ) → IsGeneration words seed calls → IsSummed x seed calls order (written old) (written new)
+
 -- ---- other ends
 
 -- the bytes were answered by the refusal of the line that they are no trace for
@@ -168,41 +176,45 @@ pub record IsTurnedDown (bytes order : List ℕ) (old new : Option (List ℕ)) :
   pub none : order ≡ []
   pub text : Appends old new (refusal number why)
 
--- the input was read and answered by the refusal of a line, and no meter noted a call
-abbrev pub RefusesInput : Telling → (left_old left_new : Option (List ℕ)) → List ℕ → (old new : Option (List ℕ)) → Type 0
-RefusesInput told left_old left_new order old new = (bytes : List ℕ) × IsInput left_old left_new bytes × IsTurnedDown bytes order old new × told []
+-- the input was read and answered by the refusal of a line; no meter was changed, and none noted a call
+abbrev pub RefusesInput : (List Step → Type 0) → (left_old left_new : Option (List ℕ)) → List ℕ → (old new : Option (List ℕ)) → Type 0
+RefusesInput left left_old left_new order old new = (bytes : List ℕ) × IsInput left_old left_new bytes × IsTurnedDown bytes order old new × left []
 
 -- a run of a trace on n internal slots, with this listing, was cut short: a write failed, or memory ran out
 pub data IsBegun (x : Parties) (slots : ℕ) (l : Listing) (trace : Trace) (status : ℕ) (order : List ℕ) (old new : Option (List ℕ)) : Type 0 where
-  By_write : status ≡ 4 → IsUnwritten x.plays l slots x.told trace order old new → IsBegun x slots l trace status order old new
-  By_memory : status ≡ 5 → IsInterrupted x.plays l slots x.told_beyond trace order old new → IsBegun x slots l trace status order old new
+  By_write : status ≡ 4 → IsUnwritten x.plays l slots x.meters trace order old new → IsBegun x slots l trace status order old new
+  By_memory : status ≡ 5 → IsInterrupted x.plays l slots x.meters trace order old new → IsBegun x slots l trace status order old new
 
 -- the answer to the bytes was cut short: before anything was done, in their refusal, or in the run of the trace that they are
 pub data IsCutShort (x : Parties) (strict : Bool) (status : ℕ) (bytes order : List ℕ) (old new : Option (List ℕ)) : Type 0 where
-  At_once : status ≡ 5 → order ≡ [] → Keeps old new → x.told [] → IsCutShort x strict status bytes order old new
-  In_refusal : status ≡ 4 → (number : ℕ) (why : Reason) → IsRefused bytes number why → order ≡ [] → AppendsFront old new (refusal number why) → x.told []
+  At_once : status ≡ 5 → order ≡ [] → Keeps old new → x.meters.left [] → IsCutShort x strict status bytes order old new
+  In_refusal : status ≡ 4 → (number : ℕ) (why : Reason) → IsRefused bytes number why → order ≡ [] → AppendsFront old new (refusal number why) → x.meters.left []
       → IsCutShort x strict status bytes order old new
   In_report : (trace : Trace) → IsTrace bytes trace → IsBegun x (fabric_of strict trace).slots listing.Report trace status order old new
       → IsCutShort x strict status bytes order old new
 
 -- a run of a generated trace was cut short: before it began, in the run, or once all of it was run, with a prefix of its summary or none of it
 pub data IsSumCutShort (x : Parties) (status seed calls : ℕ) (order : List ℕ) (old new : Option (List ℕ)) : Type 0 where
-  Not_begun : status ≡ 5 → order ≡ [] → Keeps old new → x.told [] → IsSumCutShort x status seed calls order old new
+  Not_begun : status ≡ 5 → order ≡ [] → Keeps old new → x.meters.left [] → IsSumCutShort x status seed calls order old new
   In_run : (trace : Trace) → IsTrafficOf seed calls trace → IsBegun x (fabric_of false trace).slots listing.Nothing trace status order old new
       → IsSumCutShort x status seed calls order old new
-  In_summary : status ≡ 4 → (trace : Trace) → IsTrafficOf seed calls trace → IsRunWhole (fabric_of false trace) x.told trace order
+  In_summary : status ≡ 4 → (trace : Trace) → IsTrafficOf seed calls trace → IsRunWhole x.plays listing.Nothing (fabric_of false trace) x.meters trace order
       → AppendsFront old new (summary_text trace x.said) → IsSumCutShort x status seed calls order old new
-  Before_summary : status ≡ 5 → (trace : Trace) → IsTrafficOf seed calls trace → IsRunWhole (fabric_of false trace) x.told trace order → Appends old new []
+  Before_summary : status ≡ 5 → (trace : Trace) → IsTrafficOf seed calls trace → IsRunWhole x.plays listing.Nothing (fabric_of false trace) x.meters trace order → Appends old new []
       → IsSumCutShort x status seed calls order old new
 
 -- the whole call was cut short: it could write no refusal of the words, or it could not read them or its input, or the answer to them was cut short
 pub data IsUndone (x : Parties) (status : ℕ) (words : List (List ℕ)) (left_old left_new : Option (List ℕ)) (order : List ℕ) (old new : Option (List ℕ)) : Type 0 where
-  In_words : status ≡ 4 → IsNoCommand words → order ≡ [] → AppendsFront old new words_refusal → x.told [] → IsUndone x status words left_old left_new order old new
-  Unheard : status ≡ 5 → order ≡ [] → Keeps old new → x.told [] → IsUndone x status words left_old left_new order old new
+  In_words : status ≡ 4 → IsNoCommand words → order ≡ [] → AppendsFront old new words_refusal → x.meters.left [] → IsUndone x status words left_old left_new order old new
+  Unheard : status ≡ 5 → order ≡ [] → Keeps old new → x.meters.left [] → IsUndone x status words left_old left_new order old new
   In_answer : (strict : Bool) → IsRunOn words strict → (bytes : List ℕ) → IsInput left_old left_new bytes → IsCutShort x strict status bytes order old new
       → IsUndone x status words left_old left_new order old new
   In_generation : (seed calls : ℕ) → IsGeneration words seed calls → IsSumCutShort x status seed calls order old new
       → IsUndone x status words left_old left_new order old new
+
+-- so it was, by what the types of a source and a sink say of each: the bytes left and the bytes written
+abbrev pub IsCutOff : {A S K : Type 0} → Parties → ℕ → List (String A) → List ℕ → (S → Option (List ℕ)) → (K → Option (List ℕ)) → (source_old source_new : S) → (sink_old sink_new : K) → Type 0
+IsCutOff x status words order left written source_old source_new sink_old sink_new = IsUndone x status (texts words) (left source_old) (left source_new) order (written sink_old) (written sink_new)
 
 -- ---- how the parts of a call end
 
@@ -215,16 +227,23 @@ pub data Refuses (wanted : ℕ) (line : List ℕ) (status : ℕ) (old new : Opti
 -- how an answer to the bytes that were read ends, by its status; the counts are the sink's faults before and after
 pub data Answers (x : Parties) (strict : Bool) (bytes : List ℕ) (status : ℕ) (order : List ℕ) (old new : Option (List ℕ)) (before after : ℕ) : Type 0 where
   Done : status ≡ 0 → IsDone x strict bytes order old new → Answers x strict bytes status order old new before after
-  Turned_down : status ≡ 1 → IsTurnedDown bytes order old new → x.told [] → Answers x strict bytes status order old new before after
+  Turned_down : status ≡ 1 → IsTurnedDown bytes order old new → x.meters.left [] → Answers x strict bytes status order old new before after
   Unwritten : status ≡ 4 → Rose before after → IsCutShort x strict status bytes order old new → Answers x strict bytes status order old new before after
   No_memory : status ≡ 5 → IsCutShort x strict status bytes order old new → Answers x strict bytes status order old new before after
 
 -- how a run of a trace on this fabric ends, with this listing
 pub data Runs (x : Parties) (f : Fabric) (l : Listing) (t : Trace) (status : ℕ) (order : List ℕ) (old new : Option (List ℕ)) (before after : ℕ) : Type 0 where
-  Whole : status ≡ 0 → IsRunWhole f x.told t order → Appends old new (listed l (report x.plays f.slots t order)) → IsHandedOut x.handed f t order
+  Whole : status ≡ 0 → IsRunWhole x.plays l f x.meters t order → Appends old new (x.meters.written (story x.plays l f.slots t order)) → IsHandedOut x.handed f t order
       → Runs x f l t status order old new before after
-  Unwritten_from : status ≡ 4 → Rose before after → IsUnwritten x.plays l f.slots x.told t order old new → Runs x f l t status order old new before after
-  No_memory_from : status ≡ 5 → IsInterrupted x.plays l f.slots x.told_beyond t order old new → Runs x f l t status order old new before after
+  Unwritten_from : status ≡ 4 → Rose before after → IsUnwritten x.plays l f.slots x.meters t order old new → Runs x f l t status order old new before after
+  No_memory_from : status ≡ 5 → IsInterrupted x.plays l f.slots x.meters t order old new → Runs x f l t status order old new before after
+
+-- so, by what the type of a sink says of each: the bytes written and the faults
+abbrev pub RunsTo : {K : Type 0} → Parties → Fabric → Listing → Trace → ℕ → List ℕ → (K → Option (List ℕ)) → (K → ℕ) → (old new : K) → Type 0
+RunsTo x f l t status order written writes old new = Runs x f l t status order (written old) (written new) (writes old) (writes new)
+
+abbrev pub AnswersTo : {K : Type 0} → Parties → (strict : Bool) → List ℕ → ℕ → List ℕ → (K → Option (List ℕ)) → (K → ℕ) → (old new : K) → Type 0
+AnswersTo x strict bytes status order written writes old new = Answers x strict bytes status order (written old) (written new) (writes old) (writes new)
 
 -- how a run of a generated trace ends
 pub data Sums (x : Parties) (seed calls : ℕ) (status : ℕ) (order : List ℕ) (old new : Option (List ℕ)) (before after : ℕ) : Type 0 where
@@ -241,11 +260,11 @@ pub record SourceAndSink : Type 0 where
 
 -- how a call ends, by its status
 pub data Ends (x : Parties) (words : List (List ℕ)) (status : ℕ) (order : List ℕ) (old new : SourceAndSink) : Type 0 where
-  Wrong_words : IsNoCommand words → status ≡ 2 → order ≡ [] → Appends old.written new.written words_refusal → x.told [] → Ends x words status order old new
-  Words_unwritten : IsNoCommand words → status ≡ 4 → order ≡ [] → Rose old.writes new.writes → AppendsFront old.written new.written words_refusal → x.told []
+  Wrong_words : IsNoCommand words → status ≡ 2 → order ≡ [] → Appends old.written new.written words_refusal → x.meters.left [] → Ends x words status order old new
+  Words_unwritten : IsNoCommand words → status ≡ 4 → order ≡ [] → Rose old.writes new.writes → AppendsFront old.written new.written words_refusal → x.meters.left []
       → Ends x words status order old new
-  Unread : IsRun words → status ≡ 3 → order ≡ [] → Rose old.reads new.reads → Keeps old.written new.written → x.told [] → Ends x words status order old new
-  No_room : status ≡ 5 → order ≡ [] → Keeps old.written new.written → x.told [] → Ends x words status order old new
+  Unread : IsRun words → status ≡ 3 → order ≡ [] → Rose old.reads new.reads → Keeps old.written new.written → x.meters.left [] → Ends x words status order old new
+  No_room : status ≡ 5 → order ≡ [] → Keeps old.written new.written → x.meters.left [] → Ends x words status order old new
   Answered : (strict : Bool) → IsRunOn words strict → (bytes : List ℕ) → IsInput old.left new.left bytes
       → Answers x strict bytes status order old.written new.written old.writes new.writes → Ends x words status order old new
   Generated : (seed calls : ℕ) → IsGeneration words seed calls → Sums x seed calls status order old.written new.written old.writes new.writes → Ends x words status order old new

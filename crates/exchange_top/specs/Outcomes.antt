@@ -14,10 +14,10 @@ use Rattle.segment_run.specs.Segment.{IsOfSegment}
 use Rattle.segment_run.specs.Segments.{IsDoneBelow}
 use Rattle.call_processor.specs.Frames.{Plays}
 use Rattle.line_list.specs.declared.listing.Listing.{Listing}
-use Rattle.line_list.specs.Lines.{listed}
-use Rattle.report_text.specs.RunReport.{report}
+use Rattle.meters.specs.Changing.{Step, records_of}
+use Rattle.exchange_top.specs.Story.{story}
 use Rattle.exchange_top.specs.Streams.{AppendsFront}
-use Rattle.exchange_top.specs.Telling.{Telling}
+use Rattle.exchange_top.specs.Telling.{AreLeft, AreTold, MeterStory}
 use Rattle.call_profile.specs.CallsTold.{calls_told}
 
 -- the fabric that a trace is run on: how many internal slots it has, and how many live paths a new path moves at the most
@@ -48,34 +48,39 @@ TellsNoMoves (Frame_reply k sends records) = ⊤
 abbrev pub MovesNone : Fabric → Trace → List ℕ → Type 0
 MovesNone fabric trace order = let s = setting_of fabric.slots trace in All TellsNoMoves (run s (start s.dimensions) (events_of trace.events order))
 
--- every event of the trace was done, in a lawful order; no path that joined moved more others than the fabric allows; and the meters noted
--- the calls that ended
-pub record IsRunWhole (fabric : Fabric) (told : Telling) (trace : Trace) (order : List ℕ) : Type 0 where
+-- every event of the trace was done, in a lawful order; no path that joined moved more others than the fabric allows; and the meters are those that
+-- the story of the run leaves, each with the calls that ended in its time
+pub record IsRunWhole (plays : Plays) (l : Listing) (fabric : Fabric) (m : MeterStory) (trace : Trace) (order : List ℕ) : Type 0 where
   pub lawful : IsLawful trace order
   pub few : MovesFew fabric trace order
-  pub calls : told (calls_told fabric.slots trace order)
+  pub meters : m.left (story plays l fabric.slots trace order)
 
--- the text is what is written of the first few segments of an order
-pub record EndsWithSegment (plays : Plays) (l : Listing) (slots : ℕ) (trace : Trace) (order text : List ℕ) : Type 0 where
+-- whichever meters the story leaves: each noted the calls that ended, and the spare ones are as they were
+abbrev pub NotesAll : {M : Type 0} → (M → List CallRecord → Type 0) → (M → List CallRecord → List ℕ) → Plays → Listing → ℕ → Trace → List ℕ → Type 0
+NotesAll {M} stands text plays l slots trace order =
+    (old spare new new_spare : List M) → AreLeft stands text old spare new new_spare (story plays l slots trace order) → AreTold stands text old new (calls_told slots trace order) × (new_spare ≡ spare)
+
+-- the text is what is written of the first few segments of an order, with the changes behind them, or it is empty
+pub record EndsWithSegment (plays : Plays) (l : Listing) (slots : ℕ) (written : List Step → List ℕ) (trace : Trace) (order text : List ℕ) : Type 0 where
   pub segments : ℕ
   pub first : List ℕ
   pub others : List ℕ
   pub parts : order ≡ first ++ others
   pub done : IsDoneBelow trace segments first
-  pub text_is : text ≡ listed l (report plays slots trace first)
+  pub text_is : (text ≡ []) ⊎ (text ≡ written (story plays l slots trace first))
 
--- A write failed behind the first segments: the order has all their events, a prefix of what is written of them was written, and the meters
--- noted all calls that ended in them.
-pub record IsUnwritten (plays : Plays) (l : Listing) (slots : ℕ) (told : Telling) (trace : Trace) (order : List ℕ) (old new : Option (List ℕ)) : Type 0 where
+-- A write failed behind the first segments and the changes there: the order has all their events, a prefix of what is written of them was
+-- written, and the meters are those that their story leaves.
+pub record IsUnwritten (plays : Plays) (l : Listing) (slots : ℕ) (m : MeterStory) (trace : Trace) (order : List ℕ) (old new : Option (List ℕ)) : Type 0 where
   pub segments : ℕ
   pub done : IsDoneBelow trace segments order
-  pub text : AppendsFront old new (listed l (report plays slots trace order))
-  pub calls : told (calls_told slots trace order)
+  pub text : AppendsFront old new (m.written (story plays l slots trace order))
+  pub meters : m.left (story plays l slots trace order)
 
 -- Memory ran out behind the first segments: the order has all their events, and maybe some of the next one, lawful as far as it goes.
--- What was written is all that is written of the first few of these segments, and the meters noted all calls that ended in the first
--- segments, and the first few that ended in the next one.
-pub record IsInterrupted (plays : Plays) (l : Listing) (slots : ℕ) (told_beyond : List CallRecord → Telling) (trace : Trace) (order : List ℕ) (old new : Option (List ℕ)) : Type 0 where
+-- What was written is all that is written of the first few of these segments, or nothing. The meters are those that the first steps of the
+-- story leave, and noted all calls that ended in the first segments, and the first few that ended in the steps that are left out.
+pub record IsInterrupted (plays : Plays) (l : Listing) (slots : ℕ) (m : MeterStory) (trace : Trace) (order : List ℕ) (old new : Option (List ℕ)) : Type 0 where
   pub lawful : IsLawfulPrefix trace order
   pub segments : ℕ
   pub whole : List ℕ
@@ -84,11 +89,14 @@ pub record IsInterrupted (plays : Plays) (l : Listing) (slots : ℕ) (told_beyon
   pub done : IsDoneBelow trace segments whole
   pub next : All (IsOfSegment trace segments) rest
   pub text : List ℕ
-  pub written : Appends old new text
-  pub ends : EndsWithSegment plays l slots trace whole text
+  pub appended : Appends old new text
+  pub ends : EndsWithSegment plays l slots m.written trace whole text
+  pub steps : List Step
+  pub others : List Step
+  pub steps_are : story plays l slots trace order ≡ steps ++ others
   pub more : List CallRecord
-  pub calls_are : calls_told slots trace order ≡ calls_told slots trace whole ++ more
-  pub calls : told_beyond (calls_told slots trace whole) more
+  pub calls_are : records_of steps ≡ calls_told slots trace whole ++ more
+  pub meters : m.left_beyond steps (records_of others)
 
 -- what was pending is left so, or all of it was written
 abbrev pub IsFlushed : (old new : Option (List ℕ)) → (pending left : List ℕ) → Type 0

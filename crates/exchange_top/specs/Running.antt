@@ -10,10 +10,13 @@ use Rattle.call_processor.specs.Frames.{Plays}
 use Rattle.call_processor.specs.declared.worked.Placed.{Placed}
 use Rattle.line_list.specs.declared.listing.Listing.{Listing}
 use Rattle.line_list.specs.Lines.{Line, line_of, listed, text_of}
-use Rattle.exchange_top.specs.Outcomes.{Fabric}
+use Rattle.std.specs.declared.option.Option.{Option}
+use Rattle.exchange_core.specs.Working.{order_of}
+use Rattle.exchange_events.specs.declared.trace.Trace.{Trace}
+use Rattle.exchange_top.specs.Outcomes.{Fabric, IsInterrupted, IsUnwritten}
 use Rattle.exchange_events.specs.declared.record.CallRecord.{CallRecord}
 use Rattle.report_text.specs.RunReport.{event_lines}
-use Rattle.exchange_top.specs.Telling.{Telling}
+use Rattle.exchange_top.specs.Telling.{MeterStory, Telling}
 use Rattle.call_profile.specs.CallsTold.{calls_ended}
 
 -- a map of paths that an exchange with n lines can begin with: it has as many, 1 to 59 internal slots, and no path yet
@@ -49,3 +52,10 @@ AddsText plays l board v w before after = text_of after ≡ text_of before ++ li
 -- the lines belong to some answers
 abbrev pub AreOfAnswers : Listing → List Line → Type 0
 AreOfAnswers l lines = (answers : List Placed) × (lines ≡ map (line_of l) answers)
+
+-- how a run on a board was cut short, whose order is what a seat has seen: a write failed, or memory ran out
+abbrev pub IsUnwrittenBy : Plays → Listing → Board → MeterStory → Trace → Known → (old new : Option (List ℕ)) → Type 0
+IsUnwrittenBy plays l board m trace seat old new = IsUnwritten plays l board.slots m trace (order_of seat.seen) old new
+
+abbrev pub IsInterruptedBy : Plays → Listing → Board → MeterStory → Trace → Known → (old new : Option (List ℕ)) → Type 0
+IsInterruptedBy plays l board m trace seat old new = IsInterrupted plays l board.slots m trace (order_of seat.seen) old new

@@ -4,6 +4,7 @@ use Rattle.std.specs.List.{AllZip}
 use Rattle.exchange_events.specs.declared.answer.Answer.{Answer}
 use Rattle.exchange_events.specs.declared.record.CallRecord.{CallRecord}
 use Rattle.call_profile.specs.CallsTold.{calls_kept}
+use Rattle.meters.specs.Changing.{Metering, Step, after_steps, handed_in, steps_text, AreMetered}
 use Rattle.meters.specs.Telling.{IsTold, IsToldFront}
 
 -- the calls of these answers, in order
@@ -11,7 +12,7 @@ abbrev pub calls_answered : List Answer → List CallRecord
 calls_answered [] = []
 calls_answered (a ∷ answers) = calls_kept a.reply ++ calls_answered answers
 
--- what is said of the calls that meters noted
+-- what is said of calls that meters noted
 abbrev pub Telling : Type 1
 Telling = List CallRecord → Type 0
 
@@ -27,6 +28,26 @@ AreToldFront stands text old new calls = AllZip (λ m n. IsToldFront calls (stan
 abbrev pub IsToldBeyond : List CallRecord → List CallRecord → (stood stands : List CallRecord → Type 0) → (said says : List CallRecord → List ℕ) → Type 0
 IsToldBeyond calls more stood stands said says = (front rest : List CallRecord) × (more ≡ front ++ rest) × IsTold (calls ++ front) stood stands said says
 
--- so was each meter
-abbrev pub AreToldBeyond : {M : Type 0} → (M → List CallRecord → Type 0) → (M → List CallRecord → List ℕ) → List M → List M → List CallRecord → Telling
-AreToldBeyond stands text old new calls more = AllZip (λ m n. IsToldBeyond calls more (stands m) (stands n) (text m) (text n)) old new
+-- so was each meter that is on, and these are the spare ones
+pub record AreMeteredBeyond {M : Type 0} (more : List CallRecord) (stands : M → List CallRecord → Type 0) (text : M → List CallRecord → List ℕ) (s : Metering M) (meters spare : List M) : Type 0 where
+  pub on : AllZip (λ w m. IsToldBeyond w.time more (stands w.meter) (stands m) (text w.meter) (text m)) s.on meters
+  pub spares : spare ≡ s.spare
+
+-- what becomes of the meters of a run by the steps of its story: which ones are left then, and what they noted; the same where each of these noted
+-- the first few of more records; and what is written
+pub record MeterStory : Type 1 where
+  pub left : List Step → Type 0
+  pub left_beyond : List Step → List CallRecord → Type 0
+  pub written : List Step → List ℕ
+
+-- the meters that are on and the spare ones are those that the steps leave of these
+abbrev pub AreLeft : {M : Type 0} → (M → List CallRecord → Type 0) → (M → List CallRecord → List ℕ) → (old spare new new_spare : List M) → List Step → Type 0
+AreLeft stands text old spare new new_spare steps = AreMetered stands text (after_steps steps (handed_in old spare)) new new_spare
+
+-- that of meters by what they represent and would say: some that are on and some spare, before the run and behind it
+abbrev pub meter_story : {M : Type 0} → (M → List CallRecord → Type 0) → (M → List CallRecord → List ℕ) → (old spare new new_spare : List M) → MeterStory
+meter_story stands text old spare new new_spare = record {
+  left = AreLeft stands text old spare new new_spare;
+  left_beyond = λ steps more. AreMeteredBeyond more stands text (after_steps steps (handed_in old spare)) new new_spare;
+  written = λ steps. steps_text text steps (handed_in old spare);
+}

@@ -6,12 +6,12 @@ ghost use Rattle.trace_text.specs.declared.fault.Reason.{Reason};
 ghost use Rattle.trace_text.specs.TraceGrammar.{IsTrace, IsRefused};
 ghost use Rattle.exchange_events.specs.declared.trace.Trace.{Trace};
 ghost use Rattle.exchange_events.specs.Sound.{IsSound};
-ghost use Rattle.exchange_top.specs.Commands.{IsRun, IsGeneration, IsNoCommand, IsSummed, IsUndone, IsUnfinished, Refuses, Runs, Sums, Answers, CallEnds, RefusesInput, ReportsRun, RunEnds, fabric_of, most_read, parties, reason_name, refusal, texts, words_refusal};
+ghost use Rattle.exchange_top.specs.Commands.{IsRun, IsGeneration, IsNoCommand, IsCutOff, IsUnfinished, Refuses, RunsTo, Sums, SumsUp, AnswersTo, CallEnds, RefusesInput, ReportsTo, RunEnds, fabric_of, most_read, parties, reason_name, refusal, texts, words_refusal};
 ghost use Rattle.exchange_top.specs.Outcomes.{fabric};
 ghost use Rattle.exchange_top.specs.Running.{IsUnused};
 ghost use Rattle.exchange_top.specs.Streams.{AppendsFront, ConsumesAtMost};
 ghost use Rattle.exchange_top.specs.Summary.{summary_text};
-ghost use Rattle.exchange_top.specs.Telling.{AreTold};
+ghost use Rattle.exchange_top.specs.Telling.{AreLeft};
 
 use crate::run::{RunFault, run};
 use crate::streams::{ReadFault, read_all, write_all};
@@ -28,6 +28,7 @@ use itoa::Buffer;
 use line_list::{LineList, ListingKind, NoLines, ReportLines};
 use meters::Meter;
 use std::alloc::{AllocError, Global};
+use std::collections::VecDeque;
 use std::sync::Wait;
 use std::thread::Threads;
 use strict_map::StrictMap;
@@ -119,21 +120,24 @@ fn run_on<
     sink: &mut K,
     gate: &G,
     meters: &mut Vec<Box<dyn Meter>>,
+    spare: &mut VecDeque<Box<dyn Meter>>,
 ) -> Outcome<C>
     requires sound { IsSound trace.now }
     requires paths { IsUnused (trace.now.external + trace.now.bridges) (P.width map) (P.depth map) (P.layout map) }
     requires blank { lines.old ≡ [] }
-    ensures runs { Runs (parties C.plays C.sizes C.carries result.engine
-        (λ m. stands m) (λ m. text m) meters.old.items meters.new.items)
+    ensures runs { RunsTo (parties C.plays C.sizes C.carries result.engine
+        (λ m. stands m) (λ m. text m) meters.old.items spare.old.items meters.new.items spare.new.items)
         (fabric P.depth P.bound map)
-        L.listing trace.now result.status result.order.items (K.written sink.old) (K.written sink.new) (K.faults sink.old) (K.faults sink.new) }
+        L.listing trace.now result.status result.order.items K.written K.faults sink.old sink.new }
     ensures engine { IsSome result.engine ↔ (result.status ≡ 0) }
     ensures writes { (result.status ≡ 4) ⊎ (K.faults sink.new ≡ K.faults sink.old) }
 {
     let Ok(mut order) = Vec::with_capacity(alloc, trace.events.as_slice().len()) else {
         return without_events(alloc, 5);
     };
-    match run(rt, alloc, trace, map, &mut order, lines, sink, gate, meters) {
+    match run(
+        rt, alloc, trace, map, &mut order, lines, sink, gate, meters, spare,
+    ) {
         Ok(engine) => Outcome {
             status: 0,
             order,
@@ -162,25 +166,26 @@ fn run_trace<K: Sink, G: Gate, C: Carrier, L: ListingKind + Send + Drop, R: Thre
     sink: &mut K,
     gate: &G,
     meters: &mut Vec<Box<dyn Meter>>,
+    spare: &mut VecDeque<Box<dyn Meter>>,
 ) -> Outcome<C>
     requires sound { IsSound trace.now }
     requires blank { lines.old ≡ [] }
-    ensures runs { Runs (parties C.plays C.sizes C.carries result.engine
-        (λ m. stands m) (λ m. text m) meters.old.items meters.new.items)
+    ensures runs { RunsTo (parties C.plays C.sizes C.carries result.engine
+        (λ m. stands m) (λ m. text m) meters.old.items spare.old.items meters.new.items spare.new.items)
         (fabric_of strict trace.now)
-        L.listing trace.now result.status result.order.items (K.written sink.old) (K.written sink.new) (K.faults sink.old) (K.faults sink.new) }
+        L.listing trace.now result.status result.order.items K.written K.faults sink.old sink.new }
     ensures engine { IsSome result.engine ↔ (result.status ≡ 0) }
     ensures writes { (result.status ≡ 4) ⊎ (K.faults sink.new ≡ K.faults sink.old) }
 {
     let width = trace.external + trace.bridges;
     if strict {
         match StrictMap::new(alloc, width) {
-            Ok(paths) => run_on(rt, alloc, trace, paths, lines, sink, gate, meters),
+            Ok(paths) => run_on(rt, alloc, trace, paths, lines, sink, gate, meters, spare),
             Err(_) => without_events(alloc, 5),
         }
     } else {
         match FabricMap::new(alloc, width) {
-            Ok(paths) => run_on(rt, alloc, trace, paths, lines, sink, gate, meters),
+            Ok(paths) => run_on(rt, alloc, trace, paths, lines, sink, gate, meters, spare),
             Err(_) => without_events(alloc, 5),
         }
     }
@@ -195,10 +200,11 @@ fn answer<K: Sink, G: Gate, C: Carrier, R: Threads + Wait + Sync>(
     sink: &mut K,
     gate: &G,
     meters: &mut Vec<Box<dyn Meter>>,
+    spare: &mut VecDeque<Box<dyn Meter>>,
 ) -> Outcome<C>
-    ensures answers { Answers (parties C.plays C.sizes C.carries result.engine
-        (λ m. stands m) (λ m. text m) meters.old.items meters.new.items)
-        strict bytes.items result.status result.order.items (K.written sink.old) (K.written sink.new) (K.faults sink.old) (K.faults sink.new) }
+    ensures answers { AnswersTo (parties C.plays C.sizes C.carries result.engine
+        (λ m. stands m) (λ m. text m) meters.old.items spare.old.items meters.new.items spare.new.items)
+        strict bytes.items result.status result.order.items K.written K.faults sink.old sink.new }
     ensures engine { IsSome result.engine ↔ (result.status ≡ 0) }
     ensures writes { (result.status ≡ 4) ⊎ (K.faults sink.new ≡ K.faults sink.old) }
 {
@@ -206,7 +212,9 @@ fn answer<K: Sink, G: Gate, C: Carrier, R: Threads + Wait + Sync>(
         Ok(trace) => {
             // The lines take the memory that the input had, so that its pages are not faulted in anew.
             let mut lines: LineList<ReportLines> = LineList::new(alloc, bytes);
-            run_trace(rt, alloc, &trace, strict, &mut lines, sink, gate, meters)
+            run_trace(
+                rt, alloc, &trace, strict, &mut lines, sink, gate, meters, spare,
+            )
         }
         Err(TraceFault::Memory) => without_events(alloc, 5),
         Err(TraceFault::Line { number, reason }) => match refusal(alloc, number, reason) {
@@ -268,11 +276,12 @@ fn run_generated<K: Sink, G: Gate, C: Carrier, R: Threads + Wait + Sync>(
     sink: &mut K,
     gate: &G,
     meters: &mut Vec<Box<dyn Meter>>,
+    spare: &mut VecDeque<Box<dyn Meter>>,
 ) -> Outcome<C>
     requires some { 1 ≤ calls }
     requires most { calls ≤ 2000 }
     ensures sums { Sums (parties C.plays C.sizes C.carries result.engine
-        (λ m. stands m) (λ m. text m) meters.old.items meters.new.items)
+        (λ m. stands m) (λ m. text m) meters.old.items spare.old.items meters.new.items spare.new.items)
         seed calls result.status result.order.items (K.written sink.old) (K.written sink.new) (K.faults sink.old) (K.faults sink.new) }
     ensures engine { IsSome result.engine ↔ (result.status ≡ 0) }
     ensures writes { (result.status ≡ 4) ⊎ (K.faults sink.new ≡ K.faults sink.old) }
@@ -281,7 +290,9 @@ fn run_generated<K: Sink, G: Gate, C: Carrier, R: Threads + Wait + Sync>(
         return without_events(alloc, 5);
     };
     let mut lines: LineList<NoLines> = LineList::new(alloc, Vec::new(alloc));
-    let outcome = run_trace(rt, alloc, &trace, false, &mut lines, sink, gate, meters);
+    let outcome = run_trace(
+        rt, alloc, &trace, false, &mut lines, sink, gate, meters, spare,
+    );
     if outcome.status != 0 {
         return outcome;
     }
@@ -297,8 +308,10 @@ fn run_input<S: Source, K: Sink, G: Gate, C: Carrier, R: Threads + Wait + Sync>(
     sink: &mut K,
     gate: &G,
     meters: &mut Vec<Box<dyn Meter>>,
+    spare: &mut VecDeque<Box<dyn Meter>>,
 ) -> Outcome<C>
-    ensures ends { RunEnds (parties C.plays C.sizes C.carries result.engine (λ m. stands m) (λ m. text m) meters.old.items meters.new.items)
+    ensures ends { RunEnds (parties C.plays C.sizes C.carries result.engine
+        (λ m. stands m) (λ m. text m) meters.old.items spare.old.items meters.new.items spare.new.items)
         strict result.status result.order.items
         S.left S.faults K.written K.faults source.old sink.old source.new sink.new }
     ensures stops { ConsumesAtMost most_read (S.left source.old) (S.left source.new) }
@@ -307,7 +320,7 @@ fn run_input<S: Source, K: Sink, G: Gate, C: Carrier, R: Threads + Wait + Sync>(
     ensures writes { (result.status ≡ 4) ⊎ (K.faults sink.new ≡ K.faults sink.old) }
 {
     match read_all(alloc, source, MOST_BYTES) {
-        Ok(bytes) => answer(rt, alloc, bytes, strict, sink, gate, meters),
+        Ok(bytes) => answer(rt, alloc, bytes, strict, sink, gate, meters, spare),
         Err(ReadFault::Read) => without_events(alloc, 3),
         Err(ReadFault::Memory) => without_events(alloc, 5),
     }
@@ -322,8 +335,10 @@ fn answer_words<S: Source, K: Sink, G: Gate, C: Carrier, R: Threads + Wait + Syn
     sink: &mut K,
     gate: &G,
     meters: &mut Vec<Box<dyn Meter>>,
+    spare: &mut VecDeque<Box<dyn Meter>>,
 ) -> Outcome<C>
-    ensures ends { CallEnds (parties C.plays C.sizes C.carries result.engine (λ m. stands m) (λ m. text m) meters.old.items meters.new.items)
+    ensures ends { CallEnds (parties C.plays C.sizes C.carries result.engine
+        (λ m. stands m) (λ m. text m) meters.old.items spare.old.items meters.new.items spare.new.items)
         (texts words.now) result.status result.order.items
         S.left S.faults K.written K.faults source.old sink.old source.new sink.new }
     ensures unread { ¬ IsRun (texts words.now) → source.new ≡ source.old }
@@ -333,9 +348,11 @@ fn answer_words<S: Source, K: Sink, G: Gate, C: Carrier, R: Threads + Wait + Syn
     ensures writes { (result.status ≡ 4) ⊎ (K.faults sink.new ≡ K.faults sink.old) }
 {
     match read_command(alloc, words) {
-        Ok(Command::Run { strict }) => run_input(rt, alloc, strict, source, sink, gate, meters),
+        Ok(Command::Run { strict }) => run_input(
+            rt, alloc, strict, source, sink, gate, meters, spare,
+        ),
         Ok(Command::Generate { seed, calls }) => {
-            run_generated(rt, alloc, seed, calls, sink, gate, meters)
+            run_generated(rt, alloc, seed, calls, sink, gate, meters, spare)
         }
         Err(WordsFault::NoCommand) => refuse(alloc, sink, b"refused words\n", 2),
         Err(WordsFault::Memory) => without_events(alloc, 5),
@@ -353,8 +370,10 @@ fn answer_words<S: Source, K: Sink, G: Gate, C: Carrier, R: Threads + Wait + Syn
 /// gate doesn't ask for threads, the segment is done by the caller, in the order of the trace. The order
 /// in which the events took their turns is `order`; the report has a line for each in that order, and a
 /// summary has a line that counts them and then what the meters say (`docs/FORMATS.md`). The meters
-/// note the calls that end, segment by segment, in that order. The causes of another end are met in
-/// this order: the words, reading, the trace, the run, writing.
+/// note the calls that end, segment by segment, in that order. At each change of the trace, between two
+/// segments, the first of them is taken out, its text goes into the report, and it is dropped; then the
+/// first of `spare` is put in behind the others. Where there is none, that half does nothing. The causes
+/// of another end are met in this order: the words, reading, the trace, the run, writing.
 ///
 /// The octets of a frame are what the engine of type `C` plays. It is handed out where the status is
 /// 0, and then it has as many lines and internal slots as the exchange had, and carries the frames of
@@ -370,42 +389,41 @@ pub fn exchange<S: Source, K: Sink, G: Gate, C: Carrier, R: Threads + Wait + Syn
     sink: &mut K,
     gate: &G,
     meters: &mut Vec<Box<dyn Meter>>,
+    spare: &mut VecDeque<Box<dyn Meter>>,
 ) -> Outcome<C>
     // 0 for `run`: all of the input was read, it is a trace, its events were done in an order that is
-    // lawful for it, their report was written, with what the engine plays in each frame, each meter
-    // noted the calls that ended, and the engine has the trace's sizes and carries their frames. With
-    // the flag the fabric is a strict one, and each number of moved paths in the report is 0.
-    ensures done { result.status ≡ 0 → ReportsRun (parties C.plays C.sizes C.carries result.engine
-        (λ m. stands m) (λ m. text m) meters.old.items meters.new.items)
-        (texts words.now) (S.left source.old) (S.left source.new) result.order.items (K.written sink.old) (K.written sink.new) }
+    // lawful for it, their report was written, with what the engine plays in each frame and what each
+    // meter says that is taken out, the meters that are left noted the calls that ended in their time,
+    // and the engine has the trace's sizes and carries their frames. With the flag the fabric is a
+    // strict one, and each number of moved paths in the report is 0.
+    ensures done { result.status ≡ 0 → ReportsTo (parties C.plays C.sizes C.carries result.engine
+        (λ m. stands m) (λ m. text m) meters.old.items spare.old.items meters.new.items spare.new.items)
+        words.now result.order.items S.left K.written source.old source.new sink.old sink.new }
     // 0 for `gen`: the same for the generated trace, whose summary was written.
-    ensures summed { (seed calls : ℕ) → result.status ≡ 0 → IsGeneration (texts words.now) seed calls
-        → IsSummed (parties C.plays C.sizes C.carries result.engine
-        (λ m. stands m) (λ m. text m) meters.old.items meters.new.items)
-        seed calls result.order.items (K.written sink.old) (K.written sink.new) }
+    ensures summed { result.status ≡ 0 → SumsUp (parties C.plays C.sizes C.carries result.engine
+        (λ m. stands m) (λ m. text m) meters.old.items spare.old.items meters.new.items spare.new.items)
+        (texts words.now) result.order.items K.written sink.old sink.new }
     ensures engine { IsSome result.engine ↔ (result.status ≡ 0) }
     // 1: what was read is no trace, and the line that says so was written.
     ensures turned_down { result.status ≡ 1 → IsRun (texts words.now)
-        × RefusesInput (AreTold (λ m. stands m) (λ m. text m) meters.old.items meters.new.items)
+        × RefusesInput (AreLeft (λ m. stands m) (λ m. text m) meters.old.items spare.old.items meters.new.items spare.new.items)
         (S.left source.old) (S.left source.new) result.order.items (K.written sink.old) (K.written sink.new) }
     // 2: the words are no command, and the line that says so was written.
     ensures wrong_words { result.status ≡ 2 → IsNoCommand (texts words.now)
         × (result.order.items ≡ [])
         × Appends (K.written sink.old) (K.written sink.new) words_refusal
-        × AreTold (λ m. stands m) (λ m. text m) meters.old.items meters.new.items [] }
-    // 3: a read failed, nothing was written, and no meter noted a call.
+        × AreLeft (λ m. stands m) (λ m. text m) meters.old.items spare.old.items meters.new.items spare.new.items [] }
+    // 3: a read failed, nothing was written, no meter was changed, and none noted a call.
     ensures read_failed { result.status ≡ 3 → Rose (S.faults source.old) (S.faults source.new) }
     ensures silent { result.status ≡ 3 → (result.order.items ≡ []) × Keeps (K.written sink.old) (K.written sink.new)
-        × AreTold (λ m. stands m) (λ m. text m) meters.old.items meters.new.items [] }
-    // 4: a write failed; whole segments were run and noted by the meters, and a prefix of their text was
-    // written. 5: there was no memory; behind whole segments maybe one was begun, and what was written
-    // ends with a segment.
+        × AreLeft (λ m. stands m) (λ m. text m) meters.old.items spare.old.items meters.new.items spare.new.items [] }
+    // 4: a write failed; whole segments were run and noted by the meters, which were changed at their
+    // ends, and a prefix of their text was written. 5: there was no memory; behind whole segments maybe
+    // one was begun, or some of the changes behind it were made, and what was written ends with a segment.
     ensures write_failed { result.status ≡ 4 → Rose (K.faults sink.old) (K.faults sink.new) }
-    ensures cut_short { 4 ≤ result.status
-        → IsUndone (parties C.plays C.sizes C.carries result.engine
-        (λ m. stands m) (λ m. text m) meters.old.items meters.new.items)
-        result.status (texts words.now) (S.left source.old) (S.left source.new)
-        result.order.items (K.written sink.old) (K.written sink.new) }
+    ensures cut_short { 4 ≤ result.status → IsCutOff (parties C.plays C.sizes C.carries result.engine
+        (λ m. stands m) (λ m. text m) meters.old.items spare.old.items meters.new.items spare.new.items)
+        result.status words.now result.order.items S.left K.written source.old source.new sink.old sink.new }
     // There is no other status, and a fault is answered by its own alone.
     ensures statuses { result.status ≤ 5 }
     ensures reads { (result.status ≡ 3) ⊎ (S.faults source.new ≡ S.faults source.old) }
@@ -423,5 +441,5 @@ pub fn exchange<S: Source, K: Sink, G: Gate, C: Carrier, R: Threads + Wait + Syn
     ensures no_trace { (bytes : List ℕ) (number : ℕ) (why : Reason) → S.left source.old ≡ Some bytes → IsRefused bytes number why
         → IsRun (texts words.now) → (result.status ≡ 1) ⊎ IsUnfinished result.status }
 {
-    answer_words(rt, alloc, words, source, sink, gate, meters)
+    answer_words(rt, alloc, words, source, sink, gate, meters, spare)
 }

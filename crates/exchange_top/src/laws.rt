@@ -1,11 +1,30 @@
-//! What a run on a strict fabric tells.
-ghost use Rattle.std.specs.Prelude.{ℕ, List, true};
+//! What a run on a strict fabric tells, and what a run is whose trace changes no meters.
+ghost use Rattle.std.specs.Prelude.{◌≡◌, ℕ, List, [], All, true};
 ghost use Rattle.exchange_events.specs.declared.trace.Trace.{Trace};
+ghost use Rattle.exchange_events.specs.Orders.{IsEvent};
+ghost use Rattle.circuit_model.specs.Hears.{Plays};
+ghost use Rattle.report_text.specs.RunReport.{report};
+ghost use Rattle.line_list.specs.declared.listing.Listing.{Listing};
+ghost use Rattle.line_list.specs.Lines.{listed};
+ghost use Rattle.meters.specs.Changing.{handed_in, steps_text};
 ghost use Rattle.exchange_top.specs.Commands.{fabric_of};
-ghost use Rattle.exchange_top.specs.Outcomes.{MovesFew, MovesNone};
+ghost use Rattle.exchange_top.specs.Outcomes.{MovesFew, MovesNone, NotesAll};
+ghost use Rattle.exchange_top.specs.Story.{story};
+
+use meters::Meter;
 
 /// On a strict fabric no path that joins moves another: each number of moved paths that an answer
 /// tells is 0.
 pub fn strict_runs_move_nothing()
     ensures { (trace : Trace) (order : List ℕ) → MovesFew (fabric_of true trace) trace order → MovesNone (fabric_of true trace) trace order }
+{}
+
+/// Where the trace changes no meters, what is written of a run is its report, as far as lines are
+/// listed; the meters and the spare ones are those that were handed in, and each meter noted the calls
+/// that ended.
+pub fn law_of_unchanged_meters<M: Meter>()
+    ensures text { (plays : Plays) (l : Listing) (slots : ℕ) (trace : Trace) (order : List ℕ) (old spare : List M) → trace.changes ≡ []
+        → steps_text M.text (story plays l slots trace order) (handed_in old spare) ≡ listed l (report plays slots trace order) }
+    ensures meters { (plays : Plays) (l : Listing) (slots : ℕ) (trace : Trace) (order : List ℕ) → trace.changes ≡ [] → All (IsEvent trace) order
+        → NotesAll M.stands M.text plays l slots trace order }
 {}

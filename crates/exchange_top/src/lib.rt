@@ -3,7 +3,10 @@
 //!
 //! The headline, in the contract of [`exchange`]: where the status is 0 for `run`, the input was a
 //! trace, its events were done in an order that is lawful for it, and the output got exactly the report
-//! of a run in that order; each meter noted the calls that ended in it (`done`). With `Engine`
+//! of a run in that order, with what each meter says that a change of the trace takes out; the meters and
+//! the spare ones are those that the changes leave, and each noted the calls that ended in its time
+//! (`done`). Where a trace changes no meters, that is its report, and each meter noted every call
+//! ([`law_of_unchanged_meters`]). With `Engine`
 //! each octet in it is what the definitions say its slot hears. For `gen` it is the same for a generated
 //! trace, whose summary is written (`summed`). For `run --strict` no path ever moves, so each number of
 //! moved paths in the report is 0 ([`strict_runs_move_nothing`]). Any other input is refused at its
@@ -11,7 +14,7 @@
 //!
 //! Statuses 3 and 4 come only where a fault was counted (`read_failed`, `write_failed`), and no other
 //! status hides one (`reads`, `writes`). With 4 a prefix of the text was written, and with 5 a prefix
-//! that ends with a segment (`cut_short`).
+//! that ends with a segment and the changes behind it (`cut_short`).
 //!
 //! It uses `ex_io`, `circuit_model`, `seat_history`, `control_memory`, `tone_rules`, `fabric_map`,
 //! `strict_map`, `frame_engine`, `exchange_core`, `shared_exchange`, `gate`, `call_processor`, `line_list`,
@@ -20,6 +23,7 @@
 #![tactic(auto)]
 
 mod call;
+mod changing;
 mod laws;
 mod run;
 mod segments;
@@ -28,4 +32,4 @@ mod summary;
 mod telling;
 
 pub use call::{Outcome, exchange};
-pub use laws::strict_runs_move_nothing;
+pub use laws::{law_of_unchanged_meters, strict_runs_move_nothing};

@@ -7,10 +7,10 @@ ghost use Rattle.exchange_core.specs.Working.{order_of, world_after};
 ghost use Rattle.seat_history.specs.Seats.{first_seat};
 ghost use Rattle.shared_exchange.specs.Sharing.{IsSeated};
 ghost use Rattle.call_processor.specs.Frames.{CarriesFrames, IsReady};
-ghost use Rattle.line_list.specs.Lines.{listed};
+ghost use Rattle.meters.specs.Changing.{handed_in, steps_text};
 ghost use Rattle.exchange_top.specs.Outcomes.{IsInterrupted, IsRunWhole, IsUnwritten};
-ghost use Rattle.report_text.specs.RunReport.{report};
-ghost use Rattle.exchange_top.specs.Telling.{AreTold, AreToldBeyond};
+ghost use Rattle.exchange_top.specs.Story.{story};
+ghost use Rattle.exchange_top.specs.Telling.{meter_story};
 ghost use Rattle.exchange_top.specs.Running.{IsUnused};
 
 use crate::segments::{Carried, report_segments};
@@ -25,6 +25,7 @@ use meters::Meter;
 use segment_run::Workroom;
 use shared_exchange::{Seat, SharedExchange};
 use std::alloc::{AllocError, Global};
+use std::collections::VecDeque;
 use std::sync::Wait;
 use std::thread::Threads;
 
@@ -54,9 +55,9 @@ impl From<Failed> for RunFault {
 }
 
 /// Runs a trace on a map of paths, segment after segment, each by its call processors and its frame
-/// worker side by side; writes what is listed of it, tells the meters of the calls that end, and notes
-/// the numbers of the events of the journal in `order`, which has room for them. Lines are kept in
-/// `lines` until they are written. Returns the engine that carried the octets.
+/// worker side by side; writes what is listed of it, tells the meters of the calls that end, changes them
+/// where the trace does, and notes the numbers of the events of the journal in `order`, which has room
+/// for them. Lines are kept in `lines` until they are written. Returns the engine that carried the octets.
 ///
 /// # Errors
 ///
@@ -80,31 +81,34 @@ pub fn run<
     sink: &mut K,
     gate: &G,
     meters: &mut Vec<Box<dyn Meter>>,
+    spare: &mut VecDeque<Box<dyn Meter>>,
 ) -> Result<C, RunFault>
     requires sound { IsSound trace.now }
     requires paths { IsUnused (trace.now.external + trace.now.bridges) (P.width paths) (P.depth paths) (P.layout paths) }
     requires empty { order.old.items ≡ [] }
     requires blank { lines.old ≡ [] }
     requires room { length trace.now.events ≤ vec_capacity order.old }
-    ensures whole { OnOk result (IsRunWhole (record { slots = P.depth paths; most_moves = P.bound paths })
-        (AreTold (λ m. stands m) (λ m. text m) meters.old.items meters.new.items) trace.now order.new.items) }
+    ensures whole { OnOk result (IsRunWhole C.plays L.listing (record { slots = P.depth paths; most_moves = P.bound paths })
+        (meter_story (λ m. stands m) (λ m. text m) meters.old.items spare.old.items meters.new.items spare.new.items) trace.now order.new.items) }
     ensures text { OnOk result (Appends (K.written sink.old) (K.written sink.new)
-        (listed L.listing (report C.plays (P.depth paths) trace.now order.new.items))) }
+        (steps_text (λ m. text m) (story C.plays L.listing (P.depth paths) trace.now order.new.items) (handed_in meters.old.items spare.old.items))) }
     ensures carried { IfOk result (λ e. CarriesFrames C.carries e (world_after (P.depth paths) trace.now order.new.items)) }
     ensures sized { IfOk result (λ e. C.sizes e ≡ (setting_of (P.depth paths) trace.now).dimensions) }
     ensures steady { OnOk result (K.faults sink.new ≡ K.faults sink.old) }
 
     ensures unwritten { IsErrOf result RunFault.Write → IsUnwritten C.plays L.listing (P.depth paths)
-        (AreTold (λ m. stands m) (λ m. text m) meters.old.items meters.new.items) trace.now order.new.items (K.written sink.old) (K.written sink.new) }
+        (meter_story (λ m. stands m) (λ m. text m) meters.old.items spare.old.items meters.new.items spare.new.items)
+        trace.now order.new.items (K.written sink.old) (K.written sink.new) }
     ensures interrupted { IsErrOf result RunFault.Memory → IsInterrupted C.plays L.listing (P.depth paths)
-        (AreToldBeyond (λ m. stands m) (λ m. text m) meters.old.items meters.new.items) trace.now order.new.items (K.written sink.old) (K.written sink.new) }
+        (meter_story (λ m. stands m) (λ m. text m) meters.old.items spare.old.items meters.new.items spare.new.items)
+        trace.now order.new.items (K.written sink.old) (K.written sink.new) }
     ensures cause { IsErrOf result RunFault.Write → Rose (K.faults sink.old) (K.faults sink.new) }
     ensures no_fault { IsErrOf result RunFault.Memory → K.faults sink.new ≡ K.faults sink.old }
 {
     let (board, seat, carried) = equipped(alloc, trace, paths, lines)?;
     let mut seat = seat;
     let done = report_segments(
-        rt, alloc, &board, &mut seat, trace, carried, lines, sink, gate, meters,
+        rt, alloc, &board, &mut seat, trace, carried, lines, sink, gate, meters, spare,
     );
     note_order(order, board.close(seat).journal());
     done

@@ -11,13 +11,15 @@ ghost use Rattle.call_processor.specs.Frames.{CarriesFrames, IsReady, IsReadyFor
 ghost use Rattle.segment_run.specs.Segment.{IsChief, Ran, RanWhole};
 ghost use Rattle.segment_run.specs.Segments.{IsDoneBelow};
 ghost use Rattle.exchange_top.specs.declared.run.RunFault.TheVariants.{Memory, Write};
-ghost use Rattle.line_list.specs.Lines.{calls_of, listed, text_of};
-ghost use Rattle.exchange_top.specs.Outcomes.{IsFlushed, IsInterrupted, IsRunWhole, IsUnwritten};
-ghost use Rattle.report_text.specs.RunReport.{report};
-ghost use Rattle.exchange_top.specs.Running.{AddsText, AreOfAnswers, GrewFew, GrowthIsTold, fabric_at};
+ghost use Rattle.line_list.specs.Lines.{calls_of, text_of};
+ghost use Rattle.meters.specs.Changing.{handed_in, steps_text};
+ghost use Rattle.exchange_top.specs.Outcomes.{IsFlushed, IsRunWhole};
+ghost use Rattle.exchange_top.specs.Running.{AddsText, AreOfAnswers, GrewFew, GrowthIsTold, IsInterruptedBy, IsUnwrittenBy, fabric_at};
+ghost use Rattle.exchange_top.specs.Story.{story};
 ghost use Rattle.exchange_top.specs.Streams.{AppendsFront};
-ghost use Rattle.exchange_top.specs.Telling.{AreTold, AreToldBeyond, AreToldFront};
+ghost use Rattle.exchange_top.specs.Telling.{AreTold, AreToldFront, meter_story};
 
+use crate::changing::change_at;
 use crate::run::RunFault;
 use crate::streams::write_all;
 use crate::telling::tell;
@@ -31,6 +33,7 @@ use line_list::{LineList, ListingKind};
 use meters::Meter;
 use segment_run::{Workroom, run_segment_with};
 use std::alloc::{AllocError, Global};
+use std::collections::VecDeque;
 use std::sync::Wait;
 use std::thread::Threads;
 
@@ -50,8 +53,9 @@ pub struct Carried<T, C, L> {
 }
 
 /// Runs the segments of a board's trace one after the other, writes of them what is listed, and tells
-/// the meters of the calls that end. The lines of a segment are written once all of its events are
-/// answered and noted; until then they are kept in `lines`.
+/// the meters of the calls that end. Then the changes behind a segment are made, those before the first
+/// event before any segment. The lines of a segment are written once all of that is done; until then they
+/// are kept in `lines`, and what the meters say that are taken out behind them.
 pub fn report_segments<
     B: Switchboard,
     K: Sink,
@@ -70,6 +74,7 @@ pub fn report_segments<
     sink: &mut K,
     gate: &G,
     meters: &mut Vec<Box<dyn Meter>>,
+    spare: &mut VecDeque<Box<dyn Meter>>,
 ) -> Result<C, RunFault>
     requires blank { lines.old ≡ [] }
     requires seated { B.seated board.now seat.old }
@@ -79,31 +84,46 @@ pub fn report_segments<
     requires ready { IsReady C.carries C.next C.sizes (B.board board.now) [] carried.engine carried.tool }
     ensures seated { B.seated board.now seat.new }
     ensures chief { IsChief (turns_of (B.board board.now)) (B.known seat.new) }
-    ensures whole { OnOk result (IsRunWhole (fabric_at (B.board board.now)) (AreTold (λ m. stands m) (λ m. text m) meters.old.items meters.new.items)
+    ensures whole { OnOk result (IsRunWhole C.plays L.listing (fabric_at (B.board board.now))
+        (meter_story (λ m. stands m) (λ m. text m) meters.old.items spare.old.items meters.new.items spare.new.items)
         trace.now (order_of (B.known seat.new).seen)) }
     ensures text { OnOk result (Appends (K.written sink.old) (K.written sink.new)
-        (listed L.listing (report C.plays (B.board board.now).slots trace.now (order_of (B.known seat.new).seen)))) }
+        (steps_text (λ m. text m) (story C.plays L.listing (B.board board.now).slots trace.now (order_of (B.known seat.new).seen))
+        (handed_in meters.old.items spare.old.items))) }
     ensures carried { IfOk result (λ e. CarriesFrames C.carries e (world_at (B.board board.now) (B.known seat.new).seen)) }
     ensures sized { IfOk result (λ e. C.sizes e ≡ (setting_at (B.board board.now)).dimensions) }
     ensures steady { OnOk result (K.faults sink.new ≡ K.faults sink.old) }
 
-    ensures unwritten { IsErrOf result RunFault.Write → IsUnwritten C.plays L.listing (B.board board.now).slots
-        (AreTold (λ m. stands m) (λ m. text m) meters.old.items meters.new.items)
-        trace.now (order_of (B.known seat.new).seen) (K.written sink.old) (K.written sink.new) }
-    ensures interrupted { IsErrOf result RunFault.Memory → IsInterrupted C.plays L.listing (B.board board.now).slots
-        (AreToldBeyond (λ m. stands m) (λ m. text m) meters.old.items meters.new.items)
-        trace.now (order_of (B.known seat.new).seen) (K.written sink.old) (K.written sink.new) }
+    ensures unwritten { IsErrOf result RunFault.Write → IsUnwrittenBy C.plays L.listing (B.board board.now)
+        (meter_story (λ m. stands m) (λ m. text m) meters.old.items spare.old.items meters.new.items spare.new.items)
+        trace.now (B.known seat.new) (K.written sink.old) (K.written sink.new) }
+    ensures interrupted { IsErrOf result RunFault.Memory → IsInterruptedBy C.plays L.listing (B.board board.now)
+        (meter_story (λ m. stands m) (λ m. text m) meters.old.items spare.old.items meters.new.items spare.new.items)
+        trace.now (B.known seat.new) (K.written sink.old) (K.written sink.new) }
     ensures cause { IsErrOf result RunFault.Write → Rose (K.faults sink.old) (K.faults sink.new) }
     ensures no_fault { IsErrOf result RunFault.Memory → K.faults sink.new ≡ K.faults sink.old }
 {
     let mut carried = carried;
-    for segment in 0..trace.segments.as_slice().len() as u32 {
+    let ends = trace.segments.as_slice();
+    let changes = trace.changes.as_slice();
+    let mut said = Vec::new(alloc);
+    let mut made = change_at(changes, 0, 0, meters, spare, &mut said)?;
+    flush_full(sink, lines, &mut said)?;
+    for segment in 0..ends.len() as u32 {
         carried = report_segment(
             rt, alloc, board, seat, trace, segment, carried, lines, gate, meters,
         )?;
-        flush_full(sink, lines)?;
+        made = change_at(
+            changes,
+            made,
+            ends[segment as usize],
+            meters,
+            spare,
+            &mut said,
+        )?;
+        flush_full(sink, lines, &mut said)?;
     }
-    flush(sink, lines)?;
+    flush(sink, lines, &mut said)?;
     Ok(carried.engine)
 }
 
@@ -173,38 +193,45 @@ fn records_behind<L>(lines: &LineList<L>, told: usize) -> &[CallRecord]
     &lines.records()[told..]
 }
 
-// Writes what is pending, once it is a whole piece; where nothing is listed, it is none.
+// Writes what is pending, once it is a whole piece or a meter said something; where nothing is listed, it
+// is none.
 fn flush_full<K: Sink, L: ListingKind + Send + Drop>(
     sink: &mut K,
     lines: &mut LineList<L>,
+    said: &mut Vec<u8>,
 ) -> Result<(), Failed>
-    ensures flushed { OnOk result (IsFlushed (K.written sink.old) (K.written sink.new) (text_of lines.old) (text_of lines.new)) }
+    ensures flushed { OnOk result (IsFlushed (K.written sink.old) (K.written sink.new)
+        (text_of lines.old ++ said.old.items) (text_of lines.new ++ said.new.items)) }
+    ensures silent { OnOk result (said.new.items ≡ []) }
     ensures kept { OnOk result ((lines.new ≡ lines.old) ⊎ (lines.new ≡ [])) }
     ensures steady { OnOk result (K.faults sink.new ≡ K.faults sink.old) }
 
-    ensures front { OnErr result (AppendsFront (K.written sink.old) (K.written sink.new) (text_of lines.old)) }
+    ensures front { OnErr result (AppendsFront (K.written sink.old) (K.written sink.new) (text_of lines.old ++ said.old.items)) }
     ensures cause { OnErr result (Rose (K.faults sink.old) (K.faults sink.new)) }
 {
     let pending = lines.text().len();
-    if 0 < pending && pending < PIECE {
+    if said.is_empty() && 0 < pending && pending < PIECE {
         return Ok(());
     }
-    flush(sink, lines)
+    flush(sink, lines, said)
 }
 
-// Writes all that is pending.
+// Writes all that is pending: the lines, and then what meters said.
 fn flush<K: Sink, L: ListingKind + Send + Drop>(
     sink: &mut K,
     lines: &mut LineList<L>,
+    said: &mut Vec<u8>,
 ) -> Result<(), Failed>
-    ensures whole { OnOk result (Appends (K.written sink.old) (K.written sink.new) (text_of lines.old)) }
-    ensures empty { OnOk result (lines.new ≡ []) }
+    ensures whole { OnOk result (Appends (K.written sink.old) (K.written sink.new) (text_of lines.old ++ said.old.items)) }
+    ensures empty { OnOk result ((lines.new ≡ []) × (said.new.items ≡ [])) }
     ensures steady { OnOk result (K.faults sink.new ≡ K.faults sink.old) }
 
-    ensures front { OnErr result (AppendsFront (K.written sink.old) (K.written sink.new) (text_of lines.old)) }
+    ensures front { OnErr result (AppendsFront (K.written sink.old) (K.written sink.new) (text_of lines.old ++ said.old.items)) }
     ensures cause { OnErr result (Rose (K.faults sink.old) (K.faults sink.new)) }
 {
     write_all(sink, lines.text())?;
     lines.clear();
+    write_all(sink, said.as_slice())?;
+    said.clear();
     Ok(())
 }

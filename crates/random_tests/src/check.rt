@@ -1,11 +1,13 @@
+use crate::changes::{Changing, Parted, PlainMeters};
 use crate::orders::{Taken, numbered, order_of};
 use circuit_model::{PLACES, Slot, channel_of};
 use ex_io::{MemSink, MemSource};
 use exchange_top::{Outcome, exchange};
 use frame_engine::Engine;
 use gate::Gate;
-use meters::{CallDetail, Meter, append_summaries};
+use meters::{CallDetail, HoldingTime, Meter, PegCount, append_summaries};
 use std::alloc::{AllocError, Global};
+use std::collections::VecDeque;
 use std::sync::Wait;
 use std::thread::Threads;
 use test_exchange::{CallRecord, Party, PlainEvent, PlainRun};
@@ -34,8 +36,8 @@ pub trait Plain {
     /// The report. `_ _` is in it in place of two numbers of moved paths that the program doesn't know.
     fn text(&self) -> &str;
 
-    /// Appends a line for each call that ended, in order, as a meter of call details does.
-    fn append_calls(&self, calls: &mut String) -> Result<(), AllocError>;
+    /// The records of the calls that ended, in order.
+    fn records(&self) -> &[CallRecord];
 }
 
 impl Setting for CallSetting {
@@ -56,16 +58,13 @@ impl Plain for PlainRun {
         self.report()
     }
 
-    fn append_calls(&self, calls: &mut String) -> Result<(), AllocError> {
-        for record in self.records() {
-            append_call(calls, record)?;
-        }
-        Ok(())
+    fn records(&self) -> &[CallRecord] {
+        PlainRun::records(self)
     }
 }
 
-// Appends the line of a call.
-fn append_call(calls: &mut String, record: &CallRecord) -> Result<(), AllocError> {
+/// Appends the line of a call.
+pub fn append_call(calls: &mut String, record: &CallRecord) -> Result<(), AllocError> {
     calls.push_str("call ")?;
     append_slot(calls, record.caller)?;
     match record.called {
@@ -92,12 +91,12 @@ fn append_slot(calls: &mut String, slot: Slot) -> Result<(), AllocError> {
     write!(calls, "{line}/{channel} ")
 }
 
-/// What the exchange says of a run: its report, and what two meters say of it that keep every call, one
-/// behind the other.
+/// What the exchange says of a run: its report, and what the meters say that are left, those that are on
+/// and then the spare ones.
 #[derive(Drop)]
 struct Heard {
     report: Vec<u8>,
-    calls: Vec<u8>,
+    left: Vec<u8>,
 }
 
 /// A gate that holds nobody up, and asks for threads.
@@ -116,7 +115,8 @@ impl Gate for Apart {
 /// Runs a trace through the exchange at a gate, on a strict fabric or on the other. What is said of the
 /// order of its report, where that has the events in a lawful order, and says of each what the plain
 /// program says that takes them in that order, from nothing, where on a strict fabric each number of moved
-/// paths is 0, and where two meters kept just the calls that ended in that run.
+/// paths is 0, and where the lines of meters in the report, and what the meters say that are left, are
+/// those of plain meters that are changed at the same places.
 pub fn agreed<S: Setting, G: Gate, R: Threads + Wait + Sync>(
     rt: &R,
     alloc: Global,
@@ -125,33 +125,38 @@ pub fn agreed<S: Setting, G: Gate, R: Threads + Wait + Sync>(
     strict: bool,
     gate: &G,
 ) -> Result<Option<Taken>, AllocError> {
-    let heard = heard_of(rt, alloc, script.text.as_str(), strict, gate)?;
-    match str::from_utf8(heard.report.as_slice()) {
-        Ok(report) if !strict || report.lines().all(tells_of_no_moves) => {
-            compared(
-                alloc,
-                script,
-                setting,
-                strict,
-                report,
-                heard.calls.as_slice(),
-            )
-        }
-        _ => Ok(None),
+    let changing = Changing::of(alloc, script)?;
+    let heard = heard_of(rt, alloc, &changing, strict, gate)?;
+    let Ok(report) = str::from_utf8(heard.report.as_slice()) else {
+        return Ok(None);
+    };
+    let parted = Parted::of(alloc, report)?;
+    if strict && !parted.events.as_str().lines().all(tells_of_no_moves) {
+        return Ok(None);
     }
+    compared(
+        alloc,
+        script,
+        setting,
+        strict,
+        &changing,
+        &parted,
+        heard.left.as_slice(),
+    )
 }
 
 // What is said of the order of a report, where it is lawful, and where the plain program says the same
-// and the same calls.
+// and plain meters do.
 fn compared<S: Setting>(
     alloc: Global,
     script: &Script,
     setting: &S,
     strict: bool,
-    report: &str,
-    calls: &[u8],
+    changing: &Changing,
+    parted: &Parted,
+    left: &[u8],
 ) -> Result<Option<Taken>, AllocError> {
-    let Some(order) = order_of(alloc, report)? else {
+    let Some(order) = order_of(alloc, parted.events.as_str())? else {
         return Ok(None);
     };
     let (posts, events) = (script.posts.as_slice(), script.events.as_slice());
@@ -160,47 +165,57 @@ fn compared<S: Setting>(
         return Ok(None);
     }
     let plain = setting.program(alloc, strict)?;
-    if !is_said_by(alloc, plain, events, order, report, calls)? {
+    if !is_said_by(alloc, plain, events, order, changing, parted, left)? {
         return Ok(None);
     }
     Ok(Some(Taken::of(alloc, posts, order)?))
 }
 
-// Whether a plain program that takes the events in an order says this report, and these calls once to
-// each of two meters.
+// Whether a plain program that takes the events in an order says the lines of events of a report, and
+// plain meters say its lines of meters and what is left.
 fn is_said_by<P: Plain + Drop>(
     alloc: Global,
     plain: P,
     events: &[PlainEvent],
     order: &[u32],
-    report: &str,
-    calls: &[u8],
+    changing: &Changing,
+    parted: &Parted,
+    left: &[u8],
 ) -> Result<bool, AllocError> {
     let mut plain = plain;
-    take_all(alloc, &mut plain, events, order)?;
+    let meters = metered(alloc, &mut plain, events, order, changing)?;
+    if meters.said() != parted.said.as_str() {
+        return Ok(false);
+    }
     let mut wanted = String::new(alloc);
-    plain.append_calls(&mut wanted)?;
-    Ok(is_twice(calls, wanted.as_bytes()) && is_wanted(report, plain.text()))
+    meters.append_left(&mut wanted)?;
+    Ok(left == wanted.as_bytes() && is_wanted(parted.events.as_str(), plain.text()))
 }
 
-// Takes the events in an order.
-fn take_all<P: Plain>(
+// Takes the events in an order, with plain meters that are changed at their places.
+fn metered<P: Plain>(
     alloc: Global,
     plain: &mut P,
     events: &[PlainEvent],
     order: &[u32],
-) -> Result<(), AllocError> {
+    changing: &Changing,
+) -> Result<PlainMeters, AllocError> {
+    let places = changing.places.as_slice();
+    let mut meters = PlainMeters::of(alloc, changing)?;
+    meters.change(alloc, places, 0)?;
+    let mut done: u32 = 0;
     for number in order {
+        let before = plain.records().len();
         if let Some(event) = of_event(events, *number) {
             plain.take(alloc, event)?;
         }
+        if let Some(more) = plain.records().get(before..) {
+            meters.note(more)?;
+        }
+        done = done.saturating_add(1);
+        meters.change(alloc, places, done)?;
     }
-    Ok(())
-}
-
-// Whether a text is another, twice.
-fn is_twice(text: &[u8], half: &[u8]) -> bool {
-    text.strip_prefix(half) == Some(half)
+    Ok(meters)
 }
 
 // The words that ask for a run.
@@ -237,18 +252,31 @@ impl Ends {
 fn heard_of<G: Gate, R: Threads + Wait + Sync>(
     rt: &R,
     alloc: Global,
-    trace: &str,
+    changing: &Changing,
     strict: bool,
     gate: &G,
 ) -> Result<Heard, AllocError> {
-    let mut meters: Vec<Box<dyn Meter>> = Vec::with_capacity(alloc, 2)?;
-    meters.push(Box::new(alloc, CallDetail::new(alloc, CALLS)?)?)?;
-    meters.push(Box::new(alloc, CallDetail::new(alloc, CALLS)?)?)?;
+    let mut meters: Vec<Box<dyn Meter>> = Vec::new(alloc);
+    for number in 0..changing.on {
+        match number % 3 {
+            0 => meters.push(Box::new(alloc, CallDetail::new(alloc, CALLS)?)?)?,
+            1 => meters.push(Box::new(alloc, PegCount::new())?)?,
+            _ => meters.push(Box::new(alloc, HoldingTime::new())?)?,
+        }
+    }
+    let mut spare: VecDeque<Box<dyn Meter>> = VecDeque::new(alloc);
+    for number in 0..changing.spare {
+        match number % 3 {
+            0 => spare.push_back(Box::new(alloc, CallDetail::new(alloc, CALLS)?)?)?,
+            1 => spare.push_back(Box::new(alloc, PegCount::new())?)?,
+            _ => spare.push_back(Box::new(alloc, HoldingTime::new())?)?,
+        }
+    }
     let Ends {
         words,
         mut source,
         mut sink,
-    } = Ends::of(alloc, trace, strict)?;
+    } = Ends::of(alloc, changing.text.as_str(), strict)?;
     let outcome: Outcome<Engine> = exchange(
         rt,
         alloc,
@@ -257,7 +285,14 @@ fn heard_of<G: Gate, R: Threads + Wait + Sync>(
         &mut sink,
         gate,
         &mut meters,
+        &mut spare,
     );
+    // The spare ones come behind the others, to say what they say.
+    for _ in 0..changing.spare {
+        if let Some(meter) = spare.pop_front() {
+            meters.push(meter)?;
+        }
+    }
     what_was_heard(alloc, outcome.status == 0, sink.bytes(), meters.as_slice())
 }
 
@@ -271,11 +306,11 @@ fn what_was_heard(
 ) -> Result<Heard, AllocError> {
     let mut heard = Heard {
         report: Vec::new(alloc),
-        calls: Vec::new(alloc),
+        left: Vec::new(alloc),
     };
     if is_whole {
         heard.report.extend_from_slice(report)?;
-        append_summaries(meters, &mut heard.calls)?;
+        append_summaries(meters, &mut heard.left)?;
     }
     Ok(heard)
 }

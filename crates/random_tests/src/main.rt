@@ -4,8 +4,9 @@
 //! `random_tests TRACES` draws that many traces of nails, whose octets are compared with the octets of
 //! a delay line; that many with seats too, compared with the definitions' own program; and that
 //! many of calls, tones and timers, compared with a plain program of calls. They are for one to eight call
-//! processors, and their segments are of any length. Two meters that keep every call have to say the
-//! calls that the plain program saw end, in that order. Each trace is run three times: all segments in
+//! processors, and their segments are of any length. Up to four meters are handed in and up to four spare
+//! ones, which are changed between segments: their lines in the report, and what is left of them, have to
+//! be what plain meters say of the calls that the plain program saw end. Each trace is run three times: all segments in
 //! threads, as the program decides, where small ones have to come in the order of the file, and in threads
 //! on a strict fabric, where each number of moved paths has to be 0. The order of each report has to hold
 //! every event once and be a lawful one, and the plain program takes the events in that order, from
@@ -20,6 +21,7 @@
 //! `test_traffic`, `frame_engine`, `meters`, `gate`, `segment_run` and `exchange_top`.
 #![tactic(auto)]
 
+mod changes;
 mod check;
 mod counts;
 mod draw;

@@ -4,7 +4,7 @@ use frame_buffer::DelayLine;
 use plain_model::Exchange;
 use std::alloc::{AllocError, Global};
 use std::marker::Model;
-use test_exchange::{PlainEvent, append_octets};
+use test_exchange::{CallRecord, PlainEvent, append_octets};
 
 /// Which events a trace has, and what says the octets that are heard in it.
 #[derive(Clone, Copy)]
@@ -270,7 +270,7 @@ impl Plain for Yardstick {
     }
 
     // No call is drawn with this yardstick.
-    fn append_calls(&self, _calls: &mut String) -> Result<(), AllocError> {
-        Ok(())
+    fn records(&self) -> &[CallRecord] {
+        &[]
     }
 }

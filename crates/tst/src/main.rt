@@ -2,7 +2,7 @@
 //! what it did on standard output, with `run`; with `run --strict` the same on a fabric where no path ever
 //! moves; with `gen SEED CALLS` the summary of a generated trace.
 //!
-//! It makes the two standard ends and three meters, calls `exchange_top::exchange` with the engine of
+//! It makes the two standard ends, three meters and three spare ones, calls `exchange_top::exchange` with the engine of
 //! three stages in a box, and ends with its status. The promise is that call's; `main` has no contract of its own. Of
 //! standard input and output nothing can be proved, so the tests here run whole traces over ends in
 //! memory.
@@ -20,6 +20,7 @@ use frame_engine::Engine;
 use gate::OpenGate;
 use meters::{CallDetail, HoldingTime, Meter, PegCount};
 use std::alloc::{AllocError, Global};
+use std::collections::VecDeque;
 use std::env;
 use std::io::{self, ErrorKind};
 use std::process::ExitCode;
@@ -37,7 +38,7 @@ fn words_of(rt: &HostRuntime) -> io::Result<Vec<String>> {
 }
 
 // The status of a call with three meters: the details of the last ten calls, a peg count and the holding
-// time. They are boxed here, where they are used.
+// time; and with three spare ones like them. They are boxed here, where they are used.
 fn status_of<S: Source, K: Sink, R: Threads + Wait + Sync>(
     rt: &R,
     alloc: Global,
@@ -49,6 +50,10 @@ fn status_of<S: Source, K: Sink, R: Threads + Wait + Sync>(
     meters.push(Box::new(alloc, CallDetail::new(alloc, 10)?)?)?;
     meters.push(Box::new(alloc, PegCount::new())?)?;
     meters.push(Box::new(alloc, HoldingTime::new())?)?;
+    let mut spare: VecDeque<Box<dyn Meter>> = VecDeque::with_capacity(alloc, 3)?;
+    spare.push_back(Box::new(alloc, CallDetail::new(alloc, 10)?)?)?;
+    spare.push_back(Box::new(alloc, PegCount::new())?)?;
+    spare.push_back(Box::new(alloc, HoldingTime::new())?)?;
     // In its box the engine goes from segment to segment as one word.
     let outcome: Outcome<Box<Engine>> = exchange(
         rt,
@@ -58,6 +63,7 @@ fn status_of<S: Source, K: Sink, R: Threads + Wait + Sync>(
         sink,
         &OpenGate,
         &mut meters,
+        &mut spare,
     );
     Ok(outcome.status)
 }

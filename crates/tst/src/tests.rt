@@ -5,6 +5,7 @@ use frame_engine::{Carrier, Engine, Marker};
 use gate::{Gate, OpenGate, TestGate};
 use meters::{CallDetail, HoldingTime, Meter, PegCount, append_summaries};
 use std::alloc::{AllocError, Global};
+use std::collections::VecDeque;
 use std::hint;
 use std::sync::Wait;
 use std::sync::atomic::{AtomicU64, Ordering};
@@ -48,8 +49,18 @@ fn called<C: Carrier, G: Gate>(
     mut sink: MemSink,
     gate: &G,
     meters: &mut Vec<Box<dyn Meter>>,
+    spare: &mut VecDeque<Box<dyn Meter>>,
 ) -> Ended {
-    let outcome: Outcome<C> = exchange(rt, alloc, words, &mut source, &mut sink, gate, meters);
+    let outcome: Outcome<C> = exchange(
+        rt,
+        alloc,
+        words,
+        &mut source,
+        &mut sink,
+        gate,
+        meters,
+        spare,
+    );
     Ended {
         status: outcome.status,
         order: outcome.order,
@@ -80,7 +91,16 @@ fn ran_at<C: Carrier, G: Gate>(
     let source = MemSource::new(input, 4096, Vec::new(alloc));
     let sink = MemSink::new(alloc, 1_000_000, 4096, Vec::new(alloc))?;
     let mut meters = Vec::new(alloc);
-    Ok(called::<C, G>(rt, alloc, &words, source, sink, gate, &mut meters))
+    Ok(called::<C, G>(
+        rt,
+        alloc,
+        &words,
+        source,
+        sink,
+        gate,
+        &mut meters,
+        &mut VecDeque::new(alloc),
+    ))
 }
 
 const DELAY: &str = "exchange 1 2 0 1\nnail 0/1 1/1\nsync\n\
@@ -219,6 +239,7 @@ fn words_other_than_run_are_refused_unread(rt: HostRuntime) -> Result<(), Fail> 
             sink,
             &OpenGate,
             &mut Vec::new(alloc),
+            &mut VecDeque::new(alloc),
         );
         assert_eq!(rt; (ended.status, ended.read_faults), (2, 0));
         assert_eq!(rt; ended.sink.bytes(), b"refused words\n".as_slice());
@@ -250,6 +271,7 @@ fn a_failing_read_or_write_ends_the_call(rt: HostRuntime) -> Result<(), Fail> {
             sink,
             &OpenGate,
             &mut Vec::new(alloc),
+            &mut VecDeque::new(alloc),
         );
         assert_eq!(rt;
             (
@@ -278,7 +300,16 @@ fn cut_at(
     let sink = MemSink::new(alloc, 100_000, 100_000, [write].to_vec(alloc)?)?;
     let mut meters: Vec<Box<dyn Meter>> = Vec::with_capacity(alloc, 1)?;
     meters.push(Box::new(alloc, PegCount::new())?)?;
-    let ended = called::<Engine, OpenGate>(rt, alloc, &words, source, sink, &OpenGate, &mut meters);
+    let ended = called::<Engine, OpenGate>(
+        rt,
+        alloc,
+        &words,
+        source,
+        sink,
+        &OpenGate,
+        &mut meters,
+        &mut VecDeque::new(alloc),
+    );
     let mut said = Vec::new(alloc);
     append_summaries(meters.as_slice(), &mut said)?;
     Ok((ended, said))
@@ -581,6 +612,7 @@ fn meters_are_told_of_the_calls(rt: HostRuntime) -> Result<(), Fail> {
             sink,
             &OpenGate,
             &mut meters,
+            &mut VecDeque::new(alloc),
         );
         let mut text = Vec::new(alloc);
         append_summaries(meters.as_slice(), &mut text)?;
@@ -604,7 +636,16 @@ fn told(
     meters.push(Box::new(alloc, CallDetail::new(alloc, 20)?)?)?;
     meters.push(Box::new(alloc, PegCount::new())?)?;
     meters.push(Box::new(alloc, HoldingTime::new())?)?;
-    called::<Marker, OpenGate>(rt, alloc, words, source, sink, &OpenGate, &mut meters);
+    called::<Marker, OpenGate>(
+        rt,
+        alloc,
+        words,
+        source,
+        sink,
+        &OpenGate,
+        &mut meters,
+        &mut VecDeque::new(alloc),
+    );
     let mut text = Vec::new(alloc);
     append_summaries(meters.as_slice(), &mut text)?;
     Ok(text)
@@ -623,5 +664,125 @@ fn generated_calls_are_those_of_their_trace(rt: HostRuntime) -> Result<(), Fail>
     let of_the_trace = told(&rt, alloc, &run, generate(alloc, 7, 20)?)?;
     assert!(rt; of_the_command.len() > 400);
     assert_eq!(rt; of_the_command.as_slice(), of_the_trace.as_slice());
+    Ok(())
+}
+
+// A call to a room, and in the next segment its end.
+const SETUP_TO_ROOM: &str =
+    "exchange 1 1 1 1\nnumber 30 room 0\nM 0 080200010504038090A37003803330\n";
+
+const CLEARING: &str = "M 0 080200015A\n";
+
+const ACCEPTED: &str = "1 message moved 0 0 0:08028001021803A98381 0:0802800107\n";
+
+// The report of a trace with as many peg counts that are on and spare ones, and what is left of both.
+fn changed(
+    rt: &(impl Threads + Wait + Sync),
+    alloc: Global,
+    lines: &[&str],
+    count: usize,
+    spares: usize,
+) -> Result<(Ended, Vec<u8>), AllocError> {
+    let words = vec![in alloc; String::from_str(alloc, "run")?]?;
+    let mut input = Vec::new(alloc);
+    for line in lines {
+        input.extend_from_slice(line.as_bytes())?;
+    }
+    let source = MemSource::new(input, 4096, Vec::new(alloc));
+    let sink = MemSink::new(alloc, 100_000, 4096, Vec::new(alloc))?;
+    let mut meters: Vec<Box<dyn Meter>> = Vec::new(alloc);
+    for _ in 0..count {
+        meters.push(Box::new(alloc, PegCount::new())?)?;
+    }
+    let mut spare: VecDeque<Box<dyn Meter>> = VecDeque::new(alloc);
+    for _ in 0..spares {
+        spare.push_back(Box::new(alloc, PegCount::new())?)?;
+    }
+    let gate = &OpenGate;
+    let ended = called::<Engine, OpenGate>(
+        rt,
+        alloc,
+        &words,
+        source,
+        sink,
+        gate,
+        &mut meters,
+        &mut spare,
+    );
+    let mut left = Vec::new(alloc);
+    append_summaries(meters.as_slice(), &mut left)?;
+    left.extend_from_slice(b"and ")?;
+    for _ in 0..spares {
+        if let Some(meter) = spare.pop_front() {
+            meter.summary(&mut left)?;
+        }
+    }
+    Ok((ended, left))
+}
+
+// Each meter has the records of its time, and says so where it is taken out; the next one has none of
+// them.
+#[test]
+fn meters_are_changed_between_segments(rt: HostRuntime) -> Result<(), Fail> {
+    let alloc = rt.alloc();
+    // The meters that are on and the spare ones, the lines, the report behind its first line, and what
+    // is left of both.
+    for (count, spares, lines, report, left) in [
+        (
+            1,
+            1,
+            ["sync\n", CLEARING, "change\nF\n", "change\nchange\n"],
+            "2 message\npeg 1 1\n3 frame 0\npeg 0 0\n",
+            "and ",
+        ),
+        (
+            1,
+            1,
+            ["sync\n", CLEARING, "change\nF\n", ""],
+            "2 message\npeg 1 1\n3 frame 0\n",
+            "peg 0 0\nand ",
+        ),
+        // The call ends in the time of the spare one.
+        (
+            1,
+            2,
+            ["change\n", CLEARING, "", ""],
+            "peg 0 0\n2 message\n",
+            "peg 1 1\nand peg 0 0\n",
+        ),
+        // No meter is on at first, or there is no spare one.
+        (
+            0,
+            1,
+            ["change\n", CLEARING, "", "change\n"],
+            "2 message\npeg 1 1\n",
+            "and ",
+        ),
+        (
+            2,
+            0,
+            ["sync\n", CLEARING, "change\n", "F\n"],
+            "2 message\npeg 1 1\n3 frame 0\n",
+            "peg 1 1\nand ",
+        ),
+        // More changes than meters.
+        (
+            2,
+            1,
+            ["change\nchange\n", "change\nchange\n", CLEARING, "change\n"],
+            "peg 0 0\npeg 0 0\npeg 0 0\n2 message\n",
+            "and ",
+        ),
+    ] {
+        let [first, second, third, fourth] = lines;
+        let all = [SETUP_TO_ROOM, first, second, third, fourth];
+        let (ended, text) = changed(&rt, alloc, &all, count, spares)?;
+        assert_eq!(rt; ended.status, 0);
+        assert!(rt;
+            ended.sink.bytes().strip_prefix(ACCEPTED.as_bytes()) == Some(report.as_bytes()),
+            "{report}"
+        );
+        assert_eq!(rt; text.as_slice(), left.as_bytes(), "{report}");
+    }
     Ok(())
 }

@@ -5,7 +5,7 @@ pub returns-clause-done : goal.returns-clause-done
 returns-clause-done g c h strict run = done_says _ _ _ _ _ _ strict c.answer_words.ensures.ends h run
 
 pub returns-clause-summed : goal.returns-clause-summed
-returns-clause-summed g c seed calls h gen = summed_says _ _ _ _ _ _ seed calls c.answer_words.ensures.ends h gen
+returns-clause-summed g c h seed calls gen = summed_says _ _ _ _ _ _ seed calls c.answer_words.ensures.ends h gen
 
 pub returns-clause-turned_down : goal.returns-clause-turned_down
 returns-clause-turned_down g c h = turned_down_says _ _ _ _ _ _ c.answer_words.ensures.ends h

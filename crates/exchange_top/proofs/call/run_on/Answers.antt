@@ -7,7 +7,7 @@ use Rattle.exchange_top.proofs.call.run_on.Goals as goal
 pub returns-in_default-clause-runs : goal.returns-in_default-clause-runs
 returns-in_default-clause-runs g c =
     let e = c.without_events.ensures in
-    No_memory_from e.status (begun_none _ _ _ _ _ _ _ e.none (none_beyond _ _ _))
+    No_memory_from e.status (begun_none _ _ _ _ _ _ _ e.none (none_beyond _ _ _ _))
 
 pub returns-in-Ok-run-clause-runs : goal.returns-in-Ok-run-clause-runs
 returns-in-Ok-run-clause-runs g c = let r = c.in-Ok-run.ensures in Whole refl r.whole r.text (r.sized, r.carried)

@@ -16,7 +16,7 @@ returns-in-Ok-clause-runs g c =
     runs_on _ _ true _ _ _ _ _ _ _ _ _ (search rules) same c.run_on.ensures.runs
 
 pub returns-in-Err-clause-runs : goal.returns-in-Err-clause-runs
-returns-in-Err-clause-runs g c = let e = c.without_events.ensures in No_memory_from e.status (begun_none _ _ _ _ _ _ _ e.none (none_beyond _ _ _))
+returns-in-Err-clause-runs g c = let e = c.without_events.ensures in No_memory_from e.status (begun_none _ _ _ _ _ _ _ e.none (none_beyond _ _ _ _))
 
 pub returns-in-Ok-new-clause-runs : goal.returns-in-Ok-new-clause-runs
 returns-in-Ok-new-clause-runs g c =
@@ -28,4 +28,4 @@ returns-in-Ok-new-clause-runs g c =
 pub returns-in-Err-new-clause-runs : goal.returns-in-Err-new-clause-runs
 returns-in-Err-new-clause-runs g c =
     let e = c.without_events-in-Err-new.ensures in
-    No_memory_from e.status (begun_none _ _ _ _ _ _ _ e.none (none_beyond _ _ _))
+    No_memory_from e.status (begun_none _ _ _ _ _ _ _ e.none (none_beyond _ _ _ _))

@@ -1,0 +1,214 @@
+-- The meters of a run, segment after segment.
+use Rattle.std.proofs.Common.{◌≡◌, ℕ, suc, ◌+◌, ◌<◌, ◌≤◌, List, [], ◌∷◌, ◌++◌, length, get_or, Option, refl, sym, ap, ◌∙◌, subst, arith, add-one, append_assoc, append-nil, length-append}
+use Rattle.std.specs.Prelude.{All, replicate}
+use Rattle.exchange_events.specs.declared.record.CallRecord.{CallRecord}
+use Rattle.exchange_events.specs.declared.trace.Trace.{Trace}
+use Rattle.exchange_events.specs.Orders.{IsEvent}
+use Rattle.exchange_events.specs.Sound.{IsSound}
+use Rattle.seat_history.specs.declared.known.Known.{Known}
+use Rattle.seat_history.specs.Seats.{first_seat}
+use Rattle.exchange_core.specs.Boards.{Board, turns_of}
+use Rattle.exchange_core.specs.Working.{order_of}
+use Rattle.call_profile.specs.CallsTold.{calls_told}
+use Rattle.call_processor.specs.Frames.{Plays}
+use Rattle.line_list.specs.declared.listing.Listing.{Listing}
+use Rattle.line_list.specs.Lines.{listed}
+use Rattle.segment_run.specs.Segment.{IsChief, Ran, RanWhole, new_events}
+use Rattle.segment_run.specs.Segments.{IsDoneBelow}
+use Rattle.segment_run.proofs.OrderLemmas.{count_done, grown_known, one_more, order_grown}
+use Rattle.meters.specs.Changing.{Step, Meters_changed, Metering, IsPast, AreMetered, after_steps, changes_at, handed_in, records_of, steps_text, with_changes}
+use Rattle.meters.proofs.Changes.{after-append, law_of_lines, metered-events, metered-first, records-append, records-changes, text-append}
+use Rattle.meters.proofs.Cursor.{next_above, none_between}
+use Rattle.meters.proofs.Placed.{NoneBetween, records-with, with-segment}
+use Rattle.exchange_top.specs.Changes.{AreChangesBegun, AreChangesDone}
+use Rattle.exchange_top.specs.Outcomes.{IsInterrupted}
+use Rattle.exchange_top.specs.Running.{GrewFew, GrowthIsTold, grown_calls, grown_lines}
+use Rattle.exchange_top.specs.Story.{story}
+use Rattle.exchange_top.specs.Telling.{AreLeft, AreMeteredBeyond, AreTold, AreToldFront, meter_story}
+use Rattle.exchange_top.proofs.Stories.{grown_are_events, grown_length, grown_records, grown_steps, grown_text, story_grown, story_records}
+use Rattle.exchange_top.proofs.Tellings.{beyond_none, both_beyond}
+use Rattle.exchange_top.proofs.Underway.{IsUnderway, begun_segment, underway_more}
+
+-- the place of a segment's beginning: how many events come before it
+abbrev pub place_of : List ℕ → ℕ → ℕ
+place_of ends k = get_or (0 ∷ ends) k 0
+
+-- the changes of a place, by equal lists and places
+module _ {M : Type 0} {stands : M → List CallRecord → Type 0} {text : M → List CallRecord → List ℕ} {meters spare now now_spare : List M} {all : List ℕ}
+    (changes wanted : List ℕ) (place there : ℕ) (said : List ℕ) (same : changes ≡ wanted) (is : place ≡ there) (silent : said ≡ []) where
+  pub done_moved : {cursor : ℕ} → AreChangesDone stands text changes place meters spare said now now_spare all cursor → AreChangesDone stands text wanted there meters spare [] now now_spare all cursor
+  done_moved {cursor} d =
+      subst (λ (cs : List ℕ). AreChangesDone stands text cs there meters spare [] now now_spare all cursor) same
+      (subst (λ (n : ℕ). AreChangesDone stands text changes n meters spare [] now now_spare all cursor) is
+      (subst (λ (t : List ℕ). AreChangesDone stands text changes place meters spare t now now_spare all cursor) silent d))
+
+  pub begun_moved : AreChangesBegun stands text changes place meters spare said now now_spare all → AreChangesBegun stands text wanted there meters spare [] now now_spare all
+  begun_moved b =
+      subst (λ (cs : List ℕ). AreChangesBegun stands text cs there meters spare [] now now_spare all) same
+      (subst (λ (n : ℕ). AreChangesBegun stands text changes n meters spare [] now now_spare all) is
+      (subst (λ (t : List ℕ). AreChangesBegun stands text changes place meters spare t now now_spare all) silent b))
+
+module _ {M : Type 0} (stands : M → List CallRecord → Type 0) (text : M → List CallRecord → List ℕ) (old spare : List M) (plays : Plays) (l : Listing) (board : Board) where
+  abbrev story_of : Known → List Step
+  story_of v = story plays l board.slots board.trace (order_of v.seen)
+
+  abbrev first : Metering M
+  first = handed_in old spare
+
+  -- the first k segments were done, with the changes behind them, and these are the meters then
+  pub record AreOn (k : ℕ) (v : Known) (meters spares : List M) (cursor : ℕ) : Type 0 where
+    pub left : AreLeft stands text old spare meters spares (story_of v)
+    pub past : IsPast board.trace.changes cursor (place_of board.trace.segments k)
+
+  -- ---- before the first segment
+
+  module _ (v : Known) (fresh : v ≡ first_seat (turns_of board)) (now now_spare : List M) (all : List ℕ) where
+    pub changed_first : (cursor : ℕ) → AreChangesDone stands text board.trace.changes 0 old spare [] now now_spare all cursor → AreOn 0 v now now_spare cursor
+    changed_first cursor d =
+        let left = d.made.left first (metered-first stands text old spare) in
+        let is : story_of v ≡ replicate d.count Meters_changed =
+        ap (λ (u : Known). story_of u) fresh ∙ (append-nil (changes_at board.trace.changes 0) ∙ d.are) in
+        record {
+          left = subst (λ (steps : List Step). AreMetered stands text (after_steps steps first) now now_spare) (sym is) left;
+          past = d.past;
+        }
+
+    pub said_first : (cursor : ℕ) → AreChangesDone stands text board.trace.changes 0 old spare [] now now_spare all cursor → steps_text text (story plays l board.slots board.trace []) first ≡ all
+    said_first cursor d =
+        ap (λ (steps : List Step). steps_text text steps first) (append-nil (changes_at board.trace.changes 0) ∙ d.are) ∙ sym (d.made.said_is first (metered-first stands text old spare))
+
+  -- ---- a segment more
+
+  module _ (k : ℕ) (v w : Known) (meters spares : List M) (cursor : ℕ) (sound : IsSound board.trace) (within : k < length board.trace.segments) (done : IsDoneBelow board.trace k (order_of v.seen))
+      (on : AreOn k v meters spares cursor) (ran : Ran board.trace k v w) where
+    abbrev grown : List Step
+    grown = grown_steps plays l board v w
+
+    abbrev changes : List ℕ
+    changes = board.trace.changes
+
+    abbrev here : Metering M
+    here = after_steps (story_of v) first
+
+    known : All (IsEvent board.trace) (new_events v w)
+    known = grown_known board.trace k v w ran
+
+    is_grown : story_of w ≡ story_of v ++ with_changes changes (length (order_of v.seen)) grown
+    is_grown = story_grown plays l board v w ran.begins done.lawful.known
+
+    -- memory ran out in it
+    pub beyond_segment : (mid : List M) → GrowthIsTold (AreToldFront stands text meters mid) board v w
+        → AreMeteredBeyond (records_of (with_changes changes (length (order_of v.seen)) grown)) stands text here mid spares
+    beyond_segment mid front =
+        subst (λ (rs : List CallRecord). AreMeteredBeyond rs stands text here mid spares) (sym (records-with changes (length (order_of v.seen)) grown ∙ grown_records plays l board v w known))
+        (both_beyond stands text here meters mid spares (grown_calls board v w) on.left front)
+
+    pub calls_before : records_of (story_of v) ≡ calls_told board.slots board.trace (order_of v.seen) ++ []
+    calls_before = story_records plays l board.slots board.trace (order_of v.seen) done.lawful.known ∙ sym (append-nil (calls_told board.slots board.trace (order_of v.seen)))
+
+    pub interrupted_segment : (mid : List M) → GrowthIsTold (AreToldFront stands text meters mid) board v w → (before now : Option (List ℕ)) (pending : List ℕ)
+        → IsUnderway plays l board (λ steps. steps_text text steps first) k v before now pending
+        → IsInterrupted plays l board.slots (meter_story stands text old spare mid spares) board.trace (order_of w.seen) before now
+    interrupted_segment mid front before now pending so_far =
+        begun_segment plays l board (meter_story stands text old spare mid spares) k v before now pending so_far w (story_of v) (with_changes changes (length (order_of v.seen)) grown) [] ran is_grown calls_before (beyond_segment mid front)
+
+    -- all of it was done, and its records were noted
+    module _ (whole : RanWhole board.trace k v w) (mid : List M) (told : GrowthIsTold (AreTold stands text meters mid) board v w) where
+      abbrev there : ℕ
+      there = place_of board.trace.segments (suc k)
+
+      here_is : length (order_of v.seen) ≡ place_of board.trace.segments k
+      here_is = count_done board.trace k (order_of v.seen) sound (omega (arith, within)) done
+
+      there_is : length (order_of v.seen) + length grown ≡ there
+      there_is =
+          let all = count_done board.trace (k + 1) (order_of w.seen) sound (omega (arith, within)) (one_more board.trace k v w done ran whole) in
+          let long = ap (λ (xs : List ℕ). length xs) (order_grown v w ran.begins) ∙ length-append (order_of v.seen) (new_events v w) in
+          ap (λ (n : ℕ). length (order_of v.seen) + n) (grown_length plays l board v w known) ∙ (sym long ∙ (all ∙ ap (λ (n : ℕ). place_of board.trace.segments n) (add-one k)))
+
+      none : NoneBetween (length (order_of v.seen)) (length (order_of v.seen) + length grown) changes
+      none =
+          subst (λ (n : ℕ). NoneBetween n (length (order_of v.seen) + length grown) changes) (sym here_is)
+          (subst (λ (m : ℕ). NoneBetween (place_of board.trace.segments k) m changes) (sym there_is)
+          (none_between board.trace.segments changes (length board.trace.events) k sound.segments sound.changes within cursor on.past))
+
+      rises : place_of board.trace.segments k < there
+      rises = next_above board.trace.segments changes (length board.trace.events) k sound.segments sound.changes within
+
+      whole_story : story_of w ≡ story_of v ++ (grown ++ changes_at changes there)
+      whole_story =
+          let some : 1 ≤ length grown = omega (arith, here_is, there_is, rises) in
+          is_grown ∙ ap (λ (steps : List Step). story_of v ++ steps) (with-segment changes (length (order_of v.seen)) grown some none ∙ ap (λ (n : ℕ). grown ++ changes_at changes n) there_is)
+
+      abbrev then : Metering M
+      then = after_steps grown here
+
+      on_then : AreMetered stands text then mid spares
+      on_then =
+          metered-events stands text grown (grown_are_events plays l board v w) here meters mid spares on.left
+          (subst (λ (rs : List CallRecord). AreTold stands text meters mid rs) (sym (grown_records plays l board v w known)) told)
+
+      -- the changes behind it were begun
+      module _ (now now_spare : List M) (all : List ℕ) (b : AreChangesBegun stands text changes there mid spares [] now now_spare all) where
+        abbrev pub steps_begun : List Step
+        steps_begun = story_of v ++ (grown ++ replicate b.count Meters_changed)
+
+        abbrev pub others_begun : List Step
+        others_begun = replicate b.left Meters_changed
+
+        pub begun_are : story_of w ≡ steps_begun ++ others_begun
+        begun_are =
+            whole_story
+            ∙ (ap (λ (steps : List Step). story_of v ++ (grown ++ steps)) b.are
+            ∙ (ap (λ (steps : List Step). story_of v ++ steps) (sym (append_assoc grown (replicate b.count Meters_changed) (replicate b.left Meters_changed)))
+            ∙ sym (append_assoc (story_of v) (grown ++ replicate b.count Meters_changed) (replicate b.left Meters_changed))))
+
+        pub begun_calls : records_of steps_begun ≡ calls_told board.slots board.trace (order_of v.seen) ++ grown_calls board v w
+        begun_calls =
+            records-append (story_of v) (grown ++ replicate b.count Meters_changed)
+            ∙ (λ i. story_records plays l board.slots board.trace (order_of v.seen) done.lawful.known i
+            ++ (records-append grown (replicate b.count Meters_changed) ∙ ((λ j. grown_records plays l board v w known j ++ records-changes b.count j) ∙ append-nil (grown_calls board v w))) i)
+
+        pub begun_left : AreMeteredBeyond (records_of others_begun) stands text (after_steps steps_begun first) now now_spare
+        begun_left =
+            let at : after_steps steps_begun first ≡ after_steps (replicate b.count Meters_changed) then =
+            after-append (story_of v) (grown ++ replicate b.count Meters_changed) first ∙ after-append grown (replicate b.count Meters_changed) here in
+            rw (at, records-changes b.left) (beyond_none stands text (after_steps (replicate b.count Meters_changed) then) now now_spare (b.made.left then on_then))
+
+        pub interrupted_changes : (before then_written : Option (List ℕ)) (pending : List ℕ) → IsUnderway plays l board (λ steps. steps_text text steps first) k v before then_written pending
+            → IsInterrupted plays l board.slots (meter_story stands text old spare now now_spare) board.trace (order_of w.seen) before then_written
+        interrupted_changes before then_written pending so_far =
+            begun_segment plays l board (meter_story stands text old spare now now_spare) k v before then_written pending so_far w steps_begun others_begun (grown_calls board v w) ran begun_are begun_calls begun_left
+
+      -- they were made
+      module _ (now now_spare : List M) (all : List ℕ) (cursor_now : ℕ) (d : AreChangesDone stands text changes there mid spares [] now now_spare all cursor_now) where
+        pub on_more : AreOn (k + 1) w now now_spare cursor_now
+        on_more =
+            let at : after_steps (story_of w) first ≡ after_steps (replicate d.count Meters_changed) then =
+            ap (λ (steps : List Step). after_steps steps first) whole_story
+            ∙ (after-append (story_of v) (grown ++ changes_at changes there) first ∙ (after-append grown (changes_at changes there) here ∙ ap (λ (steps : List Step). after_steps steps then) d.are)) in
+            record {
+              left = subst (λ (s : Metering M). AreMetered stands text s now now_spare) (sym at) (d.made.left then on_then);
+              past = subst (λ (n : ℕ). IsPast changes cursor_now (place_of board.trace.segments n)) (sym (add-one k)) d.past;
+            }
+
+        pub text_more : steps_text text (story_of w) first ≡ steps_text text (story_of v) first ++ (listed l (grown_lines plays board v w) ++ all)
+        text_more =
+            ap (λ (steps : List Step). steps_text text steps first) whole_story
+            ∙ (text-append text (story_of v) (grown ++ changes_at changes there) first
+            ∙ ap (λ (t : List ℕ). steps_text text (story_of v) first ++ t)
+            (text-append text grown (changes_at changes there) here
+            ∙ (λ i. (law_of_lines text grown here (grown_are_events plays l board v w) ∙ grown_text plays l board v w) i
+            ++ (ap (λ (steps : List Step). steps_text text steps then) d.are ∙ sym (d.made.said_is then on_then)) i)))
+
+        pub underway_changed : (before then_written : Option (List ℕ)) (pending after : List ℕ) → IsUnderway plays l board (λ steps. steps_text text steps first) k v before then_written pending
+            → IsChief (turns_of board) w → GrewFew board v w → after ≡ pending ++ (listed l (grown_lines plays board v w) ++ all)
+            → IsUnderway plays l board (λ steps. steps_text text steps first) (k + 1) w before then_written after
+        underway_changed before then_written pending after so_far chief few is =
+            underway_more plays l board (λ steps. steps_text text steps first) k v before then_written pending so_far w after (listed l (grown_lines plays board v w) ++ all) chief ran whole text_more is few
+
+-- what is pending with the lines of a segment, and with what meters said behind it
+pub joined : (before grown all said after : List ℕ) → said ≡ [] → after ≡ before ++ grown → after ++ all ≡ (before ++ said) ++ (grown ++ all)
+joined before grown all said after silent is =
+    ap (λ (t : List ℕ). t ++ all) is
+    ∙ (append_assoc before grown all ∙ ap (λ (t : List ℕ). t ++ (grown ++ all)) (sym (append-nil before) ∙ ap (λ (t : List ℕ). before ++ t) (sym silent)))

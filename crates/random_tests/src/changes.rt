@@ -1,0 +1,222 @@
+//! Changes of meters: lines that ask for them in a trace, and plain meters that are changed.
+
+use crate::check::append_call;
+use std::alloc::{AllocError, Global};
+use test_exchange::CallRecord;
+use test_traffic::{Random, Script};
+
+/// A trace in which meters are changed, and what is handed in with it.
+#[derive(Drop)]
+pub struct Changing {
+    /// The trace: the lines of a script, and `change` lines before its first event and between its
+    /// segments.
+    pub text: String,
+    /// How many events come before each change.
+    pub places: Vec<u32>,
+    /// How many meters are on at first.
+    pub on: u32,
+    /// How many are spare.
+    pub spare: u32,
+}
+
+impl Changing {
+    /// The trace of a script. Where that ends a segment, meters are changed up to five times, mostly not at all.
+    pub fn of(alloc: Global, script: &Script) -> Result<Changing, AllocError> {
+        let mut random = Random::new(script.text.len() as u64);
+        let mut changing = Changing {
+            text: String::new(alloc),
+            places: Vec::new(alloc),
+            on: u32::from(random.below(5)),
+            spare: u32::from(random.below(5)),
+        };
+        let mut events: u32 = 0;
+        for line in script.text.as_str().lines() {
+            if is_event(line) {
+                if events == 0 {
+                    changing.draw(&mut random, 0)?;
+                }
+                events = events.saturating_add(1);
+            }
+            changing.text.push_str(line)?;
+            changing.text.push_str("\n")?;
+            if line == "sync" {
+                changing.draw(&mut random, events)?;
+            }
+        }
+        changing.draw(&mut random, events)?;
+        Ok(changing)
+    }
+
+    // Draws changes at a place.
+    fn draw(&mut self, random: &mut Random, place: u32) -> Result<(), AllocError> {
+        if !random.once_in(3) {
+            return Ok(());
+        }
+        for _ in 0..=random.below(5) {
+            self.text.push_str("change\n")?;
+            self.places.push(place)?;
+        }
+        Ok(())
+    }
+}
+
+// Whether a line of a script is that of an event.
+fn is_event(line: &str) -> bool {
+    ["nail ", "seat ", "free ", "M ", "F"]
+        .iter()
+        .any(|word| line.starts_with(*word))
+}
+
+/// A meter as a list of the records that it noted. Its kind is its number among all that are handed in:
+/// call details, a peg count, the holding time, and over again.
+#[derive(Drop)]
+struct PlainMeter {
+    number: u32,
+    records: Vec<CallRecord>,
+}
+
+impl PlainMeter {
+    // Appends what it says, each line behind a word.
+    fn append(&self, word: &str, out: &mut String) -> Result<(), AllocError> {
+        match self.number.checked_rem(3) {
+            Some(0) => {
+                for record in self.records.as_slice() {
+                    out.push_str(word)?;
+                    append_call(out, record)?;
+                }
+            }
+            Some(1) => {
+                let answered = self.records.iter().filter(|record| record.answered).count();
+                write!(out, "{word}peg {} {answered}\n", self.records.len())?;
+            }
+            _ => {
+                let (total, longest) = held_by(self.records.as_slice());
+                write!(out, "{word}holding {total} {longest}\n")?;
+            }
+        }
+        Ok(())
+    }
+}
+
+// How many frames calls held their circuits, together and the longest.
+fn held_by(records: &[CallRecord]) -> (u32, u32) {
+    let (mut total, mut longest): (u32, u32) = (0, 0);
+    for record in records {
+        let held = record.to.saturating_sub(record.from);
+        total = total.saturating_add(held);
+        longest = longest.max(held);
+    }
+    (total, longest)
+}
+
+/// Meters that are on and spare ones, as lists, and what those said that were taken out: each line behind
+/// the number of the events before it.
+#[derive(Drop)]
+pub struct PlainMeters {
+    on: Vec<PlainMeter>,
+    spare: Vec<PlainMeter>,
+    said: String,
+}
+
+impl PlainMeters {
+    /// As many as are handed in.
+    pub fn of(alloc: Global, changing: &Changing) -> Result<PlainMeters, AllocError> {
+        let mut meters = PlainMeters {
+            on: Vec::new(alloc),
+            spare: Vec::new(alloc),
+            said: String::new(alloc),
+        };
+        for number in 0..changing.on {
+            meters.on.push(PlainMeter {
+                number,
+                records: Vec::new(alloc),
+            })?;
+        }
+        for number in 0..changing.spare {
+            meters.spare.push(PlainMeter {
+                number,
+                records: Vec::new(alloc),
+            })?;
+        }
+        Ok(meters)
+    }
+
+    /// Notes records of calls.
+    pub fn note(&mut self, records: &[CallRecord]) -> Result<(), AllocError> {
+        for meter in self.on.iter_mut() {
+            meter.records.extend_from_slice(records)?;
+        }
+        Ok(())
+    }
+
+    /// Makes the changes at a place.
+    pub fn change(&mut self, alloc: Global, places: &[u32], place: u32) -> Result<(), AllocError> {
+        for at in places {
+            if *at == place {
+                self.change_one(alloc, place)?;
+            }
+        }
+        Ok(())
+    }
+
+    fn change_one(&mut self, alloc: Global, place: u32) -> Result<(), AllocError> {
+        if let Some(first) = self.on.first() {
+            let word = format!(in alloc; "{place} ")?;
+            first.append(word.as_str(), &mut self.said)?;
+            drop(self.on.remove(0));
+        }
+        if !self.spare.is_empty() {
+            let next = self.spare.remove(0);
+            self.on.push(next)?;
+        }
+        Ok(())
+    }
+
+    /// What those said that were taken out.
+    pub fn said(&self) -> &str {
+        self.said.as_str()
+    }
+
+    /// Appends what all say that are left: those that are on, and then the spare ones.
+    pub fn append_left(&self, out: &mut String) -> Result<(), AllocError> {
+        for meter in self.on.iter().chain(self.spare.iter()) {
+            meter.append("", out)?;
+        }
+        Ok(())
+    }
+}
+
+/// The lines of events of a report, and the lines of meters in it, each behind the number of the lines
+/// of events before it.
+#[derive(Drop)]
+pub struct Parted {
+    /// The lines of events.
+    pub events: String,
+    /// The lines of meters.
+    pub said: String,
+}
+
+impl Parted {
+    /// The lines of a report.
+    pub fn of(alloc: Global, report: &str) -> Result<Parted, AllocError> {
+        let mut parted = Parted {
+            events: String::new(alloc),
+            said: String::new(alloc),
+        };
+        let mut count: u32 = 0;
+        for line in report.lines() {
+            if line.starts_with(is_digit) {
+                count = count.saturating_add(1);
+                parted.events.push_str(line)?;
+                parted.events.push_str("\n")?;
+            } else {
+                write!(parted.said, "{count} {line}\n")?;
+            }
+        }
+        Ok(parted)
+    }
+}
+
+fn is_digit(first: char) -> bool {
+    first.is_ascii_digit()
+}
