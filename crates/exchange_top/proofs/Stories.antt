@@ -50,7 +50,7 @@ module _ (played : Played) (l : Listing) (s : Setting) where
   steps-append w (n ∷ order) more (e ∷ es) fs same =
       ap (λ (steps : List Step). Event_done (listed l (event_line played s w n e)) (calls_kept (kept_of (reply s w e))) ∷ steps) (steps-append (next s w e) order more es fs (omega (arith, same)))
 
-  -- their records are those of the calls that ended
+  -- they have the records of the calls that ended
   pub steps-records : (w : World) (order : List ℕ) (events : List Event) → length order ≡ length events → records_of (event_steps played l s w order events) ≡ calls_ended (run s w events)
   steps-records w [] [] same = refl
   steps-records w [] (e ∷ events) same = absurd (omega (arith, same))
@@ -88,7 +88,7 @@ module _ (plays : Plays) (l : Listing) (board : Board) (v w : Known) where
     grown_length =
         steps-length (plays (table_of board.trace.tones)) l (setting_at board) (world_at board v.seen) (new_events v w) (events_of board.trace.events (new_events v w)) (events_long board.trace (new_events v w) known)
 
-  -- the story of a longer order begins with that of its beginning
+  -- the story of a longer order begins with the story of its beginning
   module _ (begins : StartsWith w.seen v.seen) (before : All (IsEvent board.trace) (order_of v.seen)) where
     pub story_grown : story plays l board.slots board.trace (order_of w.seen) ≡ story plays l board.slots board.trace (order_of v.seen) ++ with_changes board.trace.changes (length (order_of v.seen)) grown_steps
     story_grown =
@@ -109,7 +109,7 @@ module _ (plays : Plays) (l : Listing) (board : Board) (v w : Known) where
         ∙ (ap (λ (es : List Step). changes_at changes 0 ++ es) (with-append changes 0 done grown_steps ∙ ap (λ (n : ℕ). with_changes changes 0 done ++ with_changes changes n grown_steps) place)
         ∙ sym (append_assoc (changes_at changes 0) (with_changes changes 0 done) (with_changes changes (length (order_of v.seen)) grown_steps)))
 
--- the records of a story are those of the calls that ended
+-- a story has the records of the calls that ended
 pub story_records : (plays : Plays) (l : Listing) (slots : ℕ) (trace : Trace) (order : List ℕ) → All (IsEvent trace) order → records_of (story plays l slots trace order) ≡ calls_told slots trace order
 story_records plays l slots trace order known =
     let s = setting_of slots trace in

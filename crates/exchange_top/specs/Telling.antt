@@ -44,7 +44,7 @@ pub record MeterStory : Type 1 where
 abbrev pub AreLeft : {M : Type 0} → (M → List CallRecord → Type 0) → (M → List CallRecord → List ℕ) → (old spare new new_spare : List M) → List Step → Type 0
 AreLeft stands text old spare new new_spare steps = AreMetered stands text (after_steps steps (handed_in old spare)) new new_spare
 
--- that of meters by what they represent and would say: some that are on and some spare, before the run and behind it
+-- the story of meters by what they represent and would say: some that are on and some spare, before the run and behind it
 abbrev pub meter_story : {M : Type 0} → (M → List CallRecord → Type 0) → (M → List CallRecord → List ℕ) → (old spare new new_spare : List M) → MeterStory
 meter_story stands text old spare new new_spare = record {
   left = AreLeft stands text old spare new new_spare;

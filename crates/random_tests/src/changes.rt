@@ -60,7 +60,7 @@ impl Changing {
     }
 }
 
-// Whether a line of a script is that of an event.
+// Whether a line of a script is of an event.
 fn is_event(line: &str) -> bool {
     ["nail ", "seat ", "free ", "M ", "F"]
         .iter()

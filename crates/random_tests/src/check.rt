@@ -116,7 +116,7 @@ impl Gate for Apart {
 /// order of its report, where that has the events in a lawful order, and says of each what the plain
 /// program says that takes them in that order, from nothing, where on a strict fabric each number of moved
 /// paths is 0, and where the lines of meters in the report, and what the meters say that are left, are
-/// those of plain meters that are changed at the same places.
+/// what plain meters say that are changed at the same places.
 pub fn agreed<S: Setting, G: Gate, R: Threads + Wait + Sync>(
     rt: &R,
     alloc: Global,
