@@ -7,6 +7,7 @@ pub mod ExpiringLemmas
 pub mod NoneDueLemmas
 pub mod ExpirySendLemmas
 pub mod ExpiryAnsweredLemmas
+pub mod ExpirySinceLemmas
 pub mod ExpiredRecordLemmas
 pub mod GivenToneLemmas
 pub mod RestartedSlotLemmas

@@ -15,7 +15,7 @@ ghost use Rattle.q931_codec.specs.declared.message.Message.{Message};
 ghost use Rattle.exchange_events.specs.declared.trace.Event.{Event};
 ghost use Rattle.exchange_events.specs.declared.trace.Event.TheVariants as event;
 ghost use Rattle.circuit_model.specs.FrameInput.{Input};
-ghost use Rattle.call_profile.specs.ExpiryBounds.{SendsFew, RecordsFew, AnsweredStay};
+ghost use Rattle.call_profile.specs.ExpiryBounds.{SendsFew, RecordsFew, AnsweredStay, EachStaysOrBegins};
 ghost use Rattle.call_profile.specs.KeptMessages.{EachBegan, EachIsKept, NoneElseIsKept};
 ghost use Rattle.call_profile.specs.LegStanding.{CallsStand};
 ghost use Rattle.call_states.specs.declared.leg.Held.{Held};
@@ -118,8 +118,10 @@ pub fn law_of_digits()
 
 /// The turn of a frame sends at most two messages for each external line, and records at most one call for
 /// each. So what a step may send, 64 messages, is enough for 32 lines. A leg of an answered call is as it was.
+/// Each other leg is as it was too, or waits anew from the frame after it.
 pub fn law_of_expiries()
     ensures sends { (s : Setting) (w : World) (input : Input) → SendsFew s w input }
     ensures records { (s : Setting) (w : World) (input : Input) → CallsStand s w → RecordsFew s w input }
     ensures answered { (s : Setting) (w : World) (input : Input) → CallsStand s w → AnsweredStay s w input }
+    ensures since { (s : Setting) (w : World) (input : Input) → CallsStand s w → EachStaysOrBegins s w input }
 {}
