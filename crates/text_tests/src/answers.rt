@@ -16,8 +16,8 @@ const TOLD: CallRecord = CallRecord {
     cause: 16,
 };
 
-// A text in which `+` means twenty-eight idle octets.
-fn spelled(alloc: Global, text: &str) -> Result<Vec<u8>, AllocError> {
+/// A text in which `+` means twenty-eight idle octets.
+pub(crate) fn spelled(alloc: Global, text: &str) -> Result<Vec<u8>, AllocError> {
     let mut bytes = Vec::new(alloc);
     for byte in text.bytes() {
         if byte == b'+' {

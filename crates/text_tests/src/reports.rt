@@ -1,0 +1,279 @@
+// Lines of a report and whole reports, read back.
+use crate::answers::spelled;
+use exchange_events::{Answer, Kept};
+use report_reader::{ReportFault, read_report, read_report_line};
+use report_text::append_answer;
+use std::alloc::{AllocError, Global};
+use std::test::Fail;
+
+// How many bytes a report of these tests has at most.
+const LONGEST: usize = 100;
+
+// Lines that spell an answer. In these texts `+` means twenty-eight idle octets.
+const READ: [&str; 17] = [
+    "1 granted 0 62",
+    "1 granted 4294967295 0",
+    "20 busy",
+    "300 seated 7 0",
+    "4000 noport",
+    "50000 freed",
+    "65535 notnailed",
+    "5 message",
+    "5 message moved 62 1",
+    "12 message 31:AB",
+    "3 message moved 0 0 1:080200010F 0:0802800107",
+    "6 message 0:++++",
+    "7 frame 0",
+    "7 frame 4294967295 0:2AD5+ 9:D5+0F 31:FE+BC",
+    "7 frame 3 send 1:AB",
+    "8 frame 0 send 31:080200014D send 9:AB 0:2AD5+ 9:D5+0F",
+    "8 frame 0 send 9:D5D5+ 8:2AD5+",
+];
+
+// Lines that spell none, though each is nearly one that does: by its number, its blanks, its word,
+// what follows the word, its messages, its parts.
+const UNREAD: [&str; 64] = [
+    "0 busy",
+    "01 busy",
+    "65536 busy",
+    "4294967297 busy",
+    "-1 busy",
+    "+1 busy",
+    "busy",
+    "",
+    "1",
+    "1 ",
+    " 1 busy",
+    "1  busy",
+    "1\tbusy",
+    "1 busy ",
+    "1 busy\r",
+    "1 busy\n",
+    "1 Busy",
+    "1 bus",
+    "1 busyy",
+    "1 no port",
+    "1 busy 0",
+    "1 freed 0 0",
+    "1 granted",
+    "1 granted 0",
+    "1 granted 0 ",
+    "1 granted 0 0 ",
+    "1 granted 0 0 0",
+    "1 granted 0  0",
+    "1 granted 00 0",
+    "1 granted 0 4294967296",
+    "1 seated 0,0",
+    "1 message ",
+    "1 message moved",
+    "1 message moved 0",
+    "1 message moved 0 0 moved 0 0",
+    "1 message 1:AB moved 0 0",
+    "1 message 1:",
+    "1 message 1:A",
+    "1 message 1:ABC",
+    "1 message 1:ab",
+    "1 message 1:AG",
+    "1 message 1: AB",
+    "1 message 1 AB",
+    "1 message 1:AB ",
+    "1 message 01:AB",
+    "1 message 32:AB",
+    "1 message 1:++++AB",
+    "1 message send 1:AB",
+    "1 frame",
+    "1 frame ",
+    "1 frame 00",
+    "1 frame 4294967296",
+    "1 frame 0 ",
+    "1 frame 0 moved 0 0",
+    "1 frame 0 send",
+    "1 frame 0 send 1:",
+    "1 frame 0 send 32:AB",
+    "1 frame 0 1:2AD5+ send 1:AB",
+    "1 frame 0 0:2A+",
+    "1 frame 0 0:2AD5D5+",
+    "1 frame 0 0:D5D5+",
+    "1 frame 0 1:2AD5+ 0:2AD5+",
+    "1 frame 0 1:2AD5+ 1:2AD5+",
+    "1 frame 0 32:2AD5+",
+];
+
+// What came of reading a line.
+#[derive(Clone, Copy, PartialEq, Eq)]
+enum Came {
+    // No answer is spelled.
+    Nothing,
+    // An answer is, whose line is this one.
+    Back,
+    // An answer is, whose line is another one.
+    Changed,
+}
+
+fn read_back(alloc: Global, line: &[u8]) -> Result<Came, AllocError> {
+    let Some(answer) = read_report_line(alloc, line)? else {
+        return Ok(Came::Nothing);
+    };
+    let mut printed = Vec::new(alloc);
+    append_answer(&mut printed, &answer)?;
+    if printed.as_slice().strip_suffix(b"\n") == Some(line) {
+        Ok(Came::Back)
+    } else {
+        Ok(Came::Changed)
+    }
+}
+
+fn comes(alloc: Global, text: &str) -> Result<Came, AllocError> {
+    let line = spelled(alloc, text)?;
+    read_back(alloc, line.as_slice())
+}
+
+#[test]
+fn what_spells_an_answer_is_read(rt: HostRuntime) -> Result<(), Fail> {
+    let alloc = rt.alloc();
+    for text in READ {
+        assert!(rt; comes(alloc, text)? == Came::Back, "{text}");
+    }
+    Ok(())
+}
+
+#[test]
+fn what_spells_none_is_not_read(rt: HostRuntime) -> Result<(), Fail> {
+    let alloc = rt.alloc();
+    for text in UNREAD {
+        assert!(rt; comes(alloc, text)? == Came::Nothing, "{text}");
+    }
+    Ok(())
+}
+
+// Whether a line is read as none or as itself, whichever of these octets is in the place of one of its
+// own.
+fn keeps_to_itself(alloc: Global, line: &mut Vec<u8>) -> Result<bool, AllocError> {
+    for place in 0..line.len() {
+        let own = line[place];
+        for octet in *b" 019:AFasm\n" {
+            line[place] = octet;
+            if read_back(alloc, line.as_slice())? == Came::Changed {
+                return Ok(false);
+            }
+        }
+        line[place] = own;
+    }
+    Ok(true)
+}
+
+#[test]
+fn a_line_with_another_octet_is_none_or_itself(rt: HostRuntime) -> Result<(), Fail> {
+    let alloc = rt.alloc();
+    for text in READ {
+        let mut line = spelled(alloc, text)?;
+        assert!(rt; keeps_to_itself(alloc, &mut line)?, "{text}");
+    }
+    Ok(())
+}
+
+// Whether the answer is the second event's, of a message that moved paths, with one message to line 31.
+fn is_sent(answer: &Answer) -> bool {
+    let Kept::Sent {
+        sends,
+        moved,
+        records,
+    } = &answer.reply
+    else {
+        return false;
+    };
+    let [signal] = sends.as_slice() else {
+        return false;
+    };
+    answer.event == 2
+        && *moved == Some((3, 1))
+        && signal.line == 31
+        && signal.octets.as_slice() == b"\x08\xAB".as_slice()
+        && records.as_slice().is_empty()
+        && answer.octets.as_slice().is_empty()
+}
+
+// Whether it is the third event's, of frame 7, in which line 1 alone sends octets other than idle.
+fn is_frame(answer: &Answer) -> bool {
+    let Kept::Frame {
+        number,
+        sends,
+        records,
+    } = &answer.reply
+    else {
+        return false;
+    };
+    let [first, second] = answer.octets.as_slice() else {
+        return false;
+    };
+    answer.event == 3
+        && *number == 7
+        && sends.as_slice().len() == 1
+        && records.as_slice().is_empty()
+        && first.iter().all(|octet| *octet == 0xD5)
+        && second[0] == 0x2A
+        && second[1..].iter().all(|octet| *octet == 0xD5)
+}
+
+fn reads_a_message(alloc: Global, text: &str) -> Result<bool, AllocError> {
+    let line = spelled(alloc, text)?;
+    let Some(answer) = read_report_line(alloc, line.as_slice())? else {
+        return Ok(false);
+    };
+    Ok(is_sent(&answer))
+}
+
+fn reads_a_frame(alloc: Global, text: &str) -> Result<bool, AllocError> {
+    let line = spelled(alloc, text)?;
+    let Some(answer) = read_report_line(alloc, line.as_slice())? else {
+        return Ok(false);
+    };
+    Ok(is_frame(&answer))
+}
+
+#[test]
+fn an_answer_has_what_its_line_tells(rt: HostRuntime) -> Result<(), Fail> {
+    let alloc = rt.alloc();
+    assert!(rt; reads_a_message(alloc, "2 message moved 3 1 31:08AB")?);
+    assert!(rt; reads_a_frame(alloc, "3 frame 7 send 0:08 1:2AD5+")?);
+    Ok(())
+}
+
+// What is read of a report: how many answers it has, or the first line that is faulty.
+#[derive(Clone, Copy, Debug, PartialEq, Eq)]
+enum Reading {
+    Answers(usize),
+    Faulty(u32),
+}
+
+fn read_whole(alloc: Global, report: &[u8]) -> Result<Option<Reading>, AllocError> {
+    if report.len() > LONGEST {
+        return Ok(None);
+    }
+    match read_report(alloc, report) {
+        Ok(answers) => Ok(Some(Reading::Answers(answers.len()))),
+        Err(ReportFault::Line(number)) => Ok(Some(Reading::Faulty(number))),
+        Err(ReportFault::Memory) => Err(AllocError),
+    }
+}
+
+#[test]
+fn a_report_is_read_or_has_a_first_faulty_line(rt: HostRuntime) -> Result<(), Fail> {
+    let alloc = rt.alloc();
+    for (report, wanted) in [
+        (b"".as_slice(), Reading::Answers(0)),
+        (b"1 busy\n".as_slice(), Reading::Answers(1)),
+        (b"2 busy\n1 busy\n2 freed\n".as_slice(), Reading::Answers(3)),
+        (b"1 busy\n2 freed".as_slice(), Reading::Faulty(2)),
+        (b"1 busy\n2 freed\n\n".as_slice(), Reading::Faulty(3)),
+        (b"1 busy\n\n2 freed\n".as_slice(), Reading::Faulty(2)),
+        (b"1 busy \n2 freed\n".as_slice(), Reading::Faulty(1)),
+        (b"1 busy\r\n2 freed\r\n".as_slice(), Reading::Faulty(1)),
+        (b"1 busy\n2 fred\n0 busy\n".as_slice(), Reading::Faulty(2)),
+        (b"\n".as_slice(), Reading::Faulty(1)),
+        (b"1 busy".as_slice(), Reading::Faulty(1)),
+    ] {
+        assert_eq!(rt; read_whole(alloc, report)?, Some(wanted));
+    }
+    Ok(())
+}
