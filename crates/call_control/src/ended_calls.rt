@@ -1,21 +1,19 @@
 //! The record of a call that begins to be cleared.
-ghost use Rattle.std.specs.Prelude.{◌≡◌, IfSome, Some};
-ghost use Rattle.circuit_model.specs.Circuits.{since_of};
+ghost use Rattle.std.specs.Prelude.{◌≡◌, IfSome};
 ghost use Rattle.circuit_model.specs.Extent.{IsExternal};
-ghost use Rattle.call_states.specs.Acts.{cause_of_act};
 ghost use Rattle.call_profile.specs.Acts.{peer_of};
-ghost use Rattle.call_profile.specs.CallRecords.{is_calling, party_of, conversation_begin};
+ghost use Rattle.call_profile.specs.CallRecords.{conversation_begin};
 ghost use Rattle.call_profile.specs.EndedCalls.{record_calling, record_ended, record_of_act};
 ghost use Rattle.call_control.specs.Standing.{Holds};
 ghost use Rattle.exchange_events.specs.Sizes.{Dimensions};
 ghost use Rattle.call_profile.specs.World.{World};
 
 use crate::operations::CallControl;
-use call_states::{Act, Held, Leg, Peer, Side};
-use circuit_model::Circuit;
+use call_profile::{is_calling, party_of, since_of};
+use call_states::{Act, Held, Side, cause_of_act};
 use control_memory::PathMap;
-use exchange_events::{CallRecord, Party};
-use q931_codec::states::{ACTIVE, CALL_DELIVERED, OUTGOING_CALL_PROCEEDING};
+use exchange_events::CallRecord;
+use q931_codec::states::ACTIVE;
 
 impl<P: PathMap> CallControl<P> {
     /// The record of the call that an act on a leg begins to clear, which is the leg's call.
@@ -79,50 +77,8 @@ impl<P: PathMap> CallControl<P> {
             return self.map.next_frame();
         }
         match self.map.hears(caller.slot) {
-            Some(circuit) => since(circuit),
+            Some(circuit) => since_of(circuit),
             None => self.map.next_frame(),
         }
-    }
-}
-
-// The first frame that a circuit exists in.
-fn since(circuit: Circuit) -> u32
-    ensures { result ≡ since_of circuit }
-{
-    match circuit {
-        Circuit::Pair { since, .. } | Circuit::Member { since, .. } | Circuit::Tone { since, .. } =>
-            since,
-    }
-}
-
-// Whether the leg is a caller's, of a call whose clearing hasn't begun.
-fn is_calling(leg: &Leg) -> bool
-    ensures { result ≡ is_calling (Some leg.now) }
-{
-    let is_up = matches!(
-        leg.state,
-        OUTGOING_CALL_PROCEEDING | CALL_DELIVERED | ACTIVE
-    );
-    leg.side == Side::Caller && is_up
-}
-
-// Whom a caller called.
-fn party_of(peer: Peer) -> Option<Party>
-    ensures { result ≡ party_of peer }
-{
-    match peer {
-        Peer::Alone => None,
-        Peer::Leg(slot) => Some(Party::Line(slot)),
-        Peer::Room(room) => Some(Party::Room(room)),
-    }
-}
-
-// The cause that an act has.
-fn cause_of_act(act: Act) -> Option<u8>
-    ensures { result ≡ cause_of_act act }
-{
-    match act {
-        Act::Disconnect(cause) | Act::Release(cause) | Act::ReleaseComplete(cause) => Some(cause),
-        _ => None,
     }
 }

@@ -12,7 +12,7 @@ ghost use Rattle.call_profile.specs.Acts.{message_to, peer_of};
 ghost use Rattle.call_profile.specs.EndedCalls.{record_ended, record_of_expiry, expired_records};
 ghost use Rattle.call_profile.specs.Expiring.{timed_state, send_again, give_up, ask_for_release, setup_over, proceeding_over, on_expiry, outcome_of_lines};
 ghost use Rattle.call_profile.specs.KeptMessages.{awaiting_answer};
-ghost use Rattle.call_profile.specs.Legs.{kept_at, resent_from};
+ghost use Rattle.call_profile.specs.Legs.{kept_at};
 ghost use Rattle.call_profile.specs.Peers.{IsThere, PeerIsThere};
 ghost use Rattle.call_profile.specs.World.{World};
 ghost use Rattle.call_control.specs.AtWork.{IsInOrder, EachInOrder};
@@ -21,6 +21,7 @@ ghost use Rattle.call_control.specs.Standing.{Expires, Holds, HasMade, Performs}
 use crate::acts::in_release_request;
 use crate::operations::CallControl;
 use crate::sending::{message_to, record_also, send};
+use call_profile::resent_from;
 use call_states::{Held, Leg};
 use call_timers::{Expiry, Timers, due};
 use circuit_model::{PLACES, Slot};
@@ -251,16 +252,5 @@ fn with_cause(leg: &Leg, kind: MessageKind, cause: u8) -> Outgoing<'static>
     Outgoing {
         cause: Some(cause),
         ..message_to(leg, kind)
-    }
-}
-
-// A leg that waits in its state anew from this frame on, since what it got was sent again.
-fn resent_from(next: u32, leg: Leg) -> Leg
-    ensures { result ≡ resent_from next leg }
-{
-    Leg {
-        since: next,
-        resent: true,
-        ..leg
     }
 }

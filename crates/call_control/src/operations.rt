@@ -19,6 +19,7 @@ ghost use Rattle.exchange_events.specs.Sizes.{Dimensions};
 ghost use Rattle.call_profile.specs.World.{World, obey};
 
 use crate::sending::copy_of;
+use call_profile::from_frame;
 use call_states::{Leg, Pending};
 use circuit_map::CircuitMap;
 use circuit_model::{Kind, Slot};
@@ -169,16 +170,5 @@ impl<P: PathMap> CallControl<P> {
         ensures map { self.new.map ≡ self.old.map }
     {
         self.legs.remove(x);
-    }
-}
-
-// A leg that waits in its state from this frame on.
-fn from_frame(next: u32, leg: Leg) -> Leg
-    ensures { result ≡ from_frame next leg }
-{
-    Leg {
-        since: next,
-        resent: false,
-        ..leg
     }
 }

@@ -1,5 +1,5 @@
 -- What a frame does with a leg lets it wait anew from the next frame on.
-use Rattle.std.proofs.Common.{◌≡◌, ℕ, ◌*◌, ◌⊎◌, inl, inr, List, [], ◌∷◌, length, Option, Some, None, refl, sym, ◌∙◌, ap, subst, arith, length-set}
+use Rattle.std.proofs.Common.{◌≡◌, ℕ, ◌*◌, ◌≤◌, ◌⊎◌, inl, inr, List, [], ◌∷◌, length, Option, Some, None, refl, sym, ◌∙◌, ap, subst, length-set}
 use Rattle.std.specs.Prelude.{IfSome}
 use Rattle.circuit_model.specs.declared.channel.Slot.{Slot}
 use Rattle.circuit_model.specs.Extent.{IsExternal}
@@ -60,13 +60,13 @@ module _ (d : Dimensions) (tones : Tones) (plan : List Number) (before : Legs) (
   performed_all m [] may fine = fine
   performed_all m (o ∷ os) may fine = performed_all (making_after d m o) os may.1 (performed m o may.0 fine)
 
-pub stays_or_begins : (s : Setting) (frame : ℕ) (w : World) → Kept s.dimensions s.tones w → (z : Slot) → IsExternal s.dimensions.external z
-    → StaysOrBegins w.holding.next w.legs (outcome_of_lines s frame w s.dimensions.external).making.world.legs z
-stays_or_begins s frame w kept z in_z =
+pub began_by : (s : Setting) (frame : ℕ) (w : World) → Kept s.dimensions s.tones w → (z : Slot) → IsExternal s.dimensions.external z → (lines : ℕ) → lines ≤ s.dimensions.external
+    → StaysOrBegins w.holding.next w.legs (outcome_of_lines s frame w lines).making.world.legs z
+began_by s frame w kept z in_z lines few =
     let next : ℕ = w.holding.next in
     (each_line s frame w (λ a. Fine s.dimensions s.tones s.plan w.legs next z in_z a.making.world × Kept s.dimensions s.tones a.making.world) ((refl, kept.1.count, inl refl), kept) (λ a line small k.
     let x : Slot = slot_looked_at frame line in
     let within = place_within s.dimensions.external frame line small in (
       performed_all s.dimensions s.tones s.plan w.legs next z in_z a.making (expire_slot s frame a.making.world.legs x) (slot_may s frame a.making x k.1 within s.plan) k.0,
       slot_fine s frame a.making x k.1 within,
-    )) s.dimensions.external (omega arith)).0.2
+    )) lines few).0.2

@@ -25,7 +25,7 @@ last_entry [] x missing = refl
 last_entry (y ∷ xs) x missing = last_entry xs x missing
 
 -- circuits and ports match, as the next frame will have them
-made_matched : (d : Dimensions) (tones : Tones) (w : World) → IsMade d tones w → Matched d.bridges w.holding.circuits w.ports
+pub made_matched : (d : Dimensions) (tones : Tones) (w : World) → IsMade d tones w → Matched d.bridges w.holding.circuits w.ports
 made_matched d tones w made =
     let later = made_pass d tones w made [] in
     let f = length w.held in

@@ -170,7 +170,7 @@ made_performed d tones plan m (op.Repeat h octets) may made = made_legs d tones 
 made_performed d tones plan m (op.Remove x) may made = made_legs d tones m.world made (without_leg m.world.legs x)
 made_performed d tones plan m (op.Send line message) may made = made
 
-made_performed_all : (d : Dimensions) (tones : Tones) (plan : List Number) (m : Making) (os : List Operation) → ArePermitted d tones plan m os → IsMade d tones m.world → IsMade d tones (making_after_all d m os).world
+pub made_performed_all : (d : Dimensions) (tones : Tones) (plan : List Number) (m : Making) (os : List Operation) → ArePermitted d tones plan m os → IsMade d tones m.world → IsMade d tones (making_after_all d m os).world
 made_performed_all d tones plan m [] may made = made
 made_performed_all d tones plan m (o ∷ os) may made = made_performed_all d tones plan (making_after d m o) os may.1 (made_performed d tones plan m o may.0 made)
 

@@ -1,11 +1,10 @@
 -- Each leg waits in its state since a frame, and what is kept is kept where a leg waits for the answer.
-use Rattle.std.proofs.Common.{◌≡◌, ◌≢◌, ℕ, zero, suc, ◌*◌, ◌≤◌, inl, inr, true, false, List, Option, Some, None, refl, sym, ◌∙◌, subst, arith, get_or, length-set, get_or-set_same, get_or-set_other}
-use Rattle.std.specs.Prelude.{replicate, slice_set, IfSome}
+use Rattle.std.proofs.Common.{◌≡◌, ◌≢◌, ℕ, ◌*◌, ◌≤◌, inl, inr, true, false, List, Option, Some, None, refl, sym, ◌∙◌, subst, arith, length-set}
+use Rattle.std.specs.Prelude.{IfSome}
 use Rattle.std.proofs.lemmas.List.{length-replicate}
 use Rattle.circuit_model.specs.declared.channel.Slot.{Slot}
 use Rattle.circuit_model.specs.Extent.{IsExternal}
 use Rattle.control_memory.specs.Layout.{number_of}
-use Rattle.control_memory.proofs.Steps.{same_number, number_inside}
 use Rattle.q931_codec.specs.declared.kind.MessageKind.{MessageKind}
 use Rattle.q931_codec.specs.declared.kind.MessageKind.TheVariants as kind
 use Rattle.q931_codec.specs.CallStates.{overlap_sending}
@@ -19,6 +18,7 @@ use Rattle.call_profile.specs.LegStanding.{CallsStand}
 use Rattle.call_profile.specs.World.{World}
 use Rattle.exchange_events.specs.Sizes.{Setting}
 use Rattle.call_profile.proofs.BesideLemmas.{same_or_apart}
+use Rattle.call_profile.proofs.EntryLemmas.{written, leg_here, kept_here, leg_else, kept_else, none_in}
 
 -- ---- the states
 
@@ -61,33 +61,27 @@ kept_there external next legs x leg octets wait in_x at keeps =
 -- ---- one entry written
 
 module _ (external next : ℕ) (legs : Legs) (x : Slot) (wait : LegsWait external next legs) (in_x : IsExternal external x) (o : Option Leg) (p : Option Pending) (k : Option (List ℕ)) where
-  abbrev written : Legs
-  written = record { held = slice_set legs.held (number_of x) o; pending = slice_set legs.pending (number_of x) p; kept = slice_set legs.kept (number_of x) k }
+  abbrev now : Legs
+  now = written legs x o p k
 
-  leg_here : leg_at written x ≡ o
-  leg_here = get_or-set_same legs.held (number_of x) o None (let n = number_inside external x in_x in let size = wait.legs_count in omega (arith, n, size))
-
-  kept_here : kept_at written x ≡ k
-  kept_here = get_or-set_same legs.kept (number_of x) k None (let n = number_inside external x in_x in let size = wait.count in omega (arith, n, size))
-
-  other_number : (z : Slot) → IsExternal external z → (z ≡ x → ⊥) → number_of z ≡ number_of x → ⊥
-  other_number z in_z apart e = apart (same_number z x in_z.1 in_x.1 e)
-
-  pub written_wait : IfSome o (λ leg. leg.since ≤ next) → MayKeep o k → LegsWait external next written
-  written_wait since may = record {
-    legs_count = length-set legs.held (number_of x) o ∙ wait.legs_count;
-    count = length-set legs.kept (number_of x) k ∙ wait.count;
-    since = λ z in_z. elim (same_or_apart z x) [
-      | inl same ↦ subst (λ (y : Slot). IfSome (leg_at written y) (λ leg. leg.since ≤ next)) (sym same) (subst (λ (q : Option Leg). IfSome q (λ leg. leg.since ≤ next)) (sym leg_here) since)
-      | inr apart ↦ subst (λ (q : Option Leg). IfSome q (λ leg. leg.since ≤ next)) (sym (get_or-set_other legs.held (number_of x) (number_of z) o None (other_number z in_z apart))) (wait.since z in_z)
-    ];
-    each = λ z in_z. elim (same_or_apart z x) [
-      | inl same ↦ subst (λ (y : Slot). MayKeep (leg_at written y) (kept_at written y)) (sym same) (subst (λ (q : Option Leg). MayKeep q (kept_at written x)) (sym leg_here) (subst (MayKeep o) (sym kept_here) may))
-      | inr apart ↦
-          subst (λ (q : Option Leg). MayKeep q (kept_at written z)) (sym (get_or-set_other legs.held (number_of x) (number_of z) o None (other_number z in_z apart)))
-          (subst (MayKeep (leg_at legs z)) (sym (get_or-set_other legs.kept (number_of x) (number_of z) k None (other_number z in_z apart))) (wait.each z in_z))
-    ];
-  }
+  pub written_wait : IfSome o (λ leg. leg.since ≤ next) → MayKeep o k → LegsWait external next now
+  written_wait since may =
+      let here = leg_here external legs x in_x o p k wait.legs_count in
+      let keeps = kept_here external legs x in_x o p k wait.count in
+      record {
+        legs_count = length-set legs.held (number_of x) o ∙ wait.legs_count;
+        count = length-set legs.kept (number_of x) k ∙ wait.count;
+        since = λ z in_z. elim (same_or_apart z x) [
+          | inl same ↦ subst (λ (y : Slot). IfSome (leg_at now y) (λ leg. leg.since ≤ next)) (sym same) (subst (λ (q : Option Leg). IfSome q (λ leg. leg.since ≤ next)) (sym here) since)
+          | inr apart ↦ subst (λ (q : Option Leg). IfSome q (λ leg. leg.since ≤ next)) (sym (leg_else external legs x in_x o p k z in_z apart)) (wait.since z in_z)
+        ];
+        each = λ z in_z. elim (same_or_apart z x) [
+          | inl same ↦ subst (λ (y : Slot). MayKeep (leg_at now y) (kept_at now y)) (sym same) (subst (λ (q : Option Leg). MayKeep q (kept_at now x)) (sym here) (subst (MayKeep o) (sym keeps) may))
+          | inr apart ↦
+              subst (λ (q : Option Leg). MayKeep q (kept_at now z)) (sym (leg_else external legs x in_x o p k z in_z apart))
+              (subst (MayKeep (leg_at legs z)) (sym (kept_else external legs x in_x o p k z in_z apart)) (wait.each z in_z))
+        ];
+      }
 
 -- ---- later frames
 
@@ -104,14 +98,6 @@ wait_on external next more legs later wait = record {
 }
 
 -- ---- before the first event
-
-abbrev bare : (X : Type 0) → ℕ → List (Option X)
-bare X n = replicate n None
-
-none_in : (X : Type 0) (n i : ℕ) → get_or (bare X n) i None ≡ None
-none_in X zero i = refl
-none_in X (suc n) zero = refl
-none_in X (suc n) (suc i) = none_in X n i
 
 pub none_wait : (external next : ℕ) → LegsWait external next (no_legs external)
 none_wait external next = record {

@@ -6,8 +6,9 @@ pub mod BothDisconnectedLemmas
 pub mod ExpiringLemmas
 pub mod NoneDueLemmas
 pub mod ExpirySendLemmas
-pub mod ExpiryAnsweredLemmas
 pub mod ExpirySinceLemmas
+pub mod ExpiryChangeLemmas
+pub mod ExpiryCircuitLemmas
 pub mod ExpiredRecordLemmas
 pub mod GivenToneLemmas
 pub mod RestartedSlotLemmas
@@ -31,8 +32,12 @@ pub mod NewCallLemmas
 pub mod SetupLemmas
 pub mod AcceptedSetupLemmas
 pub mod OctetLemmas
+pub mod EntryLemmas
 pub mod KeptMessageLemmas
 pub mod PendingNumberLemmas
+pub mod ReleaseToneLemmas
+pub mod ReleaseEventLemmas
+pub mod ReleaseRunLemmas
 pub mod WaitingLegLemmas
 pub mod StandingLegLemmas
 pub mod EndedCallLemmas

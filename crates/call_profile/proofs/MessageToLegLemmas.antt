@@ -1,5 +1,5 @@
 -- A message to a leg keeps the legs consistent.
-use Rattle.std.proofs.Common.{◌≡◌, ℕ, ◌<◌, Bool, true, false, List, [], ◌∷◌, Some, None, refl, sym, subst, arith, eqb-true, if◌then◌else◌}
+use Rattle.std.proofs.Common.{◌≡◌, ◌≢◌, ℕ, ◌<◌, Bool, true, false, List, [], ◌∷◌, Some, None, refl, sym, subst, arith, eqb-true, if◌then◌else◌}
 use Rattle.std.specs.Prelude.{◌==◌}
 use Rattle.std.proofs.lemmas.Grind.{common_steps}
 use Rattle.circuit_model.specs.declared.channel.Slot.{Slot}
@@ -46,7 +46,7 @@ Asked state act.Proceeding = is_among (call_present ∷ []) state ≡ true
 Asked state act.Alerting = is_among (call_present ∷ incoming_call_proceeding ∷ []) state ≡ true
 Asked state act.Answer = is_among ringing state ≡ true
 Asked state act.Digits = (state == overlap_sending) ≡ true
-Asked state (act.Disconnect cause) = cause < 128
+Asked state (act.Disconnect cause) = (cause < 128) × (state ≢ release_request)
 Asked state (act.Release cause) = cause < 128
 Asked state (act.ReleaseComplete cause) = cause < 128
 
@@ -62,6 +62,9 @@ dialled : (b : Bool) (state : ℕ) (a : Act) → (state == overlap_sending) ≡ 
 dialled true state a is p = is
 dialled false state a is p = p
 
+not_released : (state : ℕ) → is_among before_release_request state ≡ true → state ≢ release_request
+not_released state among is = grind (arith, common_steps, among, is)
+
 pub asked : (state : ℕ) (k : MessageKind) (cause : ℕ) (tells_null : Bool) → cause < 128 → Asked state (act_of state k cause tells_null)
 asked state kind.CallProceeding cause tells_null small = expected (is_among (call_present ∷ []) state) state act.Proceeding (λ among. among)
 asked state kind.Alerting cause tells_null small = expected (is_among (call_present ∷ incoming_call_proceeding ∷ []) state) state act.Alerting (λ among. among)
@@ -72,7 +75,7 @@ asked state kind.Notify cause tells_null small = expected (is_among every_state 
 asked state kind.Facility cause tells_null small = expected (is_among every_state state) state act.Nothing (λ among. tt)
 asked state kind.UserInformation cause tells_null small = expected (is_among every_state state) state act.Nothing (λ among. tt)
 asked state kind.Setup cause tells_null small = expected (is_among every_state state) state act.Nothing (λ among. tt)
-asked state kind.Disconnect cause tells_null small = expected (is_among before_release_request state) state (act.Disconnect cause) (λ among. small)
+asked state kind.Disconnect cause tells_null small = expected (is_among before_release_request state) state (act.Disconnect cause) (λ among. (small, not_released state among))
 asked state kind.Release cause tells_null small =
     either (state == release_request) state (act.ReleaseComplete cause) (expected_in before_release_request state (act.Release cause)) small (expected (is_among before_release_request state) state (act.Release cause) (λ among. small))
 asked state kind.ReleaseComplete cause tells_null small = expected (is_among every_state state) state (act.ReleaseComplete cause) (λ among. small)
@@ -138,7 +141,7 @@ module _ (s : Setting) (w : World) (h : Held) (planned : IsPlanned s) (stands : 
       ringing_kept rings (on_alerting s.tones h) (λ y other peers call. alerting_kept s.dimensions s.tones w h.slot y h.leg other valid stand peers call (silent rings) asks)
   act_kept m act.Answer asks = ringing_kept asks (on_connect h) (λ y other peers call. answer_kept s.dimensions s.tones w h.slot y h.leg other valid stand peers call (silent asks))
   act_kept m act.Digits asks = digits_kept s w h m planned stands within at (eqb-true h.leg.state overlap_sending asks)
-  act_kept m (act.Disconnect cause) asks = disconnect_kept s w h m cause asks valid stand within at
+  act_kept m (act.Disconnect cause) asks = disconnect_kept s w h m cause asks.0 valid stand within at
   act_kept m (act.Release cause) asks = released_kept s w h m cause asks valid stand within at
   act_kept m (act.ReleaseComplete cause) asks = gone_kept s w h m cause asks valid stand within at
 

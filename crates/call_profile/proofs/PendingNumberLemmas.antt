@@ -1,12 +1,11 @@
 -- Every event keeps a number pending exactly where a leg is in overlap sending, and a message kept exactly where a leg waits for the answer.
-use Rattle.std.proofs.Common.{◌≡◌, ℕ, zero, suc, ◌*◌, inl, inr, Bool, true, false, List, [], ◌∷◌, Option, Some, None, refl, sym, ◌∙◌, subst, arith, get_or, length-set, get_or-set_same, get_or-set_other, if◌then◌else◌}
-use Rattle.std.specs.Prelude.{◌≤◌, IfSome, replicate, slice_set}
+use Rattle.std.proofs.Common.{◌≡◌, ℕ, ◌*◌, inl, inr, Bool, true, false, List, [], ◌∷◌, Option, Some, None, refl, sym, ◌∙◌, subst, arith, length-set, if◌then◌else◌}
+use Rattle.std.specs.Prelude.{◌≤◌, IfSome, slice_set}
 use Rattle.std.proofs.lemmas.List.{length-replicate}
 use Rattle.circuit_model.specs.declared.channel.Slot.{Slot}
 use Rattle.circuit_model.specs.FrameInput.{Input}
 use Rattle.circuit_model.specs.Extent.{IsExternal}
 use Rattle.control_memory.specs.Layout.{number_of}
-use Rattle.control_memory.proofs.Steps.{same_number, number_inside}
 use Rattle.number_plan.specs.declared.plan.Number.{Number}
 use Rattle.q931_codec.specs.Outgoing.{encoding}
 use Rattle.call_states.specs.Acts.{act_on}
@@ -33,6 +32,7 @@ use Rattle.call_profile.specs.KeptMessages.{MayKeep, LegsWait}
 use Rattle.call_profile.specs.Waiting.{IsWaiting, MayWait, NumbersPend}
 use Rattle.call_profile.specs.World.{World, pass}
 use Rattle.call_profile.proofs.BesideLemmas.{same_or_apart}
+use Rattle.call_profile.proofs.EntryLemmas.{written, leg_here, pending_here, leg_else, pending_else, none_in}
 use Rattle.call_profile.proofs.ClearingLemmas.{Kept}
 use Rattle.call_profile.proofs.CommandLemmas.{pass_kept}
 use Rattle.call_profile.proofs.ExpiringLemmas.{slot_may, slot_fine, each_line, place_within}
@@ -46,25 +46,20 @@ use Rattle.call_profile.proofs.RestartedSlotLemmas.{each_below}
 -- ---- one entry written
 
 module _ (external : ℕ) (plan : List Number) (legs : Legs) (x : Slot) (pend : NumbersPend external plan legs) (in_x : IsExternal external x) (o : Option Leg) (p : Option Pending) (k : Option (List ℕ)) where
-  abbrev written : Legs
-  written = record { held = slice_set legs.held (number_of x) o; pending = slice_set legs.pending (number_of x) p; kept = slice_set legs.kept (number_of x) k }
+  abbrev now : Legs
+  now = written legs x o p k
 
-  leg_here : leg_at written x ≡ o
-  leg_here = get_or-set_same legs.held (number_of x) o None (let n = number_inside external x in_x in let size = pend.legs_count in omega (arith, n, size))
-
-  pending_here : pending_at written x ≡ p
-  pending_here = get_or-set_same legs.pending (number_of x) p None (let n = number_inside external x in_x in let size = pend.count in omega (arith, n, size))
-
-  written_pend : MayWait plan o p → NumbersPend external plan written
+  written_pend : MayWait plan o p → NumbersPend external plan now
   written_pend may = record {
     legs_count = length-set legs.held (number_of x) o ∙ pend.legs_count;
     count = length-set legs.pending (number_of x) p ∙ pend.count;
     each = λ z in_z. elim (same_or_apart z x) [
-      | inl same ↦ subst (λ (y : Slot). MayWait plan (leg_at written y) (pending_at written y)) (sym same) (subst (λ (q : Option Leg). MayWait plan q (pending_at written x)) (sym leg_here) (subst (MayWait plan o) (sym pending_here) may))
+      | inl same ↦
+          subst (λ (y : Slot). MayWait plan (leg_at now y) (pending_at now y)) (sym same)
+          (subst (λ (q : Option Leg). MayWait plan q (pending_at now x)) (sym (leg_here external legs x in_x o p k pend.legs_count)) (subst (MayWait plan o) (sym (pending_here external legs x in_x o p k pend.count)) may))
       | inr apart ↦
-          let other : number_of z ≡ number_of x → ⊥ = λ e. apart (same_number z x in_z.1 in_x.1 e) in
-          subst (λ (q : Option Leg). MayWait plan q (pending_at written z)) (sym (get_or-set_other legs.held (number_of x) (number_of z) o None other))
-          (subst (MayWait plan (leg_at legs z)) (sym (get_or-set_other legs.pending (number_of x) (number_of z) p None other)) (pend.each z in_z))
+          subst (λ (q : Option Leg). MayWait plan q (pending_at now z)) (sym (leg_else external legs x in_x o p k z in_z apart))
+          (subst (MayWait plan (leg_at legs z)) (sym (pending_else external legs x in_x o p k z in_z apart)) (pend.each z in_z))
     ];
   }
 
@@ -158,14 +153,6 @@ entries_stand s w (Message line octets) planned fits stands = received s w line 
 entries_stand s w (Frame input) planned fits stands = turn_stands s w input stands
 
 -- ---- before the first event
-
-abbrev bare : (X : Type 0) → ℕ → List (Option X)
-bare X n = replicate n None
-
-none_in : (X : Type 0) (n i : ℕ) → get_or (bare X n) i None ≡ None
-none_in X zero i = refl
-none_in X (suc n) zero = refl
-none_in X (suc n) (suc i) = none_in X n i
 
 pub none_pend : (external : ℕ) (plan : List Number) → NumbersPend external plan (no_legs external)
 none_pend external plan = record {

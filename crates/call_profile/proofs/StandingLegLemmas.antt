@@ -1,6 +1,6 @@
 -- Every event keeps the legs consistent.
-use Rattle.std.proofs.Common.{◌≡◌, ℕ, zero, suc, ◌*◌, ◌<◌, List, [], ◌∷◌, Option, Some, None, refl, sym, ◌∙◌, subst, arith, get_or}
-use Rattle.std.specs.Prelude.{All, replicate}
+use Rattle.std.proofs.Common.{◌≡◌, ℕ, suc, ◌*◌, ◌<◌, List, [], ◌∷◌, Option, Some, None, refl, sym, ◌∙◌, subst, arith}
+use Rattle.std.specs.Prelude.{All}
 use Rattle.std.proofs.lemmas.List.{length-replicate}
 use Rattle.circuit_model.specs.declared.channel.Slot.{Slot}
 use Rattle.circuit_model.specs.FrameInput.{Input}
@@ -30,6 +30,9 @@ use Rattle.call_profile.proofs.RestartLemmas.{below_kept}
 use Rattle.call_profile.proofs.OctetLemmas.{octets_small}
 use Rattle.call_profile.proofs.PendingNumberLemmas.{EntriesStand, none_pend, entries_stand}
 use Rattle.call_profile.proofs.KeptMessageLemmas.{none_wait}
+use Rattle.call_profile.proofs.EntryLemmas.{none_in}
+use Rattle.call_profile.proofs.ReleaseRunLemmas.{event_sounds, none_release}
+use Rattle.call_profile.proofs.ReleaseToneLemmas.{Sounding}
 use Rattle.call_profile.proofs.SetupLemmas.{setup_kept, new_from}
 
 -- a message that is sent changes nothing else
@@ -37,8 +40,8 @@ kept_without : (s : Setting) (w : World) (line : ℕ) (o : Option OutgoingMessag
 kept_without s w line None kept = kept
 kept_without s w line (Some message) kept = kept
 
-kept_stands : (s : Setting) (v : World) → Kept s.dimensions s.tones v → EntriesStand s.dimensions.external s.plan v → CallsStand s v
-kept_stands s v kept entries = record { circuits = kept.0; legs = kept.1; numbers = entries.0; waits = entries.1 }
+kept_stands : (s : Setting) (v : World) → Kept s.dimensions s.tones v → EntriesStand s.dimensions.external s.plan v → Sounding s.dimensions s.tones v → CallsStand s v
+kept_stands s v kept entries sounding = record { circuits = kept.0; legs = kept.1; numbers = entries.0; waits = entries.1; releases = sounding.sound }
 
 module _ (s : Setting) (w : World) (line : ℕ) (octets : List ℕ) (planned : IsPlanned s) (can : Fits s.dimensions.external (Message line octets)) (stands : CallsStand s w) where
   received_kept : (r : Request) → request_of w.legs line octets ≡ r → Kept s.dimensions s.tones (outcome_for s w line r).making.world
@@ -60,27 +63,18 @@ turn_kept s w input stands =
     lines_kept s w.holding.next (pass w input) (pass_kept s w stands.circuits stands.legs input) s.dimensions.external (omega arith)
 
 pub happened_kept : (s : Setting) (w : World) (e : Event) → IsPlanned s → Fits s.dimensions.external e → CallsStand s w → CallsStand s (next s w e)
-happened_kept s w (Nail x y) planned fits stands = kept_stands s (next s w (Nail x y)) (nail_kept s w stands.circuits stands.legs x y fits) (entries_stand s w (Nail x y) planned fits stands)
-happened_kept s w (Seat x room) planned fits stands = kept_stands s (next s w (Seat x room)) (seat_kept s w stands.circuits stands.legs x room fits) (entries_stand s w (Seat x room) planned fits stands)
-happened_kept s w (Free x) planned fits stands = kept_stands s (next s w (Free x)) (free_kept s w stands.circuits stands.legs x fits) (entries_stand s w (Free x) planned fits stands)
+happened_kept s w (Nail x y) planned fits stands = kept_stands s (next s w (Nail x y)) (nail_kept s w stands.circuits stands.legs x y fits) (entries_stand s w (Nail x y) planned fits stands) (event_sounds s w stands (Nail x y) planned fits)
+happened_kept s w (Seat x room) planned fits stands = kept_stands s (next s w (Seat x room)) (seat_kept s w stands.circuits stands.legs x room fits) (entries_stand s w (Seat x room) planned fits stands) (event_sounds s w stands (Seat x room) planned fits)
+happened_kept s w (Free x) planned fits stands = kept_stands s (next s w (Free x)) (free_kept s w stands.circuits stands.legs x fits) (entries_stand s w (Free x) planned fits stands) (event_sounds s w stands (Free x) planned fits)
 happened_kept s w (Message line octets) planned fits stands =
     kept_stands s (next s w (Message line octets)) (received_kept s w line octets planned fits stands (request_of w.legs line octets) refl)
-    (entries_stand s w (Message line octets) planned fits stands)
-happened_kept s w (Frame input) planned fits stands = kept_stands s (next s w (Frame input)) (turn_kept s w input stands) (entries_stand s w (Frame input) planned fits stands)
+    (entries_stand s w (Message line octets) planned fits stands) (event_sounds s w stands (Message line octets) planned fits)
+happened_kept s w (Frame input) planned fits stands = kept_stands s (next s w (Frame input)) (turn_kept s w input stands) (entries_stand s w (Frame input) planned fits stands) (event_sounds s w stands (Frame input) planned fits)
 
 -- ---- whole runs
 
--- a table without legs
-abbrev bare : ℕ → List (Option Leg)
-bare n = replicate n None
-
-none_in : (n i : ℕ) → get_or (bare n) i None ≡ None
-none_in zero i = refl
-none_in (suc n) zero = refl
-none_in (suc n) (suc i) = none_in n i
-
 none_at : (external : ℕ) (x : Slot) (leg : Leg) → leg_at (no_legs external) x ≡ Some leg → ⊥
-none_at external x leg at = let e : None ≡ Some leg = sym (none_in (30 * external) (number_of x)) ∙ at in cc
+none_at external x leg at = let e : None ≡ Some leg = sym (none_in Leg (30 * external) (number_of x)) ∙ at in cc
 
 pub start_stands : (s : Setting) → CallsStand s (start s.dimensions)
 start_stands s = record {
@@ -92,6 +86,7 @@ start_stands s = record {
   };
   numbers = none_pend s.dimensions.external s.plan;
   waits = none_wait s.dimensions.external 0;
+  releases = none_release s.dimensions s.tones;
 }
 
 pub run_stands : (s : Setting) (w : World) (es : List Event) → IsPlanned s → All (Fits s.dimensions.external) es → CallsStand s w → CallsStand s (world_after_all s w es)

@@ -20,6 +20,7 @@ use Rattle.call_profile.specs.Acts.{tone_of}
 use Rattle.call_profile.specs.Legs.{Legs, leg_at}
 use Rattle.exchange_events.specs.Sizes.{Setting}
 use Rattle.call_profile.specs.KeptMessages.{LegsWait}
+use Rattle.call_profile.specs.ReleaseTones.{ReleasesSound}
 use Rattle.call_profile.specs.Waiting.{NumbersPend}
 use Rattle.call_profile.specs.World.{World}
 
@@ -52,8 +53,8 @@ HasPeer external legs x leg peer.Alone = IsTrue (is_among alone leg.state)
 HasPeer external legs x leg (peer.Leg y) = IsExternal external y × ((other : Leg) × (leg_at legs y ≡ Some other) × IsInCall leg.side x leg y other)
 HasPeer external legs x leg (peer.Room room) = (leg.side ≡ Caller) × (leg.state ≡ active)
 
--- a leg has the tone of its state and cause. One that was asked to release its call because its user didn't answer DISCONNECT may keep the
--- tone that it heard
+-- a leg has the tone of its state and cause. One that was asked to release its call because its user didn't answer DISCONNECT keeps the
+-- tone that it heard: which one does so, ReleasesSound says
 abbrev pub MaySound : Tones → Leg → Kind → Type 0
 MaySound tones leg kind = (tone_of tones leg ≡ Some kind) ⊎ ((leg.state ≡ release_request) × (tone_given tones disconnect_indication leg.cause ≡ Some kind))
 
@@ -79,10 +80,11 @@ pub record LegsStand (external : ℕ) (tones : Tones) (w : World) : Type 0 where
   pub one : (x y : Slot) (a b : Leg) → IsExternal external x → IsExternal external y → leg_at w.legs x ≡ Some a → leg_at w.legs y ≡ Some b
       → x.line ≡ y.line → a.side ≡ b.side → a.reference ≡ b.reference → x ≡ y
 
--- each slot is in one state, the legs are consistent, numbers are pending where legs wait for the rest of them, and messages are kept where
--- legs wait for the answer
+-- each slot is in one state, the legs are consistent, numbers are pending where legs wait for the rest of them, messages are kept where
+-- legs wait for the answer, and a kept RELEASE decides what its user hears
 pub record CallsStand (s : Setting) (w : World) : Type 0 where
   pub circuits : Valid s.dimensions.bridges w.holding
   pub legs : LegsStand s.dimensions.external s.tones w
   pub numbers : NumbersPend s.dimensions.external s.plan w.legs
   pub waits : LegsWait s.dimensions.external w.holding.next w.legs
+  pub releases : ReleasesSound s.dimensions.external s.tones w

@@ -14,6 +14,7 @@ pub mod Expiring
 pub mod Calls
 pub mod Waiting
 pub mod KeptMessages
+pub mod ReleaseTones
 pub mod LegStanding
 pub mod Step
 pub mod WorkedCalls

@@ -1,6 +1,7 @@
 //! Laws of calls, and worked calls.
-ghost use Rattle.std.specs.Prelude.{◌≡◌, [], ℕ, List, All, Some, is_some};
+ghost use Rattle.std.specs.Prelude.{◌≡◌, ◌≢◌, [], ℕ, List, All, None, Some, is_some};
 ghost use Rattle.circuit_model.specs.declared.channel.Slot.{Slot};
+ghost use Rattle.q931_codec.specs.Outgoing.{encoding};
 ghost use Rattle.q931_codec.specs.Causes.{no_channel_available, switching_equipment_congestion};
 ghost use Rattle.call_states.specs.Acts.{act_on};
 ghost use Rattle.call_states.specs.declared.act.Act.TheVariants as act;
@@ -15,13 +16,15 @@ ghost use Rattle.q931_codec.specs.declared.message.Message.{Message};
 ghost use Rattle.exchange_events.specs.declared.trace.Event.{Event};
 ghost use Rattle.exchange_events.specs.declared.trace.Event.TheVariants as event;
 ghost use Rattle.circuit_model.specs.FrameInput.{Input};
-ghost use Rattle.call_profile.specs.ExpiryBounds.{SendsFew, RecordsFew, AnsweredStay, EachStaysOrBegins};
+ghost use Rattle.call_profile.specs.ExpiryBounds.{SendsFew, RecordsFew, NoneElseChanges, UntimedStay, ConversationsStay, LayoutStays, PortsStay, EachStaysOrBegins};
+ghost use Rattle.call_profile.specs.IsMade.{IsMade};
 ghost use Rattle.call_profile.specs.KeptMessages.{EachBegan, EachIsKept, NoneElseIsKept};
 ghost use Rattle.call_profile.specs.LegStanding.{CallsStand};
 ghost use Rattle.call_states.specs.declared.leg.Held.{Held};
 ghost use Rattle.exchange_events.specs.Sizes.{Setting};
 ghost use Rattle.exchange_events.specs.Sound.{Fits, IsPlanned};
 ghost use Rattle.call_profile.specs.Refused.{IsRefused, refusal_reply};
+ghost use Rattle.call_profile.specs.ReleaseTones.{release_with, EachReleaseSounds};
 ghost use Rattle.call_profile.specs.Step.{reply, next, world_after_all};
 ghost use Rattle.call_profile.specs.Waiting.{EachWaits, NoneElsePends};
 ghost use Rattle.call_profile.specs.World.{World, start};
@@ -89,7 +92,9 @@ pub fn law_of_answered_calls()
 /// overlap sending is then a caller's and alone, its slot hears nothing, and its number is pending, whose
 /// digits so far are the beginning of a number of the plan; in no other state a number is pending. A leg
 /// waits in its state since a frame that is at most the next one; in call present and in release request,
-/// and in no other state, the octets of its SETUP or RELEASE are kept.
+/// and in no other state, the octets of its SETUP or RELEASE are kept. The kept RELEASE decides what a slot
+/// hears in release request: one with a cause has the cause that the leg was cleared with, and the slot
+/// hears the tone of disconnect indication with this cause, where the trace gives it; else nothing.
 pub fn law_of_legs()
     ensures begins { (s : Setting) → CallsStand s (start s.dimensions) }
     ensures kept { (s : Setting) (w : World) (e : Event) → IsPlanned s → Fits s.dimensions.external e → CallsStand s w
@@ -101,6 +106,8 @@ pub fn law_of_legs()
     ensures since { (s : Setting) (w : World) → CallsStand s w → EachBegan s.dimensions.external w }
     ensures kept_messages { (s : Setting) (w : World) → CallsStand s w → EachIsKept s.dimensions.external w }
     ensures none_kept { (s : Setting) (w : World) → CallsStand s w → NoneElseIsKept s.dimensions.external w }
+    ensures releases { (s : Setting) (w : World) → CallsStand s w → EachReleaseSounds s.dimensions.external s.tones w }
+    ensures told_apart { (leg : Leg) (cause : ℕ) → encoding (release_with leg None) ≢ encoding (release_with leg (Some cause)) }
 {}
 
 /// The slot that a call gets whose number is dialled on is the called line's lowest idle one, as for a SETUP, since a
@@ -117,11 +124,17 @@ pub fn law_of_digits()
 {}
 
 /// The turn of a frame sends at most two messages for each external line, and records at most one call for
-/// each. So what a step may send, 64 messages, is enough for 32 lines. A leg of an answered call is as it was.
-/// Each other leg is as it was too, or waits anew from the frame after it.
+/// each. So what a step may send, 64 messages, is enough for 32 lines. Only a leg whose timer runs out, or the
+/// timer of the other leg of its call, is another afterwards, or gone; what is there then waits anew from the
+/// frame after it. So the legs of a call stay whose called user is alerted or has answered, and each connection, each
+/// seat, each path and each port does.
 pub fn law_of_expiries()
     ensures sends { (s : Setting) (w : World) (input : Input) → SendsFew s w input }
     ensures records { (s : Setting) (w : World) (input : Input) → CallsStand s w → RecordsFew s w input }
-    ensures answered { (s : Setting) (w : World) (input : Input) → CallsStand s w → AnsweredStay s w input }
+    ensures others { (s : Setting) (w : World) (input : Input) → CallsStand s w → NoneElseChanges s w input }
+    ensures untimed { (s : Setting) (w : World) (input : Input) → CallsStand s w → UntimedStay s w input }
+    ensures conversations { (s : Setting) (w : World) (input : Input) → CallsStand s w → ConversationsStay s w input }
+    ensures layout { (s : Setting) (w : World) (input : Input) → CallsStand s w → LayoutStays s w input }
+    ensures ports { (s : Setting) (w : World) (input : Input) → CallsStand s w → IsMade s.dimensions s.tones w → PortsStay s w input }
     ensures since { (s : Setting) (w : World) (input : Input) → CallsStand s w → EachStaysOrBegins s w input }
 {}

@@ -1,8 +1,8 @@
-//! Which leg a message is for.
+//! Which leg a message is for, and from which frame on a leg waits.
 ghost use Rattle.std.specs.Prelude.{◌≡◌};
-ghost use Rattle.call_profile.specs.Legs.{is_for};
+ghost use Rattle.call_profile.specs.Legs.{from_frame, is_for, resent_from};
 
-use call_states::{Held, Side};
+use call_states::{Held, Leg, Side};
 
 /// Whether a message from a user with this call reference flag and value is for a leg (ITU-T Q.931
 /// (05/98), 4.3): the flag says which side chose the value.
@@ -11,4 +11,26 @@ pub fn is_for(flag: bool, reference: u16, held: Held) -> bool
 {
     let side = if flag { Side::Called } else { Side::Caller };
     held.leg.side == side && held.leg.reference == reference
+}
+
+/// A leg that waits in its state from this frame on, as it is put at a slot.
+pub fn from_frame(next: u32, leg: Leg) -> Leg
+    ensures { result ≡ from_frame next leg }
+{
+    Leg {
+        since: next,
+        resent: false,
+        ..leg
+    }
+}
+
+/// A leg that waits in its state anew from this frame on, since what its user got was sent again.
+pub fn resent_from(next: u32, leg: Leg) -> Leg
+    ensures { result ≡ resent_from next leg }
+{
+    Leg {
+        since: next,
+        resent: true,
+        ..leg
+    }
 }

@@ -1,11 +1,15 @@
 //! The rules of calls, as definitions that are read from top to bottom: `Step` says what each event is
 //! answered and makes of the world, `Calls` what a message asks for, `ActCourse`, `Digits`, `Setup` and `Restarts` what
-//! is then done, one operation after another (`Operations`), `Expiring` what a frame does. Except [`is_for`], its functions are laws of these:
+//! is then done, one operation after another (`Operations`), `Expiring` what a frame does. Its functions
+//! are a few that read a leg or a circuit ([`is_for`], [`from_frame`], [`resent_from`], [`is_calling`],
+//! [`party_of`], [`since_of`]), and laws of these definitions:
 //!
-//! - Every event keeps the legs consistent, and a number pending where a leg waits for the rest of it
+//! - Every event keeps the legs consistent, a number pending where a leg waits for the rest of it, and what a
+//!   slot hears decided by its leg's state, or in release request by the RELEASE that is kept
 //!   ([`law_of_legs`]). A refused command changes nothing
 //!   ([`law_of_refusals`]), nor does a refused SETUP ([`law_of_refused_calls`]).
-//! - The turn of a frame, in which timers run out (`Expiring`), sends and records little ([`law_of_expiries`]).
+//! - The turn of a frame, in which timers run out (`Expiring`), sends and records little, and changes no leg
+//!   whose call has no timer that runs out, and no connection ([`law_of_expiries`]).
 //! - A number that is dialled on is refused for lack of a slot or a port alone, and nothing is recorded of it
 //!   ([`law_of_digits`]).
 //! - What is sent does not depend on the layout ([`law_of_paths`]); an answered call and a granted nail get
@@ -24,6 +28,7 @@ mod command_laws;
 mod laws;
 mod leg_laws;
 mod legs;
+mod records;
 mod worked;
 
 pub use call_laws::{
@@ -33,5 +38,6 @@ pub use call_laws::{
 pub use command_laws::{law_of_granted_nails, law_of_refusals};
 pub use laws::{later_frames_change_nothing, worlds_are_made};
 pub use leg_laws::{law_of_progress, law_of_records, law_of_references, law_of_restarts};
-pub use legs::is_for;
+pub use legs::{from_frame, is_for, resent_from};
+pub use records::{is_calling, party_of, since_of};
 pub use worked::{worked_digits, worked_expiries, worked_messages, worked_overlap};

@@ -1,4 +1,6 @@
 //! What the exchange does for a message on a call.
+ghost use Rattle.std.specs.Prelude.{◌≡◌};
+ghost use Rattle.call_states.specs.Acts.{cause_of_act};
 
 /// What the exchange does for a message. The number is a cause value (Q.931, 4.5.12).
 #[derive(Clone, Copy, Debug, PartialEq, Eq)]
@@ -23,4 +25,14 @@ pub enum Act {
     Release(u8),
     /// The user has released the channel and the call reference.
     ReleaseComplete(u8),
+}
+
+/// The cause that an act has: the acts that clear a call have one, no other does.
+pub fn cause_of_act(act: Act) -> Option<u8>
+    ensures { result ≡ cause_of_act act }
+{
+    match act {
+        Act::Disconnect(cause) | Act::Release(cause) | Act::ReleaseComplete(cause) => Some(cause),
+        _ => None,
+    }
 }

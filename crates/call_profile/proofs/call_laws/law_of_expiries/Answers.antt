@@ -1,8 +1,9 @@
 use Rattle.std.proofs.Common.{arith}
 use Rattle.call_profile.specs.World.{pass}
 use Rattle.call_profile.proofs.CommandLemmas.{pass_kept}
-use Rattle.call_profile.proofs.ExpiryAnsweredLemmas.{answered_stay}
-use Rattle.call_profile.proofs.ExpirySinceLemmas.{stays_or_begins}
+use Rattle.call_profile.proofs.ExpiryChangeLemmas.{none_else_changes, untimed_stay}
+use Rattle.call_profile.proofs.ExpiryCircuitLemmas.{conversations_stay, layout_stays, ports_stay}
+use Rattle.call_profile.proofs.ExpirySinceLemmas.{began_by}
 use Rattle.call_profile.proofs.ExpirySendLemmas.{lines_send, lines_record}
 use Rattle.call_profile.proofs.call_laws.law_of_expiries.Goals as goal
 
@@ -13,8 +14,21 @@ pub returns-clause-records : goal.returns-clause-records
 returns-clause-records c s w input stands =
     lines_record s w.holding.next (pass w input) (pass_kept s w stands.circuits stands.legs input) s.dimensions.external (omega arith)
 
-pub returns-clause-answered : goal.returns-clause-answered
-returns-clause-answered c s w input stands = answered_stay s w.holding.next (pass w input) (pass_kept s w stands.circuits stands.legs input)
+pub returns-clause-others : goal.returns-clause-others
+returns-clause-others c s w input stands = none_else_changes s w input stands
+
+pub returns-clause-untimed : goal.returns-clause-untimed
+returns-clause-untimed c s w input stands = untimed_stay s w input stands
+
+pub returns-clause-conversations : goal.returns-clause-conversations
+returns-clause-conversations c s w input stands = conversations_stay s w input stands
+
+pub returns-clause-layout : goal.returns-clause-layout
+returns-clause-layout c s w input stands = layout_stays s w input stands
+
+pub returns-clause-ports : goal.returns-clause-ports
+returns-clause-ports c s w input stands made = ports_stay s w input stands made
 
 pub returns-clause-since : goal.returns-clause-since
-returns-clause-since c s w input stands x in_x = stays_or_begins s w.holding.next (pass w input) (pass_kept s w stands.circuits stands.legs input) x in_x
+returns-clause-since c s w input stands x in_x =
+    began_by s w.holding.next (pass w input) (pass_kept s w stands.circuits stands.legs input) x in_x s.dimensions.external (omega arith)

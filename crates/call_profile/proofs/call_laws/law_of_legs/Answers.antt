@@ -1,3 +1,4 @@
+use Rattle.call_profile.proofs.ReleaseRunLemmas.{each_release_sounds, told_apart}
 use Rattle.call_profile.proofs.KeptMessageLemmas.{each_began, each_is_kept, none_else_is_kept}
 use Rattle.call_profile.proofs.WaitingLegLemmas.{each_waits, none_else}
 use Rattle.call_profile.proofs.StandingLegLemmas.{start_stands, happened_kept, run_stands}
@@ -26,3 +27,9 @@ returns-clause-kept_messages c s w stands = each_is_kept s w stands
 
 pub returns-clause-none_kept : goal.returns-clause-none_kept
 returns-clause-none_kept c s w stands = none_else_is_kept s w stands
+
+pub returns-clause-releases : goal.returns-clause-releases
+returns-clause-releases c s w stands = each_release_sounds s w stands
+
+pub returns-clause-told_apart : goal.returns-clause-told_apart
+returns-clause-told_apart c leg cause = told_apart leg cause
