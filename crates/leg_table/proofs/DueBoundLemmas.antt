@@ -1,6 +1,6 @@
 -- The bounds of a table of legs stay bounds.
-use Rattle.std.proofs.Common.{◌≡◌, ◌≢◌, ℕ, zero, suc, ◌+◌, ◌*◌, ◌<◌, ◌≤◌, ◌⊎◌, inl, inr, List, length, get_or, set, Option, Some, None, refl, sym, ◌∙◌, ap, subst, arith, length-set, eqb-true, eq-eqb, get_or-set_same, get_or-set_other}
-use Rattle.std.specs.Prelude.{Bool, true, false, ◌==◌, ◌&&◌, not, replicate, nat_lt, nat_le, IfSome, slice_index}
+use Rattle.std.proofs.Common.{◌≡◌, ℕ, zero, suc, ◌+◌, ◌*◌, ◌<◌, ◌≤◌, ◌⊎◌, inl, inr, List, length, get_or, set, Option, Some, None, refl, sym, ◌∙◌, ap, subst, arith, length-set, eqb-true, eq-eqb, get_or-set_same, get_or-set_other}
+use Rattle.std.specs.Prelude.{Bool, true, false, ◌==◌, ◌&&◌, not, replicate, nat_lt, nat_le, slice_index}
 use Rattle.call_states.specs.Status.{FitsMessages}
 use Rattle.std.proofs.lemmas.Grind.{common_steps}
 use Rattle.std.proofs.lemmas.Bool.Decides.{nat_tests}
@@ -9,6 +9,8 @@ use Rattle.circuit_model.proofs.Slots.{true_or_false}
 use Rattle.call_profile.proofs.CommandLemmas.{both_true}
 use Rattle.call_states.specs.declared.leg.Leg.{Leg}
 use Rattle.call_timers.specs.declared.timers.Timers.{Timers}
+use Rattle.leg_table.specs.declared.notes.Note.{Note}
+use Rattle.leg_table.specs.KeptNumbers.{IsTable}
 use Rattle.leg_table.specs.DueBounds.{IsNotDue, NoneDue, AreBoundsOf, AreLower}
 use Rattle.leg_table.specs.LegKeys.{AreKeysOf, key_by, leg_on}
 
@@ -117,3 +119,16 @@ early_none timers other legs held bounds place frame bound same view near early 
 pub keys_with : (lines : ℕ) (legs : List (Option Leg)) (keys : List ℕ) (n k line place key : ℕ) (leg : Leg) → AreKeysOf lines legs keys → n ≡ 30 * line + place → k ≡ 32 * line + place → place < 30 → n < length legs
     → FitsMessages leg → key ≡ key_by leg.side leg.reference → AreKeysOf lines (set legs n (Some leg)) (set keys k key)
 keys_with lines legs keys n k line place key leg found at there near inside told is = grind (arith, common_steps)
+
+-- ---- a table, once a leg holds a slot: its keys and bounds, and what is kept
+
+pub table_with : (lines : ℕ) (timers : Timers) (legs : List (Option Leg)) (keys bounds lower : List ℕ) (notes : List Note) (n k line place key first : ℕ) (leg : Leg)
+    → AreKeysOf lines legs keys → AreBoundsOf timers legs bounds → length notes ≡ 30 * lines
+    → n ≡ 30 * line + place → k ≡ 32 * line + place → place < 30 → n < length legs → FitsMessages leg → key ≡ key_by leg.side leg.reference
+    → length lower ≡ length bounds → AreLower bounds lower → slice_index lower place ≤ first → ((frame : ℕ) → frame < first → IsNotDue timers frame (Some leg))
+    → IsTable lines timers (set legs n (Some leg)) (set keys k key) notes lower
+table_with lines timers legs keys bounds lower notes n k line place key first leg found due room at there near inside told is places less low not_due = record {
+  found = keys_with lines legs keys n k line place key leg found at there near inside told is;
+  room = room;
+  due = bounds_with timers legs bounds lower due (places ∙ due.places) less n line place at near inside (Some leg) (λ frame early. not_due frame (omega (arith, early, low)));
+}

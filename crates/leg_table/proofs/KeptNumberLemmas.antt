@@ -1,5 +1,5 @@
 -- What a table of legs shows of the numbers and messages that it keeps.
-use Rattle.std.proofs.Common.{◌≡◌, ◌≢◌, ℕ, true, false, zero, suc, ◌+◌, ◌*◌, ◌<◌, List, [], ◌∷◌, length, get_or, set, Option, Some, None, refl, sym, ◌∙◌, ap, subst, arith, eq-eqb}
+use Rattle.std.proofs.Common.{◌≡◌, ◌≢◌, ℕ, true, false, zero, suc, ◌+◌, ◌*◌, ◌<◌, List, [], ◌∷◌, length, get_or, set, Option, Some, None, refl, sym, ◌∙◌, ap, subst, arith, eq-eqb, inl, inr}
 use Rattle.std.specs.Prelude.{All, IfSome, replicate}
 use Rattle.std.proofs.lemmas.List.{length-replicate}
 use Rattle.std.proofs.lemmas.Bool.{ne_eqb}
@@ -7,6 +7,7 @@ use Rattle.q931_codec.specs.CallStates.{overlap_sending}
 use Rattle.call_states.specs.declared.leg.Leg.{Leg}
 use Rattle.call_states.specs.declared.pending.Pending.{Pending}
 use Rattle.circuit_model.specs.declared.channel.Slot.{Slot}
+use Rattle.circuit_model.proofs.Slots.{true_or_false}
 use Rattle.control_memory.specs.Layout.{number_of}
 use Rattle.call_profile.specs.Legs.{Legs, no_legs, pending_at, kept_at, with_leg, with_waiting, with_kept, without_leg}
 use Rattle.call_states.specs.Status.{FitsMessages}
@@ -16,6 +17,7 @@ use Rattle.leg_table.specs.declared.notes.Note.{Note}
 use Rattle.leg_table.specs.declared.notes.Note.TheVariants.{Number, Message}
 use Rattle.call_states.specs.Acts.{is_among}
 use Rattle.call_profile.specs.KeptMessages.{awaiting_answer}
+use Rattle.call_profile.proofs.KeptMessageLemmas.{digits_keep_none}
 
 -- ---- which states count
 
@@ -32,9 +34,6 @@ pub keeps : (leg : Leg) (note : Note) → is_among awaiting_answer leg.state ≡
 keeps leg note is = rw is refl
 
 -- no leg is in both
-digits_keep_none : (state : ℕ) → state ≡ overlap_sending → is_among awaiting_answer state ≡ false
-digits_keep_none state is = rw is refl
-
 answer_no_digits : (state : ℕ) → is_among awaiting_answer state ≡ true → state ≢ overlap_sending
 answer_no_digits state among is = let wrong : true ≡ false = sym among ∙ digits_keep_none state is in cc
 
@@ -84,6 +83,25 @@ module _ (X : Type 0) (shown : Option Leg → Note → Option X) where
   counts_leg_at (q ∷ os) [] n leg d at inside = absurd (omega (arith, inside))
   counts_leg_at (q ∷ os) (p ∷ ps) zero leg d at inside = ap (λ (o : Option Leg). shown o p) at
   counts_leg_at (q ∷ os) (p ∷ ps) (suc n) leg d at inside = counts_leg_at os ps n leg d at (omega (arith, inside))
+
+-- a message that is kept at a slot is the note there
+message_by : (note : Note) (octets : List ℕ) → message_in note ≡ Some octets → note ≡ Message octets
+message_by (Number p) octets is = absurd cc
+message_by (Message os) octets is = let same : os ≡ octets = cc in ap (λ (list : List ℕ). Message list) same
+
+message_is : (o : Option Leg) (note : Note) (octets : List ℕ) → keeping o note ≡ Some octets → note ≡ Message octets
+message_is None note octets is = absurd cc
+message_is (Some leg) note octets is = elim (true_or_false (is_among awaiting_answer leg.state)) [
+  | inl waits ↦ let e : message_in note ≡ Some octets = rw waits at is in message_by note octets e
+  | inr other ↦ let e : None ≡ Some octets = rw other at is in absurd cc
+]
+
+note_stays : (os : List (Option Leg)) (ps : List Note) (n : ℕ) (octets : List ℕ) → get_or (keeping_all os ps) n None ≡ Some octets → set ps n (Message octets) ≡ ps
+unfolding shown_all
+note_stays [] ps n octets at = absurd cc
+note_stays (q ∷ os) [] n octets at = refl
+note_stays (q ∷ os) (p ∷ ps) zero octets at = ap (λ (r : Note). r ∷ ps) (sym (message_is q p octets at))
+note_stays (q ∷ os) (p ∷ ps) (suc n) octets at = ap (λ (rs : List Note). p ∷ rs) (note_stays os ps n octets at)
 
 pub no_note : Note
 no_note = Message []
@@ -136,6 +154,12 @@ module _ (legs : List (Option Leg)) (notes : List Note) (now : Legs) (view : leg
   kept_expect leg octets is size =
       noted leg (Message octets) size
       ∙ (λ i. entry now.held now.pending now.kept (Some leg) (quiet leg (Message octets) (answer_no_digits leg.state is) i) (keeps leg (Message octets) is i) (number_of x))
+
+  -- the message that was kept there is kept on
+  pub kept_still : (leg : Leg) (octets : List ℕ) → is_among awaiting_answer leg.state ≡ true → length notes ≡ length legs → kept_at now x ≡ Some octets → legs_kept (set legs n (Some leg)) notes ≡ with_kept now x leg octets
+  kept_still leg octets is size keeps =
+      ap (λ (rs : List Note). legs_kept (set legs n (Some leg)) rs) (sym (note_stays legs notes n octets (sym kept_shown ∙ keeps)))
+      ∙ kept_expect leg octets is size
 
 pub kept_none : (legs : List (Option Leg)) (notes : List Note) (n external : ℕ) → legs ≡ replicate n None → n ≡ 30 * external → legs_kept legs notes ≡ no_legs external
 kept_none legs notes n external is size =

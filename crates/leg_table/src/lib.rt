@@ -1,8 +1,8 @@
 //! The table of the legs of all calls, by the slots that they hold, with the numbers that are dialled in part and the
 //! messages that may be sent again.
 //!
-//! - [`LegTable`] is what the definitions of `call_profile` make of its legs: `put`, `wait`, `expect` and `remove`
-//!   change one slot, with what is kept there.
+//! - [`LegTable`] is what the definitions of `call_profile` make of its legs: `put`, `wait`, `expect`,
+//!   `expect_still` and `remove` change one slot, with what is kept there.
 //! - `named` finds the leg that a message is for, by its call reference and flag, and `new_reference` the call
 //!   reference of a new called leg: each in one pass over a row of keys (`LegKeys`), without a branch.
 //! - `pending` is the number of a leg in overlap sending, and `kept` the message of one that waits for the answer to it

@@ -1,5 +1,5 @@
 //! The legs of all calls, by the slots that they hold.
-ghost use Rattle.std.specs.Prelude.{◌≡◌, ◌≢◌, ◌+◌, ◌*◌, ◌<◌, ◌≤◌, true, false, length, slice_set, slice_index_or, All, IfOk, IfSome, None};
+ghost use Rattle.std.specs.Prelude.{◌≡◌, ◌≢◌, ◌+◌, ◌*◌, ◌<◌, ◌≤◌, true, false, ℕ, List, length, slice_set, slice_index_or, All, IfOk, IfSome, None, Some};
 ghost use Rattle.std.specs.Option.{option_copied};
 ghost use Rattle.control_memory.specs.Layout.{number_of};
 ghost use Rattle.q931_codec.specs.CallStates.{overlap_sending};
@@ -124,14 +124,28 @@ impl LegTable {
     }
 
     /// Lets a leg hold a slot, in place of any other, and keeps there the message whose answer it waits for.
-    pub fn expect(&mut self, x: Slot, leg: Leg, message: Encoded)
+    pub fn expect(&mut self, x: Slot, leg: Leg, message: &Encoded)
         requires inside { number_of x < length self.old.held }
         requires place { x.place < 30 }
         requires told { FitsMessages leg }
         requires state { is_among awaiting_answer leg.state ≡ true }
-        ensures { self.new ≡ with_kept self.old x leg message }
+        ensures { self.new ≡ with_kept self.old x leg message.now }
     {
-        keep(&mut self.notes, x, Note::Message(message));
+        keep(&mut self.notes, x, Note::Message(message.copy()));
+        lower(&mut self.bounds, x.place, due_from(leg, &self.timers));
+        self.legs[x.number()] = Some(leg);
+        self.keys[key_index(x)] = key_of(leg);
+    }
+
+    /// Lets a leg hold a slot, in place of any other, and go on to wait for the answer to the message that is
+    /// kept there.
+    pub fn expect_still(&mut self, x: Slot, leg: Leg)
+        requires inside { number_of x < length self.old.held }
+        requires place { x.place < 30 }
+        requires told { FitsMessages leg }
+        requires state { is_among awaiting_answer leg.state ≡ true }
+        ensures { (octets : List ℕ) → kept_at self.old x ≡ Some octets → self.new ≡ with_kept self.old x leg octets }
+    {
         lower(&mut self.bounds, x.place, due_from(leg, &self.timers));
         self.legs[x.number()] = Some(leg);
         self.keys[key_index(x)] = key_of(leg);

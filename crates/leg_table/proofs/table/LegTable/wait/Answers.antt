@@ -1,5 +1,5 @@
-use Rattle.std.proofs.Common.{rules, arith, ◌<◌, length, set, Some, sym, ◌∙◌}
-use Rattle.leg_table.proofs.DueBoundLemmas.{bounds_with, keys_with}
+use Rattle.std.proofs.Common.{rules, ◌<◌, length, set, Some, sym, ◌∙◌}
+use Rattle.leg_table.proofs.DueBoundLemmas.{table_with}
 use Rattle.leg_table.specs.declared.notes.Note.TheVariants.{Number}
 use Rattle.leg_table.specs.KeptNumbers.{legs_kept}
 use Rattle.leg_table.proofs.KeptNumberLemmas.{kept_wait}
@@ -8,11 +8,9 @@ use Rattle.leg_table.proofs.table.LegTable.wait.Goals as goal
 pub invariant_of-self : goal.invariant_of-self
 invariant_of-self c =
     let inside : c.number.result < length c.self.inside.legs.items = search rules in
-    let due = bounds_with c.self.inside.timers c.self.inside.legs.items c.self.inside.bounds c.lower.new.bounds c.self.invariant.due (c.lower.ensures.places ∙ c.self.invariant.due.places) c.lower.ensures.lower
-    c.number.result c.args.x.line c.args.x.place c.number.ensures c.requires.place inside (Some c.args.leg) (λ frame early. c.due_from.ensures frame (let low = c.lower.ensures.here in omega (arith, early, low))) in
-    let found = keys_with c.self.inside.lines c.self.inside.legs.items c.self.inside.keys.items c.number.result c.key_index.result c.args.x.line c.args.x.place c.key_of.result c.args.leg c.self.invariant.found
-    c.number.ensures c.key_index.ensures c.requires.place inside c.requires.told c.key_of.ensures in
-    record { found = found; room = search rules; due = due }
+    table_with c.self.inside.lines c.self.inside.timers c.self.inside.legs.items c.self.inside.keys.items c.self.inside.bounds c.lower.new.bounds c.keep.new.notes.items
+    c.number.result c.key_index.result c.args.x.line c.args.x.place c.key_of.result c.due_from.result c.args.leg c.self.invariant.found c.self.invariant.due (search rules)
+    c.number.ensures c.key_index.ensures c.requires.place inside c.requires.told c.key_of.ensures c.lower.ensures.places c.lower.ensures.lower c.lower.ensures.here c.due_from.ensures
 
 pub returns : goal.returns
 returns c =
