@@ -157,14 +157,12 @@ impl<P: PathMap> CallControl<P> {
         let Some(octets) = self.legs.kept(held.slot) else {
             return;
         };
-        let again = octets.copy();
-        let octets = again.copy();
-        let leg = resent_from(self.map.next_frame(), held.leg);
-        self.legs.expect(held.slot, leg, octets);
         out.sends.push(Signal {
             line: held.slot.line,
-            octets: again,
+            octets: octets.copy(),
         });
+        let leg = resent_from(self.map.next_frame(), held.leg);
+        self.legs.expect_still(held.slot, leg);
     }
 
     // The called user didn't answer the SETUP: its leg is gone, and its caller is cleared.

@@ -18,7 +18,6 @@ ghost use Rattle.call_control.specs.Standing.{Holds, Performs, PerformsQuietly};
 ghost use Rattle.exchange_events.specs.Sizes.{Dimensions};
 ghost use Rattle.call_profile.specs.World.{World, obey};
 
-use crate::sending::copy_of;
 use call_profile::from_frame;
 use call_states::{Leg, Pending};
 use circuit_map::CircuitMap;
@@ -153,12 +152,12 @@ impl<P: PathMap> CallControl<P> {
         ensures records { out.new.records ≡ out.old.records }
         ensures map { self.new.map ≡ self.old.map }
     {
-        let octets = write(message);
+        let octets = Encoded::of(write(message));
         let leg = from_frame(self.map.next_frame(), leg);
-        self.legs.expect(x, leg, copy_of(octets.as_slice()));
+        self.legs.expect(x, leg, &octets);
         out.sends.push(Signal {
             line: x.line,
-            octets: Encoded::of(octets),
+            octets,
         });
     }
 

@@ -14,7 +14,6 @@ ghost use Rattle.exchange_events.specs.Limits.{most_sends, most_records};
 ghost use Rattle.call_profile.specs.Setup.{refuse};
 ghost use Rattle.call_control.specs.Standing.{Performs};
 
-use arrayvec::ArrayVec;
 use call_states::{Held, Leg};
 use clearing_rules::unknown_reference;
 use exchange_events::{CallRecord, Encoded, Outbox, Records, Signal};
@@ -73,19 +72,6 @@ pub(crate) fn message_to(leg: &Leg, kind: MessageKind) -> Outgoing<'static>
     ensures { outgoing_of result ≡ message_to leg.now kind }
 {
     Outgoing::new(leg.side.flag(), leg.reference, kind)
-}
-
-/// A copy of the octets of a message.
-pub(crate) fn copy_of(octets: &[u8]) -> Encoded
-    requires { length octets.now ≤ 107 }
-    ensures { result ≡ octets.now }
-{
-    let mut copy = ArrayVec::new();
-    match copy.try_extend_from_slice(octets) {
-        Ok(()) => {}
-        Err(_) => unreachable!(),
-    }
-    Encoded::of(copy)
 }
 
 // The RELEASE COMPLETE that refuses a SETUP with this call reference.

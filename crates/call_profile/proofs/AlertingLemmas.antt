@@ -25,7 +25,7 @@ use Rattle.call_profile.specs.World.{World}
 use Rattle.call_profile.proofs.AnsweringLemmas.{cleared_idle, silent_idle}
 use Rattle.call_profile.proofs.BesideLemmas.{entry_here, entry_else}
 use Rattle.call_profile.proofs.HearingLemmas.{clear_keeps, connect_keeps}
-use Rattle.call_profile.proofs.BothLegsClearedLemmas.{ArePeers, strange_both}
+use Rattle.call_profile.proofs.TwoEntriesLemmas.{ArePeers, strange_both}
 use Rattle.call_profile.proofs.ClearingLemmas.{Kept}
 use Rattle.call_profile.proofs.TwoStatesLemmas.{both_gone, gone_to}
 use Rattle.call_profile.proofs.ToneLemmas.{no_tone, sounding_keeps, sounding_valid, sounds}

@@ -25,7 +25,8 @@ use Rattle.exchange_events.specs.Sizes.{Setting, Dimensions}
 use Rattle.call_profile.specs.World.{World}
 use Rattle.call_profile.proofs.BesideLemmas.{peer_there, peer_back}
 use Rattle.call_profile.proofs.OneLegClearedLemmas.{IsLeft, alone_left}
-use Rattle.call_profile.proofs.BothLegsClearedLemmas.{ArePeers, both_cleared}
+use Rattle.call_profile.proofs.BothLegsClearedLemmas.{both_cleared}
+use Rattle.call_profile.proofs.TwoEntriesLemmas.{ArePeers}
 use Rattle.call_profile.proofs.ToneLemmas.{cleared_is_idle, sounding_valid}
 
 -- what a message is to keep: each slot is in one state, and the legs are consistent

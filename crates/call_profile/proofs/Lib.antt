@@ -20,6 +20,7 @@ pub mod LineLemmas
 pub mod BesideLemmas
 pub mod LegTableLemmas
 pub mod HearingLemmas
+pub mod TwoEntriesLemmas
 pub mod OneLegClearedLemmas
 pub mod BothLegsClearedLemmas
 pub mod ClearingLemmas

@@ -32,7 +32,7 @@ use Rattle.exchange_events.specs.Sizes.{Setting}
 use Rattle.call_profile.specs.World.{World}
 use Rattle.call_profile.proofs.AlertingLemmas.{proceeding_kept, alerting_kept, answer_kept}
 use Rattle.call_profile.proofs.AnsweringLemmas.{ringing, silent_by, caller_of}
-use Rattle.call_profile.proofs.BothLegsClearedLemmas.{ArePeers}
+use Rattle.call_profile.proofs.TwoEntriesLemmas.{ArePeers}
 use Rattle.call_profile.proofs.DigitsLemmas.{digits_kept}
 use Rattle.call_profile.proofs.ClearingLemmas.{Kept, held_there, peers_of, disconnect_kept, released_kept, gone_kept}
 

@@ -27,7 +27,7 @@ use Rattle.call_profile.specs.Restarts.{restarts_slot, restart_peer, restart_leg
 use Rattle.exchange_events.specs.Sizes.{Dimensions}
 use Rattle.call_profile.specs.World.{World}
 use Rattle.call_profile.proofs.BesideLemmas.{entry_here, entry_else, named_back, same_or_apart}
-use Rattle.call_profile.proofs.BothLegsClearedLemmas.{ArePeers, strange_both}
+use Rattle.call_profile.proofs.TwoEntriesLemmas.{ArePeers, strange_both}
 use Rattle.call_profile.proofs.ClearingLemmas.{Kept, held_there, peers_of}
 use Rattle.call_profile.proofs.CommandLemmas.{not_empty, strange_to_empty}
 use Rattle.call_profile.proofs.HearingLemmas.{IsStrange, clear_keeps, clear_both_keeps}

@@ -32,14 +32,14 @@ pub record RunsOut (timers : Timers) (frame : ℕ) (legs : Legs) (x : Slot) (leg
   pub at : leg_at legs x ≡ Some leg
   pub due : is_some (due_of timers frame leg) ≡ true
 
--- so does the timer of the other leg of its call
+-- the timer of its peer, the other leg of its call, does
 abbrev pub PeerRunsOut : Timers → ℕ → Legs → Leg → Type 0
 PeerRunsOut timers frame legs leg = (y : Slot) × (other : Leg) × (leg.peer ≡ peer.Leg y) × RunsOut timers frame legs y other
 
 abbrev pub EitherRunsOut : Timers → ℕ → Legs → Slot → Type 0
 EitherRunsOut timers frame legs x = (leg : Leg) × (leg_at legs x ≡ Some leg) × (RunsOut timers frame legs x leg ⊎ PeerRunsOut timers frame legs leg)
 
--- a slot has another leg afterwards, or none, only where its leg's timer runs out, or that of the other leg of its call
+-- a slot has another leg afterwards, or none, only where its leg's timer runs out, or its peer's does
 abbrev pub NoneElseChanges : Setting → World → Input → Type 0
 NoneElseChanges s w input =
     (x : Slot) → IsExternal s.dimensions.external x

@@ -21,7 +21,7 @@ use Rattle.call_profile.specs.World.{World}
 abbrev pub release_with : Leg → Option ℕ → OutgoingMessage
 release_with leg cause = record (message_to leg kind.Release) { cause = cause }
 
--- the tone that is heard on: that of disconnect indication with this cause, where the trace gives it; without a cause none
+-- the tone that is heard on: with a cause the tone of disconnect indication with it, where the trace gives that; without one none
 abbrev pub tone_left : Tones → Option ℕ → Option Kind
 tone_left tones cause = option_and_then (tone_given tones disconnect_indication) cause
 
