@@ -54,36 +54,13 @@ impl<P: PathMap> CallControl<P> {
         ensures sizes { SameSizes self.old.map self.new.map }
     {
         let place = (frame % u32::from(PLACES)) as u8;
-        if self.legs.may_be_due(place, frame, timers) {
-            self.expire_place(out, tones, timers, external, frame, place);
-            self.legs.settle(place);
+        if !self.legs.may_be_due(place, frame, timers) {
+            return;
         }
-    }
-
-    // Looks at the legs of this place of each external line, lowest line first.
-    fn expire_place(
-        &mut self,
-        out: &mut Outbox,
-        tones: &Tones,
-        timers: &Timers,
-        external: u8,
-        frame: u32,
-        place: u8,
-    )
-        requires work { (s : Setting) × (w : World) × (s.tones ≡ tones.now) × (s.timers ≡ timers.now) × IsInOrder s self.old.map self.old.legs w }
-        requires lines { (external ≡ self.old.map.external) × (external ≤ 32) }
-        requires place { place ≡ frame % 30 }
-        requires fresh { (out.old.sends ≡ []) × (out.old.moved ≡ None) × (out.old.records ≡ []) }
-        ensures makes { EachInOrder tones.now timers.now self.old.map self.old.legs (λ s w.
-            HasMade s self.new.map self.new.legs out.new (outcome_of_lines s frame w s.dimensions.external).making) }
-        ensures records { EachInOrder tones.now timers.now self.old.map self.old.legs (λ s w.
-            out.new.records ≡ (outcome_of_lines s frame w s.dimensions.external).recorded) }
-        ensures moved { out.new.moved ≡ None }
-        ensures sizes { SameSizes self.old.map self.new.map }
-    {
         for line in 0..external {
             self.expire_slot(out, tones, timers, frame, Slot { line, place });
         }
+        self.legs.settle(place);
     }
 
     // Looks at the leg that holds a slot, where one does.

@@ -5,7 +5,7 @@ use Rattle.call_profile.specs.Expiring.{outcome_of_lines}
 use Rattle.exchange_events.specs.Sizes.{Setting}
 use Rattle.call_control.specs.Standing.{Makes}
 use Rattle.call_profile.specs.World.{World}
-use Rattle.call_control.proofs.operations.CallControl.expire_place.Given as goal
+use Rattle.call_control.proofs.operations.CallControl.expire.Given as goal
 
 abbrev pub invariant-loop-line : goal.invariant-loop-line
 invariant-loop-line g l =
