@@ -1,5 +1,5 @@
 -- What the turn of a frame makes, line by line, by what the map and the legs hold.
-use Rattle.std.proofs.Common.{◌≡◌, ℕ, suc, ◌+◌, ◌%◌, ◌<◌, List, [], ◌++◌, Option, Some, None, refl, sym, ◌∙◌, ap, subst, arith}
+use Rattle.std.proofs.Common.{◌≡◌, ℕ, suc, ◌+◌, ◌%◌, ◌<◌, List, [], ◌++◌, Option, Some, None, sym, ◌∙◌, ap, subst, arith}
 use Rattle.std.specs.Prelude.{IfSome}
 use Rattle.circuit_model.specs.declared.channel.Slot.{Slot}
 use Rattle.call_timers.specs.declared.timers.Timers.{Timers}

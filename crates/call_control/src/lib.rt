@@ -9,8 +9,7 @@
 //! - [`read_ahead`] reads of a message, before its turn, what its octets and the plan of numbers decide.
 //!
 //! It uses `circuit_model`, `control_memory`, `circuit_map`, `q931_codec`, `call_timers`, `call_states`,
-//! `clearing_rules`, `tone_rules`, `number_plan`, `exchange_events`, `call_profile` and `leg_table`, and the kit's
-//! `arrayvec`.
+//! `clearing_rules`, `tone_rules`, `number_plan`, `exchange_events`, `call_profile` and `leg_table`.
 #![tactic(auto)]
 
 mod acts;
