@@ -1,1 +1,4 @@
 pub mod Verdicts
+pub mod Turns
+pub mod Replaying
+pub mod Verifying

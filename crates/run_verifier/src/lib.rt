@@ -14,5 +14,10 @@
 #![tactic(auto)]
 
 mod laws;
+mod replay;
+mod replaying;
+mod turns;
+mod verdict;
 
 pub use laws::{law_of_lines, law_of_orders, law_of_turns, law_of_verdicts};
+pub use verdict::{Verdict, VerifyFault};
