@@ -18,6 +18,8 @@ mod replay;
 mod replaying;
 mod turns;
 mod verdict;
+mod verifying;
 
 pub use laws::{law_of_lines, law_of_orders, law_of_turns, law_of_verdicts};
 pub use verdict::{Verdict, VerifyFault};
+pub use verifying::verify;
