@@ -24,7 +24,9 @@
 
 mod call;
 mod changing;
+mod checking;
 mod laws;
+mod refusals;
 mod run;
 mod segments;
 mod streams;
