@@ -92,14 +92,10 @@ ChecksTo strict status left reads written writes source_old sink_old source_new 
     (record { left = left source_old; reads = reads source_old; written = written sink_old; writes = writes sink_old })
     (record { left = left source_new; reads = reads source_new; written = written sink_new; writes = writes sink_new })
 
--- the line that is due for some bytes and a wanted status was written, or a front of it was
-abbrev pub SaysOf : {K : Type 0} → (strict : Bool) → List ℕ → ℕ → (K → Option (List ℕ)) → (K → ℕ) → (old new : K) → Type 0
-SaysOf strict bytes status written writes old new =
-    (wanted : ℕ) × (line : List ℕ) × IsDue strict bytes wanted line × Says wanted line status (written old) (written new) (writes old) (writes new)
-
 -- ---- what a status says
 
--- all of the input was read; its report is that of its trace in a lawful order; the line that says so was written; and no event was done, and no meter noted a call
+-- all of the input was read; its report is its trace's in a lawful order; the line that says so was written; and no event was done, and
+-- no meter noted a call
 pub record IsFoundValid (left : List Step → Type 0) (strict : Bool) (left_old left_new : Option (List ℕ)) (order : List ℕ) (old new : Option (List ℕ)) : Type 0 where
   pub bytes : List ℕ
   pub input : IsWholeInput left_old left_new bytes

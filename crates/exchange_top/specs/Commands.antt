@@ -65,7 +65,7 @@ IsNoCommand words = command_of words ≡ None
 abbrev pub texts : {A : Type 0} → List (String A) → List (List ℕ)
 texts words = map string_bytes words
 
--- how many bytes a command reads at the most: those of a trace, or of a trace and a report, and one piece more
+-- how many bytes a command reads at the most: as many as a trace may have, or a trace and a report, and one piece more
 abbrev pub most_read_by : Option Command → ℕ
 most_read_by None = 0
 most_read_by (Some (Run strict)) = most_of most_bytes
@@ -153,19 +153,24 @@ ReportsTo x words order left written source_old source_new sink_old sink_new = R
 abbrev pub SumsUp : {K : Type 0} → Parties → (words : List (List ℕ)) → List ℕ → (K → Option (List ℕ)) → (old new : K) → Type 0
 SumsUp x words order written old new = (seed calls : ℕ) → IsGeneration words seed calls → IsSummed x seed calls order (written old) (written new)
 
--- a trace was run to its end: the status is 0, and it isn't that of a verdict
+-- a trace was run to its end: the status is 0, and the words don't ask for a verdict
 abbrev pub HasRun : ℕ → List (List ℕ) → Type 0
 HasRun status words = (status ≡ 0) × (IsCheck words → ⊥)
 
 -- ---- a verdict on a report
 
--- where the words ask for a verdict, the report was found to be its trace's, on the fabric that they ask for
-abbrev pub FindsValid : (List Step → Type 0) → (words : List (List ℕ)) → (left_old left_new : Option (List ℕ)) → List ℕ → (old new : Option (List ℕ)) → Type 0
-FindsValid left words left_old left_new order old new = (strict : Bool) → IsCheckOn words strict → IsFoundValid left strict left_old left_new order old new
+-- where the words ask for a verdict, the report was found to be its trace's, on the fabric that they ask for: by what the types of a source and a
+-- sink say of each, the bytes left and the bytes written
+abbrev pub FindsValid : {A S K : Type 0} → (List Step → Type 0) → List (String A) → List ℕ → (S → Option (List ℕ)) → (K → Option (List ℕ))
+    → (source_old source_new : S) → (sink_old sink_new : K) → Type 0
+FindsValid meters words order left written source_old source_new sink_old sink_new = (strict : Bool) → IsCheckOn (texts words) strict
+    → IsFoundValid meters strict (left source_old) (left source_new) order (written sink_old) (written sink_new)
 
--- the words ask for a verdict, and the report was found not to be its trace's
-abbrev pub FindsInvalid : (List Step → Type 0) → (words : List (List ℕ)) → (left_old left_new : Option (List ℕ)) → List ℕ → (old new : Option (List ℕ)) → Type 0
-FindsInvalid left words left_old left_new order old new = (strict : Bool) × IsCheckOn words strict × IsFoundInvalid left strict left_old left_new order old new
+-- the words ask for a verdict, and the report was found not to be its trace's, likewise
+abbrev pub FindsInvalid : {A S K : Type 0} → (List Step → Type 0) → List (String A) → List ℕ → (S → Option (List ℕ)) → (K → Option (List ℕ))
+    → (source_old source_new : S) → (sink_old sink_new : K) → Type 0
+FindsInvalid meters words order left written source_old source_new sink_old sink_new = (strict : Bool) × IsCheckOn (texts words) strict
+    × IsFoundInvalid meters strict (left source_old) (left source_new) order (written sink_old) (written sink_new)
 
 -- ---- other ends
 
@@ -183,8 +188,14 @@ RefusesInput left left_old left_new order old new = (bytes : List ℕ) × IsInpu
 
 -- what was read for the command is refused: for a run since it is no trace, for a verdict since it has none
 abbrev pub RefusesRead : (List Step → Type 0) → (words : List (List ℕ)) → (left_old left_new : Option (List ℕ)) → List ℕ → (old new : Option (List ℕ)) → Type 0
-RefusesRead left words left_old left_new order old new =
-    (IsRun words × RefusesInput left left_old left_new order old new) ⊎ (IsCheck words × IsFoundUnchecked left left_old left_new order old new)
+RefusesRead meters words left_old left_new order old new =
+    (IsRun words × RefusesInput meters left_old left_new order old new) ⊎ (IsCheck words × IsFoundUnchecked meters left_old left_new order old new)
+
+-- so it is, by what the types of a source and a sink say of each: the bytes left and the bytes written
+abbrev pub TurnsDown : {A S K : Type 0} → (List Step → Type 0) → List (String A) → List ℕ → (S → Option (List ℕ)) → (K → Option (List ℕ))
+    → (source_old source_new : S) → (sink_old sink_new : K) → Type 0
+TurnsDown meters words order left written source_old source_new sink_old sink_new =
+    RefusesRead meters (texts words) (left source_old) (left source_new) order (written sink_old) (written sink_new)
 
 -- a run of a trace on n internal slots, with this listing, was cut short: a write failed, or memory ran out
 pub data IsBegun (x : Parties) (slots : ℕ) (l : Listing) (trace : Trace) (status : ℕ) (order : List ℕ) (old new : Option (List ℕ)) : Type 0 where
@@ -221,6 +232,10 @@ pub data IsUndone (x : Parties) (status : ℕ) (words : List (List ℕ)) (left_o
       → IsUndone x status words left_old left_new order old new
   In_generation : (seed calls : ℕ) → IsGeneration words seed calls → IsSumCutShort x status seed calls order old new
       → IsUndone x status words left_old left_new order old new
+
+-- a status that says so
+abbrev pub IsCut : ℕ → Type 0
+IsCut status = (status ≡ 4) ⊎ (status ≡ 5)
 
 -- so it was, by what the types of a source and a sink say of each: the bytes left and the bytes written
 abbrev pub IsCutOff : {A S K : Type 0} → Parties → ℕ → List (String A) → List ℕ → (S → Option (List ℕ)) → (K → Option (List ℕ)) → (source_old source_new : S) → (sink_old sink_new : K) → Type 0

@@ -8,7 +8,7 @@ ghost use Rattle.exchange_events.specs.declared.trace.Trace.{Trace};
 ghost use Rattle.exchange_events.specs.Sound.{IsSound};
 ghost use Rattle.run_verifier.specs.Verdicts.{IsInvalidAt, IsValid};
 ghost use Rattle.exchange_top.specs.Checking.{IsChecked, IsUnchecked, slots_of};
-ghost use Rattle.exchange_top.specs.Commands.{FindsInvalid, FindsValid, HasRun, IsCheck, IsCheckOn, IsRun, IsGeneration, IsNoCommand, IsCutOff, IsReading, IsUnfinished, RunsTo, Sums, SumsUp, AnswersTo, CallEnds, RefusesRead, ReportsTo, RunEnds, fabric_of, most_read, parties, texts};
+ghost use Rattle.exchange_top.specs.Commands.{FindsInvalid, FindsValid, HasRun, IsCheck, IsCheckOn, IsRun, IsGeneration, IsNoCommand, IsCutOff, IsReading, IsCut, IsUnfinished, RunsTo, Sums, SumsUp, AnswersTo, CallEnds, ReportsTo, RunEnds, TurnsDown, fabric_of, most_read, parties, texts};
 ghost use Rattle.exchange_top.specs.Inputs.{most_of};
 ghost use Rattle.exchange_top.specs.Outcomes.{fabric};
 ghost use Rattle.exchange_top.specs.Refusals.{Says, words_refusal};
@@ -384,17 +384,20 @@ pub fn exchange<S: Source, K: Sink, G: Gate, C: Carrier, R: Threads + Wait + Syn
         (texts words.now) result.order.items K.written sink.old sink.new }
     // 0 for `check`: all of the input was read, it has a trace and the report of that trace in some order
     // that is lawful for it, and the line that says so was written.
-    ensures found_valid { result.status ≡ 0 → FindsValid (AreLeft (λ m. stands m) (λ m. text m) meters.old.items spare.old.items meters.new.items spare.new.items)
-        (texts words.now) (S.left source.old) (S.left source.new) result.order.items (K.written sink.old) (K.written sink.new) }
+    ensures found_valid { result.status ≡ 0 → FindsValid
+        (AreLeft (λ m. stands m) (λ m. text m) meters.old.items spare.old.items meters.new.items spare.new.items)
+        words.now result.order.items S.left K.written source.old source.new sink.old sink.new }
     // An engine is handed out where a trace was run.
     ensures engine { IsSome result.engine ↔ HasRun result.status (texts words.now) }
     // 6, for `check` alone: the same of a report that isn't its trace's, and the line was written that says
     // which of its lines is the first that isn't good.
-    ensures found_invalid { result.status ≡ 6 → FindsInvalid (AreLeft (λ m. stands m) (λ m. text m) meters.old.items spare.old.items meters.new.items spare.new.items)
-        (texts words.now) (S.left source.old) (S.left source.new) result.order.items (K.written sink.old) (K.written sink.new) }
+    ensures found_invalid { result.status ≡ 6 → FindsInvalid
+        (AreLeft (λ m. stands m) (λ m. text m) meters.old.items spare.old.items meters.new.items spare.new.items)
+        words.now result.order.items S.left K.written source.old source.new sink.old sink.new }
     // 1: what was read is no trace, or for `check` has none, and the line that says so was written.
-    ensures turned_down { result.status ≡ 1 → RefusesRead (AreLeft (λ m. stands m) (λ m. text m) meters.old.items spare.old.items meters.new.items spare.new.items)
-        (texts words.now) (S.left source.old) (S.left source.new) result.order.items (K.written sink.old) (K.written sink.new) }
+    ensures turned_down { result.status ≡ 1 → TurnsDown
+        (AreLeft (λ m. stands m) (λ m. text m) meters.old.items spare.old.items meters.new.items spare.new.items)
+        words.now result.order.items S.left K.written source.old source.new sink.old sink.new }
     // 2: the words are no command, and the line that says so was written.
     ensures wrong_words { result.status ≡ 2 → IsNoCommand (texts words.now)
         × (result.order.items ≡ [])
@@ -409,7 +412,7 @@ pub fn exchange<S: Source, K: Sink, G: Gate, C: Carrier, R: Threads + Wait + Syn
     // behind whole segments maybe one was begun, or some of the changes behind it were made, and what was
     // written ends with a segment; of a verdict nothing was.
     ensures write_failed { result.status ≡ 4 → Rose (K.faults sink.old) (K.faults sink.new) }
-    ensures cut_short { (result.status ≡ 4) ⊎ (result.status ≡ 5) → IsCutOff (parties C.plays C.sizes C.carries result.engine
+    ensures cut_short { IsCut result.status → IsCutOff (parties C.plays C.sizes C.carries result.engine
         (λ m. stands m) (λ m. text m) meters.old.items spare.old.items meters.new.items spare.new.items)
         result.status words.now result.order.items S.left K.written source.old source.new sink.old sink.new }
     // There is no other status, and a fault is answered by its own alone.

@@ -1,7 +1,7 @@
 //! A report that is read with its trace, and verified against it.
 ghost use Rattle.std.specs.Prelude.{◌≡◌, ◌⊎◌, IfOk, OnErr, Some};
 ghost use Rattle.std.specs.Io.KnownBytes.{Keeps};
-ghost use Rattle.exchange_top.specs.Checking.{ChecksTo, IsDivided, IsDue, IsFirstLine, SaysOf, divider, invalid_line, most_checked};
+ghost use Rattle.exchange_top.specs.Checking.{ChecksTo, IsDivided, IsDue, IsFirstLine, divider, invalid_line, most_checked};
 ghost use Rattle.exchange_top.specs.Inputs.{most_of};
 ghost use Rattle.exchange_top.specs.Streams.{ConsumesAtMost};
 

@@ -13,7 +13,7 @@
 //! first line that fails (`turned_down`).
 //!
 //! For `check` the input is a trace and a report, divided by a line `report` in one way alone
-//! ([`law_of_divisions`]). With 0 the report is that of all events in an order that is lawful for the trace
+//! ([`law_of_divisions`]). With 0 the report is the trace's in an order that is lawful for it
 //! (`found_valid`), and with 6 it isn't, and its first line that can't be was named (`found_invalid`); each
 //! report gets the one or the other, where the trace is one (`valid`, `invalid`, `checked`, `unchecked`).
 //!
