@@ -1,5 +1,5 @@
 -- How an input is divided: at the first of its lines that is the divider.
-use Rattle.std.proofs.Common.{◌≡◌, ◌≢◌, ◌⊎◌, ℕ, ◌+◌, ◌-◌, ◌<◌, Bool, true, false, if◌then◌else◌, eqb, List, [], ◌∷◌, ◌++◌, length, take, refl, sym, ap, subst, ◌∙◌, arith, inl, inr, append_assoc, append-nil, length-append}
+use Rattle.std.proofs.Common.{◌≡◌, ◌≢◌, ℕ, ◌+◌, ◌-◌, ◌<◌, Bool, true, false, if◌then◌else◌, eqb, List, [], ◌∷◌, ◌++◌, length, take, refl, sym, ap, subst, ◌∙◌, arith, inl, inr, append_assoc, append-nil, length-append}
 use Rattle.std.specs.Prelude.{All}
 use Rattle.std.specs.List.{onto_first}
 use Rattle.std.proofs.lemmas.Bool.{eqb-true, ne_eqb}
@@ -41,19 +41,16 @@ record HasLines (front xs : List ℕ) : Type 0 where
 
 has_lines : (front xs : List ℕ) → HasLines front xs
 has_lines [] xs = record { first = []; others = []; alone = refl; both = refl }
-has_lines (x ∷ front) xs = go (eqb x 10) refl
+has_lines (x ∷ front) xs = go (has_lines front xs) (eqb x 10) refl
   where
-    rest : HasLines front xs
-    rest = has_lines front xs
-
-    go : (b : Bool) → eqb x 10 ≡ b → HasLines (x ∷ front) xs
-    go true e = record {
+    go : (rest : HasLines front xs) (b : Bool) → eqb x 10 ≡ b → HasLines (x ∷ front) xs
+    go rest true e = record {
       first = [];
       others = rest.first ∷ rest.others;
       alone = ap (first_step x (lines (front ++ 10 ∷ []))) e ∙ ap (λ (l : List (List ℕ)). [] ∷ l) rest.alone;
       both = ap (first_step x (lines (front ++ 10 ∷ xs))) e ∙ ap (λ (l : List (List ℕ)). [] ∷ l) rest.both;
     }
-    go false e = record {
+    go rest false e = record {
       first = x ∷ rest.first;
       others = rest.others;
       alone = ap (first_step x (lines (front ++ 10 ∷ []))) e ∙ ap (onto_first x) rest.alone;
@@ -74,19 +71,19 @@ unlines (line ∷ others) = line ++ 10 ∷ unlines others
 
 fed_back : (front : List ℕ) → unlines (lines (front ++ 10 ∷ [])) ≡ front ++ 10 ∷ []
 fed_back [] = refl
-fed_back (x ∷ front) = go (eqb x 10) refl
+fed_back (x ∷ front) = go (fed_back front) (eqb x 10) refl
   where
     has : HasLines front []
     has = has_lines front []
 
-    go : (b : Bool) → eqb x 10 ≡ b → unlines (lines (x ∷ (front ++ 10 ∷ []))) ≡ x ∷ (front ++ 10 ∷ [])
-    go true e =
+    go : (back : unlines (lines (front ++ 10 ∷ [])) ≡ front ++ 10 ∷ []) (b : Bool) → eqb x 10 ≡ b → unlines (lines (x ∷ (front ++ 10 ∷ []))) ≡ x ∷ (front ++ 10 ∷ [])
+    go back true e =
         ap (λ (c : Bool). unlines (first_step x (lines (front ++ 10 ∷ [])) c)) e
-        ∙ (λ i. sym (eqb-true x 10 e) i ∷ fed_back front i)
-    go false e =
+        ∙ (λ i. sym (eqb-true x 10 e) i ∷ back i)
+    go back false e =
         ap (λ (c : Bool). unlines (first_step x (lines (front ++ 10 ∷ [])) c)) e
         ∙ ap (λ (l : List (List ℕ)). unlines (onto_first x l)) has.alone
-        ∙ ap (λ (l : List ℕ). x ∷ l) (sym (ap unlines has.alone) ∙ fed_back front)
+        ∙ ap (λ (l : List ℕ). x ∷ l) (sym (ap unlines has.alone) ∙ back)
 
 ended_back : (octets : List ℕ) → AreEnded octets → unlines (lines octets) ≡ octets
 ended_back octets (inl none) = subst (λ (o : List ℕ). unlines (lines o) ≡ o) (sym none) refl
@@ -101,7 +98,7 @@ record HasDivider (bytes trace : List ℕ) : Type 0 where
   others : List (List ℕ)
   are : lines bytes ≡ lines trace ++ divider ∷ others
 
-by_line : (bytes trace report : List ℕ) → AreEnded trace → HaveNoDivider trace → bytes ≡ trace ++ divider ++ 10 ∷ report → HasDivider bytes trace
+by_line : (bytes trace report : List ℕ) → AreEnded trace → HaveNoDivider trace → bytes ≡ trace ++ (divider ++ 10 ∷ report) → HasDivider bytes trace
 by_line bytes trace report ended before is = record {
   ended = ended;
   before = before;

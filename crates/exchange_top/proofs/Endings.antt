@@ -1,5 +1,5 @@
 -- How a call ends, and what each status says.
-use Rattle.std.proofs.Common.{rules, ◌↔◌, IsSome, ◌≡◌, ◌≢◌, ◌⊎◌, ℕ, Bool, ◌+◌, ◌<◌, ◌≤◌, List, [], ◌++◌, length, Option, Some, None, arith, sym, ◌∙◌, ap, subst, inl, inr, length-append}
+use Rattle.std.proofs.Common.{rules, ◌↔◌, IsSome, ◌≡◌, ◌≢◌, ◌⊎◌, ℕ, Bool, true, false, ◌+◌, ◌<◌, ◌≤◌, List, [], ◌++◌, length, Option, Some, None, arith, sym, ◌∙◌, ap, subst, inl, inr, length-append}
 use Rattle.std.proofs.lemmas.Bool.{cases_lt}
 use Rattle.std.proofs.lemmas.List.{append-nil}
 use Rattle.std.specs.Io.KnownBytes.{Appends, Keeps}
@@ -17,7 +17,7 @@ use Rattle.exchange_top.specs.Checking.{Checks, Said, Not_read, Not_room, IsChec
 use Rattle.exchange_top.specs.Inputs.{IsInput, IsInputWithin, IsWholeInput, SourceAndSink}
 use Rattle.exchange_top.specs.Streams.{ConsumesAtMost}
 use Rattle.exchange_top.specs.Refusals.{Says, Told_so, Untold, refusal, words_refusal}
-use Rattle.exchange_top.specs.Commands.{Parties, HasRun, most_read, most_read_by, IsUnfinished, IsCheck, IsCheckOn, IsReading, IsRun, IsRunOn, IsGeneration, IsNoCommand, RefusesRead, IsDone, IsSummed, IsTurnedDown, In_refusal, In_report, By_write, By_memory, IsUndone, In_words, Unheard, In_answer, In_check, In_generation, Runs, Whole, Unwritten_from, No_memory_from, Answers, Done, Turned_down, Unwritten, No_memory, Summed, Sum_unwritten, Sum_no_memory, Ends, Wrong_words, Words_unwritten, Unread, No_room, Answered, Checked, Generated, fabric_of}
+use Rattle.exchange_top.specs.Commands.{Parties, HasRun, most_read, most_read_by, IsUnfinished, IsCheck, IsCheckOn, IsReading, IsRun, IsRunOn, IsGeneration, IsNoCommand, RefusesRead, IsDone, IsSummed, In_refusal, In_report, By_write, By_memory, IsUndone, In_words, Unheard, In_answer, In_check, In_generation, Runs, Whole, Unwritten_from, No_memory_from, Answers, Done, Turned_down, Unwritten, No_memory, Summed, Sum_unwritten, Sum_no_memory, Ends, Wrong_words, Words_unwritten, Unread, No_room, Answered, Checked, Generated, fabric_of}
 use Rattle.trace_text.proofs.TraceReadings.{never_both}
 use Rattle.run_verifier.specs.Verdicts.{IsInvalidAt, IsValid}
 use Rattle.exchange_top.proofs.Dues.{due_checked, due_invalid, due_refusal, due_status, due_valid}
@@ -170,13 +170,16 @@ nothing_read most (Some bytes) = ([], omega arith, search rules)
 pub engine_run : {E : Type 0} (words : List (List ℕ)) (status : ℕ) (engine : Option E) → (IsCheck words → ⊥) → IsSome engine ↔ (status ≡ 0) → IsSome engine ↔ HasRun status words
 engine_run words status engine other has = (λ some. (has.0 some, other), λ run. has.1 run.0)
 
+never_some : (E : Type 0) → IsSome {T = E} None → ⊥
+never_some E some = let no : false ≡ true = some in cc
+
 -- a verdict doesn't
 pub engine_none : {E : Type 0} (words : List (List ℕ)) (status : ℕ) (engine : Option E) → IsCheck words → engine ≡ None → IsSome engine ↔ HasRun status words
-engine_none words status engine check none = (λ some. absurd (subst IsSome none some), λ run. absurd (run.1 check))
+engine_none {E} words status engine check none = (λ some. absurd (never_some E (subst IsSome none some)), λ run. absurd (run.1 check))
 
 -- nor does what never ran
 pub engine_never : {E : Type 0} (words : List (List ℕ)) (status : ℕ) (engine : Option E) → status ≢ 0 → engine ≡ None → IsSome engine ↔ HasRun status words
-engine_never words status engine not none = (λ some. absurd (subst IsSome none some), λ run. absurd (not run.0))
+engine_never {E} words status engine not none = (λ some. absurd (never_some E (subst IsSome none some)), λ run. absurd (not run.0))
 
 pub not_zero : (wanted : ℕ) (line : List ℕ) (status : ℕ) (old new : Option (List ℕ)) (before after : ℕ) → wanted ≢ 0 → Says wanted line status old new before after → status ≢ 0
 not_zero wanted line status old new before after not (Told_so s text) = λ zero. not (sym s ∙ zero)
@@ -266,11 +269,14 @@ module _ (x : Parties) where
     invalid_is (Due_refusal number why unchecked is same) s six text none told = absurd (omega (arith, is, s, six))
 
   -- a check of an input ends a call whose words ask for it
-  pub ends_check : (words : List (List ℕ)) (strict : Bool) (status : ℕ) (order : List ℕ) (old new : SourceAndSink) → IsCheckOn words strict → order ≡ [] → x.meters.left []
-      → Checks strict status old new → Ends x words status order old new
-  ends_check words strict status order old new is none told (Said bytes input wanted line due said) = Checked strict is bytes input wanted line due said none told
-  ends_check words strict status order old new is none told (Not_read s rose kept) = Unread (inr (strict, is)) s none rose kept told
-  ends_check words strict status order old new is none told (Not_room s kept) = No_room s none kept told
+  pub ends_check : (words : List (List ℕ)) (strict : Bool) (status result : ℕ) (order : List ℕ) (old new : SourceAndSink) → result ≡ status → IsCheckOn words strict → order ≡ []
+      → x.meters.left [] → Checks strict status old new → Ends x words result order old new
+  ends_check words strict status result order old new same is none told (Said bytes input wanted line due said) =
+      subst (λ (s : ℕ). Ends x words s order old new) (sym same) (Checked strict is bytes input wanted line due said none told)
+  ends_check words strict status result order old new same is none told (Not_read s rose kept) =
+      subst (λ (s : ℕ). Ends x words s order old new) (sym same) (Unread (inr (strict, is)) s none rose kept told)
+  ends_check words strict status result order old new same is none told (Not_room s kept) =
+      subst (λ (s : ℕ). Ends x words s order old new) (sym same) (No_room s none kept told)
 
   -- ---- what each status says
 
@@ -299,7 +305,7 @@ module _ (x : Parties) where
   summed_says words status order old new a n (Answered strict is bytes input (Turned_down s down told)) h gen = absurd (omega (arith, s, h))
   summed_says words status order old new a n (Answered strict is bytes input (Unwritten s rose cut)) h gen = absurd (omega (arith, s, h))
   summed_says words status order old new a n (Answered strict is bytes input (No_memory s cut)) h gen = absurd (omega (arith, s, h))
-  summed_says words status order old new a n (Checked flag asked bytes input wanted line due said none told) h gen = let same = absurd (never_summed_check words a n (flag, asked) gen)
+  summed_says words status order old new a n (Checked flag asked bytes input wanted line due said none told) h gen = absurd (never_summed_check words a n (flag, asked) gen)
   summed_says words status order old new a n (Generated seed calls is (Summed s done)) h gen = let same = same_generation words seed calls a n is gen in rw (sym same.0, sym same.1) done
   summed_says words status order old new a n (Generated seed calls is (Sum_unwritten s rose cut)) h gen = absurd (omega (arith, s, h))
   summed_says words status order old new a n (Generated seed calls is (Sum_no_memory s cut)) h gen = absurd (omega (arith, s, h))

@@ -39,7 +39,7 @@ pub data IsFirstLine (octets line others : List ℕ) : Type 0 where
 -- the first line of an input that is exactly `report` divides the trace before it from the report behind it; it lacks its line feed only where it is
 -- the end; where there is no such line, all of the input is the trace, and the report is empty
 pub data IsDivided (bytes trace report : List ℕ) : Type 0 where
-  By_line : AreEnded trace → HaveNoDivider trace → bytes ≡ trace ++ divider ++ 10 ∷ report → IsDivided bytes trace report
+  By_line : AreEnded trace → HaveNoDivider trace → bytes ≡ trace ++ (divider ++ 10 ∷ report) → IsDivided bytes trace report
   By_end : AreEnded trace → HaveNoDivider trace → bytes ≡ trace ++ divider → report ≡ [] → IsDivided bytes trace report
   By_none : HaveNoDivider bytes → trace ≡ bytes → report ≡ [] → IsDivided bytes trace report
 

@@ -1,5 +1,5 @@
 -- The commands, and what a call answers to them. Source: this exchange's own.
-use Rattle.std.specs.Prelude.{ℕ, Bool, true, false, List, Some, None, String, [], codes, decimal, length, map, string_bytes, ◌++◌, ◌+◌, ◌≡◌, ◌≤◌, ◌⊎◌}
+use Rattle.std.specs.Prelude.{ℕ, Bool, true, false, List, Some, None, String, [], map, string_bytes, ◌+◌, ◌≡◌, ◌⊎◌}
 use Rattle.std.specs.List.{concat}
 use Rattle.std.specs.Io.KnownBytes.{Appends, Keeps}
 use Rattle.std.specs.declared.option.Option.{Option}

@@ -1,7 +1,6 @@
 //! A report that is read with its trace, and verified against it.
-ghost use Rattle.std.specs.Prelude.{◌≡◌, ◌⊎◌, IfOk, OnErr, Some};
-ghost use Rattle.std.specs.Io.KnownBytes.{Keeps};
-ghost use Rattle.exchange_top.specs.Checking.{ChecksTo, IsDivided, IsDue, IsFirstLine, divider, invalid_line, most_checked};
+ghost use Rattle.std.specs.Prelude.{◌≡◌, ◌⊎◌, IfOk};
+ghost use Rattle.exchange_top.specs.Checking.{ChecksTo, IsDivided, IsDue, IsFirstLine, invalid_line, most_checked, slots_of};
 ghost use Rattle.exchange_top.specs.Inputs.{most_of};
 ghost use Rattle.exchange_top.specs.Streams.{ConsumesAtMost};
 
@@ -61,13 +60,20 @@ fn due<R: Threads + Sync>(
         return Ok((1, refusal(alloc, 0, Reason::Limit)?));
     }
     let (trace, report) = divided(bytes);
-    let slots = if strict { 59 } else { 30 };
-    match verify(rt, alloc, trace, report, slots) {
+    match verify(rt, alloc, trace, report, slots_of(strict)) {
         Ok(Verdict::Valid) => Ok((0, Vec::from_slice(alloc, b"valid\n")?)),
         Ok(Verdict::Invalid(number)) => Ok((6, invalid_line(alloc, number)?)),
         Err(VerifyFault::Trace { number, reason }) => Ok((1, refusal(alloc, number, reason)?)),
         Err(VerifyFault::Memory) => Err(AllocError),
     }
+}
+
+// How many internal slots a strict fabric has, and how many the other.
+fn slots_of(strict: bool) -> u8
+    ensures is { result ≡ slots_of strict }
+    ensures one { (result ≡ 30) ⊎ (result ≡ 59) }
+{
+    if strict { 59 } else { 30 }
 }
 
 // The line that says which line of a report is the first that isn't good.

@@ -113,7 +113,12 @@ fn reports_are_verified(rt: HostRuntime) -> Result<(), Fail> {
         assert_eq!(rt; ended.written.as_slice(), line.as_bytes(), "{report}");
         assert_eq!(rt; ended.said.as_slice(), b"peg 0 0\n".as_slice());
     }
-    let ended = checked(&rt, alloc, &[], &[CALL, "report\n", ACCEPTED, "2 message\n"])?;
+    let ended = checked(
+        &rt,
+        alloc,
+        &[],
+        &[CALL, "report\n", ACCEPTED, "2 message\n"],
+    )?;
     assert_eq!(rt; (ended.status, ended.is_bare), (0, true));
     assert_eq!(rt; ended.said.as_slice(), b"peg 0 0\n".as_slice());
     Ok(())

@@ -1,5 +1,4 @@
-use Rattle.std.proofs.Common.{rules, arith, ap, ◌∙◌, Err, Some, inl, inr, subst, sym}
-use Rattle.exchange_top.specs.Checking.{Checks}
+use Rattle.std.proofs.Common.{rules, arith, ap, ◌∙◌, Err, Some, inl, inr}
 use Rattle.exchange_top.specs.Commands.{Generated, No_room}
 use Rattle.exchange_top.proofs.Endings.{ends_check, ends_words, engine_never, engine_none, engine_run, generation_no_check, not_zero, nothing_read, run_no_check, stops_by}
 use Rattle.exchange_top.proofs.Sums.{keeps}
@@ -32,8 +31,8 @@ returns-in-Ok-Generate-clause-engine g c =
 pub returns-in-Ok-Check-clause-ends : goal.returns-in-Ok-Check-clause-ends
 returns-in-Ok-Check-clause-ends g c =
     let e = c.without_events.ensures in
-    ends_check _ _ c.in-Ok-Check.strict _ _ _ _ (c.in-Ok-Check.ensures.command ∙ ap Some c.in-Ok-Check.field-0-is) e.none (none_left _ _ _ _)
-    (subst (λ status. Checks c.in-Ok-Check.strict status _ _) (sym e.status) c.check.ensures.ends)
+    ends_check _ _ c.in-Ok-Check.strict c.check.result c.without_events.result.status _ _ _ e.status (c.in-Ok-Check.ensures.command ∙ ap Some c.in-Ok-Check.field-0-is) e.none
+    (none_left _ _ _ _) c.check.ensures.ends
 
 pub returns-in-Ok-Check-clause-unread : goal.returns-in-Ok-Check-clause-unread
 returns-in-Ok-Check-clause-unread g c other = absurd (other (inr (c.in-Ok-Check.strict, c.in-Ok-Check.ensures.command ∙ ap Some c.in-Ok-Check.field-0-is)))
