@@ -5,3 +5,4 @@ pub mod TurnLemmas
 pub mod LineLemmas
 pub mod NextLemmas
 pub mod EndLemmas
+pub mod DecisionLemmas

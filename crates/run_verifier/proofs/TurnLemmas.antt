@@ -34,7 +34,7 @@ place_small trace n sound is =
     let e = event_there trace n is in
     subst (λ (o : Option Event). place_in trace.processors o < 9) (sym e.1) (small_place trace e.0 sound)
 
--- events of one worker have one place, and those of one place have one worker
+-- events have one place exactly where one worker does them
 same_place : (trace : Trace) (m n : ℕ) → SameWorker trace m n → place_at trace m ≡ place_at trace n
 same_place trace m n same =
     ap (place_in trace.processors) same.is_first ∙ ap place_of same.same ∙ sym (ap (place_in trace.processors) same.is_second)
