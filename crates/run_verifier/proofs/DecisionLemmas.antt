@@ -30,7 +30,7 @@ both (inr no) b = inr (λ p. no p.0)
 either : {A B : Type 0} → Decided A → Decided B → Decided (A ⊎ B)
 either (inl a) b = inl (inl a)
 either (inr no) (inl b) = inl (inr b)
-either (inr no) (inr not) = inr (λ p. elim p [ | inl a ↦ no a | inr b ↦ not b ])
+either (inr no) (inr not) = inr (λ p. elim p [ inl a ↦ no a | inr b ↦ not b ])
 
 implies : {A B : Type 0} → Decided A → Decided B → Decided (A → B)
 implies (inr no) b = inl (λ a. absurd (no a))
@@ -111,6 +111,7 @@ module _ (trace : Trace) where
         | inl above ↦ inr (λ below. absurd (omega (arith, below, above)))
         | inr below ↦ inl (omega (arith, below))
       ]
+
       from_one : (m : ℕ) → Decided (1 ≤ m)
       from_one m = up_to m 1
 

@@ -25,7 +25,8 @@ use Rattle.call_profile.specs.World.{start}
 use Rattle.report_text.specs.RunReport.{event_line}
 use Rattle.run_verifier.specs.Replaying.{line_due, with_event}
 use Rattle.run_verifier.specs.Verdicts.{IsGood, IsInvalidAt, IsValid, MayFollow, report_due}
-use Rattle.run_verifier.specs.Verifying.{GoesOn, IsStuck}
+use Rattle.run_verifier.specs.declared.verdict.Verdict.{Verdict}
+use Rattle.run_verifier.specs.Verifying.{GoesOn, IsRight, IsStuck}
 use Rattle.run_verifier.proofs.OrderLemmas.{follows, goes_on, lawful_take, none_lawful}
 use Rattle.run_verifier.proofs.ReportLemmas.{line_last, same_front}
 use Rattle.run_verifier.proofs.VerdictLemmas.{few_good, fewer_good}
@@ -175,3 +176,8 @@ module _ (x : Working) (bytes text : List ℕ) (k : ℕ) (sound : IsSound x.trac
         (read.count ∙ omega (arith, all, long, few)) (sym read.report ∙ valid.text ∙ sym (append-nil (report_due x.slots x.trace valid.order))) in
         some same.1;
   }
+
+-- a verdict is right of the trace and the slots, whichever way they are named
+pub carried : (x y : Working) (bytes : List ℕ) (verdict : Verdict) → x.trace ≡ y.trace → x.slots ≡ y.slots → IsRight x.slots x.trace bytes verdict → IsRight y.slots y.trace bytes verdict
+carried x y bytes verdict trace slots right =
+    subst (λ (t : Trace). IsRight y.slots t bytes verdict) trace (subst (λ (n : ℕ). IsRight n x.trace bytes verdict) slots right)

@@ -254,13 +254,16 @@ module _ (trace : Trace) (k end : ℕ) (next order : List ℕ) (sound : IsSound 
       ]
 
       here : IsIn trace k n
-      here = (may.known, elim (cases_lt (segment_of trace.segments n) k) [
-        | inl before ↦ absurd (may.new (turns.earlier n may.known before))
-        | inr not_before ↦ elim (cases_lt k (segment_of trace.segments n)) [
-          | inl more ↦ absurd (not_later more)
-          | inr not_more ↦ omega (arith, not_before, not_more)
-        ]
-      ])
+      here = (
+        may.known,
+        elim (cases_lt (segment_of trace.segments n) k) [
+          | inl before ↦ absurd (may.new (turns.earlier n may.known before))
+          | inr not_before ↦ elim (cases_lt k (segment_of trace.segments n)) [
+            | inl more ↦ absurd (not_later more)
+            | inr not_more ↦ omega (arith, not_before, not_more)
+          ]
+        ],
+      )
 
       noted : slice_index next (place_at trace n) ≡ n
       noted = elim (cases_lt (slice_index next (place_at trace n)) n) [
