@@ -1,6 +1,5 @@
 //! A report against the bytes of its trace.
-ghost use Rattle.std.specs.Prelude.{◌≡◌, ◌≤◌, ◌+◌, ◌*◌, ◌⊎◌, [], ℕ, Ok, Err, None, IfOk, length};
-ghost use Rattle.std.specs.List.{replicate};
+ghost use Rattle.std.specs.Prelude.{◌≡◌, ◌≤◌, ◌+◌, ◌*◌, ◌⊎◌, [], ℕ, Ok, Err, None, IfOk, length, replicate};
 ghost use Rattle.exchange_events.specs.declared.trace.Trace.{Trace};
 ghost use Rattle.exchange_events.specs.Sound.{IsSound};
 ghost use Rattle.trace_text.specs.declared.fault.Reason.{Reason};
