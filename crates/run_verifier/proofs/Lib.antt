@@ -6,3 +6,4 @@ pub mod LineLemmas
 pub mod NextLemmas
 pub mod EndLemmas
 pub mod DecisionLemmas
+pub mod AnswerLemmas
