@@ -1,8 +1,7 @@
 -- How a report is verified, line by line. Source: this exchange's own.
-use Rattle.std.specs.Prelude.{◌≡◌, ⊤, ℕ, ◌+◌, ◌<◌, ◌≤◌, ◌++◌, List, length, Result, Ok, Err}
+use Rattle.std.specs.Prelude.{◌≡◌, ⊤, ℕ, ◌≤◌, ◌++◌, List, length, Result, Ok, Err}
 use Rattle.exchange_events.specs.declared.trace.Event.{Event}
 use Rattle.exchange_events.specs.declared.trace.Trace.{Trace}
-use Rattle.exchange_events.specs.Orders.{IsLawfulPrefix}
 use Rattle.exchange_events.specs.Sound.{IsSound}
 use Rattle.exchange_core.specs.declared.tool.Tool.{Tool}
 use Rattle.exchange_core.specs.Working.{IsNumbered, Working, order_of}
@@ -15,7 +14,7 @@ use Rattle.run_verifier.specs.declared.verdict.VerifyFault.TheVariants.{Memory, 
 use Rattle.trace_text.specs.TraceGrammar.{IsRefused, IsTrace}
 use Rattle.run_verifier.specs.Replaying.{IsReadyAt, line_due, with_event}
 use Rattle.run_verifier.specs.Turns.{AreTurns, IsLeft}
-use Rattle.run_verifier.specs.Verdicts.{IsInvalidAt, IsValid, MayFollow, report_due}
+use Rattle.run_verifier.specs.Verdicts.{IsInvalidAt, IsValid, MayFollow}
 
 -- what is done again of a trace is underway: the engine, the control memory and the octets are ready for the next frame, and the turns are those
 -- after what the core has done
