@@ -1,31 +1,31 @@
 -- How far a report was read, and the verdict there.
-use Rattle.std.proofs.Common.{◌≡◌, ◌≢◌, ℕ, zero, suc, ◌+◌, ◌<◌, ◌≤◌, Bool, true, false, eqb, List, [], ◌∷◌, ◌++◌, length, take, get_or, Contains, Option, Some, None, refl, sym, ap, subst, ◌∙◌, arith, inl, inr, append_assoc, length-append, length-take-le}
+use Rattle.std.proofs.Common.{◌≡◌, ◌≢◌, ℕ, zero, suc, ◌+◌, ◌<◌, ◌≤◌, true, false, eqb, List, [], ◌∷◌, ◌++◌, length, take, get_or, Contains, refl, sym, ap, subst, ◌∙◌, arith, inl, inr, append_assoc, length-append, length-take-le}
 use Rattle.std.specs.Prelude.{All, AllPairs}
 use Rattle.std.specs.List.{list_any}
-use Rattle.std.proofs.lemmas.Bool.{cases_lt, cases_eq, cases_Bool, eqb-true}
+use Rattle.std.proofs.lemmas.Bool.{cases_Bool, eqb-true}
 use Rattle.std.proofs.lemmas.Bool.Decides.{Decides-eqb}
 use Rattle.std.proofs.lemmas.Cmp.{nat_eq_equiv}
-use Rattle.std.proofs.lemmas.List.{append-nil, get_or_default, length-map, map-append, take_all}
-use Rattle.std.proofs.lemmas.List.Elements.{All-nil, All-cons, All-weaker, All-contains}
+use Rattle.std.proofs.lemmas.List.{append-nil, get_or_default, map-append, take_all}
+use Rattle.std.proofs.lemmas.List.Elements.{All-cons, All-weaker, All-contains}
 use Rattle.std.proofs.lemmas.List.Kept.{AllPairs-cons}
 use Rattle.std.proofs.lemmas.Map.Made.{IsDistinct-from_AllPairs}
 use Rattle.std.proofs.lemmas.Map.Steps.{length-le_from_distinct_below, le-length_from_below}
 use Rattle.std.proofs.lemmas.Map.Views.{Contains-from_any, list_any-from_Contains}
 use Rattle.std.proofs.Math.Seq.{take-suc}
 use Rattle.circuit_model.specs.Hears.{hears}
-use Rattle.exchange_events.specs.declared.trace.Event.{Event}
 use Rattle.exchange_events.specs.declared.trace.Trace.{Trace}
 use Rattle.exchange_events.specs.Orders.{IsEvent, IsLawful, IsLawfulPrefix}
-use Rattle.exchange_events.specs.Sound.{IsSound, setting_of}
+use Rattle.exchange_events.specs.Sound.{IsSound}
 use Rattle.exchange_events.proofs.EventNumbers.{event_there}
-use Rattle.exchange_core.specs.Working.{Entry, Working, order_of, setting, world_of}
+use Rattle.exchange_core.specs.Working.{Entry, Working, order_of, setting}
 use Rattle.tone_rules.specs.Tables.{table_of}
 use Rattle.call_profile.specs.Step.{events_of, world_after_all}
 use Rattle.call_profile.specs.World.{start}
 use Rattle.report_text.specs.RunReport.{event_line}
 use Rattle.run_verifier.specs.Replaying.{line_due, with_event}
 use Rattle.run_verifier.specs.Verdicts.{IsGood, IsInvalidAt, IsValid, MayFollow, report_due}
-use Rattle.run_verifier.specs.Verifying.{GoesOn, IsStuck}
+use Rattle.run_verifier.specs.declared.verdict.Verdict.{Verdict}
+use Rattle.run_verifier.specs.Verifying.{GoesOn, IsRight, IsStuck}
 use Rattle.run_verifier.proofs.OrderLemmas.{follows, goes_on, lawful_take, none_lawful}
 use Rattle.run_verifier.proofs.ReportLemmas.{line_last, same_front}
 use Rattle.run_verifier.proofs.VerdictLemmas.{few_good, fewer_good}
@@ -175,3 +175,8 @@ module _ (x : Working) (bytes text : List ℕ) (k : ℕ) (sound : IsSound x.trac
         (read.count ∙ omega (arith, all, long, few)) (sym read.report ∙ valid.text ∙ sym (append-nil (report_due x.slots x.trace valid.order))) in
         some same.1;
   }
+
+-- a verdict is right of the trace and the slots, whichever way they are named
+pub carried : (x y : Working) (bytes : List ℕ) (verdict : Verdict) → x.trace ≡ y.trace → x.slots ≡ y.slots → IsRight x.slots x.trace bytes verdict → IsRight y.slots y.trace bytes verdict
+carried x y bytes verdict trace slots right =
+    subst (λ (t : Trace). IsRight y.slots t bytes verdict) trace (subst (λ (n : ℕ). IsRight n x.trace bytes verdict) slots right)

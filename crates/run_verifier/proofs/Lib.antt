@@ -5,3 +5,5 @@ pub mod TurnLemmas
 pub mod LineLemmas
 pub mod NextLemmas
 pub mod EndLemmas
+pub mod DecisionLemmas
+pub mod AnswerLemmas

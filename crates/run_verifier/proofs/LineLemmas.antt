@@ -1,6 +1,5 @@
 -- The line of an event that was done.
 use Rattle.std.proofs.Common.{◌≡◌, ℕ, Bool, true, false, not, if◌then◌else◌, List, [], ◌∷◌, ◌++◌, length, Option, Some, None, Result, Ok, Err, OnOk, refl, sym, ap, subst, ◌∙◌}
-use Rattle.std.specs.Prelude.{All}
 use Rattle.std.proofs.lemmas.List.Elements.{All-nil, All-cons}
 use Rattle.circuit_model.specs.declared.channel.Slot.{Slot}
 use Rattle.circuit_model.specs.FrameInput.{Input}
@@ -15,6 +14,7 @@ use Rattle.exchange_events.specs.Sizes.{Setting, Dimensions}
 use Rattle.call_profile.specs.IdleSlots.{idle, is_nailed}
 use Rattle.call_profile.specs.Step.{may_nail, reply}
 use Rattle.call_profile.specs.World.{World, is_full, pass, seat_reply}
+use Rattle.call_profile.proofs.QuietEventLemmas.{passed_same}
 use Rattle.call_processor.specs.Frames.{IsPlayed}
 use Rattle.call_processor.proofs.FrameLemmas.{still_ready}
 use Rattle.exchange_core.specs.declared.tool.Tool.{Tool}
@@ -66,10 +66,14 @@ module _ (x : Working) (n : ℕ) (octets : List (List ℕ))
   rows_of (Frame input) is =
       let p = played input is in
       let w = world_of x in
-      let octet = hears (table_of x.trace.tones) (pass w input).inputs (pass w input).held w.holding.next in
+      let tones = table_of x.trace.tones in
+      let same = passed_same (setting x) w input in
+      let octet = hears tones (pass w input).inputs (pass w input).held w.holding.next in
       let lines : kept_rows ≡ lines_sent (octet_of octets) x.trace.external = ap (lines_sent (octet_of octets)) p.lines in
       ap (λ (rows : List (List ℕ)). report_line rows n (kept_of (reply (setting x) w (Frame input))))
-      (lines ∙ sent_same (octet_of octets) octet x.trace.external (λ line place below inside. p.played (record { line = line; place = place }) below inside))
+      (lines
+      ∙ sent_same (octet_of octets) octet x.trace.external (λ line place below inside. p.played (record { line = line; place = place }) below inside)
+      ∙ (λ i. lines_sent (λ y. hears tones (sym same.inputs i) (sym same.held i) w.holding.next y) x.trace.external))
 
   pub line_is : (e : Event) (r : Reply) → IsNumbered x.trace n e → r ≡ reply (setting x) (world_of x) e → report_line kept_rows n (kept_of r) ≡ line_due x n e
   line_is e r number given = ap (λ (q : Reply). report_line kept_rows n (kept_of q)) given ∙ rows_of e number

@@ -1,11 +1,11 @@
 -- The next line of a report.
-use Rattle.std.proofs.Common.{◌≡◌, ℕ, ◌+◌, ◌^◌, ◌<◌, ◌≤◌, List, [], ◌∷◌, ◌++◌, length, Option, Some, None, refl, sym, ap, subst, ◌∙◌, arith}
+use Rattle.std.proofs.Common.{◌≡◌, ℕ, ◌≤◌, List, [], ◌∷◌, ◌++◌, length, Some, None, sym, ap, subst, ◌∙◌}
 use Rattle.std.proofs.lemmas.List.{map-append}
 use Rattle.std.proofs.lemmas.Option.{some_pair_parts}
 use Rattle.circuit_model.specs.Hears.{hears}
 use Rattle.exchange_events.specs.declared.trace.Event.{Event}
 use Rattle.exchange_events.specs.Kept.{kept_of}
-use Rattle.exchange_events.specs.Orders.{IsEvent, event_at}
+use Rattle.exchange_events.specs.Orders.{event_at}
 use Rattle.exchange_events.specs.Sound.{IsSound}
 use Rattle.call_profile.specs.Step.{reply}
 use Rattle.exchange_core.specs.declared.tool.Tool.{Tool}

@@ -1,18 +1,18 @@
 -- How far the events of a trace are done, and which may come next.
-use Rattle.std.proofs.Common.{◌≡◌, ◌≢◌, ℕ, zero, suc, ◌+◌, ◌-◌, ◌%◌, ◌<◌, ◌≤◌, ◌&&◌, Bool, true, false, cond, nat_lt, nat_eq, eqb, List, [], ◌∷◌, ◌++◌, length, get_or, set, slice_index, Contains, filter, Option, Some, None, refl, sym, ap, subst, ◌∙◌, arith, inl, inr}
+use Rattle.std.proofs.Common.{◌≡◌, ◌≢◌, ℕ, zero, suc, ◌+◌, ◌-◌, ◌%◌, ◌<◌, ◌≤◌, Bool, true, false, cond, nat_lt, nat_eq, eqb, List, [], ◌∷◌, ◌++◌, length, get_or, set, slice_index, Contains, filter, Option, refl, sym, ap, subst, ◌∙◌, arith, inl, inr}
 use Rattle.std.specs.Prelude.{All, AllPairs}
 use Rattle.std.specs.List.{range_with_len}
 use Rattle.std.proofs.lemmas.Bool.{cases_lt, cases_eq, ne_eqb}
 use Rattle.std.proofs.lemmas.Bool.Decides.{nat_tests}
 use Rattle.std.proofs.lemmas.List.{get_or-set_same, get_or-set_other}
-use Rattle.std.proofs.lemmas.List.Elements.{All-contains, Contains-append_cases, Contains-append_left, Contains-append_right, filter_passes, All-filter, All-contains_itself}
+use Rattle.std.proofs.lemmas.List.Elements.{All-contains, Contains-append_cases, Contains-append_left, Contains-append_right, filter_passes}
 use Rattle.std.proofs.lemmas.List.FromFn.{length-range_with_len, get_or-range_with_len}
 use Rattle.std.proofs.lemmas.List.Sums.{sum_by-cons}
 use Rattle.std.proofs.Math.Nat.{mod-lt}
 use Rattle.exchange_events.specs.declared.trace.Event.{Event}
 use Rattle.exchange_events.specs.declared.trace.Event.TheVariants.{Nail, Seat, Free, Message, Frame}
 use Rattle.exchange_events.specs.declared.trace.Trace.{Trace}
-use Rattle.exchange_events.specs.Orders.{Worker, Processor, Frame_worker, IsEvent, Precedes, SameWorker, event_at, file_order, segment_of, worker_of}
+use Rattle.exchange_events.specs.Orders.{Worker, Processor, Frame_worker, IsEvent, Precedes, SameWorker, file_order, segment_of, worker_of}
 use Rattle.exchange_events.specs.Sound.{IsSound, last_of}
 use Rattle.exchange_events.proofs.EventNumbers.{event_there}
 use Rattle.call_processor.specs.Parts.{events_of_segment}
@@ -34,7 +34,7 @@ place_small trace n sound is =
     let e = event_there trace n is in
     subst (λ (o : Option Event). place_in trace.processors o < 9) (sym e.1) (small_place trace e.0 sound)
 
--- events of one worker have one place, and those of one place have one worker
+-- events have one place exactly where one worker does them
 same_place : (trace : Trace) (m n : ℕ) → SameWorker trace m n → place_at trace m ≡ place_at trace n
 same_place trace m n same =
     ap (place_in trace.processors) same.is_first ∙ ap place_of same.same ∙ sym (ap (place_in trace.processors) same.is_second)
@@ -254,13 +254,16 @@ module _ (trace : Trace) (k end : ℕ) (next order : List ℕ) (sound : IsSound 
       ]
 
       here : IsIn trace k n
-      here = (may.known, elim (cases_lt (segment_of trace.segments n) k) [
-        | inl before ↦ absurd (may.new (turns.earlier n may.known before))
-        | inr not_before ↦ elim (cases_lt k (segment_of trace.segments n)) [
-          | inl more ↦ absurd (not_later more)
-          | inr not_more ↦ omega (arith, not_before, not_more)
-        ]
-      ])
+      here = (
+        may.known,
+        elim (cases_lt (segment_of trace.segments n) k) [
+          | inl before ↦ absurd (may.new (turns.earlier n may.known before))
+          | inr not_before ↦ elim (cases_lt k (segment_of trace.segments n)) [
+            | inl more ↦ absurd (not_later more)
+            | inr not_more ↦ omega (arith, not_before, not_more)
+          ]
+        ],
+      )
 
       noted : slice_index next (place_at trace n) ≡ n
       noted = elim (cases_lt (slice_index next (place_at trace n)) n) [

@@ -1,8 +1,7 @@
 -- A trace that is done again, event by event, on one thread. Source: this exchange's own.
-use Rattle.std.specs.Prelude.{◌≡◌, ◌<◌, ℕ, ◌∷◌, ◌++◌, [], List, length}
+use Rattle.std.specs.Prelude.{ℕ, ◌∷◌, ◌++◌, [], List}
 use Rattle.circuit_model.specs.Dimensions.{Dimensions}
 use Rattle.circuit_model.specs.Hears.{hears}
-use Rattle.exchange_events.specs.Sound.{IsSound}
 use Rattle.exchange_events.specs.declared.trace.Event.{Event}
 use Rattle.exchange_core.specs.declared.tool.Tool.{Tool}
 use Rattle.exchange_core.specs.Boards.{Board}

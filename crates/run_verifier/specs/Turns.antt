@@ -1,10 +1,10 @@
 -- How far the events of a trace are done, segment by segment and worker by worker. Source: this exchange's own.
-use Rattle.std.specs.Prelude.{◌≡◌, ◌≢◌, ℕ, ◌<◌, ◌≤◌, ◌⊎◌, List, length, Contains, slice_index, Option, Some, None}
+use Rattle.std.specs.Prelude.{◌≡◌, ℕ, ◌<◌, ◌≤◌, ◌⊎◌, List, length, Contains, slice_index, Option, Some, None}
 use Rattle.exchange_events.specs.declared.trace.Event.{Event}
 use Rattle.exchange_events.specs.declared.trace.Trace.{Trace}
 use Rattle.exchange_events.specs.Orders.{Worker, Processor, Frame_worker, IsEvent, event_at, segment_of, worker_of}
 
--- where a worker's next event is noted: the call processors' by their numbers, and the frame worker's behind those of eight
+-- where a worker's next event is noted: the call processors' by their numbers, and the frame worker's behind eight of them
 abbrev pub place_of : Worker → ℕ
 place_of (Processor n) = n
 place_of Frame_worker = 8
@@ -17,7 +17,7 @@ place_in processors (Some e) = place_of (worker_of processors e)
 abbrev pub place_at : Trace → ℕ → ℕ
 place_at trace n = place_in trace.processors (event_at trace.events n)
 
--- the number is that of an event of a segment, segments being counted from 0
+-- the segment has an event with this number, segments being counted from 0
 abbrev pub IsIn : Trace → ℕ → ℕ → Type 0
 IsIn trace segment n = IsEvent trace n × (segment_of trace.segments n ≡ segment)
 
@@ -26,7 +26,7 @@ pub record EndsAt (trace : Trace) (segment end : ℕ) : Type 0 where
   pub below : (m : ℕ) → IsIn trace segment m → m < end
   pub between : (m n : ℕ) → IsIn trace segment m → m < n → n < end → IsIn trace segment n
 
--- a number below the end of the segment that is noted for a worker is that of an event of the worker's in the segment
+-- a number below the end of the segment that is noted for a worker is the number of one of its events in the segment
 abbrev pub AreOwn : Trace → ℕ → ℕ → List ℕ → Type 0
 AreOwn trace segment end next = (w : ℕ) → w < 9 → slice_index next w < end → IsIn trace segment (slice_index next w) × (place_at trace (slice_index next w) ≡ w)
 

@@ -1,8 +1,7 @@
 -- How a report is verified, line by line. Source: this exchange's own.
-use Rattle.std.specs.Prelude.{◌≡◌, ℕ, ◌+◌, ◌<◌, ◌≤◌, ◌++◌, List, length}
+use Rattle.std.specs.Prelude.{◌≡◌, ⊤, ℕ, ◌≤◌, ◌++◌, List, length, Result, Ok, Err}
 use Rattle.exchange_events.specs.declared.trace.Event.{Event}
 use Rattle.exchange_events.specs.declared.trace.Trace.{Trace}
-use Rattle.exchange_events.specs.Orders.{IsLawfulPrefix}
 use Rattle.exchange_events.specs.Sound.{IsSound}
 use Rattle.exchange_core.specs.declared.tool.Tool.{Tool}
 use Rattle.exchange_core.specs.Working.{IsNumbered, Working, order_of}
@@ -10,9 +9,12 @@ use Rattle.frame_engine.specs.Carries.{Stages}
 use Rattle.run_verifier.specs.declared.turns.Turns.{Turns}
 use Rattle.run_verifier.specs.declared.verdict.Verdict.{Verdict}
 use Rattle.run_verifier.specs.declared.verdict.Verdict.TheVariants.{Valid, Invalid}
+use Rattle.run_verifier.specs.declared.verdict.VerifyFault.{VerifyFault}
+use Rattle.run_verifier.specs.declared.verdict.VerifyFault.TheVariants.{Memory, Trace as Refused}
+use Rattle.trace_text.specs.TraceGrammar.{IsRefused, IsTrace}
 use Rattle.run_verifier.specs.Replaying.{IsReadyAt, line_due, with_event}
 use Rattle.run_verifier.specs.Turns.{AreTurns, IsLeft}
-use Rattle.run_verifier.specs.Verdicts.{IsInvalidAt, IsValid, MayFollow, report_due}
+use Rattle.run_verifier.specs.Verdicts.{IsInvalidAt, IsValid, MayFollow}
 
 -- what is done again of a trace is underway: the engine, the control memory and the octets are ready for the next frame, and the turns are those
 -- after what the core has done
@@ -41,3 +43,9 @@ IsStuck x text = (n : ℕ) (e : Event) (behind : List ℕ) → MayFollow x.trace
 abbrev pub IsRight : ℕ → Trace → List ℕ → Verdict → Type 0
 IsRight slots trace bytes Valid = IsValid slots trace bytes
 IsRight slots trace bytes (Invalid n) = IsInvalidAt slots trace bytes n
+
+-- What is answered is so: the bytes are a trace, and the verdict on its report is right; or they are none, for this reason.
+abbrev pub IsAnswer : ℕ → (trace report : List ℕ) → Result Verdict VerifyFault → Type 0
+IsAnswer slots trace report (Ok verdict) = (t : Trace) × IsTrace trace t × IsRight slots t report verdict
+IsAnswer slots trace report (Err Memory) = ⊤
+IsAnswer slots trace report (Err (Refused number why)) = IsRefused trace number why

@@ -36,7 +36,8 @@ fn place(trace: &Trace, number: u32) -> usize
     }
 }
 
-// The first event of a worker's from one number on and below another, or the latter where it has none.
+// The first event of a worker's from one number on and below another, or that other number where it has
+// none.
 fn next_of(trace: &Trace, worker: usize, from: u32, end: u32) -> u32
     requires sound { IsSound trace.now }
     requires order { from ≤ end }

@@ -1,7 +1,6 @@
 use Rattle.std.proofs.Common.{rules, ◌≡◌, ◌+◌, ℕ, [], ◌∷◌, ◌++◌, length, refl, sym, ap, ◌∙◌, subst, arith}
 use Rattle.circuit_model.specs.FrameInput.{Input}
 use Rattle.circuit_model.specs.Hears.{hears}
-use Rattle.control_memory.specs.Image.{IsOfSize}
 use Rattle.exchange_events.specs.Sizes.{Dimensions}
 use Rattle.exchange_events.specs.declared.trace.Event.TheVariants.{Frame}
 use Rattle.exchange_core.specs.declared.tool.Tool.TheVariants.{Image}

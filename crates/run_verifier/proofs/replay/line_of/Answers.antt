@@ -1,4 +1,3 @@
-use Rattle.std.proofs.Common.{◌≡◌, List, ℕ}
 use Rattle.exchange_events.specs.Responses.{reply_of}
 use Rattle.report_text.specs.Report.{response_line}
 use Rattle.run_verifier.specs.Replaying.{line_due}

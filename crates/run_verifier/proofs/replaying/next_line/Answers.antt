@@ -1,4 +1,4 @@
-use Rattle.std.proofs.Common.{◌≡◌, ◌≤◌, ◌∷◌, [], ◌++◌, ℕ, List, length, None, Some, refl, sym, subst, ap, ◌∙◌}
+use Rattle.std.proofs.Common.{◌≤◌, ◌∷◌, [], ◌++◌, ℕ, List, length, None, Some, refl, sym, subst, ap, ◌∙◌}
 use Rattle.std.proofs.lemmas.Bool.Decides.{Decides-eqb}
 use Rattle.std.proofs.lemmas.Slice.Eq.{strip_prefix_is}
 use Rattle.exchange_events.specs.declared.trace.Trace.{Trace}
@@ -45,7 +45,8 @@ returns g c =
     let e = event_there x.trace n known in
     let turns = subst (λ (u : Trace). AreTurns u t.segment t.end t.next (order_of x.journal)) (sym c.requires.trace) c.requires.underway.done in
     record {
-      next = (record {
+      next = (
+        record {
           number = n;
           event = e.0;
           may = subst (λ (v : Trace). MayFollow v (order_of x.journal) n) c.requires.trace (c.if-not-may_come.ensures.may (order_of x.journal) turns refl);
@@ -55,7 +56,8 @@ returns g c =
               ∙ ap (λ (l : List ℕ). l ++ c.in-Some-strip_prefix.behind.now) (c.as_slice.ensures.value ∙ c.in_ok-line_of.ensures.line e.0 e.1);
         },
         underway_after x c.line_of.new.core n u c.line_of.new.engine c.line_of.new.tool c.line_of.new.octets c.line_of.ensures.done c.requires.underway.sound c.line_of.ensures.ready c.line_of.ensures.lines
-        (subst (λ (v : Trace). u.segment ≤ length v.segments) c.requires.trace c.pass.ensures.within)
-        (subst (λ (v : Trace). AreTurns v u.segment u.end u.next (order_of x.journal ++ n ∷ [])) c.requires.trace (c.pass.ensures.turns (order_of x.journal) turns))
-        (subst (λ (v : Trace). IsLeft v u.segment u.end u.next) c.requires.trace c.pass.ensures.left));
+            (subst (λ (v : Trace). u.segment ≤ length v.segments) c.requires.trace c.pass.ensures.within)
+            (subst (λ (v : Trace). AreTurns v u.segment u.end u.next (order_of x.journal ++ n ∷ [])) c.requires.trace (c.pass.ensures.turns (order_of x.journal) turns))
+            (subst (λ (v : Trace). IsLeft v u.segment u.end u.next) c.requires.trace c.pass.ensures.left),
+      );
     }

@@ -1,4 +1,4 @@
-use Rattle.std.proofs.Common.{◌≡◌, ℕ}
+use Rattle.std.proofs.Common.{◌≡◌}
 use Rattle.run_verifier.specs.Verifying.{IsUnderway}
 use Rattle.run_verifier.proofs.EndLemmas.{HasRead}
 use Rattle.run_verifier.proofs.replaying.verdict_on.Given as goal

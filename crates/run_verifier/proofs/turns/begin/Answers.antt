@@ -1,5 +1,5 @@
 use Rattle.std.proofs.Common.{rules}
-use Rattle.run_verifier.proofs.TurnLemmas.{begins_own, begins_untouched, ends_at, none_ends, none_untouched}
+use Rattle.run_verifier.proofs.TurnLemmas.{begins_own, begins_untouched, ends_at, none_ends}
 use Rattle.run_verifier.proofs.turns.begin.Goals as goal
 
 pub returns-then-segment-as_slice-clause-ends : goal.returns-then-segment-as_slice-clause-ends

@@ -1,4 +1,4 @@
-use Rattle.std.proofs.Common.{rules, ◌≡◌, ◌+◌, ◌≤◌, ℕ, List, length, refl, sym, subst, arith}
+use Rattle.std.proofs.Common.{rules, ◌+◌, ℕ, refl, sym, subst, arith}
 use Rattle.run_verifier.specs.Turns.{AreTurns}
 use Rattle.run_verifier.proofs.TurnLemmas.{few_segments, next_turns}
 use Rattle.run_verifier.proofs.turns.settled.Goals as goal

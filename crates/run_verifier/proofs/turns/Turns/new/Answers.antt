@@ -1,4 +1,4 @@
-use Rattle.std.proofs.Common.{[], ◌≡◌, ℕ, sym, subst}
+use Rattle.std.proofs.Common.{[], ℕ, sym, subst}
 use Rattle.run_verifier.specs.Turns.{AreTurns}
 use Rattle.run_verifier.proofs.TurnLemmas.{first_turns}
 use Rattle.run_verifier.proofs.turns.Turns.new.Goals as goal

@@ -1,4 +1,4 @@
-use Rattle.std.proofs.Common.{rules, ◌≡◌, ◌++◌, ◌∷◌, [], ℕ, arith}
+use Rattle.std.proofs.Common.{rules, ◌++◌, ◌∷◌, [], arith}
 use Rattle.run_verifier.proofs.TurnLemmas.{next_in, passed_turns}
 use Rattle.run_verifier.proofs.turns.Turns.pass.Goals as goal
 
