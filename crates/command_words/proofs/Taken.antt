@@ -1,4 +1,4 @@
--- What clap's contract says of the words of one of the two commands.
+-- What clap's contract says of the words of one of the commands.
 use Rattle.std.proofs.Common.{◌≡◌, ◌≢◌, inl, inr, true, false, List, [], ◌∷◌, Result, Ok, Err, IfOk, IfErr, ap, ◌∙◌, refl, subst}
 use Rattle.clap.specs.Words.{App, FailsBy, HasMatchesOf, IsAmong, Kinds, Text, fault_of, first_value, found_of, is_simple, kind_of}
 use Rattle.clap.specs.declared.error.Error.{Error}

@@ -6,7 +6,7 @@ use Rattle.clap.specs.Words.{App, Kinds, Rule, Text, fault_of, first_of, matches
 use Rattle.clap.specs.declared.builder.ArgAction.TheVariants.{Set, SetTrue}
 use Rattle.command_words.specs.Numerals.{numeral_in, ◌>>=◌}
 use Rattle.command_words.specs.declared.command.Command.{Command}
-use Rattle.command_words.specs.declared.command.Command.TheVariants.{Run, Generate}
+use Rattle.command_words.specs.declared.command.Command.TheVariants.{Run, Generate, Check}
 use Rattle.command_words.specs.declared.command.Name.{Name}
 use Rattle.command_words.specs.declared.command.Name.TheVariants as name
 
@@ -21,6 +21,10 @@ flag name = record (new_rule name) { long = Some name; action = Some SetTrue }
 -- the simple command `run`, with the flag `--strict`
 unfoldable pub run_app : App
 run_app = with_rule (new_app (codes "run")) (flag (codes "strict"))
+
+-- the simple command `check`, with the flag `--strict`
+unfoldable pub check_app : App
+check_app = with_rule (new_app (codes "check")) (flag (codes "strict"))
 
 -- the simple command `gen SEED CALLS`
 unfoldable pub gen_app : App
@@ -52,6 +56,7 @@ generation seed_text calls_text = do
 abbrev pub IsInRange : Command → Type 0
 IsInRange (Run strict) = ⊤
 IsInRange (Generate seed calls) = (1 ≤ calls) × (calls ≤ 2000)
+IsInRange (Check strict) = ⊤
 
 -- the text that clap reads for a flag says that it was given
 abbrev pub is_true : Option Text → Bool
@@ -61,6 +66,10 @@ is_true (Some text) = bytes_eq text (codes "true")
 -- what words ask for whose first is `run`
 abbrev pub run_of : List Text → Option Command
 run_of words = if takes_words run_app words then Some (Run (is_true (text_for (codes "strict") run_app words))) else None
+
+-- what words ask for whose first is `check`
+abbrev pub check_of : List Text → Option Command
+check_of words = if takes_words check_app words then Some (Check (is_true (text_for (codes "strict") check_app words))) else None
 
 -- what words ask for whose first is `gen`
 abbrev pub generation_of : List Text → Option Command
@@ -75,6 +84,7 @@ name_in [] = None
 name_in (word ∷ others) =
     if bytes_eq word (codes "run") then Some name.Run
     else if bytes_eq word (codes "gen") then Some name.Gen
+    else if bytes_eq word (codes "check") then Some name.Check
     else None
 
 -- what words ask for whose first names this command, or none
@@ -82,6 +92,7 @@ abbrev pub asked_as : Option Name → List Text → Option Command
 asked_as None words = None
 asked_as (Some name.Run) words = run_of words
 asked_as (Some name.Gen) words = generation_of words
+asked_as (Some name.Check) words = check_of words
 
 -- what words ask for: the first names the command, and clap reads the others
 unfoldable pub command_of : List Text → Option Command

@@ -1,9 +1,9 @@
 ghost use Rattle.std.specs.Prelude.{◌≡◌, ◌≢◌, codes, map, string_bytes, IfOk, IfSome, IsErrOf, Some, None};
-ghost use Rattle.command_words.specs.Words.{IsInRange, command_of, generation, generation_of, is_true, name_in, run_of};
+ghost use Rattle.command_words.specs.Words.{IsInRange, check_of, command_of, generation, generation_of, is_true, name_in, run_of};
 ghost use Rattle.clap.specs.Words.{first_value, found_of, kind_of};
 
 use crate::numerals::numeral_within;
-use crate::readings::{gen_matches, run_matches};
+use crate::readings::{check_matches, gen_matches, run_matches};
 use clap::error::ErrorKind;
 use clap::{ArgMatches, Error};
 use std::alloc::Global;
@@ -19,6 +19,9 @@ pub enum Command {
     Run { strict: bool },
     /// `gen SEED CALLS`: to run the trace of that seed with n calls, 1 to 2000.
     Generate { seed: u32, calls: u32 },
+    /// `check`, or `check --strict`: to verify the report of the input against the trace of the input, with
+    /// the flag as the report of a fabric where no path ever moves.
+    Check { strict: bool },
 }
 
 /// Why no command was read.
@@ -34,9 +37,9 @@ pub enum WordsFault {
 
 /// Reads what the words ask for: the first names the command, and the others are its arguments.
 ///
-/// The commands are `run`, with the flag `--strict` at most once, and `gen SEED CALLS`. Each number is a
-/// decimal numeral of one to ten digits without a leading zero, except `0` itself. A word `--` ends the
-/// options, and a flag behind it is none; a request for help is no command.
+/// The commands are `run` and `check`, each with the flag `--strict` at most once, and `gen SEED CALLS`.
+/// Each number is a decimal numeral of one to ten digits without a leading zero, except `0` itself. A word
+/// `--` ends the options, and a flag behind it is none; a request for help is no command.
 ///
 /// # Errors
 ///
@@ -50,6 +53,7 @@ pub fn read_command(alloc: Global, words: &[String]) -> Result<Command, WordsFau
     match name_in(words) {
         Some(Name::Run) => read_run(alloc, words),
         Some(Name::Gen) => read_generation(alloc, words),
+        Some(Name::Check) => read_check(alloc, words),
         None => Err(WordsFault::NoCommand),
     }
 }
@@ -59,6 +63,7 @@ pub fn read_command(alloc: Global, words: &[String]) -> Result<Command, WordsFau
 enum Name {
     Run,
     Gen,
+    Check,
 }
 
 // The command that the first word names.
@@ -68,6 +73,7 @@ fn name_in(words: &[String]) -> Option<Name>
     match words {
         [word, ..] if word.as_str() == "run" => Some(Name::Run),
         [word, ..] if word.as_str() == "gen" => Some(Name::Gen),
+        [word, ..] if word.as_str() == "check" => Some(Name::Check),
         _ => None,
     }
 }
@@ -80,6 +86,20 @@ fn read_run(alloc: Global, words: &[String]) -> Result<Command, WordsFault>
 {
     match run_matches(alloc, words) {
         Ok(matches) => Ok(Command::Run {
+            strict: is_strict(&matches),
+        }),
+        Err(error) => Err(fault_of(&error)),
+    }
+}
+
+// Reads the words of `check`.
+fn read_check(alloc: Global, words: &[String]) -> Result<Command, WordsFault>
+    ensures command { IfOk result (λ c. check_of (map string_bytes words.now) ≡ Some c) }
+    ensures calls { IfOk result IsInRange }
+    ensures no_command { IsErrOf result WordsFault.NoCommand → check_of (map string_bytes words.now) ≡ None }
+{
+    match check_matches(alloc, words) {
+        Ok(matches) => Ok(Command::Check {
             strict: is_strict(&matches),
         }),
         Err(error) => Err(fault_of(&error)),

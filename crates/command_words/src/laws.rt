@@ -2,7 +2,7 @@
 ghost use Rattle.std.specs.Prelude.{◌≡◌, ◌<◌, ◌≤◌, ◌^◌, ℕ, List, [], ◌∷◌, codes, decimal, Some, None, true, false};
 ghost use Rattle.command_words.specs.Numerals.{numeral};
 ghost use Rattle.command_words.specs.Words.{begins_with_hyphen, command_of, generation};
-ghost use Rattle.command_words.specs.declared.command.Command.TheVariants.{Generate, Run};
+ghost use Rattle.command_words.specs.declared.command.Command.TheVariants.{Check, Generate, Run};
 
 /// Two texts behind `gen`, neither of which begins with a hyphen, are taken as they are: they are a
 /// command exactly where they are the numerals of a seed and of a number of calls.
@@ -25,7 +25,18 @@ pub fn worked_runs()
     ensures too_early { command_of (codes "--strict" ∷ codes "run" ∷ []) ≡ None }
 {}
 
-/// Worked examples of the other command, which takes no flag.
+/// Worked examples: `check` takes the same flag in the same way, and no other word.
+pub fn worked_checks()
+    ensures check { command_of (codes "check" ∷ []) ≡ Some (Check false) }
+    ensures strict { command_of (codes "check" ∷ codes "--strict" ∷ []) ≡ Some (Check true) }
+    ensures ended { command_of (codes "check" ∷ codes "--" ∷ []) ≡ Some (Check false) }
+    ensures and_more { command_of (codes "check" ∷ codes "x" ∷ []) ≡ None }
+    ensures too_late { command_of (codes "check" ∷ codes "--" ∷ codes "--strict" ∷ []) ≡ None }
+    ensures twice { command_of (codes "check" ∷ codes "--strict" ∷ codes "--strict" ∷ []) ≡ None }
+    ensures capital { command_of (codes "Check" ∷ []) ≡ None }
+{}
+
+/// Worked examples of `gen`, which takes no flag.
 pub fn worked_generations()
     ensures ended { command_of (codes "gen" ∷ codes "--" ∷ codes "0" ∷ codes "1" ∷ []) ≡ Some (Generate 0 1) }
     ensures last { command_of (codes "gen" ∷ codes "4294967295" ∷ codes "2000" ∷ []) ≡ Some (Generate 4294967295 2000) }

@@ -1,11 +1,10 @@
 -- The commands, and what a call answers to them. Source: this exchange's own.
-use Rattle.std.specs.Prelude.{ℕ, Bool, true, false, List, Some, None, String, [], codes, decimal, length, map, string_bytes, ◌++◌, ◌+◌, ◌≡◌, ◌≤◌, ◌⊎◌}
+use Rattle.std.specs.Prelude.{ℕ, Bool, true, false, List, Some, None, String, [], map, string_bytes, ◌+◌, ◌≡◌, ◌⊎◌}
 use Rattle.std.specs.List.{concat}
-use Rattle.std.specs.Io.KnownBytes.{Appends, Consumes, IsAtEnd, Keeps}
+use Rattle.std.specs.Io.KnownBytes.{Appends, Keeps}
 use Rattle.std.specs.declared.option.Option.{Option}
 use Rattle.ex_io.specs.Ends.{Rose}
 use Rattle.trace_text.specs.declared.fault.Reason.{Reason}
-use Rattle.trace_text.specs.declared.fault.Reason.TheVariants as reason
 use Rattle.exchange_events.specs.declared.record.CallRecord.{CallRecord}
 use Rattle.exchange_events.specs.declared.trace.Trace.{Trace}
 use Rattle.fabric_map.specs.Map.{most_moves}
@@ -13,7 +12,8 @@ use Rattle.strict_map.specs.Strict.{most_moves as most_strict_moves}
 use Rattle.trace_text.specs.TraceGrammar.{IsTrace, IsRefused, most_bytes}
 use Rattle.generated_trace.specs.Generated.{IsTrafficOf}
 use Rattle.command_words.specs.Words.{command_of}
-use Rattle.command_words.specs.declared.command.Command.TheVariants.{Run, Generate}
+use Rattle.command_words.specs.declared.command.Command.{Command}
+use Rattle.command_words.specs.declared.command.Command.TheVariants.{Run, Generate, Check}
 use Rattle.exchange_events.specs.Sound.{setting_of}
 use Rattle.exchange_core.specs.Working.{world_after}
 use Rattle.exchange_events.specs.Sizes.{Dimensions}
@@ -22,7 +22,10 @@ use Rattle.call_processor.specs.Frames.{Carrying, CarriesFrames, Plays}
 use Rattle.line_list.specs.declared.listing.Listing.{Listing}
 use Rattle.line_list.specs.declared.listing.Listing.TheVariants as listing
 use Rattle.meters.specs.Changing.{Step}
+use Rattle.exchange_top.specs.Checking.{IsDue, IsFoundInvalid, IsFoundUnchecked, IsFoundValid, most_checked, slots_of}
+use Rattle.exchange_top.specs.Inputs.{IsInput, IsInputWithin, IsWholeInput, SourceAndSink, most_of}
 use Rattle.exchange_top.specs.Outcomes.{Fabric, IsInterrupted, IsRunWhole, IsUnwritten}
+use Rattle.exchange_top.specs.Refusals.{Says, refusal, words_refusal}
 use Rattle.exchange_top.specs.Story.{story}
 use Rattle.exchange_top.specs.Streams.{AppendsFront}
 use Rattle.exchange_top.specs.Summary.{summary_text}
@@ -42,6 +45,18 @@ IsRun words = (strict : Bool) × IsRunOn words strict
 abbrev pub IsGeneration : List (List ℕ) → ℕ → ℕ → Type 0
 IsGeneration words seed calls = command_of words ≡ Some (Generate seed calls)
 
+-- they ask for the verdict on a report that is read with its trace, of a strict fabric or of the other
+abbrev pub IsCheckOn : List (List ℕ) → Bool → Type 0
+IsCheckOn words strict = command_of words ≡ Some (Check strict)
+
+-- on either
+abbrev pub IsCheck : List (List ℕ) → Type 0
+IsCheck words = (strict : Bool) × IsCheckOn words strict
+
+-- they ask for a run or for a verdict, each of which reads an input
+abbrev pub IsReading : List (List ℕ) → Type 0
+IsReading words = IsRun words ⊎ IsCheck words
+
 -- they are no command
 abbrev pub IsNoCommand : List (List ℕ) → Type 0
 IsNoCommand words = command_of words ≡ None
@@ -50,43 +65,15 @@ IsNoCommand words = command_of words ≡ None
 abbrev pub texts : {A : Type 0} → List (String A) → List (List ℕ)
 texts words = map string_bytes words
 
--- ---- refusals
+-- how many bytes a command reads at the most: as many as a trace may have, or a trace and a report, and one piece more
+abbrev pub most_read_by : Option Command → ℕ
+most_read_by None = 0
+most_read_by (Some (Run strict)) = most_of most_bytes
+most_read_by (Some (Generate seed calls)) = 0
+most_read_by (Some (Check strict)) = most_of most_checked
 
--- how a refusal names its reason
-abbrev pub reason_name : Reason → List ℕ
-reason_name reason.Header = codes "header"
-reason_name reason.Word = codes "word"
-reason_name reason.Slot = codes "slot"
-reason_name reason.Hex = codes "hex"
-reason_name reason.Length = codes "length"
-reason_name reason.Number = codes "number"
-reason_name reason.Prefix = codes "prefix"
-reason_name reason.Limit = codes "limit"
-
--- the line that refuses any other input, at its first line that fails
-abbrev pub refusal : ℕ → Reason → List ℕ
-refusal number why = codes "refused " ++ decimal number ++ codes " " ++ reason_name why ++ codes "\n"
-
--- the line that refuses words that are no command
-abbrev pub words_refusal : List ℕ
-words_refusal = codes "refused words\n"
-
--- ---- what is read
-
--- how many bytes of an input are read at the most: as many as a trace may have, and one piece of 65,536 more
-abbrev pub most_read : ℕ
-most_read = most_bytes + 65536
-
--- these bytes are all that was left, and they were read
-pub record IsWholeInput (old new : Option (List ℕ)) (bytes : List ℕ) : Type 0 where
-  pub front : Consumes old new bytes
-  pub ended : IsAtEnd new
-
--- these bytes were read: all that was left, or more than a trace may have, by one piece at the most
-pub record IsInput (old new : Option (List ℕ)) (bytes : List ℕ) : Type 0 where
-  pub front : Consumes old new bytes
-  pub whole : length bytes ≤ most_bytes → IsAtEnd new
-  pub few : length bytes ≤ most_read
+abbrev pub most_read : List (List ℕ) → ℕ
+most_read words = most_read_by (command_of words)
 
 -- ---- a run that comes to its end
 
@@ -97,8 +84,8 @@ IsUnfinished status = (status ≡ 3) ⊎ (status ≡ 4) ⊎ (status ≡ 5)
 -- the fabric that a trace is run on, and how many others a path that joins moves at the most: a strict one of fifty-nine internal slots, where it is
 -- none, or one of thirty
 abbrev pub fabric_of : Bool → Trace → Fabric
-fabric_of true trace = record { slots = 59; most_moves = most_strict_moves (trace.external + trace.bridges) }
-fabric_of false trace = record { slots = 30; most_moves = most_moves (trace.external + trace.bridges) }
+fabric_of true trace = record { slots = slots_of true; most_moves = most_strict_moves (trace.external + trace.bridges) }
+fabric_of false trace = record { slots = slots_of false; most_moves = most_moves (trace.external + trace.bridges) }
 
 -- the engine that a call hands out has these dimensions, and carries the frames of the world
 abbrev pub HandsOut : {E : Type 0} → (E → Dimensions) → Carrying E → Option E → Dimensions → World → Type 0
@@ -166,6 +153,25 @@ ReportsTo x words order left written source_old source_new sink_old sink_new = R
 abbrev pub SumsUp : {K : Type 0} → Parties → (words : List (List ℕ)) → List ℕ → (K → Option (List ℕ)) → (old new : K) → Type 0
 SumsUp x words order written old new = (seed calls : ℕ) → IsGeneration words seed calls → IsSummed x seed calls order (written old) (written new)
 
+-- a trace was run to its end: the status is 0, and the words don't ask for a verdict
+abbrev pub HasRun : ℕ → List (List ℕ) → Type 0
+HasRun status words = (status ≡ 0) × (IsCheck words → ⊥)
+
+-- ---- a verdict on a report
+
+-- where the words ask for a verdict, the report was found to be its trace's, on the fabric that they ask for: by what the types of a source and a
+-- sink say of each, the bytes left and the bytes written
+abbrev pub FindsValid : {A S K : Type 0} → (List Step → Type 0) → List (String A) → List ℕ → (S → Option (List ℕ)) → (K → Option (List ℕ))
+    → (source_old source_new : S) → (sink_old sink_new : K) → Type 0
+FindsValid meters words order left written source_old source_new sink_old sink_new = (strict : Bool) → IsCheckOn (texts words) strict
+    → IsFoundValid meters strict (left source_old) (left source_new) order (written sink_old) (written sink_new)
+
+-- the words ask for a verdict, and the report was found not to be its trace's, likewise
+abbrev pub FindsInvalid : {A S K : Type 0} → (List Step → Type 0) → List (String A) → List ℕ → (S → Option (List ℕ)) → (K → Option (List ℕ))
+    → (source_old source_new : S) → (sink_old sink_new : K) → Type 0
+FindsInvalid meters words order left written source_old source_new sink_old sink_new = (strict : Bool) × IsCheckOn (texts words) strict
+    × IsFoundInvalid meters strict (left source_old) (left source_new) order (written sink_old) (written sink_new)
+
 -- ---- other ends
 
 -- the bytes were answered by the refusal of the line that they are no trace for
@@ -179,6 +185,17 @@ pub record IsTurnedDown (bytes order : List ℕ) (old new : Option (List ℕ)) :
 -- the input was read and answered by the refusal of a line; no meter was changed, and none noted a call
 abbrev pub RefusesInput : (List Step → Type 0) → (left_old left_new : Option (List ℕ)) → List ℕ → (old new : Option (List ℕ)) → Type 0
 RefusesInput left left_old left_new order old new = (bytes : List ℕ) × IsInput left_old left_new bytes × IsTurnedDown bytes order old new × left []
+
+-- what was read for the command is refused: for a run since it is no trace, for a verdict since it has none
+abbrev pub RefusesRead : (List Step → Type 0) → (words : List (List ℕ)) → (left_old left_new : Option (List ℕ)) → List ℕ → (old new : Option (List ℕ)) → Type 0
+RefusesRead meters words left_old left_new order old new =
+    (IsRun words × RefusesInput meters left_old left_new order old new) ⊎ (IsCheck words × IsFoundUnchecked meters left_old left_new order old new)
+
+-- so it is, by what the types of a source and a sink say of each: the bytes left and the bytes written
+abbrev pub TurnsDown : {A S K : Type 0} → (List Step → Type 0) → List (String A) → List ℕ → (S → Option (List ℕ)) → (K → Option (List ℕ))
+    → (source_old source_new : S) → (sink_old sink_new : K) → Type 0
+TurnsDown meters words order left written source_old source_new sink_old sink_new =
+    RefusesRead meters (texts words) (left source_old) (left source_new) order (written sink_old) (written sink_new)
 
 -- a run of a trace on n internal slots, with this listing, was cut short: a write failed, or memory ran out
 pub data IsBegun (x : Parties) (slots : ℕ) (l : Listing) (trace : Trace) (status : ℕ) (order : List ℕ) (old new : Option (List ℕ)) : Type 0 where
@@ -203,26 +220,28 @@ pub data IsSumCutShort (x : Parties) (status seed calls : ℕ) (order : List ℕ
   Before_summary : status ≡ 5 → (trace : Trace) → IsTrafficOf seed calls trace → IsRunWhole x.plays listing.Nothing (fabric_of false trace) x.meters trace order → Appends old new []
       → IsSumCutShort x status seed calls order old new
 
--- the whole call was cut short: it could write no refusal of the words, or it could not read them or its input, or the answer to them was cut short
+-- the whole call was cut short: it could write no refusal of the words, or it could not read them or its input, or the answer to them or the
+-- verdict was cut short
 pub data IsUndone (x : Parties) (status : ℕ) (words : List (List ℕ)) (left_old left_new : Option (List ℕ)) (order : List ℕ) (old new : Option (List ℕ)) : Type 0 where
   In_words : status ≡ 4 → IsNoCommand words → order ≡ [] → AppendsFront old new words_refusal → x.meters.left [] → IsUndone x status words left_old left_new order old new
   Unheard : status ≡ 5 → order ≡ [] → Keeps old new → x.meters.left [] → IsUndone x status words left_old left_new order old new
   In_answer : (strict : Bool) → IsRunOn words strict → (bytes : List ℕ) → IsInput left_old left_new bytes → IsCutShort x strict status bytes order old new
       → IsUndone x status words left_old left_new order old new
+  In_check : status ≡ 4 → (strict : Bool) → IsCheckOn words strict → (bytes : List ℕ) → IsInputWithin most_checked left_old left_new bytes
+      → (wanted : ℕ) (line : List ℕ) → IsDue strict bytes wanted line → order ≡ [] → AppendsFront old new line → x.meters.left []
+      → IsUndone x status words left_old left_new order old new
   In_generation : (seed calls : ℕ) → IsGeneration words seed calls → IsSumCutShort x status seed calls order old new
       → IsUndone x status words left_old left_new order old new
+
+-- a status that says so
+abbrev pub IsCut : ℕ → Type 0
+IsCut status = (status ≡ 4) ⊎ (status ≡ 5)
 
 -- so it was, by what the types of a source and a sink say of each: the bytes left and the bytes written
 abbrev pub IsCutOff : {A S K : Type 0} → Parties → ℕ → List (String A) → List ℕ → (S → Option (List ℕ)) → (K → Option (List ℕ)) → (source_old source_new : S) → (sink_old sink_new : K) → Type 0
 IsCutOff x status words order left written source_old source_new sink_old sink_new = IsUndone x status (texts words) (left source_old) (left source_new) order (written sink_old) (written sink_new)
 
 -- ---- how the parts of a call end
-
--- how a refusal ends: the line was written and the status is the wanted one, or the write failed; the counts are the sink's faults
--- before and after
-pub data Refuses (wanted : ℕ) (line : List ℕ) (status : ℕ) (old new : Option (List ℕ)) (before after : ℕ) : Type 0 where
-  Told_so : status ≡ wanted → Appends old new line → Refuses wanted line status old new before after
-  Untold : status ≡ 4 → Rose before after → AppendsFront old new line → Refuses wanted line status old new before after
 
 -- how an answer to the bytes that were read ends, by its status; the counts are the sink's faults before and after
 pub data Answers (x : Parties) (strict : Bool) (bytes : List ℕ) (status : ℕ) (order : List ℕ) (old new : Option (List ℕ)) (before after : ℕ) : Type 0 where
@@ -251,22 +270,18 @@ pub data Sums (x : Parties) (seed calls : ℕ) (status : ℕ) (order : List ℕ)
   Sum_unwritten : status ≡ 4 → Rose before after → IsSumCutShort x status seed calls order old new → Sums x seed calls status order old new before after
   Sum_no_memory : status ≡ 5 → IsSumCutShort x status seed calls order old new → Sums x seed calls status order old new before after
 
--- what is seen of the source and the sink: the bytes left and written, and their counts of faults
-pub record SourceAndSink : Type 0 where
-  pub left : Option (List ℕ)
-  pub reads : ℕ
-  pub written : Option (List ℕ)
-  pub writes : ℕ
-
 -- how a call ends, by its status
 pub data Ends (x : Parties) (words : List (List ℕ)) (status : ℕ) (order : List ℕ) (old new : SourceAndSink) : Type 0 where
   Wrong_words : IsNoCommand words → status ≡ 2 → order ≡ [] → Appends old.written new.written words_refusal → x.meters.left [] → Ends x words status order old new
   Words_unwritten : IsNoCommand words → status ≡ 4 → order ≡ [] → Rose old.writes new.writes → AppendsFront old.written new.written words_refusal → x.meters.left []
       → Ends x words status order old new
-  Unread : IsRun words → status ≡ 3 → order ≡ [] → Rose old.reads new.reads → Keeps old.written new.written → x.meters.left [] → Ends x words status order old new
+  Unread : IsReading words → status ≡ 3 → order ≡ [] → Rose old.reads new.reads → Keeps old.written new.written → x.meters.left [] → Ends x words status order old new
   No_room : status ≡ 5 → order ≡ [] → Keeps old.written new.written → x.meters.left [] → Ends x words status order old new
   Answered : (strict : Bool) → IsRunOn words strict → (bytes : List ℕ) → IsInput old.left new.left bytes
       → Answers x strict bytes status order old.written new.written old.writes new.writes → Ends x words status order old new
+  Checked : (strict : Bool) → IsCheckOn words strict → (bytes : List ℕ) → IsInputWithin most_checked old.left new.left bytes
+      → (wanted : ℕ) (line : List ℕ) → IsDue strict bytes wanted line → Says wanted line status old.written new.written old.writes new.writes
+      → order ≡ [] → x.meters.left [] → Ends x words status order old new
   Generated : (seed calls : ℕ) → IsGeneration words seed calls → Sums x seed calls status order old.written new.written old.writes new.writes → Ends x words status order old new
 
 -- so, by what the types of a source and a sink tell of each: the bytes left and the faults of the source, the bytes written and the faults of the sink

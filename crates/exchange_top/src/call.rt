@@ -1,18 +1,24 @@
-ghost use Rattle.std.specs.Prelude.{◌≡◌, ◌+◌, ℕ, ◌≤◌, ◌⊎◌, ◌↔◌, ◌++◌, List, [], map, IsSome, IfOk, None, Some};
+ghost use Rattle.std.specs.Prelude.{◌≡◌, ◌+◌, ℕ, ◌≤◌, ◌⊎◌, ◌↔◌, Bool, List, [], map, IsSome, None, Some};
 ghost use Rattle.std.specs.List.{concat};
 ghost use Rattle.std.specs.Io.KnownBytes.{Appends, Keeps};
 ghost use Rattle.ex_io.specs.Ends.{Rose};
 ghost use Rattle.trace_text.specs.declared.fault.Reason.{Reason};
-ghost use Rattle.trace_text.specs.TraceGrammar.{IsTrace, IsRefused};
+ghost use Rattle.trace_text.specs.TraceGrammar.{IsTrace, IsRefused, most_bytes};
 ghost use Rattle.exchange_events.specs.declared.trace.Trace.{Trace};
 ghost use Rattle.exchange_events.specs.Sound.{IsSound};
-ghost use Rattle.exchange_top.specs.Commands.{IsRun, IsGeneration, IsNoCommand, IsCutOff, IsUnfinished, Refuses, RunsTo, Sums, SumsUp, AnswersTo, CallEnds, RefusesInput, ReportsTo, RunEnds, fabric_of, most_read, parties, reason_name, refusal, texts, words_refusal};
+ghost use Rattle.run_verifier.specs.Verdicts.{IsInvalidAt, IsValid};
+ghost use Rattle.exchange_top.specs.Checking.{IsChecked, IsUnchecked, slots_of};
+ghost use Rattle.exchange_top.specs.Commands.{FindsInvalid, FindsValid, HasRun, IsCheck, IsCheckOn, IsRun, IsGeneration, IsNoCommand, IsCutOff, IsReading, IsCut, IsUnfinished, RunsTo, Sums, SumsUp, AnswersTo, CallEnds, ReportsTo, RunEnds, TurnsDown, fabric_of, most_read, parties, texts};
+ghost use Rattle.exchange_top.specs.Inputs.{most_of};
 ghost use Rattle.exchange_top.specs.Outcomes.{fabric};
+ghost use Rattle.exchange_top.specs.Refusals.{Says, words_refusal};
 ghost use Rattle.exchange_top.specs.Running.{IsUnused};
 ghost use Rattle.exchange_top.specs.Streams.{AppendsFront, ConsumesAtMost};
 ghost use Rattle.exchange_top.specs.Summary.{summary_text};
 ghost use Rattle.exchange_top.specs.Telling.{AreLeft};
 
+use crate::checking::check;
+use crate::refusals::{refusal, say};
 use crate::run::{RunFault, run};
 use crate::streams::{ReadFault, read_all, write_all};
 use crate::summary::summary;
@@ -24,26 +30,26 @@ use fabric_map::FabricMap;
 use frame_engine::Carrier;
 use gate::Gate;
 use generated_trace::generated;
-use itoa::Buffer;
 use line_list::{LineList, ListingKind, NoLines, ReportLines};
 use meters::Meter;
-use std::alloc::{AllocError, Global};
+use std::alloc::Global;
 use std::collections::VecDeque;
 use std::sync::Wait;
 use std::thread::Threads;
 use strict_map::StrictMap;
-use trace_text::{MOST_BYTES, Reason, TraceFault, read_trace};
+use trace_text::{MOST_BYTES, TraceFault, read_trace};
 
 /// How a call of the exchange ended.
 #[derive(Drop)]
 pub struct Outcome<C: Carrier> {
-    /// 0 where the trace was run and its report or its summary was written, 1 where the input is no
-    /// trace, 2 where the words are no command, 3 where a read failed, 4 where a write failed, 5 where
-    /// memory ran out.
+    /// 0 where the trace was run and its report or its summary was written, or where the report that was
+    /// read is its trace's; 1 where the input is no trace, or has none; 2 where the words are no command, 3
+    /// where a read failed, 4 where a write failed, 5 where memory ran out, 6 where the report that was
+    /// read is not its trace's.
     pub status: u8,
     /// The numbers of the events that were done, in the order in which they happened.
     pub order: Vec<u32>,
-    /// The engine that carried the octets, with the trace's sizes, where the status is 0.
+    /// The engine that carried the octets, with the trace's sizes, where a trace was run and the status is 0.
     pub engine: Option<C>,
 }
 
@@ -60,46 +66,14 @@ fn without_events<C: Carrier>(alloc: Global, status: u8) -> Outcome<C>
     }
 }
 
-// How a refusal names its reason.
-fn name_of(reason: Reason) -> &'static [u8]
-    ensures { result.now ≡ reason_name reason }
-{
-    match reason {
-        Reason::Header => b"header",
-        Reason::Word => b"word",
-        Reason::Slot => b"slot",
-        Reason::Hex => b"hex",
-        Reason::Length => b"length",
-        Reason::Number => b"number",
-        Reason::Prefix => b"prefix",
-        Reason::Limit => b"limit",
-    }
-}
-
-// The line that refuses any other input.
-fn refusal(alloc: Global, number: u32, reason: Reason) -> Result<Vec<u8>, AllocError>
-    ensures { IfOk result (λ line. line.items ≡ refusal number reason) }
-{
-    let mut buffer = Buffer::new();
-    let mut line = Vec::from_slice(alloc, b"refused ")?;
-    line.extend_from_slice(buffer.format(number).as_bytes())?;
-    line.extend_from_slice(b" ")?;
-    line.extend_from_slice(name_of(reason))?;
-    line.extend_from_slice(b"\n")?;
-    Ok(line)
-}
-
 // Writes a refusal, which answers with the given status unless a write fails.
 fn refuse<K: Sink, C: Carrier>(alloc: Global, sink: &mut K, line: &[u8], status: u8) -> Outcome<C>
     ensures none { result.order.items ≡ [] }
     ensures engine { result.engine ≡ None }
-    ensures answer { Refuses status line.now result.status (K.written sink.old) (K.written sink.new) (K.faults sink.old) (K.faults sink.new) }
+    ensures answer { Says status line.now result.status (K.written sink.old) (K.written sink.new) (K.faults sink.old) (K.faults sink.new) }
     ensures writes { (result.status ≡ 4) ⊎ (K.faults sink.new ≡ K.faults sink.old) }
 {
-    match write_all(sink, line) {
-        Ok(()) => without_events(alloc, status),
-        Err(_) => without_events(alloc, 4),
-    }
+    without_events(alloc, say(sink, line, status))
 }
 
 // Runs a trace on a map of paths, once there is room for the numbers of its events. Lines are kept in
@@ -314,7 +288,7 @@ fn run_input<S: Source, K: Sink, G: Gate, C: Carrier, R: Threads + Wait + Sync>(
         (λ m. stands m) (λ m. text m) meters.old.items spare.old.items meters.new.items spare.new.items)
         strict result.status result.order.items
         S.left S.faults K.written K.faults source.old sink.old source.new sink.new }
-    ensures stops { ConsumesAtMost most_read (S.left source.old) (S.left source.new) }
+    ensures stops { ConsumesAtMost (most_of most_bytes) (S.left source.old) (S.left source.new) }
     ensures engine { IsSome result.engine ↔ (result.status ≡ 0) }
     ensures reads { (result.status ≡ 3) ⊎ (S.faults source.new ≡ S.faults source.old) }
     ensures writes { (result.status ≡ 4) ⊎ (K.faults sink.new ≡ K.faults sink.old) }
@@ -341,9 +315,9 @@ fn answer_words<S: Source, K: Sink, G: Gate, C: Carrier, R: Threads + Wait + Syn
         (λ m. stands m) (λ m. text m) meters.old.items spare.old.items meters.new.items spare.new.items)
         (texts words.now) result.status result.order.items
         S.left S.faults K.written K.faults source.old sink.old source.new sink.new }
-    ensures unread { ¬ IsRun (texts words.now) → source.new ≡ source.old }
-    ensures stops { ConsumesAtMost most_read (S.left source.old) (S.left source.new) }
-    ensures engine { IsSome result.engine ↔ (result.status ≡ 0) }
+    ensures unread { ¬ IsReading (texts words.now) → source.new ≡ source.old }
+    ensures stops { ConsumesAtMost (most_read (texts words.now)) (S.left source.old) (S.left source.new) }
+    ensures engine { IsSome result.engine ↔ HasRun result.status (texts words.now) }
     ensures reads { (result.status ≡ 3) ⊎ (S.faults source.new ≡ S.faults source.old) }
     ensures writes { (result.status ≡ 4) ⊎ (K.faults sink.new ≡ K.faults sink.old) }
 {
@@ -354,16 +328,21 @@ fn answer_words<S: Source, K: Sink, G: Gate, C: Carrier, R: Threads + Wait + Syn
         Ok(Command::Generate { seed, calls }) => {
             run_generated(rt, alloc, seed, calls, sink, gate, meters, spare)
         }
+        Ok(Command::Check { strict }) => {
+            without_events(alloc, check(rt, alloc, strict, source, sink))
+        }
         Err(WordsFault::NoCommand) => refuse(alloc, sink, b"refused words\n", 2),
         Err(WordsFault::Memory) => without_events(alloc, 5),
     }
 }
 
-/// Runs a trace and writes its report, or runs a generated trace and writes its summary.
+/// Runs a trace and writes its report, runs a generated trace and writes its summary, or verifies a report
+/// against its trace and writes the verdict.
 ///
 /// The command `run` reads a trace: its input to the end, or until more bytes are held than a trace may
 /// have. `gen SEED CALLS` reads nothing and takes the trace that is generated of the seed with n
-/// calls. The fabric has thirty internal slots, and for `run --strict` fifty-nine, where no path ever
+/// calls. `check` reads a trace, a line `report` and a report, and does no event: no engine is handed out,
+/// `order` is empty, and meters note nothing. The fabric has thirty internal slots, and for `run --strict` fifty-nine, where no path ever
 /// moves. Then the trace is run, one segment after the other: the call processors and the frame worker
 /// of a segment take turns at one switching map, each in a thread of its own, and are held up at the
 /// gate, where a test may look on. Where all but the busiest of them have few events together, and the
@@ -403,11 +382,22 @@ pub fn exchange<S: Source, K: Sink, G: Gate, C: Carrier, R: Threads + Wait + Syn
     ensures summed { result.status ≡ 0 → SumsUp (parties C.plays C.sizes C.carries result.engine
         (λ m. stands m) (λ m. text m) meters.old.items spare.old.items meters.new.items spare.new.items)
         (texts words.now) result.order.items K.written sink.old sink.new }
-    ensures engine { IsSome result.engine ↔ (result.status ≡ 0) }
-    // 1: what was read is no trace, and the line that says so was written.
-    ensures turned_down { result.status ≡ 1 → IsRun (texts words.now)
-        × RefusesInput (AreLeft (λ m. stands m) (λ m. text m) meters.old.items spare.old.items meters.new.items spare.new.items)
-        (S.left source.old) (S.left source.new) result.order.items (K.written sink.old) (K.written sink.new) }
+    // 0 for `check`: all of the input was read, it has a trace and the report of that trace in some order
+    // that is lawful for it, and the line that says so was written.
+    ensures found_valid { result.status ≡ 0 → FindsValid
+        (AreLeft (λ m. stands m) (λ m. text m) meters.old.items spare.old.items meters.new.items spare.new.items)
+        words.now result.order.items S.left K.written source.old source.new sink.old sink.new }
+    // An engine is handed out where a trace was run.
+    ensures engine { IsSome result.engine ↔ HasRun result.status (texts words.now) }
+    // 6, for `check` alone: the same of a report that isn't its trace's, and the line was written that says
+    // which of its lines is the first that isn't good.
+    ensures found_invalid { result.status ≡ 6 → FindsInvalid
+        (AreLeft (λ m. stands m) (λ m. text m) meters.old.items spare.old.items meters.new.items spare.new.items)
+        words.now result.order.items S.left K.written source.old source.new sink.old sink.new }
+    // 1: what was read is no trace, or for `check` has none, and the line that says so was written.
+    ensures turned_down { result.status ≡ 1 → TurnsDown
+        (AreLeft (λ m. stands m) (λ m. text m) meters.old.items spare.old.items meters.new.items spare.new.items)
+        words.now result.order.items S.left K.written source.old source.new sink.old sink.new }
     // 2: the words are no command, and the line that says so was written.
     ensures wrong_words { result.status ≡ 2 → IsNoCommand (texts words.now)
         × (result.order.items ≡ [])
@@ -418,28 +408,38 @@ pub fn exchange<S: Source, K: Sink, G: Gate, C: Carrier, R: Threads + Wait + Syn
     ensures silent { result.status ≡ 3 → (result.order.items ≡ []) × Keeps (K.written sink.old) (K.written sink.new)
         × AreLeft (λ m. stands m) (λ m. text m) meters.old.items spare.old.items meters.new.items spare.new.items [] }
     // 4: a write failed; whole segments were run and noted by the meters, which were changed at their
-    // ends, and a prefix of their text was written. 5: there was no memory; behind whole segments maybe
-    // one was begun, or some of the changes behind it were made, and what was written ends with a segment.
+    // ends, and a prefix of their text was written, or a prefix of a verdict's line. 5: there was no memory;
+    // behind whole segments maybe one was begun, or some of the changes behind it were made, and what was
+    // written ends with a segment; of a verdict nothing was.
     ensures write_failed { result.status ≡ 4 → Rose (K.faults sink.old) (K.faults sink.new) }
-    ensures cut_short { 4 ≤ result.status → IsCutOff (parties C.plays C.sizes C.carries result.engine
+    ensures cut_short { IsCut result.status → IsCutOff (parties C.plays C.sizes C.carries result.engine
         (λ m. stands m) (λ m. text m) meters.old.items spare.old.items meters.new.items spare.new.items)
         result.status words.now result.order.items S.left K.written source.old source.new sink.old sink.new }
     // There is no other status, and a fault is answered by its own alone.
-    ensures statuses { result.status ≤ 5 }
+    ensures statuses { result.status ≤ 6 }
     ensures reads { (result.status ≡ 3) ⊎ (S.faults source.new ≡ S.faults source.old) }
     ensures writes { (result.status ≡ 4) ⊎ (K.faults sink.new ≡ K.faults sink.old) }
-    // No more of the input is read than the longest trace and one piece; only `run` reads any.
-    ensures stops { ConsumesAtMost most_read (S.left source.old) (S.left source.new) }
-    ensures unread { ¬ IsRun (texts words.now) → source.new ≡ source.old }
+    // No more of the input is read than the command's limit and one piece; only `run` and `check` read any.
+    ensures stops { ConsumesAtMost (most_read (texts words.now)) (S.left source.old) (S.left source.new) }
+    ensures unread { ¬ IsReading (texts words.now) → source.new ≡ source.old }
     // The words and the input decide, unless a fault comes or memory runs out.
     ensures other_words { IsNoCommand (texts words.now) → (result.status ≡ 2) ⊎ (result.status ≡ 4) ⊎ (result.status ≡ 5) }
     ensures command { IsRun (texts words.now) → (result.status ≡ 0) ⊎ (result.status ≡ 1) ⊎ IsUnfinished result.status }
+    ensures verdict { IsCheck (texts words.now) → (result.status ≡ 0) ⊎ (result.status ≡ 1) ⊎ (result.status ≡ 6) ⊎ IsUnfinished result.status }
     ensures generation { (seed calls : ℕ) → IsGeneration (texts words.now) seed calls
         → (result.status ≡ 0) ⊎ (result.status ≡ 4) ⊎ (result.status ≡ 5) }
     ensures trace { (bytes : List ℕ) (t : Trace) → S.left source.old ≡ Some bytes → IsTrace bytes t
         → IsRun (texts words.now) → (result.status ≡ 0) ⊎ IsUnfinished result.status }
     ensures no_trace { (bytes : List ℕ) (number : ℕ) (why : Reason) → S.left source.old ≡ Some bytes → IsRefused bytes number why
         → IsRun (texts words.now) → (result.status ≡ 1) ⊎ IsUnfinished result.status }
+    ensures checked { (bytes report : List ℕ) (t : Trace) → S.left source.old ≡ Some bytes → IsChecked bytes t report
+        → IsCheck (texts words.now) → (result.status ≡ 0) ⊎ (result.status ≡ 6) ⊎ IsUnfinished result.status }
+    ensures valid { (bytes report : List ℕ) (t : Trace) (strict : Bool) → S.left source.old ≡ Some bytes → IsChecked bytes t report
+        → IsCheckOn (texts words.now) strict → IsValid (slots_of strict) t report → (result.status ≡ 0) ⊎ IsUnfinished result.status }
+    ensures invalid { (bytes report : List ℕ) (t : Trace) (strict : Bool) (n : ℕ) → S.left source.old ≡ Some bytes → IsChecked bytes t report
+        → IsCheckOn (texts words.now) strict → IsInvalidAt (slots_of strict) t report n → (result.status ≡ 6) ⊎ IsUnfinished result.status }
+    ensures unchecked { (bytes : List ℕ) (number : ℕ) (why : Reason) → S.left source.old ≡ Some bytes → IsUnchecked bytes number why
+        → IsCheck (texts words.now) → (result.status ≡ 1) ⊎ IsUnfinished result.status }
 {
     answer_words(rt, alloc, words, source, sink, gate, meters, spare)
 }

@@ -1,4 +1,5 @@
-//! What a run on a strict fabric tells, and what a run is whose trace changes no meters.
+//! What a run on a strict fabric tells, what a run is whose trace changes no meters, and that an input has one
+//! trace and one report.
 ghost use Rattle.std.specs.Prelude.{◌≡◌, ℕ, List, [], All, true};
 ghost use Rattle.exchange_events.specs.declared.trace.Trace.{Trace};
 ghost use Rattle.exchange_events.specs.Orders.{IsEvent};
@@ -7,6 +8,7 @@ ghost use Rattle.report_text.specs.RunReport.{report};
 ghost use Rattle.line_list.specs.declared.listing.Listing.{Listing};
 ghost use Rattle.line_list.specs.Lines.{listed};
 ghost use Rattle.meters.specs.Changing.{handed_in, steps_text};
+ghost use Rattle.exchange_top.specs.Checking.{IsDivided};
 ghost use Rattle.exchange_top.specs.Commands.{fabric_of};
 ghost use Rattle.exchange_top.specs.Outcomes.{MovesFew, MovesNone, NotesAll};
 ghost use Rattle.exchange_top.specs.Story.{story};
@@ -27,4 +29,9 @@ pub fn law_of_unchanged_meters<M: Meter>()
         → steps_text M.text (story plays l slots trace order) (handed_in old spare) ≡ listed l (report plays slots trace order) }
     ensures meters { (plays : Plays) (l : Listing) (slots : ℕ) (trace : Trace) (order : List ℕ) → trace.changes ≡ [] → All (IsEvent trace) order
         → NotesAll M.stands M.text plays l slots trace order }
+{}
+
+/// An input is divided into a trace and a report in one way alone.
+pub fn law_of_divisions()
+    ensures { (bytes trace report also other : List ℕ) → IsDivided bytes trace report → IsDivided bytes also other → (trace ≡ also) × (report ≡ other) }
 {}

@@ -24,7 +24,7 @@ fn digit_at(octets: &[u8]) -> Option<(u32, &[u8])>
 
 /// The number at the beginning, and what follows it. A numeral has no leading zero, and its number has
 /// 32 bits.
-pub(crate) fn number_at(octets: &[u8]) -> Option<(u32, &[u8])>
+pub fn number_at(octets: &[u8]) -> Option<(u32, &[u8])>
     ensures { option_map (λ cut. (cut.0, cut.1.now)) result ≡ number_at octets.now }
 {
     let (mut number, mut rest) = digit_at(octets)?;

@@ -1,1 +1,5 @@
 pub mod Verdicts
+pub mod Faults
+pub mod Turns
+pub mod Replaying
+pub mod Verifying

@@ -1,5 +1,5 @@
 //! Laws of what is verified.
-ghost use Rattle.std.specs.Prelude.{◌≡◌, ◌+◌, ◌≤◌, ◌++◌, ◌↔◌, ℕ, List, [], ◌∷◌, length};
+ghost use Rattle.std.specs.Prelude.{◌≡◌, ◌+◌, ◌≤◌, ◌++◌, ◌↔◌, ◌⊎◌, ℕ, List, [], ◌∷◌, length};
 ghost use Rattle.exchange_events.specs.declared.trace.Trace.{Trace};
 ghost use Rattle.exchange_events.specs.Orders.{IsLawfulPrefix};
 ghost use Rattle.exchange_events.specs.Sound.{IsSound};
@@ -12,10 +12,12 @@ pub fn law_of_orders()
         → report_due slots trace one ≡ report_due slots trace other → one ≡ other }
 {}
 
-/// At most one verdict is right.
+/// One verdict is right, and no other.
 pub fn law_of_verdicts()
     ensures never_both { (slots : ℕ) (trace : Trace) (bytes : List ℕ) (n : ℕ) → IsValid slots trace bytes → IsInvalidAt slots trace bytes n → ⊥ }
     ensures one_line { (slots : ℕ) (trace : Trace) (bytes : List ℕ) (m n : ℕ) → IsInvalidAt slots trace bytes m → IsInvalidAt slots trace bytes n → m ≡ n }
+    ensures always_one { (slots : ℕ) (trace : Trace) (bytes : List ℕ) → IsSound trace
+        → IsValid slots trace bytes ⊎ ((n : ℕ) × IsInvalidAt slots trace bytes n) }
 {}
 
 /// Where lines are good, those at the beginning are; and there are no more good lines than events, so that

@@ -1,6 +1,7 @@
 //! A digital telephone exchange as a filter: a trace of its events on standard input, the report of
 //! what it did on standard output, with `run`; with `run --strict` the same on a fabric where no path ever
-//! moves; with `gen SEED CALLS` the summary of a generated trace.
+//! moves; with `gen SEED CALLS` the summary of a generated trace; with `check` the verdict on a report that
+//! is read behind its trace.
 //!
 //! It makes the two standard ends, three meters and three spare ones, calls `exchange_top::exchange` with the engine of
 //! three stages in a box, and ends with its status. The promise is that call's; `main` has no contract of its own. Of
@@ -13,6 +14,8 @@
 
 #[cfg(test)]
 mod tests;
+#[cfg(test)]
+mod verdicts;
 
 use ex_io::{Sink, Source, StdSink, StdSource};
 use exchange_top::{Outcome, exchange};

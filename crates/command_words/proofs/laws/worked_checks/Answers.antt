@@ -1,0 +1,16 @@
+use Rattle.std.proofs.Common.{refl}
+use Rattle.clap.proofs.OnLiterals.{clap_on_literals}
+use Rattle.command_words.specs.Words.{check_app, command_of, takes_words, text_for}
+use Rattle.command_words.proofs.laws.worked_checks.Goals as goal
+
+pub returns : goal.returns
+unfolding clap_on_literals check_app takes_words text_for command_of
+returns c = record {
+  check = refl;
+  strict = refl;
+  ended = refl;
+  and_more = refl;
+  too_late = refl;
+  twice = refl;
+  capital = refl;
+}

@@ -1,0 +1,32 @@
+use Rattle.std.proofs.Common.{rules, ap, ap₂, refl, codes, true, map, string_bytes, IfOk, List, ◌≡◌, ◌∙◌, subst}
+use Rattle.clap.specs.Words.{App, FailsBy, HasMatchesOf, Text, app_of, fault_of, is_simple, is_simple_and_free, new_app, rule_of, with_rule}
+use Rattle.clap.proofs.OnLiterals.{clap_on_literals}
+use Rattle.command_words.specs.Words.{check_app, flag}
+use Rattle.command_words.proofs.Taken.{taken, refused, text_is}
+use Rattle.command_words.proofs.readings.check_matches.Goals as goal
+
+is_free : is_simple_and_free check_app ≡ true
+unfolding clap_on_literals check_app
+is_free = refl
+
+simple : is_simple check_app ≡ true
+unfolding clap_on_literals check_app
+simple = refl
+
+is_made : with_rule (new_app (codes "check")) (flag (codes "strict")) ≡ check_app
+unfolding check_app
+is_made = refl
+
+pub returns : goal.returns
+returns c =
+    let strict_is : rule_of c.action-strict.result ≡ flag (codes "strict") = search rules in
+    let command_is : app_of c.in_ok-command.command ≡ check_app = c.in_ok-command.ensures.shape (search rules) ∙ ap₂ with_rule c.new-2.ensures.app strict_is ∙ is_made in
+    let words : List Text = map string_bytes c.args.words.now in
+    let parse = c.try_get_matches_from in
+    let fails = subst (λ (a : App). FailsBy (fault_of a words) parse.result) command_is (parse.ensures.kinds (ap is_simple_and_free command_is ∙ is_free)) in
+    let found = subst (λ (a : App). IfOk parse.result (HasMatchesOf a words)) command_is parse.ensures.matches in
+    record {
+      taken = taken check_app words parse.result fails;
+      refused = refused check_app words parse.result fails;
+      strict = text_is check_app words (codes "strict") parse.result simple found;
+    }

@@ -1,0 +1,49 @@
+//! The lines that refuse an input, and a line that ends a call.
+ghost use Rattle.std.specs.Prelude.{◌≡◌, ◌⊎◌, IfOk};
+ghost use Rattle.exchange_top.specs.Refusals.{Says, reason_name, refusal};
+
+use crate::streams::write_all;
+use ex_io::Sink;
+use itoa::Buffer;
+use std::alloc::{AllocError, Global};
+use trace_text::Reason;
+
+// How a refusal names its reason.
+fn name_of(reason: Reason) -> &'static [u8]
+    ensures { result.now ≡ reason_name reason }
+{
+    match reason {
+        Reason::Header => b"header",
+        Reason::Word => b"word",
+        Reason::Slot => b"slot",
+        Reason::Hex => b"hex",
+        Reason::Length => b"length",
+        Reason::Number => b"number",
+        Reason::Prefix => b"prefix",
+        Reason::Limit => b"limit",
+    }
+}
+
+/// The line that refuses an input, at its first line that fails.
+pub fn refusal(alloc: Global, number: u32, reason: Reason) -> Result<Vec<u8>, AllocError>
+    ensures { IfOk result (λ line. line.items ≡ refusal number reason) }
+{
+    let mut buffer = Buffer::new();
+    let mut line = Vec::from_slice(alloc, b"refused ")?;
+    line.extend_from_slice(buffer.format(number).as_bytes())?;
+    line.extend_from_slice(b" ")?;
+    line.extend_from_slice(name_of(reason))?;
+    line.extend_from_slice(b"\n")?;
+    Ok(line)
+}
+
+/// Writes the line that ends a call, and returns the call's status: the given one, unless the write fails.
+pub fn say<K: Sink>(sink: &mut K, line: &[u8], status: u8) -> u8
+    ensures answer { Says status line.now result (K.written sink.old) (K.written sink.new) (K.faults sink.old) (K.faults sink.new) }
+    ensures writes { (result ≡ 4) ⊎ (K.faults sink.new ≡ K.faults sink.old) }
+{
+    match write_all(sink, line) {
+        Ok(()) => status,
+        Err(_) => 4,
+    }
+}

@@ -1,0 +1,155 @@
+//! A report against the bytes of its trace.
+ghost use Rattle.std.specs.Prelude.{◌≡◌, ◌≤◌, ◌+◌, ◌*◌, ◌⊎◌, [], ℕ, Ok, Err, None, IfOk, length, replicate};
+ghost use Rattle.exchange_events.specs.declared.trace.Trace.{Trace};
+ghost use Rattle.exchange_events.specs.Sound.{IsSound};
+ghost use Rattle.trace_text.specs.declared.fault.Reason.{Reason};
+ghost use Rattle.trace_text.specs.TraceGrammar.{IsTrace, IsRefused};
+ghost use Rattle.run_verifier.specs.Replaying.{IsReadyAt};
+ghost use Rattle.run_verifier.specs.Verdicts.{IsInvalidAt, IsValid};
+ghost use Rattle.run_verifier.specs.Verifying.{IsAnswer, IsRight};
+
+use crate::replaying::verdict_on;
+use crate::verdict::{Verdict, VerifyFault};
+use circuit_model::IDLE;
+use control_memory::{Image, PathMap};
+use exchange_core::{Core, Tool};
+use exchange_events::{Outbox, Trace};
+use fabric_map::FabricMap;
+use frame_engine::{Carrier, Engine};
+use std::alloc::{AllocError, Global};
+use std::thread::Threads;
+use strict_map::{SLOTS as STRICT_SLOTS, StrictMap};
+use trace_text::read_trace;
+
+/// Verifies a report against its trace, on a fabric of 30 internal slots, or of 59, where no path ever moves.
+///
+/// The report is valid where it is what a run of all events in some lawful order prints. Else the verdict
+/// names its first line that can't be: the lines before it are the report of events in an order that is
+/// lawful so far, and with it they aren't, or it is lacking. What a meter says is no line of a report.
+///
+/// # Errors
+///
+/// [`VerifyFault::Trace`] where the bytes are no trace, and [`VerifyFault::Memory`] where memory runs out.
+pub fn verify<R: Threads + Sync>(
+    rt: &R,
+    alloc: Global,
+    trace: &[u8],
+    report: &[u8],
+    slots: u8,
+) -> Result<Verdict, VerifyFault>
+    requires slots { (slots ≡ 30) ⊎ (slots ≡ 59) }
+    // What is answered is so: of the trace, of its report, and why the bytes are none.
+    ensures valid { result ≡ Ok Verdict.Valid
+        → (t : Trace) × IsTrace trace.now t × IsValid slots t report.now }
+    ensures invalid { (n : ℕ) → result ≡ Ok (Verdict.Invalid n)
+        → (t : Trace) × IsTrace trace.now t × IsInvalidAt slots t report.now n }
+    ensures refused { (number : ℕ) (why : Reason) →
+        result ≡ Err (VerifyFault.Trace number why) → IsRefused trace.now number why }
+    // What is so is answered, unless memory runs out.
+    ensures finds_valid { (t : Trace) → IsTrace trace.now t → IsValid slots t report.now
+        → (result ≡ Ok Verdict.Valid) ⊎ (result ≡ Err VerifyFault.Memory) }
+    ensures finds_invalid { (t : Trace) (n : ℕ) → IsTrace trace.now t → IsInvalidAt slots t report.now n
+        → (result ≡ Ok (Verdict.Invalid n)) ⊎ (result ≡ Err VerifyFault.Memory) }
+    ensures refuses_each { (number : ℕ) (why : Reason) → IsRefused trace.now number why
+        → (result ≡ Err (VerifyFault.Trace number why)) ⊎ (result ≡ Err VerifyFault.Memory) }
+{
+    answer(rt, alloc, trace, report, slots)
+}
+
+// The same, with what it means in one clause.
+fn answer<R: Threads + Sync>(
+    rt: &R,
+    alloc: Global,
+    trace: &[u8],
+    report: &[u8],
+    slots: u8,
+) -> Result<Verdict, VerifyFault>
+    requires slots { (slots ≡ 30) ⊎ (slots ≡ 59) }
+    ensures { IsAnswer slots trace.now report.now result }
+{
+    let trace = read_trace(alloc, trace)?;
+    let verdict = on_fabric(rt, alloc, &trace, report, slots)?;
+    Ok(verdict)
+}
+
+// The verdict on the report of a trace, on the fabric with this many internal slots.
+fn on_fabric<R: Threads + Sync>(
+    rt: &R,
+    alloc: Global,
+    trace: &Trace,
+    report: &[u8],
+    slots: u8,
+) -> Result<Verdict, AllocError>
+    requires sound { IsSound trace.now }
+    requires slots { (slots ≡ 30) ⊎ (slots ≡ 59) }
+    ensures right { IfOk result (λ verdict. IsRight slots trace.now report.now verdict) }
+{
+    let lines = trace.external + trace.bridges;
+    if slots == STRICT_SLOTS {
+        let paths = StrictMap::new(alloc, lines)?;
+        on_map(rt, alloc, trace, paths, report)
+    } else {
+        let paths = FabricMap::new(alloc, lines)?;
+        on_map(rt, alloc, trace, paths, report)
+    }
+}
+
+// The verdict on the report of a trace whose paths are laid in a map that has none yet.
+fn on_map<P: PathMap + Drop, R: Threads + Sync>(
+    rt: &R,
+    alloc: Global,
+    trace: &Trace,
+    paths: P,
+    report: &[u8],
+) -> Result<Verdict, AllocError>
+    requires sound { IsSound trace.now }
+    requires wide { P.width paths ≡ trace.now.external + trace.now.bridges }
+    requires some { 1 ≤ P.depth paths }
+    requires few { P.depth paths ≤ 59 }
+    requires bare { P.layout paths ≡ replicate (30 * (trace.now.external + trace.now.bridges)) None }
+    ensures right { IfOk result (λ verdict. IsRight (P.depth paths) trace.now report.now verdict) }
+{
+    let (core, engine, tool, octets) = equipped(alloc, trace, paths)?;
+    let mut core = core;
+    let mut engine = engine;
+    let mut tool = tool;
+    let mut octets = octets;
+    let mut out = Outbox::new();
+    let mut line = Vec::new(alloc);
+    verdict_on(
+        rt,
+        trace,
+        &mut core,
+        &mut engine,
+        &mut tool,
+        &mut out,
+        octets.as_mut_slice(),
+        &mut line,
+        report,
+    )
+}
+
+// What the events of a trace are done again with: a core, the engine, a control memory, and room for what
+// each external line sends in a frame.
+fn equipped<'t, P: PathMap + Drop>(
+    alloc: Global,
+    trace: &'t Trace,
+    paths: P,
+) -> Result<(Core<'t, P>, Engine, Tool, Vec<[u8; 30]>), AllocError>
+    requires sound { IsSound trace.now }
+    requires wide { P.width paths ≡ trace.now.external + trace.now.bridges }
+    requires some { 1 ≤ P.depth paths }
+    requires few { P.depth paths ≤ 59 }
+    requires bare { P.layout paths ≡ replicate (30 * (trace.now.external + trace.now.bridges)) None }
+    ensures core { IfOk result (λ r. r.0 ≡ record { trace = trace.now; slots = P.depth paths; bound = P.bound paths; journal = [] }) }
+    ensures ready { IfOk result (λ r. IsReadyAt r.0 r.1 r.2) }
+    ensures lines { IfOk result (λ r. length r.3.items ≡ trace.now.external) }
+{
+    let slots = paths.slots();
+    let (external, bridges) = (trace.external, trace.bridges);
+    let core = Core::new(alloc, trace, paths)?;
+    let engine = Engine::new(alloc, external, bridges, slots)?;
+    let tool = Tool::Image(Image::new(alloc, external, bridges, slots)?);
+    let octets = vec![in alloc; [IDLE; 30]; usize::from(external)]?;
+    Ok((core, engine, tool, octets))
+}
