@@ -12,6 +12,10 @@
 #![tactic(auto)]
 
 #[cfg(test)]
+mod changes;
+#[cfg(test)]
+mod refusals;
+#[cfg(test)]
 mod tests;
 
 use ex_io::{Sink, Source, StdSink, StdSource};
