@@ -89,7 +89,7 @@ impl Changing {
     /// What its changes find, one after the other.
     pub fn counts(&self) -> ChangeCounts {
         let mut counts = ChangeCounts::default();
-        // Of those that are on, the first ones are on from the start.
+        // The meters that are on from the start come before all that were put in.
         let (mut on, mut spare, mut from_start) = (self.on, self.spare, self.on);
         for _ in self.places.as_slice() {
             counts.count(on, spare);
