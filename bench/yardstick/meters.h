@@ -90,14 +90,18 @@ static void say(const Meter *m) {
     }
 }
 
-static void change(void) {
+// Not a part of the loop over the events, most of which have no change behind them.
+static __attribute__((noinline)) void change(void) {
     if (first_on < first_spare) say(&meters[first_on++]);
     if (first_spare < METERS) first_spare++;
     if (out_len >= PIECE) flush();
 }
 
 // The changes that come behind this many events; those behind fewer were made.
-static void change_at(size_t events_done) {
-    static size_t made;
-    for (; made < change_count && changes[made] == events_done; made++) change();
+static inline void change_at(uint32_t events_done) {
+    static uint32_t made;
+    while (changes[made] == events_done) {
+        made++;
+        change();
+    }
 }

@@ -22,7 +22,7 @@ static uint32_t timers[TIMERS] = { 120000, 32000, 240000, 32000, 80000 };
 
 static Tone tones[2];
 static Event events[MOST_EVENTS];
-static uint16_t changes[MOST_CHANGES]; // of meters: how many events come before each
+static uint32_t changes[MOST_CHANGES + 1]; // of meters: how many events come before each, and NEVER behind the last
 static Row *rows;
 static uint8_t *messages;
 static size_t event_count, change_count, row_count, row_room, message_count, message_room;
@@ -319,5 +319,6 @@ static void read_trace(void) {
     }
     line_number++;
     if (!external) refuse("header");
+    changes[change_count] = NEVER;
     free(bytes);
 }
