@@ -18,6 +18,7 @@
 #include "yardstick/circuits.h"
 #include "yardstick/speech.h"
 #include "yardstick/messages.h"
+#include "yardstick/meters.h"
 #include "yardstick/calls.h"
 #include "yardstick/expiries.h"
 
@@ -42,6 +43,7 @@ int main(int count, char **words) {
     else if (count != 1) return 2;
     read_trace();
     start();
+    change_at(0);
     for (size_t i = 0; i < event_count; i++) {
         const Event *e = &events[i];
         put_number(i + 1);
@@ -53,6 +55,7 @@ int main(int count, char **words) {
         case FRAME: expire(frame(e)); break;
         }
         put("\n");
+        change_at(i + 1);
         if (out_len >= PIECE) flush();
     }
     flush();

@@ -26,6 +26,9 @@ static uint32_t references[EXTERNAL];
 
 static Leg *leg(Slot x) { return &legs[x.line][x.place]; }
 
+// The states of a caller whose call may still be noted.
+#define CALLING (1u << OUTGOING_PROCEEDING | 1u << DELIVERED | 1u << ACTIVE)
+
 // One more than the timer of a state, 0 where it has none.
 static const uint8_t timer_in[RELEASE_REQUEST + 1] = {
     [OVERLAP_SENDING] = T302 + 1, [PRESENT] = T303 + 1, [INCOMING_PROCEEDING] = T310 + 1,
@@ -102,6 +105,19 @@ static void put_status(Slot x, Cause cause) {
     put_state(leg(x)->state);
 }
 
+// The call of a leg ends, before anything of it is cleared: it is noted, unless its clearing began before.
+static void end_call(Slot x, Cause cause) {
+    if (leg(x)->called && leg(x)->peer == LEG) x = leg(x)->other;
+    const Leg *l = leg(x);
+    if (l->called || l->peer == ALONE || !(CALLING >> l->state & 1)) return;
+    Slot port = circuit(x)->other;
+    note(&(Call){
+        .caller = x, .called = l->other, .to_room = l->peer == ROOM, .answered = l->state == ACTIVE, .cause = cause,
+        .room = l->peer == ROOM ? live.room[port.line - external][port.place] : NO_ROOM,
+        .from = l->state == ACTIVE ? live.heard[x.line][x.place] - 2 : frame_number, .to = frame_number,
+    });
+}
+
 static void clear_leg(Slot x, Cause cause) {
     Leg *l = leg(x);
     clear(x);
@@ -141,6 +157,7 @@ static void answer(Slot x) {
 
 static void disconnect_call(Slot x, Cause cause) {
     Leg l = *leg(x);
+    end_call(x, cause);
     clear(x);
     enter(x, RELEASE_REQUEST);
     leg(x)->peer = ALONE;
@@ -152,6 +169,7 @@ static void disconnect_call(Slot x, Cause cause) {
 
 static void released(Slot x, Cause cause) {
     Leg l = *leg(x);
+    end_call(x, cause);
     remove_leg(x);
     put_to(x, &l, RELEASE_COMPLETE);
     clear_peer(l, cause);
@@ -159,6 +177,7 @@ static void released(Slot x, Cause cause) {
 
 static void gone(Slot x, Cause cause) {
     Leg l = *leg(x);
+    end_call(x, cause);
     remove_leg(x);
     clear_peer(l, cause);
 }
@@ -392,8 +411,11 @@ static void restart(unsigned line, const Message *m) {
     for (uint32_t left = slots & held[line]; left; left &= left - 1) {
         Slot x = { line, __builtin_ctz(left) };
         Leg l = *leg(x);
+        end_call(x, TEMPORARY_FAILURE);
         remove_leg(x);
-        if (l.other.line != line || !(slots >> l.other.place & 1)) clear_peer(l, TEMPORARY_FAILURE);
+        if (l.peer != LEG) continue;
+        if (l.other.line != line || !(slots >> l.other.place & 1)) clear_leg(l.other, TEMPORARY_FAILURE);
+        else leg(l.other)->peer = ALONE; // it is removed in its turn, and the call was noted
     }
     put_message(line, 1, 0, RESTART_ACKNOWLEDGE);
     if (indicator == 0x80) put_channel(channel.place);

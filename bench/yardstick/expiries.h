@@ -38,9 +38,14 @@ static void run_out(Slot x) {
     switch (l.state) {
     case OVERLAP_SENDING: clear_leg(x, INVALID_NUMBER); break;
     case DISCONNECT_INDICATION: ask_for_release(x); break;
-    case INCOMING_PROCEEDING: clear_leg(x, TIMER_EXPIRY); clear_caller(l); break;
+    case INCOMING_PROCEEDING:
+        end_call(x, NO_USER_RESPONDING);
+        clear_leg(x, TIMER_EXPIRY);
+        clear_caller(l);
+        break;
     default:
         if (l.resent) {
+            end_call(x, NO_USER_RESPONDING);
             give_up(x);
             clear_caller(l);
         } else {

@@ -11,7 +11,7 @@ static Lines spoken_on, crossed_to; // the rows of these two that may not be idl
 static Row read_from[LINES];
 static Lines heard_on;
 static struct { uint8_t line, place, room, slot; int16_t heard; } members[BRIDGES * PLACES];
-static unsigned member_count, changes;
+static unsigned member_count, image_changes;
 static uint32_t changed_in;
 
 enum { MOST = 4095 }; // the greatest magnitude
@@ -138,8 +138,8 @@ static size_t frame(const Event *e) {
     put_number(frame_number);
     size_t octets = out_len;
     write_image(now);
-    if (changes != now->changes) {
-        changes = now->changes;
+    if (image_changes != now->changes) {
+        image_changes = now->changes;
         changed_in = frame_number;
     }
     if (frame_number - changed_in <= 2) {

@@ -22,10 +22,10 @@ static uint32_t timers[TIMERS] = { 120000, 32000, 240000, 32000, 80000 };
 
 static Tone tones[2];
 static Event events[MOST_EVENTS];
-static unsigned changes; // Of meters, of which the yardstick has none.
+static uint32_t changes[MOST_CHANGES + 1]; // of meters: how many events come before each, and NEVER behind the last
 static Row *rows;
 static uint8_t *messages;
-static size_t event_count, row_count, row_room, message_count, message_room;
+static size_t event_count, change_count, row_count, row_room, message_count, message_room;
 
 // A number without leading zeros, up to `stop` or else the end; -1 where there is none.
 static int number(Word *word, uint8_t stop) {
@@ -260,7 +260,8 @@ static void read_words(Word *words, size_t count) {
         if (count != 1) refuse("word");
     } else if (is(words[0], "change")) {
         if (count != 1) refuse("word");
-        if (changes++ == MOST_CHANGES) refuse("limit");
+        if (change_count == MOST_CHANGES) refuse("limit");
+        changes[change_count++] = event_count;
     } else if (is(words[0], "F")) {
         read_frame(words, count);
     } else if (is(words[0], "nail")) {
@@ -318,5 +319,6 @@ static void read_trace(void) {
     }
     line_number++;
     if (!external) refuse("header");
+    changes[change_count] = NEVER;
     free(bytes);
 }

@@ -19,6 +19,45 @@ pub struct Changing {
     pub spare: u32,
 }
 
+/// How many changes traces have, how many of them find no meter that is on, no spare one, or neither, and
+/// how many meters were put in and taken out again.
+#[derive(Clone, Copy, Default)]
+pub struct ChangeCounts {
+    pub changes: u32,
+    pub none_on: u32,
+    pub none_spare: u32,
+    pub neither: u32,
+    pub again: u32,
+}
+
+impl ChangeCounts {
+    /// Counts a change that finds as many meters that are on and spare ones.
+    fn count(&mut self, on: u32, spare: u32) {
+        self.changes = self.changes.saturating_add(1);
+        match (on, spare) {
+            (0, 0) => self.neither = self.neither.saturating_add(1),
+            (0, _) => self.none_on = self.none_on.saturating_add(1),
+            (_, 0) => self.none_spare = self.none_spare.saturating_add(1),
+            _ => {}
+        }
+    }
+
+    /// Adds the counts of more traces.
+    pub fn add(&mut self, more: ChangeCounts) {
+        self.changes = self.changes.saturating_add(more.changes);
+        self.none_on = self.none_on.saturating_add(more.none_on);
+        self.none_spare = self.none_spare.saturating_add(more.none_spare);
+        self.neither = self.neither.saturating_add(more.neither);
+        self.again = self.again.saturating_add(more.again);
+    }
+
+    /// Whether each case came.
+    pub fn is_whole(&self) -> bool {
+        let counts = [self.none_on, self.none_spare, self.neither, self.again];
+        counts.iter().all(|count| *count > 0)
+    }
+}
+
 impl Changing {
     /// The trace of a script. Where that ends a segment, meters are changed up to five times, mostly not at all.
     pub fn of(alloc: Global, script: &Script) -> Result<Changing, AllocError> {
@@ -45,6 +84,26 @@ impl Changing {
         }
         changing.draw(&mut random, events)?;
         Ok(changing)
+    }
+
+    /// What its changes find, one after the other.
+    pub fn counts(&self) -> ChangeCounts {
+        let mut counts = ChangeCounts::default();
+        // The meters that are on from the start come before all that were put in.
+        let (mut on, mut spare, mut from_start) = (self.on, self.spare, self.on);
+        for _ in self.places.as_slice() {
+            counts.count(on, spare);
+            if on > 0 && from_start == 0 {
+                counts.again = counts.again.saturating_add(1);
+            }
+            on = on.saturating_sub(1);
+            from_start = from_start.saturating_sub(1);
+            if spare > 0 {
+                spare -= 1;
+                on = on.saturating_add(1);
+            }
+        }
+        counts
     }
 
     // Draws changes at a place.

@@ -168,7 +168,7 @@ fn compared<S: Setting>(
     if !is_said_by(alloc, plain, events, order, changing, parted, left)? {
         return Ok(None);
     }
-    Ok(Some(Taken::of(alloc, posts, order)?))
+    Ok(Some(Taken::of(alloc, posts, order, changing.counts())?))
 }
 
 // Whether a plain program that takes the events in an order says the lines of events of a report, and

@@ -1,11 +1,12 @@
+use crate::changes::ChangeCounts;
 use crate::draw::Trial;
 use crate::orders::Taken;
 use test_exchange::Chains;
 use test_traffic::{Counts as Courses, Drawn, Expiries, LONGEST_TONE, Script};
 
 /// How many traces there were, how many of them leave their workers a choice, in how many of those the
-/// threads took another order than the file's, and of how many segments the caller did all events and
-/// the threads did.
+/// threads took another order than the file's, of how many segments the caller did all events and
+/// the threads did, and what the changes of meters found.
 #[derive(Clone, Copy, Default)]
 pub struct Orders {
     pub traces: u32,
@@ -14,6 +15,7 @@ pub struct Orders {
     pub others: u32,
     pub alone: u32,
     pub apart: u32,
+    pub changes: ChangeCounts,
 }
 
 impl Orders {
@@ -34,12 +36,17 @@ impl Orders {
         }
         self.alone = self.alone.saturating_add(decided.alone);
         self.apart = self.apart.saturating_add(decided.apart);
+        self.changes.add(decided.changes);
     }
 
     /// Whether all of n traces were counted, threads took another order than the file's in some,
-    /// and the program did segments both ways.
+    /// the program did segments both ways, and meters were changed in each case.
     pub fn is_whole(&self, traces: u32) -> bool {
-        self.traces == traces && self.others > 0 && self.alone > 0 && self.apart > 0
+        self.traces == traces
+            && self.others > 0
+            && self.alone > 0
+            && self.apart > 0
+            && self.changes.is_whole()
     }
 }
 

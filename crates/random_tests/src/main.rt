@@ -28,6 +28,7 @@ mod draw;
 mod orders;
 mod yardstick;
 
+use changes::ChangeCounts;
 use check::{Apart, Setting, agreed};
 use counts::{CallCounts, Counts, Moves, Orders, Tones};
 use draw::drawn;
@@ -166,6 +167,7 @@ fn print_orders(
         others,
         alone,
         apart,
+        changes,
     } = orders;
     eprintln!(rt; "{name}: in {others} of the traces threads took another order than the file's")?;
     println!(rt;
@@ -174,6 +176,21 @@ fn print_orders(
     println!(rt; "{name}: {choices} of the traces have more than one lawful order")?;
     println!(rt;
         "{name}: the program did {alone} segments by one caller, in the order of the file, and {apart} in threads"
+    )?;
+    print_changes(rt, name, changes)
+}
+
+/// Prints what the changes of meters found.
+fn print_changes(rt: &impl Print, name: &str, counts: ChangeCounts) -> io::Result<()> {
+    let ChangeCounts {
+        changes,
+        none_on,
+        none_spare,
+        neither,
+        again,
+    } = counts;
+    println!(rt;
+        "{name}: {changes} changes of meters, {none_on} with none on, {none_spare} with none spare, {neither} with neither; {again} meters were put in and taken out again"
     )
 }
 

@@ -1,9 +1,10 @@
+use crate::changes::ChangeCounts;
 use segment_run::FEWEST_BESIDE;
 use std::alloc::{AllocError, Global};
 use std::cmp::{max, min};
 use test_traffic::{MOST_WORKERS, Post, of_event};
 
-/// What is said of the order that a run took its events in.
+/// What is said of the order that a run took its events in, and of its changes of meters.
 #[derive(Clone, Copy)]
 pub struct Taken {
     /// Whether it is the order of the file.
@@ -14,11 +15,18 @@ pub struct Taken {
     pub alone: u32,
     /// How many others there are.
     pub apart: u32,
+    /// What the changes of meters found.
+    pub changes: ChangeCounts,
 }
 
 impl Taken {
-    /// What is said of a lawful order of these events.
-    pub fn of(alloc: Global, posts: &[Post], order: &[u32]) -> Result<Taken, AllocError> {
+    /// What is said of a lawful order of these events, with these changes.
+    pub fn of(
+        alloc: Global,
+        posts: &[Post],
+        order: &[u32],
+        changes: ChangeCounts,
+    ) -> Result<Taken, AllocError> {
         let few = few_beside(alloc, posts)?;
         let alone = u32::try_from(few.iter().filter(|few| **few).count()).unwrap_or(u32::MAX);
         let segments = u32::try_from(few.len()).unwrap_or(u32::MAX);
@@ -27,6 +35,7 @@ impl Taken {
             keeps_file_order: keeps_file_order(posts, few.as_slice(), order),
             alone,
             apart: segments.saturating_sub(alone),
+            changes,
         })
     }
 }

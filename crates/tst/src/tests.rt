@@ -30,13 +30,13 @@ fn spelled(alloc: Global, text: &str) -> Result<Vec<u8>, AllocError> {
 
 /// What came of a call.
 #[derive(Drop)]
-struct Ended {
-    status: u8,
-    order: Vec<u32>,
+pub(crate) struct Ended {
+    pub(crate) status: u8,
+    pub(crate) order: Vec<u32>,
     has_engine: bool,
     read_faults: u64,
     write_faults: u64,
-    sink: MemSink,
+    pub(crate) sink: MemSink,
 }
 
 // One call of the exchange. That it has no clause keeps what a call promises out of the tests, which
@@ -668,20 +668,21 @@ fn generated_calls_are_those_of_their_trace(rt: HostRuntime) -> Result<(), Fail>
 }
 
 // A call to a room, and in the next segment its end.
-const SETUP_TO_ROOM: &str =
+pub(crate) const SETUP_TO_ROOM: &str =
     "exchange 1 1 1 1\nnumber 30 room 0\nM 0 080200010504038090A37003803330\n";
 
-const CLEARING: &str = "M 0 080200015A\n";
+pub(crate) const CLEARING: &str = "M 0 080200015A\n";
 
 const ACCEPTED: &str = "1 message moved 0 0 0:08028001021803A98381 0:0802800107\n";
 
 // The report of a trace with as many peg counts that are on and spare ones, and what is left of both.
-fn changed(
+pub(crate) fn changed(
     rt: &(impl Threads + Wait + Sync),
     alloc: Global,
     lines: &[&str],
     count: usize,
     spares: usize,
+    sink: MemSink,
 ) -> Result<(Ended, Vec<u8>), AllocError> {
     let words = vec![in alloc; String::from_str(alloc, "run")?]?;
     let mut input = Vec::new(alloc);
@@ -689,7 +690,6 @@ fn changed(
         input.extend_from_slice(line.as_bytes())?;
     }
     let source = MemSource::new(input, 4096, Vec::new(alloc));
-    let sink = MemSink::new(alloc, 100_000, 4096, Vec::new(alloc))?;
     let mut meters: Vec<Box<dyn Meter>> = Vec::new(alloc);
     for _ in 0..count {
         meters.push(Box::new(alloc, PegCount::new())?)?;
@@ -776,7 +776,8 @@ fn meters_are_changed_between_segments(rt: HostRuntime) -> Result<(), Fail> {
     ] {
         let [first, second, third, fourth] = lines;
         let all = [SETUP_TO_ROOM, first, second, third, fourth];
-        let (ended, text) = changed(&rt, alloc, &all, count, spares)?;
+        let sink = MemSink::new(alloc, 1000, 4096, Vec::new(alloc))?;
+        let (ended, text) = changed(&rt, alloc, &all, count, spares, sink)?;
         assert_eq!(rt; ended.status, 0);
         assert!(rt;
             ended.sink.bytes().strip_prefix(ACCEPTED.as_bytes()) == Some(report.as_bytes()),
