@@ -28,7 +28,8 @@ pub record EndsAt (trace : Trace) (segment end : ℕ) : Type 0 where
 
 -- a number below the end of the segment that is noted for a worker is the number of one of its events in the segment
 abbrev pub AreOwn : Trace → ℕ → ℕ → List ℕ → Type 0
-AreOwn trace segment end next = (w : ℕ) → w < 9 → slice_index next w < end → IsIn trace segment (slice_index next w) × (place_at trace (slice_index next w) ≡ w)
+AreOwn trace segment end next =
+    (w : ℕ) → w < 9 → slice_index next w < end → IsIn trace segment (slice_index next w) × (place_at trace (slice_index next w) ≡ w)
 
 -- Each worker's next event is noted: of an order, all events of earlier segments are done and none of a later one, and of this segment those that
 -- are below their worker's next.

@@ -37,7 +37,9 @@ pub record GoesOn (x y : Working) (text behind : List ℕ) : Type 0 where
 
 -- the text begins with no such line
 abbrev pub IsStuck : Working → List ℕ → Type 0
-IsStuck x text = (n : ℕ) (e : Event) (behind : List ℕ) → MayFollow x.trace (order_of x.journal) n → IsNumbered x.trace n e → text ≡ line_due x n e ++ behind → ⊥
+IsStuck x text =
+    (n : ℕ) (e : Event) (behind : List ℕ) → MayFollow x.trace (order_of x.journal) n → IsNumbered x.trace n e
+    → text ≡ line_due x n e ++ behind → ⊥
 
 -- the verdict is right
 abbrev pub IsRight : ℕ → Trace → List ℕ → Verdict → Type 0

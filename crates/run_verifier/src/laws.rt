@@ -8,14 +8,17 @@ ghost use Rattle.run_verifier.specs.Verdicts.{IsGood, IsInvalidAt, IsValid, MayF
 /// A report says in which order the events happened: two orders, lawful as far as they go, that have one
 /// report are the same.
 pub fn law_of_orders()
-    ensures { (slots : ℕ) (trace : Trace) (one other : List ℕ) → IsSound trace → IsLawfulPrefix trace one → IsLawfulPrefix trace other
+    ensures { (slots : ℕ) (trace : Trace) (one other : List ℕ)
+        → IsSound trace → IsLawfulPrefix trace one → IsLawfulPrefix trace other
         → report_due slots trace one ≡ report_due slots trace other → one ≡ other }
 {}
 
 /// One verdict is right, and no other.
 pub fn law_of_verdicts()
-    ensures never_both { (slots : ℕ) (trace : Trace) (bytes : List ℕ) (n : ℕ) → IsValid slots trace bytes → IsInvalidAt slots trace bytes n → ⊥ }
-    ensures one_line { (slots : ℕ) (trace : Trace) (bytes : List ℕ) (m n : ℕ) → IsInvalidAt slots trace bytes m → IsInvalidAt slots trace bytes n → m ≡ n }
+    ensures never_both { (slots : ℕ) (trace : Trace) (bytes : List ℕ) (n : ℕ)
+        → IsValid slots trace bytes → IsInvalidAt slots trace bytes n → ⊥ }
+    ensures one_line { (slots : ℕ) (trace : Trace) (bytes : List ℕ) (m n : ℕ)
+        → IsInvalidAt slots trace bytes m → IsInvalidAt slots trace bytes n → m ≡ n }
     ensures always_one { (slots : ℕ) (trace : Trace) (bytes : List ℕ) → IsSound trace
         → IsValid slots trace bytes ⊎ ((n : ℕ) × IsInvalidAt slots trace bytes n) }
 {}
@@ -23,12 +26,16 @@ pub fn law_of_verdicts()
 /// Where lines are good, those at the beginning are; and there are no more good lines than events, so that
 /// a verdict names the line behind as many at the most.
 pub fn law_of_lines()
-    ensures fewer { (slots : ℕ) (trace : Trace) (bytes : List ℕ) (j k : ℕ) → j ≤ k → IsGood slots trace bytes k → IsGood slots trace bytes j }
-    ensures good { (slots : ℕ) (trace : Trace) (bytes : List ℕ) (k : ℕ) → IsGood slots trace bytes k → k ≤ length trace.events }
-    ensures named { (slots : ℕ) (trace : Trace) (bytes : List ℕ) (n : ℕ) → IsInvalidAt slots trace bytes n → n ≤ length trace.events + 1 }
+    ensures fewer { (slots : ℕ) (trace : Trace) (bytes : List ℕ) (j k : ℕ)
+        → j ≤ k → IsGood slots trace bytes k → IsGood slots trace bytes j }
+    ensures good { (slots : ℕ) (trace : Trace) (bytes : List ℕ) (k : ℕ)
+        → IsGood slots trace bytes k → k ≤ length trace.events }
+    ensures named { (slots : ℕ) (trace : Trace) (bytes : List ℕ) (n : ℕ)
+        → IsInvalidAt slots trace bytes n → n ≤ length trace.events + 1 }
 {}
 
 /// What is lawful goes on with an event exactly where it may come next.
 pub fn law_of_turns()
-    ensures { (trace : Trace) (order : List ℕ) (n : ℕ) → IsLawfulPrefix trace (order ++ n ∷ []) ↔ (IsLawfulPrefix trace order × MayFollow trace order n) }
+    ensures { (trace : Trace) (order : List ℕ) (n : ℕ)
+        → IsLawfulPrefix trace (order ++ n ∷ []) ↔ (IsLawfulPrefix trace order × MayFollow trace order n) }
 {}

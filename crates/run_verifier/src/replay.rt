@@ -25,7 +25,8 @@ use tone_rules::Tones;
 // What arrives in the frame that has this number; none for an event that is no frame.
 fn input_of(trace: &Trace, event: u32) -> Option<&Input>
     requires event { IsEvent trace.now event }
-    ensures { MatchOption result ((input : An_input) → IsNumbered trace.now event (Frame input) → ⊥) (λ input. IsNumbered trace.now event (Frame input.now)) }
+    ensures { MatchOption result ((input : An_input) → IsNumbered trace.now event (Frame input) → ⊥)
+        (λ input. IsNumbered trace.now event (Frame input.now)) }
 {
     match trace.event(event) {
         Event::Frame(input) => Some(input),
