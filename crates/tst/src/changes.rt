@@ -29,11 +29,26 @@ pub(crate) fn is_front(octets: &[u8]) -> bool {
 #[test]
 fn meters_are_kept_where_a_write_fails(rt: HostRuntime) -> Result<(), Fail> {
     let alloc = rt.alloc();
-    let mut write = 0;
-    for octets in [
-        0, 6, 12, 18, 24, 30, 36, 42, 48, 54, 60, 66, 72, 74, 80, 84, 90,
+    // The write that fails, and how many octets are written before it.
+    for (write, octets) in [
+        (1, 0),
+        (2, 6),
+        (3, 12),
+        (4, 18),
+        (5, 24),
+        (6, 30),
+        (7, 36),
+        (8, 42),
+        (9, 48),
+        (10, 54),
+        (11, 60),
+        (12, 66),
+        (13, 72),
+        (14, 74),
+        (15, 80),
+        (16, 84),
+        (17, 90),
     ] {
-        write += 1;
         let sink = MemSink::new(alloc, 100, 6, [write].to_vec(alloc)?)?;
         let (ended, left) = changed(&rt, alloc, &LINES, 1, 1, sink)?;
         // The events that were done, and what is left: the meters that are on, and the spare ones.
