@@ -10,6 +10,26 @@ use std::sync::Wait;
 use std::test::Fail;
 use std::thread::Threads;
 
+// One call of the exchange: its status, and whether no event was done and no engine is handed out. That it
+// has no clause keeps what a call promises out of the test.
+fn called(
+    rt: &(impl Threads + Wait + Sync),
+    alloc: Global,
+    words: &[String],
+    source: &mut MemSource,
+    sink: &mut MemSink,
+    meters: &mut Vec<Box<dyn Meter>>,
+) -> (u8, bool) {
+    let mut spare = VecDeque::new(alloc);
+    let outcome: Outcome<Box<Engine>> = exchange(
+        rt, alloc, words, source, sink, &OpenGate, meters, &mut spare,
+    );
+    (
+        outcome.status,
+        outcome.order.is_empty() && outcome.engine.is_none(),
+    )
+}
+
 /// What came of a call.
 #[derive(Drop)]
 struct Ended {
@@ -39,21 +59,12 @@ fn checked(
     let mut sink = MemSink::new(alloc, 1000, 16, Vec::new(alloc))?;
     let mut meters: Vec<Box<dyn Meter>> = Vec::with_capacity(alloc, 1)?;
     meters.push(Box::new(alloc, PegCount::new())?)?;
-    let outcome: Outcome<Box<Engine>> = exchange(
-        rt,
-        alloc,
-        &words,
-        &mut source,
-        &mut sink,
-        &OpenGate,
-        &mut meters,
-        &mut VecDeque::new(alloc),
-    );
+    let (status, is_bare) = called(rt, alloc, &words, &mut source, &mut sink, &mut meters);
     let mut said = Vec::new(alloc);
     append_summaries(meters.as_slice(), &mut said)?;
     Ok(Ended {
-        status: outcome.status,
-        is_bare: outcome.order.is_empty() && outcome.engine.is_none(),
+        status,
+        is_bare,
         written: sink.bytes().to_vec(alloc)?,
         said,
     })
