@@ -341,8 +341,7 @@ fn answer_words<S: Source, K: Sink, G: Gate, C: Carrier, R: Threads + Wait + Syn
 ///
 /// The command `run` reads a trace: its input to the end, or until more bytes are held than a trace may
 /// have. `gen SEED CALLS` reads nothing and takes the trace that is generated of the seed with n
-/// calls. `check` reads a trace, a line `report` and a report, and does no event: no engine is handed out,
-/// `order` is empty, and meters note nothing. The fabric has thirty internal slots, and for `run --strict` fifty-nine, where no path ever
+/// calls. The fabric has thirty internal slots, and with `--strict` fifty-nine, where no path ever
 /// moves. Then the trace is run, one segment after the other: the call processors and the frame worker
 /// of a segment take turns at one switching map, each in a thread of its own, and are held up at the
 /// gate, where a test may look on. Where all but the busiest of them have few events together, and the
@@ -354,9 +353,12 @@ fn answer_words<S: Source, K: Sink, G: Gate, C: Carrier, R: Threads + Wait + Syn
 /// first of `spare` is put in behind the others. Where there is none, that half does nothing. The causes
 /// of another end are met in this order: the words, reading, the trace, the run, writing.
 ///
-/// The octets of a frame are what the engine of type `C` plays. It is handed out where the status is
-/// 0, and then it has as many lines and internal slots as the exchange had, and carries the frames of
-/// `order`.
+/// `check` reads a trace, a line `report` and a report, and does no event: `order` is empty, no engine is
+/// handed out, and meters note nothing.
+///
+/// The octets of a frame are what the engine of type `C` plays. It is handed out where a trace was run and
+/// the status is 0, and then it has as many lines and internal slots as the exchange had, and carries the
+/// frames of `order`.
 ///
 /// A read or write that fails ends the call, and then the source's or the sink's count of faults
 /// rises; neither rises otherwise. Memory may run out too, at any trace.

@@ -1,11 +1,13 @@
 use crate::changes::{Changing, Parted, PlainMeters};
 use crate::orders::{Taken, numbered, order_of};
+use crate::verdicts::is_verdict;
 use circuit_model::{PLACES, Slot, channel_of};
 use ex_io::{MemSink, MemSource};
 use exchange_top::{Outcome, exchange};
 use frame_engine::Engine;
 use gate::Gate;
 use meters::{CallDetail, HoldingTime, Meter, PegCount, append_summaries};
+use run_verifier::Verdict;
 use std::alloc::{AllocError, Global};
 use std::collections::VecDeque;
 use std::sync::Wait;
@@ -116,7 +118,7 @@ impl Gate for Apart {
 /// order of its report, where that has the events in a lawful order, and says of each what the plain
 /// program says that takes them in that order, from nothing, where on a strict fabric each number of moved
 /// paths is 0, and where the lines of meters in the report, and what the meters say that are left, are
-/// what plain meters say that are changed at the same places.
+/// what plain meters say that are changed at the same places. The verifier has to find its other lines valid.
 pub fn agreed<S: Setting, G: Gate, R: Threads + Wait + Sync>(
     rt: &R,
     alloc: Global,
@@ -131,7 +133,12 @@ pub fn agreed<S: Setting, G: Gate, R: Threads + Wait + Sync>(
         return Ok(None);
     };
     let parted = Parted::of(alloc, report)?;
-    if strict && !parted.events.as_str().lines().all(tells_of_no_moves) {
+    let events = parted.events.as_str();
+    if strict && !events.lines().all(tells_of_no_moves) {
+        return Ok(None);
+    }
+    let (trace, events) = (changing.text.as_str(), events.as_bytes());
+    if !is_verdict(rt, alloc, trace, events, strict, Verdict::Valid) {
         return Ok(None);
     }
     compared(

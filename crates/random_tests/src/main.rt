@@ -12,13 +12,17 @@
 //! every event once and be a lawful one, and the plain program takes the events in that order, from
 //! nothing.
 //!
+//! Each report is given to the verifier, which has to find it valid; and the plain program's reports of
+//! calls, in lawful orders that are drawn, are given to it as they are and changed in ten ways, some for each
+//! trace, beside the plain program, which does the events again in the order of the lines.
+//!
 //! It names a trace whose report differs, and then its status is 1. Which order threads take is
 //! chance, so all that it prints is of the traces, or of their events in file order; only the error
 //! output says in how many traces threads took another order than the file's, and the status is 1
 //! where that is none. It is proved safe; what it compares is tested, not proved.
 //!
 //! It uses `ex_io`, `circuit_model`, `frame_buffer`, `plain_model`, `test_exchange`,
-//! `test_traffic`, `frame_engine`, `meters`, `gate`, `segment_run` and `exchange_top`.
+//! `test_traffic`, `frame_engine`, `meters`, `gate`, `segment_run`, `run_verifier` and `exchange_top`.
 #![tactic(auto)]
 
 mod changes;
@@ -26,6 +30,8 @@ mod check;
 mod counts;
 mod draw;
 mod orders;
+mod spoiled;
+mod verdicts;
 mod yardstick;
 
 use changes::ChangeCounts;
@@ -40,6 +46,7 @@ use std::thread::Threads;
 use std::{env, io};
 use test_exchange::Chains;
 use test_traffic::{LONGEST_TONE, Random, Script, draw_traffic};
+use verdicts::Verdicts;
 use yardstick::Kind;
 
 const SEED: u64 = 1976;
@@ -122,9 +129,13 @@ fn run_one_of_calls<R: Threads + Wait + Sync>(
     random: &mut Random,
     counts: &mut CallCounts,
     orders: &mut Orders,
+    verdicts: &mut Verdicts,
 ) -> Result<bool, AllocError> {
     let drawn = draw_traffic(alloc, random, EVENTS)?;
     counts.add(&drawn);
+    if !verdicts.add(rt, alloc, &drawn.script, &drawn.setting)? {
+        return Ok(false);
+    }
     run_each_way(rt, alloc, &drawn.script, &drawn.setting, orders)
 }
 
@@ -138,8 +149,16 @@ fn run_calls<R: Print + Eprint + Threads + Wait + Sync>(
     let mut random = Random::new(SEED);
     let mut orders = Orders::default();
     let mut counts = CallCounts::new();
+    let mut verdicts = Verdicts::default();
     for number in 1..=traces {
-        if !run_one_of_calls(rt, alloc, &mut random, &mut counts, &mut orders)? {
+        if !run_one_of_calls(
+            rt,
+            alloc,
+            &mut random,
+            &mut counts,
+            &mut orders,
+            &mut verdicts,
+        )? {
             println!(rt; "calls: trace {number} differs")?;
         }
     }
@@ -150,7 +169,8 @@ fn run_calls<R: Print + Eprint + Threads + Wait + Sync>(
     print_tones(rt, counts.tones)?;
     let expiries = counts.expiries;
     println!(rt; "calls: in file order timers ran out {expiries}")?;
-    Ok(orders.is_whole(traces) && counts.is_whole())
+    println!(rt; "calls: verified reports {verdicts}")?;
+    Ok(orders.is_whole(traces) && counts.is_whole() && verdicts.is_whole())
 }
 
 /// Prints how many traces had the wanted reports.

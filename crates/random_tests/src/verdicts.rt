@@ -1,0 +1,261 @@
+//! Reports that are given to the verifier of reports, as they were written and spoiled, beside a plain
+//! program that takes the events again.
+
+use crate::check::{Plain, Setting};
+use crate::orders::numbered;
+use crate::spoiled::{CHANGES, Change, changed};
+use run_verifier::{Verdict, verify};
+use std::alloc::{AllocError, Global};
+use std::fmt;
+use std::thread::Threads;
+use test_exchange::PlainEvent;
+use test_traffic::{Post, Random, Script, of_event};
+
+// How many internal slots a fabric has: one where paths may have to move, and one where none ever does.
+const REARRANGED_SLOTS: u8 = 30;
+
+const STRICT_SLOTS: u8 = 59;
+
+// How many changes there are to one that is tried of a report.
+const ONE_OF: u8 = 5;
+
+/// How many reports were found valid, and how many not, for each change of them.
+#[derive(Clone, Copy, Default)]
+pub struct Verdicts {
+    found: [(u32, u32); 11],
+}
+
+impl Verdicts {
+    /// Verifies the report of a plain program in a lawful order, with some of the changes, and counts the
+    /// verdicts. Whether each is the plain program's own.
+    pub fn add<S: Setting, R: Threads + Sync>(
+        &mut self,
+        rt: &R,
+        alloc: Global,
+        script: &Script,
+        setting: &S,
+    ) -> Result<bool, AllocError> {
+        let mut random = Random::new(script.text.len() as u64);
+        let strict = random.once_in(2);
+        let order = drawn_order(alloc, script.posts.as_slice(), &mut random)?;
+        let lines = lines_in(alloc, script, setting, strict, order.as_slice())?;
+        for (entry, found) in CHANGES.iter().zip(self.found.iter_mut()) {
+            if !random.once_in(ONE_OF) {
+                continue;
+            }
+            let Some(report) = changed(alloc, lines.as_slice(), entry.0, &mut random)? else {
+                continue;
+            };
+            let strict = strict != (entry.0 == Change::OtherFabric);
+            let wanted = plain_verdict(alloc, script, setting, strict, report.as_str())?;
+            if !is_verdict(
+                rt,
+                alloc,
+                script.text.as_str(),
+                report.as_bytes(),
+                strict,
+                wanted,
+            ) {
+                return Ok(false);
+            }
+            match wanted {
+                Verdict::Valid => found.0 = found.0.saturating_add(1),
+                Verdict::Invalid(_) => found.1 = found.1.saturating_add(1),
+            }
+        }
+        Ok(true)
+    }
+
+    /// Whether each report was valid as it was written, some were with two lines exchanged and some on the
+    /// other fabric, and each change made some that were not.
+    pub fn is_whole(&self) -> bool {
+        CHANGES.iter().zip(self.found.iter()).all(|(entry, found)| match entry.0 {
+            Change::Nothing => found.0 > 0 && found.1 == 0,
+            Change::Exchanged | Change::OtherFabric => found.0 > 0 && found.1 > 0,
+            _ => found.1 > 0,
+        })
+    }
+}
+
+impl fmt::Display for Verdicts {
+    fn fmt<W: fmt::Write>(&self, f: &mut fmt::Formatter<W>) -> fmt::Result {
+        let mut separator = "";
+        for (entry, found) in CHANGES.iter().zip(self.found.iter()) {
+            let (name, (valid, invalid)) = (entry.1, *found);
+            write!(f, "{separator}{name} {valid} valid and {invalid} not")?;
+            separator = ", ";
+        }
+        Ok(())
+    }
+}
+
+/// Whether the verifier says of a report what is wanted.
+pub fn is_verdict<R: Threads + Sync>(
+    rt: &R,
+    alloc: Global,
+    trace: &str,
+    report: &[u8],
+    strict: bool,
+    wanted: Verdict,
+) -> bool {
+    let verdict = if strict {
+        verify(rt, alloc, trace.as_bytes(), report, STRICT_SLOTS)
+    } else {
+        verify(rt, alloc, trace.as_bytes(), report, REARRANGED_SLOTS)
+    };
+    verdict == Ok(wanted)
+}
+
+// The order of the file, in which events side by side changed places a few hundred times, where two workers
+// do them in one segment.
+fn drawn_order(alloc: Global, posts: &[Post], random: &mut Random) -> Result<Vec<u32>, AllocError> {
+    let mut order = Vec::new(alloc);
+    for number in 1..=u32::try_from(posts.len()).unwrap_or(u32::MAX) {
+        order.push(number)?;
+    }
+    for _ in 0..300 {
+        let at = usize::from(random.octet());
+        let (Some(one), Some(next)) = (
+            order.get(at).copied(),
+            order.get(at.saturating_add(1)).copied(),
+        ) else {
+            continue;
+        };
+        if are_free(posts, one, next) {
+            set(&mut order, at, next);
+            set(&mut order, at.saturating_add(1), one);
+        }
+    }
+    Ok(order)
+}
+
+fn set(order: &mut Vec<u32>, at: usize, number: u32) {
+    if let Some(entry) = order.as_mut_slice().get_mut(at) {
+        *entry = number;
+    }
+}
+
+// Whether two workers do these events in one segment.
+fn are_free(posts: &[Post], one: u32, next: u32) -> bool {
+    let (Some(one), Some(next)) = (of_event(posts, one), of_event(posts, next)) else {
+        return false;
+    };
+    one.segment == next.segment && one.worker != next.worker
+}
+
+// The lines of a plain program that takes the events in an order, with their numbers, without line feeds.
+fn lines_in<S: Setting>(
+    alloc: Global,
+    script: &Script,
+    setting: &S,
+    strict: bool,
+    order: &[u32],
+) -> Result<Vec<String>, AllocError> {
+    let mut plain = setting.program(alloc, strict)?;
+    for number in order {
+        if let Some(event) = of_event(script.events.as_slice(), *number) {
+            plain.take(alloc, event)?;
+        }
+    }
+    let mut lines = Vec::new(alloc);
+    for (number, line) in order.iter().zip(plain.text().lines()) {
+        if let Some((_, words)) = numbered(line) {
+            lines.push(format!(in alloc; "{number} {words}")?)?;
+        }
+    }
+    Ok(lines)
+}
+
+// What a plain program says that does the events again in the order of a report, from nothing: the report
+// is valid, or which line is the first that can't be, or is lacking.
+fn plain_verdict<S: Setting>(
+    alloc: Global,
+    script: &Script,
+    setting: &S,
+    strict: bool,
+    report: &str,
+) -> Result<Verdict, AllocError> {
+    let mut plain = setting.program(alloc, strict)?;
+    let posts = script.posts.as_slice();
+    let mut done = vec![in alloc; false; posts.len()]?;
+    let mut rest = report;
+    let mut number: u32 = 0;
+    for _ in posts {
+        number = number.saturating_add(1);
+        let Some((line, behind)) = rest.split_once('\n') else {
+            return Ok(Verdict::Invalid(number));
+        };
+        if !is_next(alloc, &mut plain, script, done.as_mut_slice(), line)? {
+            return Ok(Verdict::Invalid(number));
+        }
+        rest = behind;
+    }
+    if rest.is_empty() {
+        return Ok(Verdict::Valid);
+    }
+    Ok(Verdict::Invalid(number.saturating_add(1)))
+}
+
+// Whether a line is of an event that may come next, and says what the program does, which takes it.
+fn is_next<P: Plain>(
+    alloc: Global,
+    plain: &mut P,
+    script: &Script,
+    done: &mut [bool],
+    line: &str,
+) -> Result<bool, AllocError> {
+    let Some((number, _)) = numbered(line) else {
+        return Ok(false);
+    };
+    if !may_come(script.posts.as_slice(), done, number) {
+        return Ok(false);
+    }
+    let Some(event) = of_event(script.events.as_slice(), number) else {
+        return Ok(false);
+    };
+    let before = plain.text().len();
+    plain.take(alloc, event)?;
+    mark(done, number);
+    let wanted = words_behind(plain.text(), before);
+    let wanted = format!(in alloc; "{number} {wanted}")?;
+    Ok(line == wanted.as_str())
+}
+
+// The words of the line behind the first octets of a report, without its number.
+fn words_behind(report: &str, before: usize) -> &str {
+    let line = report.get(before..).unwrap_or("");
+    match numbered(line.strip_suffix('\n').unwrap_or(line)) {
+        Some((_, words)) => words,
+        None => "",
+    }
+}
+
+fn mark(done: &mut [bool], number: u32) {
+    let Some(at) = number.checked_sub(1) else {
+        return;
+    };
+    if let Some(entry) = done.get_mut(at as usize) {
+        *entry = true;
+    }
+}
+
+// Whether an event isn't done, and all are that have to come before it: the events of earlier segments, and
+// its worker's earlier ones in its own.
+fn may_come(posts: &[Post], done: &[bool], number: u32) -> bool {
+    let Some(post) = of_event(posts, number) else {
+        return false;
+    };
+    posts.iter().zip(done.iter()).zip(1..).all(|(entry, other)| {
+        let (one, is_done) = entry;
+        if other == number {
+            return !*is_done;
+        }
+        *is_done || !precedes(one, other, post, number)
+    })
+}
+
+// Whether an event has to come before another.
+fn precedes(one: &Post, number: u32, other: &Post, later: u32) -> bool {
+    one.segment < other.segment
+        || (one.segment == other.segment && one.worker == other.worker && number < later)
+}
