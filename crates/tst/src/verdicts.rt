@@ -70,6 +70,24 @@ fn checked(
     })
 }
 
+// Whether it ends with this status and this line, no event done, no engine handed out, and no call noted.
+fn is_answered(
+    rt: &(impl Threads + Wait + Sync),
+    alloc: Global,
+    flags: &[&str],
+    parts: &[&str],
+    status: u8,
+    line: &str,
+) -> Result<bool, AllocError> {
+    let ended = checked(rt, alloc, flags, parts)?;
+    Ok(
+        ended.status == status
+            && ended.is_bare
+            && ended.written.as_slice() == line.as_bytes()
+            && ended.said.as_slice() == b"peg 0 0\n".as_slice(),
+    )
+}
+
 // Two processors want one slot.
 const TWO_NAILS: &str = "exchange 1 3 0 2\nnail 0/1 2/1\nnail 1/1 2/1\n";
 
@@ -119,18 +137,11 @@ fn reports_are_verified(rt: HostRuntime) -> Result<(), Fail> {
         (&[], "hold\n", "report\n1 busy\n", 1, "refused 1 header\n"),
         (&["-x"], TWO_NAILS, "", 2, "refused words\n"),
     ] {
-        let ended = checked(&rt, alloc, flags, &[trace, report])?;
-        assert_eq!(rt; (ended.status, ended.is_bare), (status, true), "{report}");
-        assert_eq!(rt; ended.written.as_slice(), line.as_bytes(), "{report}");
-        assert_eq!(rt; ended.said.as_slice(), b"peg 0 0\n".as_slice());
+        let is_right = is_answered(&rt, alloc, flags, &[trace, report], status, line)?;
+        assert!(rt; is_right, "{report}");
     }
-    let ended = checked(
-        &rt,
-        alloc,
-        &[],
-        &[CALL, "report\n", ACCEPTED, "2 message\n"],
-    )?;
-    assert_eq!(rt; (ended.status, ended.is_bare), (0, true));
-    assert_eq!(rt; ended.said.as_slice(), b"peg 0 0\n".as_slice());
+    let parts = [CALL, "report\n", ACCEPTED, "2 message\n"];
+    let is_right = is_answered(&rt, alloc, &[], &parts, 0, "valid\n")?;
+    assert!(rt; is_right);
     Ok(())
 }
