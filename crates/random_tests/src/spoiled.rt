@@ -148,8 +148,7 @@ fn anew(alloc: Global, line: &str, change: Change) -> Result<Option<String>, All
         Change::Idle if line.split(' ').any(|word| word == "frame") => {
             Ok(Some(format!(in alloc; "{line}{IDLE_PART}")?))
         }
-        Change::Digit => exchanged(alloc, line, next_digit),
-        Change::LowerCase => exchanged(alloc, line, lower),
+        Change::Digit | Change::LowerCase => exchanged(alloc, line, change),
         _ => Ok(None),
     }
 }
@@ -178,22 +177,27 @@ fn lower(letter: char) -> Option<char> {
     }
 }
 
+// What a change puts for a character, where it puts another.
+fn other_letter(change: Change, letter: char) -> Option<char> {
+    if change == Change::LowerCase {
+        lower(letter)
+    } else {
+        next_digit(letter)
+    }
+}
+
 // A line with the last character exchanged that may be. None where none may.
-fn exchanged(
-    alloc: Global,
-    line: &str,
-    other: fn(char) -> Option<char>,
-) -> Result<Option<String>, AllocError> {
+fn exchanged(alloc: Global, line: &str, change: Change) -> Result<Option<String>, AllocError> {
     let Some((at, letter)) = line
         .char_indices()
         .rev()
-        .find(|entry| other(entry.1).is_some())
+        .find(|entry| other_letter(change, entry.1).is_some())
     else {
         return Ok(None);
     };
     let (Some(front), Some(letter), Some(rest)) = (
         line.get(..at),
-        other(letter),
+        other_letter(change, letter),
         line.get(at.saturating_add(1)..),
     ) else {
         return Ok(None);

@@ -79,11 +79,14 @@ impl Verdicts {
 
 impl fmt::Display for Verdicts {
     fn fmt<W: fmt::Write>(&self, f: &mut fmt::Formatter<W>) -> fmt::Result {
-        let mut separator = "";
+        let mut is_first = true;
         for (entry, found) in CHANGES.iter().zip(self.found.iter()) {
+            if !is_first {
+                f.write_str(", ")?;
+            }
+            is_first = false;
             let (name, (valid, invalid)) = (entry.1, *found);
-            write!(f, "{separator}{name} {valid} valid and {invalid} not")?;
-            separator = ", ";
+            write!(f, "{name} {valid} valid and {invalid} not")?;
         }
         Ok(())
     }
