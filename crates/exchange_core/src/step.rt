@@ -110,6 +110,8 @@ impl<'t, P: PathMap> Core<'t, P> {
 
     /// The same as [`step`](Core::step), with what is sent and recorded put into a given outbox, in
     /// place of what it held. What was read of the event ahead is not read again.
+    // Every event goes through it, and with more than one caller LLVM would leave it a call.
+    #[inline(always)]
     pub fn work(
         &mut self,
         by: u32,

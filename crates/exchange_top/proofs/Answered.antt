@@ -40,6 +40,7 @@ use Rattle.report_text.specs.RunReport.{Played, report, event_line, event_lines,
 use Rattle.exchange_top.specs.Running.{GrewFew, fabric_at, grown_calls, grown_lines}
 use Rattle.exchange_top.specs.Telling.{calls_answered}
 use Rattle.call_profile.specs.CallsTold.{calls_ended, calls_told, calls_kept}
+use Rattle.report_text.proofs.KeptLines.{same_line}
 use Rattle.exchange_top.proofs.Reports.{sent_played, take_snoc}
 
 -- ---- the lines of answers
@@ -93,28 +94,6 @@ report_append played slots trace order more known =
 
 -- ---- the line of an answer
 
--- what lines send matters to a frame's line alone
-module _ (rows others : List (List ℕ)) (n : ℕ) where
-  abbrev IsSame : Reply → Type 0
-  IsSame r = report_line rows n (kept_of r) ≡ report_line others n (kept_of r)
-
-  same_either : (b : Bool) (r q : Reply) → IsSame r → IsSame q → IsSame (if b then r else q)
-  same_either true r q one other = one
-  same_either false r q one other = other
-
-  same_seated : (d : Dimensions) (layout : Layout) (x : Slot) (port : Option Slot) → IsSame (seat_reply d layout x port)
-  same_seated d layout x None = refl
-  same_seated d layout x (Some p) = refl
-
-  pub command_line : (s : Setting) (w : World) (e : Event) → ((input : Input) → ¬ (e ≡ Frame input)) → IsSame (reply s w e)
-  command_line s w (Nail x y) other = same_either (may_nail w x y) _ _ refl refl
-  command_line s w (Seat x room) other =
-      same_either (not (idle w x)) _ _ refl
-      (same_either (is_full s.dimensions w) _ _ refl (same_seated s.dimensions w.layout x (port_of s.dimensions.external (ports_with x w.ports) x)))
-  command_line s w (Free x) other = same_either (is_nailed w x) _ _ refl refl
-  command_line s w (Message line octets) other = refl
-  command_line s w (Frame input) other = absurd (other input refl)
-
 module _ (plays : Plays) (tones : Kind → List ℕ) (board : Board) (front : List Entry) (a : Answer) (n : ℕ)
     (played : (input : Input) → IsNumbered board.trace n (Frame input) → IsPlayed plays tones board.trace.external (world_at board front) input a.octets) where
   abbrev here : World
@@ -126,13 +105,10 @@ module _ (plays : Plays) (tones : Kind → List ℕ) (board : Board) (front : Li
   abbrev sent : Event → List (List ℕ)
   sent e = sent_at (plays tones) (setting_at board) here e
 
-  -- an answer has the octets of its frame, and no other event's line has any
-  rows_of : (e : Event) → IsNumbered board.trace n e → report_line kept_rows n (kept_of (reply (setting_at board) here e)) ≡ report_line (sent e) n (kept_of (reply (setting_at board) here e))
-  rows_of (Nail x y) is = command_line kept_rows (sent (Nail x y)) n (setting_at board) here (Nail x y) (λ input e. cc)
-  rows_of (Seat x room) is = command_line kept_rows (sent (Seat x room)) n (setting_at board) here (Seat x room) (λ input e. cc)
-  rows_of (Free x) is = command_line kept_rows (sent (Free x)) n (setting_at board) here (Free x) (λ input e. cc)
-  rows_of (Message line octets) is = command_line kept_rows (sent (Message line octets)) n (setting_at board) here (Message line octets) (λ input e. cc)
-  rows_of (Frame input) is =
+  -- an answer of a frame has its octets
+  frame_rows : (input : Input) → IsNumbered board.trace n (Frame input)
+      → report_line kept_rows n (kept_of (reply (setting_at board) here (Frame input))) ≡ report_line (sent (Frame input)) n (kept_of (reply (setting_at board) here (Frame input)))
+  frame_rows input is =
       let p = played input is in
       let same = passed_same (setting_at board) here input in
       let lines : kept_rows ≡ lines_sent (octet_of a.octets) board.trace.external = ap (lines_sent (octet_of a.octets)) p.lines in
@@ -144,7 +120,8 @@ module _ (plays : Plays) (tones : Kind → List ℕ) (board : Board) (front : Li
   -- the line of an answer is its event's, after this history
   answer_is : (e : Event) (r : Reply) → a.event ≡ n → IsNumbered board.trace n e → AnswersAt board front n r → a.reply ≡ kept_of r
       → answer_line a ≡ event_line (plays tones) (setting_at board) here n e
-  answer_is e r same number given keeps = (λ i. report_line kept_rows (same i) ((keeps ∙ ap kept_of (given e number)) i)) ∙ rows_of e number
+  answer_is e r same number given keeps = (λ i. report_line kept_rows (same i) ((keeps ∙ ap kept_of (given e number)) i))
+      ∙ same_line kept_rows n (setting_at board) here sent (IsNumbered board.trace n) frame_rows e number
 
 -- ---- the answers of what came behind a history
 

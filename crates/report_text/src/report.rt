@@ -40,6 +40,8 @@ pub fn append_answer(out: &mut Vec<u8>, answer: &Answer) -> Result<(), AllocErro
 /// # Errors
 ///
 /// [`AllocError`] where memory runs out, and then `out` is as it was.
+// Every line of a report goes through it, and with more than one caller LLVM would leave it a call.
+#[inline(always)]
 pub fn append_line(
     out: &mut Vec<u8>,
     event: u32,

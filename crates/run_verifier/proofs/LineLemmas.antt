@@ -25,29 +25,8 @@ use Rattle.tone_rules.specs.Tables.{table_of}
 use Rattle.report_text.specs.Report.{lines_sent, octet_of, report_line}
 use Rattle.report_text.specs.RunReport.{sent_at}
 use Rattle.report_text.proofs.Rows.{sent_same}
+use Rattle.report_text.proofs.KeptLines.{same_line}
 use Rattle.run_verifier.specs.Replaying.{IsReadyAt, board_of, engine_sizes, line_due, with_event}
-
--- what lines send matters to a frame's line alone
-module _ (rows others : List (List ℕ)) (n : ℕ) where
-  abbrev IsSame : Reply → Type 0
-  IsSame r = report_line rows n (kept_of r) ≡ report_line others n (kept_of r)
-
-  same_either : (b : Bool) (r q : Reply) → IsSame r → IsSame q → IsSame (if b then r else q)
-  same_either true r q one other = one
-  same_either false r q one other = other
-
-  same_seated : (d : Dimensions) (layout : Layout) (x : Slot) (port : Option Slot) → IsSame (seat_reply d layout x port)
-  same_seated d layout x None = refl
-  same_seated d layout x (Some p) = refl
-
-  command_line : (s : Setting) (w : World) (e : Event) → ((input : Input) → ¬ (e ≡ Frame input)) → IsSame (reply s w e)
-  command_line s w (Nail x y) other = same_either (may_nail w x y) _ _ refl refl
-  command_line s w (Seat x room) other =
-      same_either (not (idle w x)) _ _ refl
-      (same_either (is_full s.dimensions w) _ _ refl (same_seated s.dimensions w.layout x (port_of s.dimensions.external (ports_with x w.ports) x)))
-  command_line s w (Free x) other = same_either (is_nailed w x) _ _ refl refl
-  command_line s w (Message line octets) other = refl
-  command_line s w (Frame input) other = absurd (other input refl)
 
 module _ (x : Working) (n : ℕ) (octets : List (List ℕ))
     (played : (input : Input) → IsNumbered x.trace n (Frame input) → IsPlayed hears (table_of x.trace.tones) x.trace.external (world_of x) input octets) where
@@ -57,13 +36,10 @@ module _ (x : Working) (n : ℕ) (octets : List (List ℕ))
   abbrev sent : Event → List (List ℕ)
   sent e = sent_at (hears (table_of x.trace.tones)) (setting x) (world_of x) e
 
-  -- a frame has the octets that are due, and no other event's line has any
-  rows_of : (e : Event) → IsNumbered x.trace n e → report_line kept_rows n (kept_of (reply (setting x) (world_of x) e)) ≡ line_due x n e
-  rows_of (Nail a b) is = command_line kept_rows (sent (Nail a b)) n (setting x) (world_of x) (Nail a b) (λ input e. cc)
-  rows_of (Seat a room) is = command_line kept_rows (sent (Seat a room)) n (setting x) (world_of x) (Seat a room) (λ input e. cc)
-  rows_of (Free a) is = command_line kept_rows (sent (Free a)) n (setting x) (world_of x) (Free a) (λ input e. cc)
-  rows_of (Message line at) is = command_line kept_rows (sent (Message line at)) n (setting x) (world_of x) (Message line at) (λ input e. cc)
-  rows_of (Frame input) is =
+  -- a frame has the octets that are due
+  frame_rows : (input : Input) → IsNumbered x.trace n (Frame input)
+      → report_line kept_rows n (kept_of (reply (setting x) (world_of x) (Frame input))) ≡ report_line (sent (Frame input)) n (kept_of (reply (setting x) (world_of x) (Frame input)))
+  frame_rows input is =
       let p = played input is in
       let w = world_of x in
       let tones = table_of x.trace.tones in
@@ -76,7 +52,8 @@ module _ (x : Working) (n : ℕ) (octets : List (List ℕ))
       ∙ (λ i. lines_sent (λ y. hears tones (sym same.inputs i) (sym same.held i) w.holding.next y) x.trace.external))
 
   pub line_is : (e : Event) (r : Reply) → IsNumbered x.trace n e → r ≡ reply (setting x) (world_of x) e → report_line kept_rows n (kept_of r) ≡ line_due x n e
-  line_is e r number given = ap (λ (q : Reply). report_line kept_rows n (kept_of q)) given ∙ rows_of e number
+  line_is e r number given = ap (λ (q : Reply). report_line kept_rows n (kept_of q)) given
+      ∙ same_line kept_rows n (setting x) (world_of x) sent (IsNumbered x.trace n) frame_rows e number
 
 -- behind an event that is no frame the engine is as ready
 pub still_ready_at : (x y : Working) (n : ℕ) (engine : Stages) (tool : Tool) → y ≡ with_event x n → ((input : Input) → IsNumbered x.trace n (Frame input) → ⊥)

@@ -18,11 +18,11 @@ use Rattle.exchange_events.proofs.EventNumbers.{event_there}
 use Rattle.call_processor.specs.Parts.{events_of_segment}
 use Rattle.call_processor.proofs.PartLemmas.{below_last}
 use Rattle.run_verifier.specs.Verdicts.{MayFollow}
-use Rattle.run_verifier.specs.Turns.{AreOwn, AreTurns, EndsAt, IsIn, IsLeft, IsNext, IsUntouched, place_at, place_in, place_of}
+use Rattle.run_verifier.specs.Turns.{AreOwn, AreTurns, EndsAt, IsIn, IsLeft, IsNext, IsUntouched, place_at, place_in, place_of_worker}
 
 -- ---- where a worker's next event is noted
 
-small_place : (trace : Trace) (e : Event) → IsSound trace → place_of (worker_of trace.processors e) < 9
+small_place : (trace : Trace) (e : Event) → IsSound trace → place_of_worker (worker_of trace.processors e) < 9
 small_place trace (Nail x y) sound = let some = sound.processors.0 in let few = sound.processors.1 in let rest : x.line % trace.processors < trace.processors = mod-lt x.line some in omega (arith, few, rest)
 small_place trace (Seat x room) sound = let some = sound.processors.0 in let few = sound.processors.1 in let rest : x.line % trace.processors < trace.processors = mod-lt x.line some in omega (arith, few, rest)
 small_place trace (Free x) sound = let some = sound.processors.0 in let few = sound.processors.1 in let rest : x.line % trace.processors < trace.processors = mod-lt x.line some in omega (arith, few, rest)
@@ -37,7 +37,7 @@ place_small trace n sound is =
 -- events have one place exactly where one worker does them
 same_place : (trace : Trace) (m n : ℕ) → SameWorker trace m n → place_at trace m ≡ place_at trace n
 same_place trace m n same =
-    ap (place_in trace.processors) same.is_first ∙ ap place_of same.same ∙ sym (ap (place_in trace.processors) same.is_second)
+    ap (place_in trace.processors) same.is_first ∙ ap place_of_worker same.same ∙ sym (ap (place_in trace.processors) same.is_second)
 
 abbrev worker_back : ℕ → Worker
 worker_back p = cond (eqb p 8) Frame_worker (Processor p)
@@ -49,7 +49,7 @@ not_eight trace line sound =
     let rest : line % trace.processors < trace.processors = mod-lt line some in
     rw (ne_eqb (line % trace.processors) 8 (λ same. absurd (omega (arith, few, rest, same)))) refl
 
-back : (trace : Trace) (e : Event) → IsSound trace → worker_back (place_of (worker_of trace.processors e)) ≡ worker_of trace.processors e
+back : (trace : Trace) (e : Event) → IsSound trace → worker_back (place_of_worker (worker_of trace.processors e)) ≡ worker_of trace.processors e
 back trace (Nail x y) sound = not_eight trace x.line sound
 back trace (Seat x room) sound = not_eight trace x.line sound
 back trace (Free x) sound = not_eight trace x.line sound
@@ -60,7 +60,7 @@ one_worker : (trace : Trace) (m n : ℕ) → IsSound trace → IsEvent trace m �
 one_worker trace m n sound is also same =
     let e = event_there trace m is in
     let f = event_there trace n also in
-    let places : place_of (worker_of trace.processors e.0) ≡ place_of (worker_of trace.processors f.0) =
+    let places : place_of_worker (worker_of trace.processors e.0) ≡ place_of_worker (worker_of trace.processors f.0) =
     sym (ap (place_in trace.processors) e.1) ∙ same ∙ ap (place_in trace.processors) f.1 in
     record {
       first = e.0;

@@ -5,13 +5,13 @@ use Rattle.exchange_events.specs.declared.trace.Trace.{Trace}
 use Rattle.exchange_events.specs.Orders.{Worker, Processor, Frame_worker, IsEvent, event_at, segment_of, worker_of}
 
 -- where a worker's next event is noted: the call processors' by their numbers, and the frame worker's behind eight of them
-abbrev pub place_of : Worker → ℕ
-place_of (Processor n) = n
-place_of Frame_worker = 8
+abbrev pub place_of_worker : Worker → ℕ
+place_of_worker (Processor n) = n
+place_of_worker Frame_worker = 8
 
 abbrev pub place_in : ℕ → Option Event → ℕ
 place_in processors None = 9
-place_in processors (Some e) = place_of (worker_of processors e)
+place_in processors (Some e) = place_of_worker (worker_of processors e)
 
 -- where the worker's is who does the event with this number
 abbrev pub place_at : Trace → ℕ → ℕ
