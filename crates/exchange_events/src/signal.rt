@@ -42,12 +42,22 @@ impl Encoded {
     pub fn copy(&self) -> Encoded
         ensures { result ≡ self.now }
     {
-        let mut octets = ArrayVec::new();
-        match octets.try_extend_from_slice(self.octets.as_slice()) {
+        let mut copied = Encoded {
+            octets: ArrayVec::new(),
+        };
+        copied.copy_from(self);
+        copied
+    }
+
+    /// Becomes the octets of another message. It takes no memory, and touches no octet behind theirs.
+    pub fn copy_from(&mut self, other: &Encoded)
+        ensures { self.new ≡ other.now }
+    {
+        self.octets.clear();
+        match self.octets.try_extend_from_slice(other.octets.as_slice()) {
             Ok(()) => {}
             Err(_) => unreachable!(),
         }
-        Encoded { octets }
     }
 }
 

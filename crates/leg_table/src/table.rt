@@ -10,6 +10,7 @@ ghost use Rattle.leg_table.specs.KeptNumbers.{counting_all, keeping_all};
 ghost use Rattle.leg_table.specs.DueBounds.{NoneDue};
 ghost use Rattle.leg_table.specs.LegKeys.{IsRowOf};
 ghost use Rattle.call_profile.specs.Legs.{no_legs, leg_at, pending_at, kept_at, with_leg, with_waiting, with_kept, without_leg, leg_named, held_at, new_reference};
+ghost use Rattle.leg_table.specs.declared.notes.Note.TheVariants as A_note;
 
 use crate::due_bounds::{BOUNDS, NEVER, due_from, due_from_at, lower};
 use crate::leg_keys::{NO_KEY, ROW, key_named, key_of, places_with, references_in};
@@ -131,7 +132,7 @@ impl LegTable {
         requires state { is_among awaiting_answer leg.state ≡ true }
         ensures { self.new ≡ with_kept self.old x leg message.now }
     {
-        keep(&mut self.notes, x, Note::Message(message.copy()));
+        keep_message(&mut self.notes, x, message);
         lower(&mut self.bounds, x.place, due_from(leg, &self.timers));
         self.legs[x.number()] = Some(leg);
         self.keys[key_index(x)] = key_of(leg);
@@ -281,6 +282,18 @@ fn keep(notes: &mut Vec<Note>, x: Slot, note: Note)
     ensures count { length notes.new.items ≡ length notes.old.items }
 {
     notes[x.number()] = note;
+}
+
+// Keeps a message at a slot, over the one that lies there where that is one.
+fn keep_message(notes: &mut Vec<Note>, x: Slot, message: &Encoded)
+    requires { number_of x < length notes.old.items }
+    ensures items { notes.new.items ≡ slice_set notes.old.items (number_of x) (A_note.Message message.now) }
+    ensures count { length notes.new.items ≡ length notes.old.items }
+{
+    match &mut notes[x.number()] {
+        Note::Message(kept) => kept.copy_from(message),
+        other => *other = Note::Message(message.copy()),
+    }
 }
 
 // Where the key of a slot is.
