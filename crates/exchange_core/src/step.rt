@@ -160,6 +160,7 @@ impl<'t, P: PathMap> Core<'t, P> {
 }
 
 // Does an event, whichever it is. A frame's boundary is written into the tool.
+#[inline(always)]
 fn happen<P: PathMap>(
     control: &mut CallControl<P>,
     trace: &Trace,

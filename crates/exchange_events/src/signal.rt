@@ -71,18 +71,25 @@ pub struct Signal {
 }
 
 /// The messages that a step sends, in order, at most 64. Contracts see their list.
+///
+/// A list that is cleared leaves its messages where they lie, and the next ones are written over them: to
+/// make one blank again would cost as much as to write it.
 #[derive(Drop)]
 pub struct Signals {
     items: ArrayVec<Signal, MOST_SENDS>,
+    // How many of them count.
+    count: usize,
 }
 
 impl Model for Signals {
-    ghost use Rattle.std.specs.Prelude.{List};
+    ghost use Rattle.std.specs.Prelude.{◌≤◌, List, length, take};
     ghost use Rattle.exchange_events.specs.declared.signal.Signal.{Signal};
 
     ghost Value = { List Signal };
 
-    ghost view = { λ s. s.items.items };
+    ghost view = { λ s. take s.count s.items.items };
+
+    ghost invariant = { λ s. s.count ≤ length s.items.items };
 }
 
 impl Signals {
@@ -92,6 +99,7 @@ impl Signals {
     {
         Signals {
             items: ArrayVec::new(),
+            count: 0,
         }
     }
 
@@ -99,21 +107,22 @@ impl Signals {
     pub fn of(items: ArrayVec<Signal, MOST_SENDS>) -> Signals
         ensures { result ≡ items.items }
     {
-        Signals { items }
+        let count = items.len();
+        Signals { items, count }
     }
 
     /// The messages in the order in which they are sent.
     pub fn as_slice(&self) -> &[Signal]
         ensures { result.now ≡ self.now }
     {
-        self.items.as_slice()
+        &self.items.as_slice()[..self.count]
     }
 
     /// No message any more.
     pub fn clear(&mut self)
         ensures { self.new ≡ [] }
     {
-        self.items.clear();
+        self.count = 0;
     }
 
     /// One message more.
@@ -121,6 +130,11 @@ impl Signals {
         requires { length self.old < most_sends }
         ensures { self.new ≡ self.old ++ signal ∷ [] }
     {
-        self.items.push(signal);
+        if self.count < self.items.len() {
+            self.items.as_mut_slice()[self.count] = signal;
+        } else {
+            self.items.push(signal);
+        }
+        self.count += 1;
     }
 }

@@ -99,6 +99,7 @@ fn sends_of(reply: &Kept) -> &[Signal]
 }
 
 // The line of a response with what was moved and sent.
+#[inline(always)]
 fn append_parts(
     out: &mut Vec<u8>,
     event: u32,
@@ -185,6 +186,7 @@ fn put_not_nailed(out: &mut Vec<u8>, event: u32) -> Result<(), AllocError>
 }
 
 // A number and the word behind it.
+#[inline(always)]
 pub(crate) fn put_word(out: &mut Vec<u8>, number: u32, word: &[u8]) -> Result<(), AllocError>
     requires { length word.now ≤ 16 }
     ensures word { OnOk result (out.new.items ≡ out.old.items ++ decimal number ++ word.now) }
