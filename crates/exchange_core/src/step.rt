@@ -197,6 +197,7 @@ fn happen<P: PathMap>(
 }
 
 // The turn of a frame: its boundary, and then what is done for the legs whose timers have run out. Its number.
+#[inline(always)]
 fn frame<P: PathMap>(
     control: &mut CallControl<P>,
     trace: &Trace,

@@ -120,6 +120,7 @@ fn append_parts(
 }
 
 // The same, and a refusal leaves a prefix of the line.
+#[inline(always)]
 fn put_parts_line(
     out: &mut Vec<u8>,
     event: u32,
