@@ -12,6 +12,14 @@ use Rattle.circuit_map.proofs.Holdings.{Heeded}
 use Rattle.circuit_map.proofs.Clearing.{hearing_at, row_of_self}
 use Rattle.circuit_map.proofs.Paths.{own_ports, no_inlet, no_outlet, idle_joins_none, none_joins_idle}
 
+-- ---- the same ports
+
+pub shown_with : (k m : Connections) (ports : Ports) → ports ≡ k.ports → k ≡ m → record k { ports = ports } ≡ m
+shown_with k m ports same is = ap (λ (q : Ports). let shown : Connections = record k { ports = q } in shown) same ∙ is
+
+pub held_with : (k : Connections) (ports : Ports) → ports ≡ k.ports → (h : Holding) × Represents k h k.ports → (h : Holding) × Represents (record k { ports = ports }) h ports
+held_with k ports same held = subst (λ (q : Ports). (h : Holding) × Represents (record k { ports = q }) h q) (sym same) held
+
 -- ---- before a command
 
 pub idle_seen : (k m : Connections) (x : Slot) → k ≡ m → IsExternal m x → hears_at m x ≡ None → IsExternal k x × (hears_at k x ≡ None)

@@ -10,7 +10,7 @@ use Rattle.circuit_map.proofs.Sockets.{length-given}
 use Rattle.circuit_map.proofs.Seating.{lowest_port, free_in_members, no_number, holds_seat, no_lowest, none_given, idle_portless, full_where, not_full}
 use Rattle.circuit_map.proofs.Rows.{hears_set, given_keeps}
 use Rattle.circuit_map.proofs.NextMemory.{shown_as, shown_row, shown_given, shown_by}
-use Rattle.circuit_map.proofs.Views.{idle_seen, obeyed, held_after, joined_seen, moves_seen, port_seen}
+use Rattle.circuit_map.proofs.Views.{shown_with, held_with, idle_seen, obeyed, held_after, joined_seen, moves_seen, port_seen}
 use Rattle.circuit_map.proofs.Ends.{port_given}
 use Rattle.circuit_model.proofs.Slots.{same_slot-refl}
 use Rattle.circuit_model.specs.declared.channel.Slot.{Slot}
@@ -38,16 +38,7 @@ invariant_of-self g c =
       listeners = c.self.invariant.listeners;
       sockets = ap length same ∙ c.self.invariant.sockets;
       legal = c.self.invariant.legal;
-      held = subst (λ (p : Ports). let v : Connections = record {
-        external = c.self.inside.external;
-        bridges = c.self.inside.bridges;
-        slots = g.P.PathMap.depth c.self.inside.paths;
-        bound = g.P.PathMap.bound c.self.inside.paths;
-        next = c.self.inside.next;
-        heard = c.self.inside.heard.items;
-        ports = p;
-        layout = g.P.PathMap.layout c.self.inside.paths;
-      } in (h : Holding) × Represents v h p) (sym same) c.self.invariant.held;
+      held = held_with _ _ same c.self.invariant.held;
       roomed = subst (AreRoomed (hears_in c.self.inside.external c.self.inside.heard.items)) (sym (c.take.ensures.owners ∙ owned_none _ c.self.inside.ports.owners (no_number c.self.inside.ports.external _ (sym c.take.ensures.lowest ∙ c.in_default.is)))) c.self.invariant.roomed;
       shown = shown_by _ _ _ _ _ _ _ same c.self.invariant.shown;
     }
@@ -57,16 +48,7 @@ returns-in_default-clause-refused g c =
     let is = c.self.view_is in
     let none = no_lowest c.self.inside.ports.external c.self.inside.ports.owners (sym c.take.ensures.lowest ∙ c.in_default.is) in
     let same = c.take.ensures.members ∙ none_given c.args.x _ none in
-    ap (λ (p : Ports). let v : Connections = record {
-      external = c.self.inside.external;
-      bridges = c.self.inside.bridges;
-      slots = g.P.PathMap.depth c.self.inside.paths;
-      bound = g.P.PathMap.bound c.self.inside.paths;
-      next = c.self.inside.next;
-      heard = c.self.inside.heard.items;
-      ports = p;
-      layout = g.P.PathMap.layout c.self.inside.paths;
-    } in v) same ∙ is
+    shown_with _ _ _ same is
 
 pub returns-in_default-clause-full : goal.returns-in_default-clause-full
 returns-in_default-clause-full g c = λ h ports holds.
