@@ -1,5 +1,5 @@
 -- Seat 0 alone: one event after another, in the order of the file.
-use Rattle.std.proofs.Common.{◌≡◌, ◌-◌, arith, ℕ, true, false, List, [], ◌∷◌, ◌++◌, get_or, length, refl, sym, ap, ◌∙◌, subst, append_assoc, append-nil}
+use Rattle.std.proofs.Common.{◌≡◌, ◌-◌, arith, ℕ, Bool, true, false, List, [], ◌∷◌, ◌++◌, get_or, length, refl, sym, ap, ◌∙◌, subst, append_assoc, append-nil}
 use Rattle.std.specs.List.{range_with_len}
 use Rattle.std.proofs.lemmas.List.{map-append}
 use Rattle.std.proofs.lemmas.List.Elements.{All-cons, All-nil}
@@ -165,3 +165,6 @@ module _ {K : Type 0} (holds : K → List Placed → Type 0) (board : Board) (oc
 
   pub works_none : (events : List ℕ) → KeepsWork (HoldsBehind holds first) board octets events v first false v
   works_none events = keeps_front (HoldsBehind holds first) board octets events [] events v v first refl goes_none.keeps
+
+pub in_order_ended : (events : List ℕ) (v w : Known) (whole ended : Bool) → whole ≡ ended → DidInOrder events v ended w → DidInOrder events v whole w
+in_order_ended events v w whole ended same did = subst (λ (b : Bool). DidInOrder events v b w) (sym same) did

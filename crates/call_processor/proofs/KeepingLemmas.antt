@@ -1,5 +1,5 @@
 -- What is kept of a worker's events, one after another.
-use Rattle.std.proofs.Common.{◌≡◌, ℕ, true, false, List, [], ◌∷◌, ◌++◌, Result, Ok, Err, OnOk, refl, subst}
+use Rattle.std.proofs.Common.{◌≡◌, ℕ, Bool, true, false, List, [], ◌∷◌, ◌++◌, Result, Ok, Err, OnOk, refl, sym, subst}
 use Rattle.std.specs.List.{All}
 use Rattle.std.proofs.lemmas.List.Elements.{All-nil, All-push}
 use Rattle.seat_history.specs.declared.known.Known.{Known}
@@ -62,3 +62,8 @@ module _ {K : Type 0} (holds : K → List Placed → Type 0) (board : Board) (oc
   -- a seat that comes to its part before it did anything
   pub keeps_nothing : (part : List ℕ) (v : Known) (k : K) → holds k [] → KeepsWork holds board octets part v k false v
   keeps_nothing part v k held = keeps_front part [] part v v k refl (keeps_none v k held)
+
+-- which of its endings a worker came to
+pub works_ended : {K : Type 0} (holds : K → List Placed → Type 0) (board : Board) (octets : Known → Placed → Type 0) (part : List ℕ) (v w : Known) (k : K) (whole ended : Bool) → whole ≡ ended → KeepsWork holds board octets part v k ended w
+    → KeepsWork holds board octets part v k whole w
+works_ended holds board octets part v w k whole ended same works = subst (λ (b : Bool). KeepsWork holds board octets part v k b w) (sym same) works

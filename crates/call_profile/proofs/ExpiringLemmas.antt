@@ -6,10 +6,11 @@ use Rattle.circuit_model.specs.declared.channel.Slot.{Slot}
 use Rattle.circuit_model.specs.Extent.{IsExternal}
 use Rattle.q931_codec.specs.declared.kind.MessageKind.TheVariants as kind
 use Rattle.q931_codec.specs.Causes.{invalid_number_format, no_user_responding, recovery_on_timer_expiry}
-use Rattle.q931_codec.specs.Outgoing.{OutgoingMessage, IsWritable}
+use Rattle.q931_codec.specs.Outgoing.{IsWritable}
 use Rattle.call_timers.specs.declared.expiry.Expiry.{Expiry}
 use Rattle.call_timers.specs.declared.expiry.Expiry.TheVariants as expiry
 use Rattle.call_states.specs.Acts.{is_among}
+use Rattle.q931_codec.proofs.Writable.{short_writable}
 use Rattle.call_states.specs.Status.{FitsMessages}
 use Rattle.call_states.specs.declared.leg.Held.{Held}
 use Rattle.call_states.specs.declared.leg.Leg.{Leg}
@@ -33,28 +34,12 @@ use Rattle.call_profile.proofs.DigitsLemmas.{cleared_kept}
 use Rattle.call_profile.proofs.ExpiredLegLemmas.{waits_anew, release_asked}
 use Rattle.call_profile.proofs.ExpiryStateLemmas.{due_state, is_alone}
 use Rattle.call_profile.proofs.Permitted.{ArePermitted}
-use Rattle.call_profile.proofs.PermittedActLemmas.{is_there, peer_there_too, clear_permitted, peer_permitted, message_writable}
+use Rattle.call_profile.proofs.PermittedActLemmas.{is_there, peer_there_too, clear_permitted, peer_permitted}
 
 permitted_both : (d : Dimensions) (tones : Tones) (plan : List Number) (m : Making) (os ps : List Operation) → ArePermitted d tones plan m os → ArePermitted d tones plan (making_after_all d m os) ps
     → ArePermitted d tones plan m (os ++ ps)
 permitted_both d tones plan m [] ps one more = more
 permitted_both d tones plan m (o ∷ os) ps one more = (one.0, permitted_both d tones plan (making_after d m o) os ps one.1 more)
-
--- ---- what is sent
-
-with_cause_writable : (m : OutgoingMessage) (cause : ℕ) → IsWritable m → cause < 128 → IsWritable (record m { cause = Some cause })
-with_cause_writable m cause can small = record {
-  reference = can.reference;
-  kind = can.kind;
-  bearer = can.bearer;
-  cause = small;
-  state = can.state;
-  channel = can.channel;
-  calling = can.calling;
-  called = can.called;
-  low = can.low;
-  high = can.high;
-}
 
 module _ (d : Dimensions) (tones : Tones) (m : Making) (x : Slot) (leg : Leg) (kept : Kept d tones m.world) (within : IsExternal d.external x) (at : leg_at m.world.legs x ≡ Some leg) where
   abbrev h : Held
@@ -84,7 +69,7 @@ module _ (d : Dimensions) (tones : Tones) (m : Making) (x : Slot) (leg : Leg) (k
 
     over_may : May (give_up h ++ clear_peer tones w.legs h)
     over_may =
-        let sends : IsWritable (release_complete_for leg recovery_on_timer_expiry) = with_cause_writable _ recovery_on_timer_expiry (message_writable leg kind.ReleaseComplete there.told tt) (omega arith) in
+        let sends : IsWritable (release_complete_for leg recovery_on_timer_expiry) = short_writable _ leg.reference kind.ReleaseComplete (Some recovery_on_timer_expiry) None None None there.told.reference tt (omega arith) tt tt in
         (within, (within, ((within.0, sends), peer_permitted d tones plan (making_after_all d m (give_up h)) h no_user_responding (peer_of w.legs leg.peer) peer_too (omega arith))))
 
     proceeding_may : May (clear_with tones recovery_on_timer_expiry h ++ clear_peer tones w.legs h)
@@ -98,7 +83,7 @@ module _ (d : Dimensions) (tones : Tones) (m : Making) (x : Slot) (leg : Leg) (k
           flag = refl;
           reference = refl;
           state = refl;
-          writable = with_cause_writable _ leg.cause (message_writable leg kind.Release there.told tt) stands.cause;
+          writable = short_writable _ leg.reference kind.Release (Some leg.cause) None None None there.told.reference tt stands.cause tt tt;
         } in
         let told : FitsMessages (in_release_request leg) = record { state = omega arith; reference = there.told.reference } in
         ((within, told, expects), tt)

@@ -17,6 +17,7 @@ use Rattle.q931_codec.specs.CallStates.{active, call_delivered, call_present, ca
 use Rattle.q931_codec.specs.Contents.{call_state_in}
 use Rattle.q931_codec.specs.MessageType.{IsNamed}
 use Rattle.q931_codec.specs.Outgoing.{OutgoingMessage, IsWritable}
+use Rattle.q931_codec.proofs.Writable.{short_writable}
 use Rattle.call_states.specs.Acts.{act_on, clearing_cause, is_null, is_among, every_state}
 use Rattle.call_states.specs.Status.{FitsMessages, status, unexpected_cause}
 use Rattle.call_states.specs.declared.act.Act.{Act}
@@ -53,32 +54,10 @@ pub stands_told : (external : ℕ) (tones : Tones) (w : World) (x : Slot) (leg :
 stands_told external tones w x leg stands = record { state = told_state leg.state stands.state; reference = stands.reference.1 }
 
 pub message_writable : (leg : Leg) (k : MessageKind) → FitsMessages leg → IsNamed k → IsWritable (message_to leg k)
-message_writable leg k told named = record {
-  reference = told.reference;
-  kind = named;
-  bearer = omega arith;
-  cause = tt;
-  state = tt;
-  channel = tt;
-  calling = omega arith;
-  called = omega arith;
-  low = omega arith;
-  high = omega arith;
-}
+message_writable leg k told named = short_writable _ leg.reference k None None None None told.reference named tt tt tt
 
 pub disconnect_writable : (leg : Leg) (cause : ℕ) → FitsMessages leg → cause < 128 → IsWritable (disconnect leg cause)
-disconnect_writable leg cause told small = record {
-  reference = told.reference;
-  kind = tt;
-  bearer = omega arith;
-  cause = small;
-  state = tt;
-  channel = tt;
-  calling = omega arith;
-  called = omega arith;
-  low = omega arith;
-  high = omega arith;
-}
+disconnect_writable leg cause told small = short_writable _ leg.reference kind.Disconnect (Some cause) None None None told.reference tt small tt tt
 
 pub announced_writable : (tone : Option Kind) (m : OutgoingMessage) → IsWritable m → IsWritable (with_progress tone m)
 announced_writable tone m can = record {
@@ -95,18 +74,7 @@ announced_writable tone m can = record {
 }
 
 pub status_writable : (leg : Leg) (cause : ℕ) → FitsMessages leg → cause < 128 → IsWritable (status leg cause)
-status_writable leg cause told small = record {
-  reference = told.reference;
-  kind = tt;
-  bearer = omega arith;
-  cause = small;
-  state = told.state;
-  channel = tt;
-  calling = omega arith;
-  called = omega arith;
-  low = omega arith;
-  high = omega arith;
-}
+status_writable leg cause told small = short_writable _ leg.reference kind.Status (Some cause) (Some leg.state) None None told.reference tt small told.state tt
 
 pub unexpected_fits : (k : MessageKind) → unexpected_cause k < 128
 unexpected_fits (kind.Unknown octet) = omega arith

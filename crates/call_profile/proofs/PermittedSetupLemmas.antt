@@ -15,6 +15,7 @@ use Rattle.q931_codec.specs.declared.message.Message.{Message}
 use Rattle.call_states.specs.declared.leg.Leg.{Leg}
 use Rattle.call_states.specs.declared.pending.Pending.{Pending}
 use Rattle.call_states.specs.Pending.{FitsElements}
+use Rattle.q931_codec.proofs.Writable.{short_writable}
 use Rattle.call_states.specs.Status.{FitsMessages}
 use Rattle.number_plan.specs.declared.plan.Number.{Number}
 use Rattle.number_plan.specs.Plan.{found_for}
@@ -68,50 +69,17 @@ pub bears : (place : ℕ) → place < 30 → is_bearer_channel (channel_at place
 bears place within = grind (arith, common_steps, within)
 
 refusal_writable : (reference cause : ℕ) → reference < 2 ^ 15 → cause < 128 → IsWritable (record (bare true reference kind.ReleaseComplete) { cause = Some cause })
-refusal_writable reference cause small few = record {
-  reference = small;
-  kind = tt;
-  bearer = omega arith;
-  cause = few;
-  state = tt;
-  channel = tt;
-  calling = omega arith;
-  called = omega arith;
-  low = omega arith;
-  high = omega arith;
-}
+refusal_writable reference cause small few = short_writable true reference kind.ReleaseComplete (Some cause) None None None small tt few tt tt
 
 channel_writable : (x : Slot) (leg : Leg) → x.place < 30 → FitsMessages leg → IsWritable (with_channel x (message_to leg kind.CallProceeding))
-channel_writable x leg within told = record {
-  reference = told.reference;
-  kind = tt;
-  bearer = omega arith;
-  cause = tt;
-  state = tt;
-  channel = bears x.place within;
-  calling = omega arith;
-  called = omega arith;
-  low = omega arith;
-  high = omega arith;
-}
+channel_writable x leg within told = short_writable _ leg.reference kind.CallProceeding None None (Some (channel_at x.place)) None told.reference tt tt tt (bears x.place within)
 
 proceeding_writable : (first : Bool) (x : Slot) (leg : Leg) → x.place < 30 → FitsMessages leg → IsWritable (call_proceeding first x leg)
 proceeding_writable true x leg within told = channel_writable x leg within told
 proceeding_writable false x leg within told = message_writable leg kind.CallProceeding told tt
 
 acknowledge_writable : (x : Slot) (leg : Leg) → x.place < 30 → FitsMessages leg → IsWritable (setup_acknowledge x leg)
-acknowledge_writable x leg within told = record {
-  reference = told.reference;
-  kind = tt;
-  bearer = omega arith;
-  cause = tt;
-  state = tt;
-  channel = bears x.place within;
-  calling = omega arith;
-  called = omega arith;
-  low = omega arith;
-  high = omega arith;
-}
+acknowledge_writable x leg within told = short_writable _ leg.reference kind.SetupAcknowledge None None (Some (channel_at x.place)) None told.reference tt tt tt (bears x.place within)
 
 offer_writable : (p : Pending) (y : Slot) (leg : Leg) → y.place < 30 → FitsMessages leg → FitsElements p → IsWritable (offer p y leg)
 offer_writable p y leg within told fits = record {

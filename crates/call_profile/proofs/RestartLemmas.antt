@@ -11,11 +11,15 @@ use Rattle.circuit_model.proofs.Slots.{true_or_false}
 use Rattle.control_memory.specs.Layout.{number_of}
 use Rattle.q931_codec.specs.Outgoing.{IsWritable}
 use Rattle.q931_codec.specs.Causes.{temporary_failure}
+use Rattle.q931_codec.specs.RestartClasses.{indicated_channels}
+use Rattle.q931_codec.specs.declared.kind.MessageKind.TheVariants as kind
+use Rattle.q931_codec.proofs.Writable.{short_writable}
+use Rattle.circuit_model.specs.Channels.{channel_at}
 use Rattle.call_states.specs.declared.leg.Leg.{Leg}
 use Rattle.call_states.specs.declared.leg.Peer.{Peer}
 use Rattle.call_states.specs.declared.leg.Peer.TheVariants as peer
 use Rattle.clearing_rules.specs.declared.scope.Restart.{Restart}
-use Rattle.clearing_rules.specs.Restarting.{is_restarted, acknowledgement, IsOnLine}
+use Rattle.clearing_rules.specs.Restarting.{is_restarted, acknowledgement, global_call_reference, IsOnLine}
 use Rattle.clearing_rules.specs.declared.scope.Restart.TheVariants.{Channel, Interface}
 use Rattle.tone_rules.specs.declared.tones.Tones.{Tones}
 use Rattle.call_states.specs.declared.leg.Held.{Held}
@@ -168,27 +172,5 @@ slot_is r w x leg restarted at = rw (restarted, at) refl
 
 -- the acknowledgement can be written
 pub acknowledgement_writable : (r : Restart) → IsOnLine r → IsWritable (acknowledgement r)
-acknowledgement_writable (Channel place) within = record {
-  reference = omega arith;
-  kind = tt;
-  bearer = omega arith;
-  cause = tt;
-  state = tt;
-  channel = bears place within;
-  calling = omega arith;
-  called = omega arith;
-  low = omega arith;
-  high = omega arith;
-}
-acknowledgement_writable (Interface class) within = record {
-  reference = omega arith;
-  kind = tt;
-  bearer = omega arith;
-  cause = tt;
-  state = tt;
-  channel = tt;
-  calling = omega arith;
-  called = omega arith;
-  low = omega arith;
-  high = omega arith;
-}
+acknowledgement_writable (Channel place) within = short_writable true global_call_reference kind.RestartAcknowledge None None (Some (channel_at place)) (Some indicated_channels) (omega arith) tt tt tt (bears place within)
+acknowledgement_writable (Interface class) within = short_writable true global_call_reference kind.RestartAcknowledge None None None (Some class) (omega arith) tt tt tt tt

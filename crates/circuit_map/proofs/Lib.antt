@@ -9,3 +9,5 @@ pub mod Starting
 pub mod NextMemory
 pub mod Seating
 pub mod OwnersRooms
+pub mod Views
+pub mod Ends

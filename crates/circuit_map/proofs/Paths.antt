@@ -3,12 +3,13 @@ use Rattle.std.proofs.Common.{◌≡◌, ℕ, ◌*◌, ◌<◌, ◌⊎◌, inl, 
 use Rattle.std.specs.Prelude.{◌↔◌}
 use Rattle.circuit_model.specs.declared.channel.Slot.{Slot}
 use Rattle.circuit_model.specs.declared.circuit.Circuit.{Circuit}
-use Rattle.circuit_model.specs.Circuits.{heard_by}
+use Rattle.circuit_model.specs.Circuits.{heard_by, same_slot}
 use Rattle.circuit_model.specs.Holding.{Holding}
 use Rattle.circuit_model.specs.Ports.{Ports}
+use Rattle.circuit_model.proofs.Slots.{same_slot-refl}
 use Rattle.control_memory.specs.declared.hop.Hop.{Hop}
 use Rattle.control_memory.specs.Layout.{Path, Layout, IsSlot, Joins, hop_of, path_to}
-use Rattle.control_memory.proofs.Lookups.{path_to_found}
+use Rattle.control_memory.proofs.Lookups.{path_to_found, finds_path}
 use Rattle.circuit_map.specs.Connections.{Connections, map_lines, hears_at, Represents}
 use Rattle.circuit_map.proofs.Needs.{Needs, Paired, To_port, From_port}
 use Rattle.circuit_map.proofs.Rows.{Hearing, hearing_of, hears_external}
@@ -31,6 +32,15 @@ no_outlet lines layout y size never = go (path_to layout y) refl
     go (Some p) e =
         let f = path_to_found lines layout y p size e in
         absurd (never p.from f.0.inlet (p.slot, subst (λ t. hop_of layout p.from ≡ Some (record { to = t; slot = p.slot })) f.1 f.0.path))
+
+pub no_inlet_joins : (layout : Layout) (x b : Slot) → hop_of layout x ≡ None → Joins layout x b → ⊥
+no_inlet_joins layout x b none j = let wrong = sym none ∙ j.1 in cc
+
+pub joins_no_outlet : (layout : Layout) (a y : Slot) → a.place < 30 → path_to layout y ≡ None → Joins layout a y → ⊥
+joins_no_outlet layout a y place none j =
+    let found = finds_path (λ p. same_slot y p.to) layout a y j.0 place j.1 (same_slot-refl y) in
+    let wrong = sym none ∙ found.1 in
+    cc
 
 -- ---- by the holding
 pub own_ports : (m : Connections) (h : Holding) (ports : Ports) → Represents m h ports → Represents m h m.ports

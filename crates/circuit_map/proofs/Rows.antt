@@ -1,5 +1,5 @@
 -- What each slot hears by the rows that are kept, and what a row more or less makes of it.
-use Rattle.std.proofs.Common.{◌≡◌, ℕ, ◌*◌, ◌<◌, ◌⊎◌, true, false, List, length, get_or, set, Option, Some, None, sym, ◌∙◌, ap, subst, inl, inr, arith, get_or-set_other, get_or-set_same, if◌then◌else◌}
+use Rattle.std.proofs.Common.{◌≡◌, ℕ, ◌*◌, ◌<◌, ◌⊎◌, true, false, List, length, get_or, set, Option, Some, None, sym, ◌∙◌, ap, subst, inl, inr, arith, get_or-set_other, get_or-set_same, length-set, if◌then◌else◌}
 use Rattle.std.proofs.lemmas.Grind.{common_steps}
 use Rattle.std.proofs.lemmas.Bool.{cases_lt}
 use Rattle.std.proofs.lemmas.Bool.Decides.{nat_tests}
@@ -58,6 +58,12 @@ hears_written external heard x o z size line place = elim (in_or_out external z)
 pub hears_set : (external : ℕ) (heard : List (Option Circuit)) (x : Slot) (o : Option Circuit) (n : ℕ) (z : Slot) → n ≡ number_of x → length heard ≡ 30 * external → x.line < external → x.place < 30
     → hears_in external (set heard n o) z ≡ (if same_slot z x then o else hears_in external heard z)
 hears_set external heard x o n z is size line place = (λ i. hears_in external (set heard (is i) o) z) ∙ hears_written external heard x o z size line place
+
+-- two rows written, one after the other
+pub hears_two : (external : ℕ) (rows : List (Option Circuit)) (x y : Slot) (s t : Option Circuit) (n k : ℕ) (z : Slot) → n ≡ number_of x → k ≡ number_of y → length rows ≡ 30 * external → (x.line < external) × (x.place < 30) → (y.line < external) × (y.place < 30)
+    → hears_in external (set (set rows n s) k t) z ≡ (if same_slot z y then t else if same_slot z x then s else hears_in external rows z)
+hears_two external rows x y s t n k z at_x at_y size in_x in_y =
+    hears_set external (set rows n s) y t k z at_y (length-set rows n s ∙ size) in_y.0 in_y.1 ∙ ap (λ r. if same_slot z y then t else r) (hears_set external rows x s n z at_x size in_x.0 in_x.1)
 
 -- ---- what holds of whom each slot hears
 pub record Hearing (external : ℕ) (hears : Slot → Option Circuit) : Type 0 where

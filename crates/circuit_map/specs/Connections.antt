@@ -1,5 +1,5 @@
 -- What a map of circuits keeps, and the holding that it represents. Source: this exchange's own.
-use Rattle.std.specs.Prelude.{◌≡◌, ℕ, ◌+◌, ◌*◌, ◌<◌, ◌≤◌, ◌&&◌, nat_lt, Bool, true, false, List, length, count_by, Option, Some, None, is_some, slice_index_or, option_and_then, if◌then◌else◌}
+use Rattle.std.specs.Prelude.{◌≡◌, ◌≢◌, ℕ, ◌+◌, ◌*◌, ◌<◌, ◌≤◌, ◌&&◌, nat_lt, Bool, true, false, List, length, count_by, Option, Some, None, is_some, slice_index_or, option_and_then, if◌then◌else◌}
 use Rattle.circuit_model.specs.declared.channel.Slot.{Slot}
 use Rattle.circuit_model.specs.declared.circuit.Circuit.{Circuit}
 use Rattle.circuit_model.specs.declared.circuit.Circuit.TheVariants.{Pair, Member, Tone}
@@ -10,7 +10,7 @@ use Rattle.conference_ports.specs.declared.owner.Owner.{Owner}
 use Rattle.conference_ports.specs.Owners.{members}
 use Rattle.control_memory.specs.declared.heard.Heard.{Heard}
 use Rattle.control_memory.specs.declared.heard.Heard.TheVariants.{Silent}
-use Rattle.control_memory.specs.Layout.{Layout, Legal, number_of}
+use Rattle.control_memory.specs.Layout.{Layout, Legal, IsSlot, Joins, hop_of, path_to, number_of}
 use Rattle.control_memory.specs.Connecting.{connect, moved}
 use Rattle.control_memory.specs.Image.{EachSlot, port_entry}
 use Rattle.control_memory.specs.Shown.{JoinsCircuits, served_by, heard_as, partner, seated_as, without_both}
@@ -132,11 +132,31 @@ pub record SameSizes (a b : Connections) : Type 0 where
   pub bound : b.bound ≡ a.bound
 
 -- the layout with a path from one slot to the other, and then with one back
+abbrev pub both_connected : ℕ → ℕ → Layout → Slot → Slot → Layout
+both_connected lines slots layout x y = connect lines slots (connect lines slots layout x y) y x
+
+-- the same of a map's layout: the path there alone, and both
 abbrev pub joined_one : Connections → Slot → Slot → Layout
 joined_one m x y = connect (map_lines m) m.slots m.layout x y
 
 abbrev pub joined_both : Connections → Slot → Slot → Layout
-joined_both m x y = connect (map_lines m) m.slots (joined_one m x y) y x
+joined_both m x y = both_connected (map_lines m) m.slots m.layout x y
+
+-- two slots of n lines that a path there and one back may join: nothing begins or ends at either
+pub record CanBeJoined (lines : ℕ) (layout : Layout) (x y : Slot) : Type 0 where
+  pub slot_x : IsSlot lines x
+  pub slot_y : IsSlot lines y
+  pub distinct : x ≢ y
+  pub free_x : (hop_of layout x ≡ None) × (path_to layout x ≡ None)
+  pub free_y : (hop_of layout y ≡ None) × (path_to layout y ≡ None)
+
+-- two slots that are joined both ways
+pub record AreJoined (lines : ℕ) (layout : Layout) (x y : Slot) : Type 0 where
+  pub slot_x : IsSlot lines x
+  pub slot_y : IsSlot lines y
+  pub distinct : x ≢ y
+  pub there : Joins layout x y
+  pub back : Joins layout y x
 
 -- how many live paths the path from one slot to the other moved, and how many the path back
 abbrev pub AreMoves : ℕ × ℕ → Connections → Slot → Slot → Type 0

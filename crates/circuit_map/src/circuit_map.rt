@@ -10,6 +10,7 @@ ghost use Rattle.control_memory.specs.Shown.{ShowsBy};
 ghost use Rattle.control_memory.specs.Image.{SameSizes as SameImageSizes};
 ghost use Rattle.circuit_map.specs.Connections.{IsExternal, hears_at, hears_after, Represents, Obeys, IsLaid, SameSizes, AreMoves, joined_both, parted, is_pathless};
 
+use crate::both_ways::{connect_both, disconnect_both};
 use circuit_model::{Circuit, Kind, PLACES, Slot};
 use conference_ports::Ports;
 use control_memory::{Heard, HeardTable, Image, PathMap, port_index};
@@ -157,8 +158,7 @@ impl<P: PathMap> CircuitMap<P> {
         ensures laid { IsLaid self.new }
         ensures sizes { SameSizes self.old self.new }
     {
-        let there = self.paths.connect(x, y);
-        let back = self.paths.connect(y, x);
+        let moves = connect_both(&mut self.paths, x, y);
         let (at_x, at_y) = (x.number(), y.number());
         let since = self.next;
         self.heard[at_x] = Some(Circuit::Pair {
@@ -173,7 +173,7 @@ impl<P: PathMap> CircuitMap<P> {
         });
         self.hearing.set(at_x, Heard::Path { since });
         self.hearing.set(at_y, Heard::Path { since });
-        (there, back)
+        moves
     }
 
     /// Seats an idle slot in a conference room, at the lowest free port: connects the member to the
@@ -199,8 +199,7 @@ impl<P: PathMap> CircuitMap<P> {
         let Some(port) = self.ports.take(room, x) else {
             return Err(NoPort);
         };
-        let there = self.paths.connect(x, port);
-        let back = self.paths.connect(port, x);
+        let moves = connect_both(&mut self.paths, x, port);
         let (at_x, at_port) = (x.number(), port.number());
         let sits_at = port_index(self.external, port);
         let since = self.next;
@@ -208,7 +207,7 @@ impl<P: PathMap> CircuitMap<P> {
         self.hearing.set(at_x, Heard::Path { since });
         self.hearing.set(at_port, Heard::Path { since });
         self.sitting[sits_at] = Some((room, since));
-        Ok((there, back))
+        Ok(moves)
     }
 
     /// Takes away every circuit that names a slot, with its paths and its conference port.
@@ -289,8 +288,7 @@ impl<P: PathMap> CircuitMap<P> {
         ensures laid { IsLaid self.new }
         ensures sizes { SameSizes self.old self.new }
     {
-        self.paths.disconnect(x, y);
-        self.paths.disconnect(y, x);
+        disconnect_both(&mut self.paths, x, y);
         let (at_x, at_y) = (x.number(), y.number());
         self.heard[at_x] = None;
         self.heard[at_y] = None;
@@ -314,8 +312,7 @@ impl<P: PathMap> CircuitMap<P> {
         let Some(port) = self.ports.port_of(x) else {
             unreachable!();
         };
-        self.paths.disconnect(x, port);
-        self.paths.disconnect(port, x);
+        disconnect_both(&mut self.paths, x, port);
         self.ports.give(x);
         let (at_x, at_port) = (x.number(), port.number());
         let sits_at = port_index(self.external, port);

@@ -10,6 +10,7 @@
 //! It uses `circuit_model`, `control_memory` and `conference_ports`.
 #![tactic(auto)]
 
+mod both_ways;
 mod circuit_map;
 
 pub use circuit_map::{CircuitMap, NoPort};

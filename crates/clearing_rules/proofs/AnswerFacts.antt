@@ -1,11 +1,14 @@
 -- What answers a message on no call can be written.
 use Rattle.std.proofs.Common.{◌<◌, ◌^◌, inl, inr, arith}
-use Rattle.std.specs.Prelude.{◌==◌, IfSome}
+use Rattle.std.specs.Prelude.{not, ◌==◌, Some, None, IfSome}
 use Rattle.circuit_model.proofs.Slots.{true_or_false}
 use Rattle.q931_codec.specs.declared.kind.MessageKind.{MessageKind}
 use Rattle.q931_codec.specs.declared.kind.MessageKind.TheVariants as kind
 use Rattle.q931_codec.specs.declared.message.Message.{Message}
 use Rattle.q931_codec.specs.Outgoing.{IsWritable}
+use Rattle.q931_codec.specs.CallStates.{null}
+use Rattle.q931_codec.specs.Causes.{response_to_status_enquiry, invalid_call_reference}
+use Rattle.q931_codec.proofs.Writable.{short_writable}
 use Rattle.clearing_rules.specs.Restarting.{global_call_reference}
 use Rattle.clearing_rules.specs.UnknownReference.{answer_to_type, answer_without_call}
 
@@ -13,30 +16,8 @@ type_writable : (m : Message) → m.reference < 2 ^ 15 → (k : MessageKind) →
 type_writable m small kind.Setup = tt
 type_writable m small kind.ReleaseComplete = tt
 type_writable m small kind.Status = tt
-type_writable m small kind.StatusEnquiry = record {
-  reference = small;
-  kind = tt;
-  bearer = omega arith;
-  cause = omega arith;
-  state = omega arith;
-  channel = tt;
-  calling = omega arith;
-  called = omega arith;
-  low = omega arith;
-  high = omega arith;
-}
-type_writable m small _ = record {
-  reference = small;
-  kind = tt;
-  bearer = omega arith;
-  cause = omega arith;
-  state = tt;
-  channel = tt;
-  calling = omega arith;
-  called = omega arith;
-  low = omega arith;
-  high = omega arith;
-}
+type_writable m small kind.StatusEnquiry = short_writable (not m.flag) m.reference kind.Status (Some response_to_status_enquiry) (Some null) None None small tt (omega arith) (omega arith) tt
+type_writable m small _ = short_writable (not m.flag) m.reference kind.ReleaseComplete (Some invalid_call_reference) None None None small tt (omega arith) tt tt
 
 pub answer_writable : (m : Message) → m.reference < 2 ^ 15 → IfSome (answer_without_call m) IsWritable
 answer_writable m small = elim (true_or_false (m.reference == global_call_reference)) [

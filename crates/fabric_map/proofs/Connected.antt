@@ -6,13 +6,13 @@ use Rattle.control_memory.specs.Connecting.{IsFree}
 use Rattle.control_memory.proofs.Lookups.{path_to_is}
 use Rattle.paull_matrix.specs.Matrix.{Matrix, row_slot, column_slot, paths_of_row, paths_of_column}
 use Rattle.rearrange_chain.specs.declared.moves.Move.{Move}
-use Rattle.rearrange_chain.specs.Chain.{slot_for, moves_for}
+use Rattle.rearrange_chain.specs.Chain.{slot_for, moves_for, exchanged}
 use Rattle.control_memory.specs.declared.ends.Ends.{Ends}
 use Rattle.control_memory.specs.Paths.{Fabric}
 use Rattle.path_memory.specs.Memory.{IsPathMemory, CanConnect}
 use Rattle.path_memory.proofs.MatrixOfLayout.{free_by_matrix}
 use Rattle.path_memory.proofs.CommonSlot.{Beside}
-use Rattle.path_memory.proofs.Kept.{beside_of}
+use Rattle.path_memory.proofs.Kept.{beside_of, can_of}
 use Rattle.fabric_map.specs.Rearranging.{without_all, taken_by, laid, CanLay}
 use Rattle.fabric_map.proofs.Rearranged.{no_hop}
 use Rattle.fabric_map.proofs.FreeSlots.{row_room, column_room}
@@ -58,3 +58,29 @@ can_lay_is lines slots l s layout lifted_layout moves first second es of_l of_s 
     (subst (λ x. CanLay lines slots x es second) (sym (of_lifted ∙ ap (λ v. without_all layout (taken_by layout v)) of_first))
     (subst (λ x. CanLay lines slots (without_all layout (taken_by layout moves)) x second) (sym (of_es ∙ ap (taken_by layout) of_first))
     (subst (λ x. CanLay lines slots (without_all layout (taken_by layout moves)) (taken_by layout moves) x) (sym of_second) can))))
+
+-- ---- all that is known before the new path is laid
+
+-- paths were moved, so that the layout is readied for a path in this slot
+pub record IsReadied (m : Matrix) (f : Fabric) (from to : Slot) (after : Matrix) (layout : Layout) (slot : ℕ) : Type 0 where
+  pub can : CanConnect f from to
+  pub made : Made f.lines f.slots m f.layout from to (moves_for m from.line to.line) (slot_for m from.line to.line)
+  pub layout_is : layout ≡ readied f.layout (moves_for m from.line to.line)
+  pub beside : Beside f.lines f.slots after (readied f.layout (moves_for m from.line to.line))
+  pub free : IsFree f.lines (readied f.layout (moves_for m from.line to.line)) from to slot
+
+pub is_readied : (m : Matrix) (f now : Fabric) (from to : Slot) (after : Matrix) (lifted_layout layout : Layout) (moves first second : List Move) (es : List Ends) (slot : ℕ) → f ≡ now → IsPathMemory m f → now.slots ≡ 30
+    → IsSlot now.lines from → IsSlot now.lines to → hop_of now.layout from ≡ None → path_to now.layout to ≡ None → after ≡ exchanged m moves → moves ≡ moves_for m from.line to.line
+    → first ≡ moves → second ≡ moves → es ≡ taken_by f.layout first → lifted_layout ≡ without_all f.layout (taken_by f.layout first) → layout ≡ laid lifted_layout es second
+    → row_slot after from.line slot ≡ None → column_slot after to.line slot ≡ None → IsReadied m f from to after layout slot
+is_readied m f now from to after lifted_layout layout moves first second es slot is kept thirty in_from in_to inlet outlet exchanges found of_first of_second of_es of_lifted of_laid row column =
+    let can = can_of f now is from to in_from in_to inlet outlet in
+    let made = connects m f from to kept (ap (λ (x : Fabric). x.slots) is ∙ thirty) can in
+    let beside = subst (λ x. Beside f.lines f.slots x (readied f.layout (moves_for m from.line to.line))) (sym (exchanges ∙ ap (exchanged m) found)) made.beside in
+    record {
+      can = can;
+      made = made;
+      layout_is = readied_is f.layout lifted_layout layout (moves_for m from.line to.line) first second es (of_first ∙ found) (of_second ∙ found) of_es of_lifted of_laid;
+      beside = beside;
+      free = free_in f.lines f.slots after f.layout from to (moves_for m from.line to.line) slot kept.legal can.inlet can.outlet can.from_inside beside made.joins row column;
+    }

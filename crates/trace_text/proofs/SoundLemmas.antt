@@ -327,37 +327,25 @@ event_fine : (s : SoFar) (sizes : Sizes) (r : Result Event Reason) (said : Said)
 event_fine s sizes (Err why) said known fits h = absurd (grind (arith, h))
 event_fine s sizes (Ok e) said known fits h = let is : Happens e ≡ said = grind (arith, h) in subst (λ v. IsFine s v) is (sizes, known, fits e refl)
 
+-- a line that comes before the first event is read as its words are
+read_before : (s : SoFar) (r : Result Said Reason) (said : Said) → before_events s r ≡ Ok said → r ≡ Ok said
+read_before s r said h = elim (true_or_false (nat_eq s.events 0)) [
+  | inr late ↦ let failed = rw late at h in absurd (grind (arith, failed))
+  | inl early ↦ rw early at h
+]
+
 number_fine : (s : SoFar) (sizes : Sizes) (r : Result Number Reason) (said : Said) → s.sizes ≡ Some sizes → ((n : Number) → r ≡ Ok n → is_reached sizes.external n.target ≡ true)
-    → before_events s (numbered r) ≡ Ok said → IsFine s said
-number_fine s sizes r said known reached h =
-    elim (true_or_false (nat_eq s.events 0)) [
-      | inr late ↦ let failed = rw late at h in absurd (grind (arith, failed))
-      | inl early ↦ number_given s sizes r said known reached (rw early at h)
-    ] where
-      number_given : (s : SoFar) (sizes : Sizes) (r : Result Number Reason) (said : Said) → s.sizes ≡ Some sizes → ((n : Number) → r ≡ Ok n → is_reached sizes.external n.target ≡ true)
-          → numbered r ≡ Ok said → IsFine s said
-      number_given s sizes (Err why) said known reached h = absurd (grind (arith, h))
-      number_given s sizes (Ok n) said known reached h = let is : Numbered n ≡ said = grind (arith, h) in subst (λ v. IsFine s v) is (sizes, known, reached n refl)
+    → numbered r ≡ Ok said → IsFine s said
+number_fine s sizes (Err why) said known reached h = absurd (grind (arith, h))
+number_fine s sizes (Ok n) said known reached h = let is : Numbered n ≡ said = grind (arith, h) in subst (λ v. IsFine s v) is (sizes, known, reached n refl)
 
-tone_fine : (s : SoFar) (r : Result GivenTone Reason) (said : Said) → before_events s (toned r) ≡ Ok said → IsFine s said
-tone_fine s r said h =
-    elim (true_or_false (nat_eq s.events 0)) [
-      | inr late ↦ let failed = rw late at h in absurd (grind (arith, failed))
-      | inl early ↦ tone_given s r said (rw early at h)
-    ] where
-      tone_given : (s : SoFar) (r : Result GivenTone Reason) (said : Said) → toned r ≡ Ok said → IsFine s said
-      tone_given s (Err why) said h = absurd (grind (arith, h))
-      tone_given s (Ok t) said h = let is : Toned t ≡ said = grind (arith, h) in subst (λ v. IsFine s v) is tt
+tone_fine : (s : SoFar) (r : Result GivenTone Reason) (said : Said) → toned r ≡ Ok said → IsFine s said
+tone_fine s (Err why) said h = absurd (grind (arith, h))
+tone_fine s (Ok t) said h = let is : Toned t ≡ said = grind (arith, h) in subst (λ v. IsFine s v) is tt
 
-timer_fine : (s : SoFar) (r : Result GivenTimer Reason) (said : Said) → before_events s (timed r) ≡ Ok said → IsFine s said
-timer_fine s r said h =
-    elim (true_or_false (nat_eq s.events 0)) [
-      | inr late ↦ let failed = rw late at h in absurd (grind (arith, failed))
-      | inl early ↦ timer_given s r said (rw early at h)
-    ] where
-      timer_given : (s : SoFar) (r : Result GivenTimer Reason) (said : Said) → timed r ≡ Ok said → IsFine s said
-      timer_given s (Err why) said h = absurd (grind (arith, h))
-      timer_given s (Ok t) said h = let is : Timed t ≡ said = grind (arith, h) in subst (λ v. IsFine s v) is tt
+timer_fine : (s : SoFar) (r : Result GivenTimer Reason) (said : Said) → timed r ≡ Ok said → IsFine s said
+timer_fine s (Err why) said h = absurd (grind (arith, h))
+timer_fine s (Ok t) said h = let is : Timed t ≡ said = grind (arith, h) in subst (λ v. IsFine s v) is tt
 
 kind_fine : (s : SoFar) (sizes : Sizes) (k : Kind) (others : List (List ℕ)) (said : Said) → s.sizes ≡ Some sizes → by_kind s sizes.external k others ≡ Ok said → IsFine s said
 kind_fine s sizes kind.Frame others said known h = event_fine s sizes (frame sizes.external others) said known (frame_fits sizes.external others) h
@@ -365,9 +353,9 @@ kind_fine s sizes kind.Message others said known h = event_fine s sizes (message
 kind_fine s sizes kind.Nail others said known h = event_fine s sizes (nail sizes.external others) said known (nail_fits sizes.external others) h
 kind_fine s sizes kind.Seat others said known h = event_fine s sizes (seat sizes.external others) said known (seat_fits sizes.external others) h
 kind_fine s sizes kind.Free others said known h = event_fine s sizes (free sizes.external others) said known (free_fits sizes.external others) h
-kind_fine s sizes kind.Number others said known h = number_fine s sizes (number sizes.external others) said known (number_reached sizes.external others) h
-kind_fine s sizes kind.Tone others said known h = tone_fine s (tone s.tones others) said h
-kind_fine s sizes kind.Timer others said known h = timer_fine s (timer s.timers others) said h
+kind_fine s sizes kind.Number others said known h = number_fine s sizes (number sizes.external others) said known (number_reached sizes.external others) (read_before s _ said h)
+kind_fine s sizes kind.Tone others said known h = tone_fine s (tone s.tones others) said (read_before s _ said h)
+kind_fine s sizes kind.Timer others said known h = timer_fine s (timer s.timers others) said (read_before s _ said h)
 kind_fine s sizes kind.Sync [] said known h = let is : Sync ≡ said = grind (arith, h) in subst (λ v. IsFine s v) is tt
 kind_fine s sizes kind.Sync (word ∷ others) said known h = absurd (grind (arith, h))
 kind_fine s sizes kind.Change [] said known h = let is : Change ≡ said = grind (arith, h) in subst (λ v. IsFine s v) is tt

@@ -411,6 +411,13 @@ pub hex_lost : (o : Option (List ℕ)) → is_some o ≡ false → ok_or o Hex �
 hex_lost None h = refl
 hex_lost (Some octets) h = absurd cc
 
+-- at most sixty-four digits, which are looked at with zeros behind them: they are lost where those are, and else the front of what is read
+pub wide_lost : (digits text : List ℕ) → length digits % 2 ≡ 0 → text ≡ widened digits → list_all is_digit text ≡ false → ok_or (octets_written digits) Hex ≡ Err Hex
+wide_lost digits text even wide lost = hex_lost (octets_written digits) (lost_wide digits even (ap (λ ds. list_all is_digit ds) (sym wide) ∙ lost))
+
+pub wide_written : (digits text read : List ℕ) → length digits % 2 ≡ 0 → text ≡ widened digits → octets_written text ≡ Some read → octets_written digits ≡ Some (take (length digits / 2) read)
+wide_written digits text read even wide all = front_written (length digits / 2) digits (replicate (64 - length digits) 48) read (omega (arith, even)) (ap octets_written (sym wide) ∙ all)
+
 -- a fault of some digits is one of all
 pub fails_lost : (e : LineFault) (o all : Option (List ℕ)) → (ok_or o Hex ≡ Err Hex → ok_or all Hex ≡ Err Hex) → Fails e (ok_or o Hex) → Fails e (ok_or all Hex)
 fails_lost Memory o all lost fails = tt

@@ -2,13 +2,12 @@ use Rattle.std.proofs.Common.{◌≡◌, ◌⊎◌, ◌∙◌, sym, ap, subst, l
 use Rattle.circuit_model.specs.declared.channel.Slot.{Slot}
 use Rattle.control_memory.specs.Layout.{IsSlot, Joins}
 use Rattle.control_memory.specs.Connecting.{with_path, connect, moved, IsFree}
-use Rattle.rearrange_chain.specs.Chain.{moves_for, exchanged}
+use Rattle.rearrange_chain.specs.Chain.{moves_for}
 use Rattle.control_memory.specs.Paths.{Fabric}
 use Rattle.fabric_map.specs.Rearranging.{AreTaken, taken_by}
-use Rattle.path_memory.proofs.CommonSlot.{Beside}
 use Rattle.path_memory.proofs.Added.{pairs_after}
 use Rattle.path_memory.proofs.Kept.{can_of, kept_with}
-use Rattle.fabric_map.proofs.Connected.{has_row_room, has_column_room, connects, readied, readied_is, can_lay_is, free_in}
+use Rattle.fabric_map.proofs.Connected.{has_row_room, has_column_room, connects, is_readied, can_lay_is}
 use Rattle.fabric_map.proofs.fabric.connect_by_moves.Goals as goal
 
 pub make_room-freed-requires-clause-row_room : goal.make_room-freed-requires-clause-row_room
@@ -45,113 +44,60 @@ lay_all-requires-clause-room g c =
 
 pub add-requires-clause-free : goal.add-requires-clause-free
 add-requires-clause-free g c =
-    let f = c.memory.inside.paths in
-    let m = c.memory.inside.matrix in
-    let from = c.args.from in
-    let to = c.args.to in
-    let mv = moves_for m from.line to.line in
-    let can = can_of f c.args.memory.now c.memory.view_is from to c.requires.from c.requires.to c.requires.inlet c.requires.outlet in
-    let made = connects m f from to c.memory.invariant (ap (λ (x : Fabric). x.slots) c.memory.view_is ∙ c.requires.thirty) can in
-    let first = c.deref.ensures.0 ∙ c.make_room-freed.ensures.moves in
-    let second = c.deref-2.ensures.0 ∙ c.make_room-freed.ensures.moves in
-    let after = c.make_room-freed.new.matrix in
-    let after_is : after ≡ exchanged m mv = c.make_room-freed.ensures.exchanged ∙ ap (exchanged m) c.make_room-freed.ensures.moves in
-    let laid_is : c.lay_all.new.paths.layout ≡ readied f.layout mv =
-    readied_is f.layout c.lift_all.new.paths.layout c.lay_all.new.paths.layout mv c.deref.result.now c.deref-2.result.now c.deref-3.result.now first second (c.deref-3.ensures.0 ∙ c.lift_all.ensures.lifted) c.lift_all.ensures.layout c.lay_all.ensures.layout in
-    let lines : c.lay_all.new.paths.lines ≡ f.lines = c.lay_all.ensures.lines ∙ c.lift_all.ensures.lines in
-    let slots : c.lay_all.new.paths.slots ≡ f.slots = c.lay_all.ensures.slots ∙ c.lift_all.ensures.slots in
-    let beside = subst (λ x. Beside f.lines f.slots x (readied f.layout mv)) (sym after_is) made.beside in
-    let free = free_in f.lines f.slots after f.layout from to mv c.make_room-freed.result c.memory.invariant.legal can.inlet can.outlet can.from_inside beside made.joins c.make_room-freed.ensures.row_free c.make_room-freed.ensures.column_free in
-    subst (λ n. IsFree n c.lay_all.new.paths.layout from to c.make_room-freed.result) (sym lines) (subst (λ l. IsFree f.lines l from to c.make_room-freed.result) (sym laid_is) free)
+    let ready = is_readied _ _ _ c.args.from c.args.to _ _ _ _ _ _ _ _ c.memory.view_is c.memory.invariant c.requires.thirty c.requires.from c.requires.to c.requires.inlet c.requires.outlet
+    c.make_room-freed.ensures.exchanged c.make_room-freed.ensures.moves c.deref.ensures.0 c.deref-2.ensures.0 (c.deref-3.ensures.0 ∙ c.lift_all.ensures.lifted) c.lift_all.ensures.layout c.lay_all.ensures.layout
+    c.make_room-freed.ensures.row_free c.make_room-freed.ensures.column_free in
+    let lines : c.lay_all.new.paths.lines ≡ c.memory.inside.paths.lines = c.lay_all.ensures.lines ∙ c.lift_all.ensures.lines in
+    subst (λ n. IsFree n c.lay_all.new.paths.layout c.args.from c.args.to c.make_room-freed.result) (sym lines)
+    (subst (λ l. IsFree c.memory.inside.paths.lines l c.args.from c.args.to c.make_room-freed.result) (sym ready.layout_is) ready.free)
 
 pub invariant_of-memory : goal.invariant_of-memory
 invariant_of-memory g c =
     let f = c.memory.inside.paths in
-    let m = c.memory.inside.matrix in
     let from = c.args.from in
     let to = c.args.to in
-    let mv = moves_for m from.line to.line in
-    let can = can_of f c.args.memory.now c.memory.view_is from to c.requires.from c.requires.to c.requires.inlet c.requires.outlet in
-    let made = connects m f from to c.memory.invariant (ap (λ (x : Fabric). x.slots) c.memory.view_is ∙ c.requires.thirty) can in
-    let first = c.deref.ensures.0 ∙ c.make_room-freed.ensures.moves in
-    let second = c.deref-2.ensures.0 ∙ c.make_room-freed.ensures.moves in
-    let after = c.make_room-freed.new.matrix in
-    let after_is : after ≡ exchanged m mv = c.make_room-freed.ensures.exchanged ∙ ap (exchanged m) c.make_room-freed.ensures.moves in
-    let laid_is : c.lay_all.new.paths.layout ≡ readied f.layout mv =
-    readied_is f.layout c.lift_all.new.paths.layout c.lay_all.new.paths.layout mv c.deref.result.now c.deref-2.result.now c.deref-3.result.now first second (c.deref-3.ensures.0 ∙ c.lift_all.ensures.lifted) c.lift_all.ensures.layout c.lay_all.ensures.layout in
+    let slot = c.make_room-freed.result in
+    let ready = is_readied _ _ _ c.args.from c.args.to _ _ _ _ _ _ _ _ c.memory.view_is c.memory.invariant c.requires.thirty c.requires.from c.requires.to c.requires.inlet c.requires.outlet
+    c.make_room-freed.ensures.exchanged c.make_room-freed.ensures.moves c.deref.ensures.0 c.deref-2.ensures.0 (c.deref-3.ensures.0 ∙ c.lift_all.ensures.lifted) c.lift_all.ensures.layout c.lay_all.ensures.layout
+    c.make_room-freed.ensures.row_free c.make_room-freed.ensures.column_free in
     let lines : c.lay_all.new.paths.lines ≡ f.lines = c.lay_all.ensures.lines ∙ c.lift_all.ensures.lines in
     let slots : c.lay_all.new.paths.slots ≡ f.slots = c.lay_all.ensures.slots ∙ c.lift_all.ensures.slots in
-    let beside = subst (λ x. Beside f.lines f.slots x (readied f.layout mv)) (sym after_is) made.beside in
-    let free = free_in f.lines f.slots after f.layout from to mv c.make_room-freed.result c.memory.invariant.legal can.inlet can.outlet can.from_inside beside made.joins c.make_room-freed.ensures.row_free c.make_room-freed.ensures.column_free in
-    kept_with f.lines f.slots after (readied f.layout mv) from to c.make_room-freed.result c.place.new.self c.add.new.self (c.make_room-freed.ensures.sizes.0 ∙ c.memory.invariant.lines) (c.make_room-freed.ensures.sizes.1 ∙ c.memory.invariant.slots) beside can.from_inside can.to_inside c.make_room-freed.ensures.within free c.place.ensures.placed c.place.ensures.legal
-    (c.add.ensures.layout ∙ ap (λ l. with_path l from to c.make_room-freed.result) laid_is) (c.add.ensures.lines ∙ lines) (c.add.ensures.slots ∙ slots)
+    kept_with f.lines f.slots c.make_room-freed.new.matrix _ from to slot c.place.new.self c.add.new.self (c.make_room-freed.ensures.sizes.0 ∙ c.memory.invariant.lines) (c.make_room-freed.ensures.sizes.1 ∙ c.memory.invariant.slots)
+    ready.beside ready.can.from_inside ready.can.to_inside c.make_room-freed.ensures.within ready.free c.place.ensures.placed c.place.ensures.legal
+    (c.add.ensures.layout ∙ ap (λ l. with_path l from to slot) ready.layout_is) (c.add.ensures.lines ∙ lines) (c.add.ensures.slots ∙ slots)
 
 pub returns-clause-layout : goal.returns-clause-layout
 returns-clause-layout g c =
-    let f = c.memory.inside.paths in
-    let m = c.memory.inside.matrix in
     let from = c.args.from in
     let to = c.args.to in
-    let mv = moves_for m from.line to.line in
-    let can = can_of f c.args.memory.now c.memory.view_is from to c.requires.from c.requires.to c.requires.inlet c.requires.outlet in
-    let made = connects m f from to c.memory.invariant (ap (λ (x : Fabric). x.slots) c.memory.view_is ∙ c.requires.thirty) can in
-    let first = c.deref.ensures.0 ∙ c.make_room-freed.ensures.moves in
-    let second = c.deref-2.ensures.0 ∙ c.make_room-freed.ensures.moves in
-    let after = c.make_room-freed.new.matrix in
-    let after_is : after ≡ exchanged m mv = c.make_room-freed.ensures.exchanged ∙ ap (exchanged m) c.make_room-freed.ensures.moves in
-    let laid_is : c.lay_all.new.paths.layout ≡ readied f.layout mv =
-    readied_is f.layout c.lift_all.new.paths.layout c.lay_all.new.paths.layout mv c.deref.result.now c.deref-2.result.now c.deref-3.result.now first second (c.deref-3.ensures.0 ∙ c.lift_all.ensures.lifted) c.lift_all.ensures.layout c.lay_all.ensures.layout in
-    let lines : c.lay_all.new.paths.lines ≡ f.lines = c.lay_all.ensures.lines ∙ c.lift_all.ensures.lines in
-    let slots : c.lay_all.new.paths.slots ≡ f.slots = c.lay_all.ensures.slots ∙ c.lift_all.ensures.slots in
-    let beside = subst (λ x. Beside f.lines f.slots x (readied f.layout mv)) (sym after_is) made.beside in
-    let free = free_in f.lines f.slots after f.layout from to mv c.make_room-freed.result c.memory.invariant.legal can.inlet can.outlet can.from_inside beside made.joins c.make_room-freed.ensures.row_free c.make_room-freed.ensures.column_free in
-    c.add.ensures.layout ∙ ap (λ l. with_path l from to c.make_room-freed.result) laid_is ∙ ap (with_path (readied f.layout mv) from to) c.make_room-freed.ensures.slot ∙ made.joined
+    let ready = is_readied _ _ _ c.args.from c.args.to _ _ _ _ _ _ _ _ c.memory.view_is c.memory.invariant c.requires.thirty c.requires.from c.requires.to c.requires.inlet c.requires.outlet
+    c.make_room-freed.ensures.exchanged c.make_room-freed.ensures.moves c.deref.ensures.0 c.deref-2.ensures.0 (c.deref-3.ensures.0 ∙ c.lift_all.ensures.lifted) c.lift_all.ensures.layout c.lay_all.ensures.layout
+    c.make_room-freed.ensures.row_free c.make_room-freed.ensures.column_free in
+    c.add.ensures.layout ∙ ap (λ l. with_path l from to c.make_room-freed.result) ready.layout_is ∙ ap (with_path _ from to) c.make_room-freed.ensures.slot ∙ ready.made.joined
     ∙ ap (λ (x : Fabric). connect x.lines x.slots x.layout from to) c.memory.view_is
 
 pub returns-clause-pairs : goal.returns-clause-pairs
 returns-clause-pairs g c =
     let f = c.memory.inside.paths in
-    let m = c.memory.inside.matrix in
     let from = c.args.from in
     let to = c.args.to in
-    let mv = moves_for m from.line to.line in
-    let can = can_of f c.args.memory.now c.memory.view_is from to c.requires.from c.requires.to c.requires.inlet c.requires.outlet in
-    let made = connects m f from to c.memory.invariant (ap (λ (x : Fabric). x.slots) c.memory.view_is ∙ c.requires.thirty) can in
-    let first = c.deref.ensures.0 ∙ c.make_room-freed.ensures.moves in
-    let second = c.deref-2.ensures.0 ∙ c.make_room-freed.ensures.moves in
-    let after = c.make_room-freed.new.matrix in
-    let after_is : after ≡ exchanged m mv = c.make_room-freed.ensures.exchanged ∙ ap (exchanged m) c.make_room-freed.ensures.moves in
-    let laid_is : c.lay_all.new.paths.layout ≡ readied f.layout mv =
-    readied_is f.layout c.lift_all.new.paths.layout c.lay_all.new.paths.layout mv c.deref.result.now c.deref-2.result.now c.deref-3.result.now first second (c.deref-3.ensures.0 ∙ c.lift_all.ensures.lifted) c.lift_all.ensures.layout c.lay_all.ensures.layout in
-    let lines : c.lay_all.new.paths.lines ≡ f.lines = c.lay_all.ensures.lines ∙ c.lift_all.ensures.lines in
-    let slots : c.lay_all.new.paths.slots ≡ f.slots = c.lay_all.ensures.slots ∙ c.lift_all.ensures.slots in
-    let beside = subst (λ x. Beside f.lines f.slots x (readied f.layout mv)) (sym after_is) made.beside in
-    let free = free_in f.lines f.slots after f.layout from to mv c.make_room-freed.result c.memory.invariant.legal can.inlet can.outlet can.from_inside beside made.joins c.make_room-freed.ensures.row_free c.make_room-freed.ensures.column_free in
-    let new : c.add.new.self.layout ≡ with_path (readied f.layout mv) from to c.make_room-freed.result = c.add.ensures.layout ∙ ap (λ l. with_path l from to c.make_room-freed.result) laid_is in
+    let slot = c.make_room-freed.result in
+    let ready = is_readied _ _ _ c.args.from c.args.to _ _ _ _ _ _ _ _ c.memory.view_is c.memory.invariant c.requires.thirty c.requires.from c.requires.to c.requires.inlet c.requires.outlet
+    c.make_room-freed.ensures.exchanged c.make_room-freed.ensures.moves c.deref.ensures.0 c.deref-2.ensures.0 (c.deref-3.ensures.0 ∙ c.lift_all.ensures.lifted) c.lift_all.ensures.layout c.lay_all.ensures.layout
+    c.make_room-freed.ensures.row_free c.make_room-freed.ensures.column_free in
+    let new = c.add.ensures.layout ∙ ap (λ l. with_path l from to slot) ready.layout_is in
     let all : (x y : Slot) → IsSlot f.lines x → (Joins c.add.new.self.layout x y → Joins f.layout x y ⊎ ((x ≡ from) × (y ≡ to))) × (Joins f.layout x y ⊎ ((x ≡ from) × (y ≡ to)) → Joins c.add.new.self.layout x y) =
     λ x y in_x. subst (λ l. (Joins l x y → Joins f.layout x y ⊎ ((x ≡ from) × (y ≡ to))) × (Joins f.layout x y ⊎ ((x ≡ from) × (y ≡ to)) → Joins l x y)) (sym new)
-    (pairs_after f.lines f.layout (readied f.layout mv) from to c.make_room-freed.result beside.legal.inlets can.from_inside free.inlet made.joins x y in_x) in
+    (pairs_after f.lines f.layout _ from to slot ready.beside.legal.inlets ready.can.from_inside ready.free.inlet ready.made.joins x y in_x) in
     subst (λ (now : Fabric). (x y : Slot) → IsSlot now.lines x → (Joins c.add.new.self.layout x y → Joins now.layout x y ⊎ ((x ≡ from) × (y ≡ to))) × (Joins now.layout x y ⊎ ((x ≡ from) × (y ≡ to)) → Joins c.add.new.self.layout x y)) c.memory.view_is all
 
 pub returns-clause-moves : goal.returns-clause-moves
 returns-clause-moves g c =
-    let f = c.memory.inside.paths in
-    let m = c.memory.inside.matrix in
     let from = c.args.from in
     let to = c.args.to in
-    let mv = moves_for m from.line to.line in
-    let can = can_of f c.args.memory.now c.memory.view_is from to c.requires.from c.requires.to c.requires.inlet c.requires.outlet in
-    let made = connects m f from to c.memory.invariant (ap (λ (x : Fabric). x.slots) c.memory.view_is ∙ c.requires.thirty) can in
-    let first = c.deref.ensures.0 ∙ c.make_room-freed.ensures.moves in
-    let second = c.deref-2.ensures.0 ∙ c.make_room-freed.ensures.moves in
-    let after = c.make_room-freed.new.matrix in
-    let after_is : after ≡ exchanged m mv = c.make_room-freed.ensures.exchanged ∙ ap (exchanged m) c.make_room-freed.ensures.moves in
-    let laid_is : c.lay_all.new.paths.layout ≡ readied f.layout mv =
-    readied_is f.layout c.lift_all.new.paths.layout c.lay_all.new.paths.layout mv c.deref.result.now c.deref-2.result.now c.deref-3.result.now first second (c.deref-3.ensures.0 ∙ c.lift_all.ensures.lifted) c.lift_all.ensures.layout c.lay_all.ensures.layout in
-    let lines : c.lay_all.new.paths.lines ≡ f.lines = c.lay_all.ensures.lines ∙ c.lift_all.ensures.lines in
-    let slots : c.lay_all.new.paths.slots ≡ f.slots = c.lay_all.ensures.slots ∙ c.lift_all.ensures.slots in
-    let beside = subst (λ x. Beside f.lines f.slots x (readied f.layout mv)) (sym after_is) made.beside in
-    let free = free_in f.lines f.slots after f.layout from to mv c.make_room-freed.result c.memory.invariant.legal can.inlet can.outlet can.from_inside beside made.joins c.make_room-freed.ensures.row_free c.make_room-freed.ensures.column_free in
-    c.len.ensures.value ∙ ap length c.make_room-freed.ensures.moves ∙ sym made.count
-    ∙ ap (moved f.layout) (sym (c.add.ensures.layout ∙ ap (λ l. with_path l from to c.make_room-freed.result) laid_is ∙ ap (with_path (readied f.layout mv) from to) c.make_room-freed.ensures.slot))
+    let ready = is_readied _ _ _ c.args.from c.args.to _ _ _ _ _ _ _ _ c.memory.view_is c.memory.invariant c.requires.thirty c.requires.from c.requires.to c.requires.inlet c.requires.outlet
+    c.make_room-freed.ensures.exchanged c.make_room-freed.ensures.moves c.deref.ensures.0 c.deref-2.ensures.0 (c.deref-3.ensures.0 ∙ c.lift_all.ensures.lifted) c.lift_all.ensures.layout c.lay_all.ensures.layout
+    c.make_room-freed.ensures.row_free c.make_room-freed.ensures.column_free in
+    c.len.ensures.value ∙ ap length c.make_room-freed.ensures.moves ∙ sym ready.made.count
+    ∙ ap (moved c.memory.inside.paths.layout) (sym (c.add.ensures.layout ∙ ap (λ l. with_path l from to c.make_room-freed.result) ready.layout_is ∙ ap (with_path _ from to) c.make_room-freed.ensures.slot))
     ∙ ap (λ (x : Fabric). moved x.layout c.add.new.self.layout) c.memory.view_is

@@ -1,13 +1,13 @@
 use Rattle.std.proofs.Common.{◌+◌, ◌<◌, sym, ◌∙◌, ap, subst}
-use Rattle.circuit_model.specs.Holding.{Holding, Frame, after}
+use Rattle.circuit_model.specs.Holding.{Frame}
 use Rattle.control_memory.specs.Layout.{Legal}
 use Rattle.control_memory.specs.Image.{HasLayout, port_entry}
 use Rattle.control_memory.specs.Shown.{heard_as}
 use Rattle.control_memory.specs.declared.heard.Heard.TheVariants.{Silent}
-use Rattle.circuit_map.specs.Connections.{Connections, map_lines, Represents, served_in, room_in, entry_at}
+use Rattle.circuit_map.specs.Connections.{Connections, map_lines, served_in, room_in, entry_at}
 use Rattle.circuit_map.proofs.Holdings.{holds_frame}
-use Rattle.circuit_map.proofs.Paths.{own_ports}
 use Rattle.circuit_map.proofs.Showing.{shows}
+use Rattle.circuit_map.proofs.Views.{held_after}
 use Rattle.circuit_map.proofs.circuit_map.CircuitMap.boundary.Goals as goal
 
 pub returns-clause-holds : goal.returns-clause-holds
@@ -24,20 +24,18 @@ returns-clause-holds g c = λ h ports holds.
     }) h ports holds
 
 pub invariant_of-self : goal.invariant_of-self
-invariant_of-self g c =
-    let old = subst (λ (m : Connections). (h : Holding) × Represents m h m.ports) c.self.view_is c.self.invariant.held in
-    record {
-      few = c.self.invariant.few;
-      width = c.self.invariant.width;
-      first = c.self.invariant.first;
-      rows = c.self.invariant.rows;
-      listeners = c.self.invariant.listeners;
-      sockets = c.self.invariant.sockets;
-      legal = c.self.invariant.legal;
-      held = (after old.0 Frame, own_ports _ _ _ (returns-clause-holds g c old.0 c.args.self.now.ports old.1));
-      roomed = c.self.invariant.roomed;
-      shown = c.self.invariant.shown;
-    }
+invariant_of-self g c = record {
+  few = c.self.invariant.few;
+  width = c.self.invariant.width;
+  first = c.self.invariant.first;
+  rows = c.self.invariant.rows;
+  listeners = c.self.invariant.listeners;
+  sockets = c.self.invariant.sockets;
+  legal = c.self.invariant.legal;
+  held = held_after _ _ _ Frame c.self.view_is (returns-clause-holds g c) c.self.invariant.held;
+  roomed = c.self.invariant.roomed;
+  shown = c.self.invariant.shown;
+}
 
 pub returns-clause-shows : goal.returns-clause-shows
 returns-clause-shows g c = λ h ports holds.
