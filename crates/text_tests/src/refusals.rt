@@ -27,9 +27,9 @@ fn a_plan_that_refuses_a_number_is_as_it_was(rt: HostRuntime) {
         assert!(rt; adds(&mut plan, &[b'3', b'0' + line], line));
     }
     for line in 0..9u8 {
-        assert_eq!(rt; plan.look(&[b'3', b'0' + line]), Found::Line(line));
+        assert!(rt; plan.look(&[b'3', b'0' + line]) == Found::Line(line));
     }
-    assert_eq!(rt; plan.look(b"39"), Found::Nothing);
+    assert!(rt; plan.look(b"39") == Found::Nothing);
 }
 
 // Whether the line of an answer is appended, at once or at the second time.
@@ -54,10 +54,8 @@ fn a_report_that_refuses_a_line_is_as_it_was(rt: HostRuntime) {
         };
         assert!(rt; appends(&mut out, &answer));
     }
-    assert_eq!(rt;
-        out.as_slice(),
-        b"1 granted 0 62\n2 granted 0 62\n3 granted 0 62\n".as_slice()
-    );
+    let wanted = b"1 granted 0 62\n2 granted 0 62\n3 granted 0 62\n".as_slice();
+    assert!(rt; out.as_slice() == wanted);
 }
 
 // The record of a call to a room.
@@ -91,7 +89,7 @@ fn a_meter_that_refuses_a_record_is_as_it_was(rt: HostRuntime) {
     }
     let mut out = Vec::new(rt.alloc());
     assert!(rt; says(&keeper, &mut out));
-    assert_eq!(rt; out.as_slice(), b"ANAANA".as_slice());
+    assert!(rt; out.as_slice() == b"ANAANA".as_slice());
 }
 
 #[test]
@@ -107,9 +105,8 @@ fn a_text_that_refuses_a_summary_is_as_it_was(rt: HostRuntime) -> Result<(), Fai
     let mut out = Vec::new(alloc);
     assert!(rt; says(&calls, &mut out));
     assert!(rt; says(&calls, &mut out));
-    assert_eq!(rt;
-        out.as_slice(),
-        b"call 0/1 room 5 1 4 31\ncall 0/1 room 5 1 4 102\ncall 0/1 room 5 1 4 31\ncall 0/1 room 5 1 4 102\n".as_slice()
-    );
+    let wanted =
+        b"call 0/1 room 5 1 4 31\ncall 0/1 room 5 1 4 102\ncall 0/1 room 5 1 4 31\ncall 0/1 room 5 1 4 102\n".as_slice();
+    assert!(rt; out.as_slice() == wanted);
     Ok(())
 }

@@ -128,21 +128,25 @@ fn comes(alloc: Global, text: &str) -> Result<Came, AllocError> {
     read_back(alloc, line.as_slice())
 }
 
+// Whether this comes of each of these texts.
+fn all_come(alloc: Global, texts: &[&str], wanted: Came) -> Result<bool, AllocError> {
+    for text in texts {
+        if comes(alloc, text)? != wanted {
+            return Ok(false);
+        }
+    }
+    Ok(true)
+}
+
 #[test]
 fn what_spells_an_answer_is_read(rt: HostRuntime) -> Result<(), Fail> {
-    let alloc = rt.alloc();
-    for text in READ {
-        assert!(rt; comes(alloc, text)? == Came::Back, "{text}");
-    }
+    assert!(rt; all_come(rt.alloc(), &READ, Came::Back)?);
     Ok(())
 }
 
 #[test]
 fn what_spells_none_is_not_read(rt: HostRuntime) -> Result<(), Fail> {
-    let alloc = rt.alloc();
-    for text in UNREAD {
-        assert!(rt; comes(alloc, text)? == Came::Nothing, "{text}");
-    }
+    assert!(rt; all_come(rt.alloc(), &UNREAD, Came::Nothing)?);
     Ok(())
 }
 
@@ -162,13 +166,19 @@ fn keeps_to_itself(alloc: Global, line: &mut Vec<u8>) -> Result<bool, AllocError
     Ok(true)
 }
 
+fn all_keep_to_themselves(alloc: Global, texts: &[&str]) -> Result<bool, AllocError> {
+    for text in texts {
+        let mut line = spelled(alloc, text)?;
+        if !keeps_to_itself(alloc, &mut line)? {
+            return Ok(false);
+        }
+    }
+    Ok(true)
+}
+
 #[test]
 fn a_line_with_another_octet_is_none_or_itself(rt: HostRuntime) -> Result<(), Fail> {
-    let alloc = rt.alloc();
-    for text in READ {
-        let mut line = spelled(alloc, text)?;
-        assert!(rt; keeps_to_itself(alloc, &mut line)?, "{text}");
-    }
+    assert!(rt; all_keep_to_themselves(rt.alloc(), &READ)?);
     Ok(())
 }
 
@@ -239,41 +249,66 @@ fn an_answer_has_what_its_line_tells(rt: HostRuntime) -> Result<(), Fail> {
     Ok(())
 }
 
-// What is read of a report: how many answers it has, or the first line that is faulty.
-#[derive(Clone, Copy, Debug, PartialEq, Eq)]
-enum Reading {
-    Answers(usize),
-    Faulty(u32),
-}
+// Reports, and how many answers each has.
+const WHOLE: [(&str, usize); 3] = [("", 0), ("1 busy\n", 1), ("2 busy\n1 busy\n2 freed\n", 3)];
 
-fn read_whole(alloc: Global, report: &[u8]) -> Result<Option<Reading>, AllocError> {
+// Reports with a faulty line, and the number of the first one.
+const FAULTY: [(&str, u32); 8] = [
+    ("1 busy\n2 freed", 2),
+    ("1 busy\n2 freed\n\n", 3),
+    ("1 busy\n\n2 freed\n", 2),
+    ("1 busy \n2 freed\n", 1),
+    ("1 busy\r\n2 freed\r\n", 1),
+    ("1 busy\n2 fred\n0 busy\n", 2),
+    ("\n", 1),
+    ("1 busy", 1),
+];
+
+// Whether a report has this many answers.
+fn has_answers(alloc: Global, report: &[u8], count: usize) -> Result<bool, AllocError> {
     if report.len() > LONGEST {
-        return Ok(None);
+        return Ok(false);
     }
     match read_report(alloc, report) {
-        Ok(answers) => Ok(Some(Reading::Answers(answers.len()))),
-        Err(ReportFault::Line(number)) => Ok(Some(Reading::Faulty(number))),
+        Ok(answers) => Ok(answers.len() == count),
+        Err(ReportFault::Line(_)) => Ok(false),
         Err(ReportFault::Memory) => Err(AllocError),
     }
 }
 
+fn have_answers(alloc: Global, reports: &[(&str, usize)]) -> Result<bool, AllocError> {
+    for (report, count) in reports {
+        if !has_answers(alloc, report.as_bytes(), *count)? {
+            return Ok(false);
+        }
+    }
+    Ok(true)
+}
+
+// Whether this is the first line of a report that is faulty.
+fn is_faulty_at(alloc: Global, report: &[u8], line: u32) -> Result<bool, AllocError> {
+    if report.len() > LONGEST {
+        return Ok(false);
+    }
+    match read_report(alloc, report) {
+        Ok(_) => Ok(false),
+        Err(ReportFault::Line(number)) => Ok(number == line),
+        Err(ReportFault::Memory) => Err(AllocError),
+    }
+}
+
+fn are_faulty(alloc: Global, reports: &[(&str, u32)]) -> Result<bool, AllocError> {
+    for (report, line) in reports {
+        if !is_faulty_at(alloc, report.as_bytes(), *line)? {
+            return Ok(false);
+        }
+    }
+    Ok(true)
+}
+
 #[test]
 fn a_report_is_read_or_has_a_first_faulty_line(rt: HostRuntime) -> Result<(), Fail> {
-    let alloc = rt.alloc();
-    for (report, wanted) in [
-        (b"".as_slice(), Reading::Answers(0)),
-        (b"1 busy\n".as_slice(), Reading::Answers(1)),
-        (b"2 busy\n1 busy\n2 freed\n".as_slice(), Reading::Answers(3)),
-        (b"1 busy\n2 freed".as_slice(), Reading::Faulty(2)),
-        (b"1 busy\n2 freed\n\n".as_slice(), Reading::Faulty(3)),
-        (b"1 busy\n\n2 freed\n".as_slice(), Reading::Faulty(2)),
-        (b"1 busy \n2 freed\n".as_slice(), Reading::Faulty(1)),
-        (b"1 busy\r\n2 freed\r\n".as_slice(), Reading::Faulty(1)),
-        (b"1 busy\n2 fred\n0 busy\n".as_slice(), Reading::Faulty(2)),
-        (b"\n".as_slice(), Reading::Faulty(1)),
-        (b"1 busy".as_slice(), Reading::Faulty(1)),
-    ] {
-        assert_eq!(rt; read_whole(alloc, report)?, Some(wanted));
-    }
+    assert!(rt; have_answers(rt.alloc(), &WHOLE)?);
+    assert!(rt; are_faulty(rt.alloc(), &FAULTY)?);
     Ok(())
 }

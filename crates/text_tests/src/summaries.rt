@@ -75,30 +75,33 @@ fn meters_say_what_they_were_told(rt: HostRuntime) -> Result<(), Fail> {
     note_all(&mut meters, &CALLS)?;
     append_summaries(&meters, &mut out)?;
     let wanted = format!(in alloc; ">{OF_NONE}{OF_THREE}")?;
-    assert_eq!(rt; out.as_slice(), wanted.as_bytes());
+    assert!(rt; out.as_slice() == wanted.as_bytes());
     Ok(())
 }
+
+// Two lines whose calls are counted, how many of the calls are noted, and what the counts say then.
+const SAID: [(u8, u8, usize, &str); 5] = [
+    (12, 0, 0, "to 12: 0\npeg 0 0\nto 0: 0\n"),
+    (12, 0, 1, "to 12: 1\npeg 1 1\nto 0: 0\n"),
+    (12, 0, 3, "to 12: 1\npeg 3 2\nto 0: 1\n"),
+    (0, 0, 3, "to 0: 1\npeg 3 2\nto 0: 1\n"),
+    (63, 7, 3, "to 63: 0\npeg 3 2\nto 7: 0\n"),
+];
 
 // Two counts of the calls to one line, the same or another, beside a peg count. None counts the line of
 // a caller, or a room with the number of the line.
 #[test]
 fn calls_are_counted_at_their_line(rt: HostRuntime) -> Result<(), Fail> {
     let alloc = rt.alloc();
-    for (first, second, calls, said) in [
-        (12, 0, &CALLS[..0], "to 12: 0\npeg 0 0\nto 0: 0\n"),
-        (12, 0, &CALLS[..1], "to 12: 1\npeg 1 1\nto 0: 0\n"),
-        (12, 0, &CALLS[..3], "to 12: 1\npeg 3 2\nto 0: 1\n"),
-        (0, 0, &CALLS[..3], "to 0: 1\npeg 3 2\nto 0: 1\n"),
-        (63, 7, &CALLS[..3], "to 63: 0\npeg 3 2\nto 7: 0\n"),
-    ] {
+    for (first, second, count, said) in &SAID {
         let mut meters: Vec<Box<dyn Meter>> = Vec::new(alloc);
-        meters.push(Box::new(alloc, CallsToLine::new(first))?)?;
+        meters.push(Box::new(alloc, CallsToLine::new(*first))?)?;
         meters.push(Box::new(alloc, PegCount::new())?)?;
-        meters.push(Box::new(alloc, CallsToLine::new(second))?)?;
-        note_all(&mut meters, calls)?;
+        meters.push(Box::new(alloc, CallsToLine::new(*second))?)?;
+        note_all(&mut meters, CALLS.get(..*count).unwrap_or(&CALLS))?;
         let mut out = Vec::new(alloc);
         append_summaries(&meters, &mut out)?;
-        assert_eq!(rt; out.as_slice(), said.as_bytes());
+        assert!(rt; out.as_slice() == said.as_bytes());
     }
     Ok(())
 }
