@@ -11,6 +11,7 @@ use control_memory::PathMap;
 /// Connects two slots at which no path begins or ends: x to y, and then y to x.
 ///
 /// Answers how many live paths each of the two connects moved.
+#[inline(always)]
 pub(crate) fn connect_both<P: PathMap>(map: &mut P, x: Slot, y: Slot) -> (u32, u32)
     requires { CanBeJoined (P.width map.old) (P.layout map.old) x y }
     ensures layout { P.layout map.new ≡ both_connected (P.width map.old) (P.depth map.old) (P.layout map.old) x y }
@@ -30,6 +31,7 @@ pub(crate) fn connect_both<P: PathMap>(map: &mut P, x: Slot, y: Slot) -> (u32, u
 }
 
 /// Takes out the path from x to y, and then the one back.
+#[inline(always)]
 pub(crate) fn disconnect_both<P: PathMap>(map: &mut P, x: Slot, y: Slot)
     requires joined { AreJoined (P.width map.old) (P.layout map.old) x y }
     requires legal { Legal (P.width map.old) (P.depth map.old) (P.layout map.old) }
