@@ -135,7 +135,7 @@ pub record SameSizes (a b : Connections) : Type 0 where
 abbrev pub both_connected : ℕ → ℕ → Layout → Slot → Slot → Layout
 both_connected lines slots layout x y = connect lines slots (connect lines slots layout x y) y x
 
--- the same of a map's layout: the path there alone, and both
+-- the same for a map's layout: the path there alone, and both
 abbrev pub joined_one : Connections → Slot → Slot → Layout
 joined_one m x y = connect (map_lines m) m.slots m.layout x y
 

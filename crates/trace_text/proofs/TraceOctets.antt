@@ -411,7 +411,7 @@ pub hex_lost : (o : Option (List ℕ)) → is_some o ≡ false → ok_or o Hex �
 hex_lost None h = refl
 hex_lost (Some octets) h = absurd cc
 
--- at most sixty-four digits, which are looked at with zeros behind them: they are lost where those are, and else the front of what is read
+-- at most sixty-four digits, which are looked at with zeros behind them: they are lost where those are, and else the beginning of what is read
 pub wide_lost : (digits text : List ℕ) → length digits % 2 ≡ 0 → text ≡ widened digits → list_all is_digit text ≡ false → ok_or (octets_written digits) Hex ≡ Err Hex
 wide_lost digits text even wide lost = hex_lost (octets_written digits) (lost_wide digits even (ap (λ ds. list_all is_digit ds) (sym wide) ∙ lost))
 
