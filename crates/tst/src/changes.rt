@@ -1,7 +1,125 @@
-// A run in which meters are changed, and each write of its report fails in turn.
-use crate::tests::{CLEARING, SETUP_TO_ROOM, changed};
-use ex_io::MemSink;
+// Runs in which meters are changed: what they say in the report and once it ended, and where a write of the
+// report fails.
+use crate::tests::{ACCEPTED, Kind, Metered, called_with};
+use ex_io::{MemSink, MemSource};
+use frame_engine::Engine;
+use std::alloc::{AllocError, Global};
+use std::sync::Wait;
 use std::test::Fail;
+use std::thread::Threads;
+
+// A call to a room, and in the next segment its end.
+const SETUP_TO_ROOM: &str =
+    "exchange 1 1 1 1\nnumber 30 room 0\nM 0 080200010504038090A37003803330\n";
+
+const CLEARING: &str = "M 0 080200015A\n";
+
+// The report of a trace with as many peg counts that are on and spare ones, and what is left of both.
+pub(crate) fn changed(
+    rt: &(impl Threads + Wait + Sync),
+    alloc: Global,
+    lines: &[&str],
+    on: &[Kind],
+    spares: usize,
+    sink: MemSink,
+) -> Result<Metered, AllocError> {
+    let mut input = Vec::new(alloc);
+    for line in lines {
+        input.extend_from_slice(line.as_bytes())?;
+    }
+    let source = MemSource::new(input, 4096, Vec::new(alloc));
+    called_with::<Engine>(rt, alloc, &["run"], source, sink, on, spares)
+}
+
+pub(crate) const ONE_PEG: [Kind; 1] = [Kind::Peg];
+
+/// A run in which meters are changed: the meters that are on and the spare ones, the lines, the report
+/// behind its first line, and what is left of those that are on and of the spare ones.
+struct ChangedRun {
+    on: &'static [Kind],
+    spares: usize,
+    lines: [&'static str; 4],
+    report: &'static str,
+    left: (&'static str, &'static str),
+}
+
+const RUNS: [ChangedRun; 6] = [
+    ChangedRun {
+        on: &[Kind::Peg],
+        spares: 1,
+        lines: ["sync\n", CLEARING, "change\nF\n", "change\nchange\n"],
+        report: "2 message\npeg 1 1\n3 frame 0\npeg 0 0\n",
+        left: ("", ""),
+    },
+    ChangedRun {
+        on: &[Kind::Peg],
+        spares: 1,
+        lines: ["sync\n", CLEARING, "change\nF\n", ""],
+        report: "2 message\npeg 1 1\n3 frame 0\n",
+        left: ("peg 0 0\n", ""),
+    },
+    // The call ends in the time of the spare one.
+    ChangedRun {
+        on: &[Kind::Peg],
+        spares: 2,
+        lines: ["change\n", CLEARING, "", ""],
+        report: "peg 0 0\n2 message\n",
+        left: ("peg 1 1\n", "peg 0 0\n"),
+    },
+    // No meter is on at first, or there is no spare one.
+    ChangedRun {
+        on: &[],
+        spares: 1,
+        lines: ["change\n", CLEARING, "", "change\n"],
+        report: "2 message\npeg 1 1\n",
+        left: ("", ""),
+    },
+    ChangedRun {
+        on: &[Kind::Peg, Kind::Peg],
+        spares: 0,
+        lines: ["sync\n", CLEARING, "change\n", "F\n"],
+        report: "2 message\npeg 1 1\n3 frame 0\n",
+        left: ("peg 1 1\n", ""),
+    },
+    // More changes than meters.
+    ChangedRun {
+        on: &[Kind::Peg, Kind::Peg],
+        spares: 1,
+        lines: ["change\nchange\n", "change\nchange\n", CLEARING, "change\n"],
+        report: "peg 0 0\npeg 0 0\npeg 0 0\n2 message\n",
+        left: ("", ""),
+    },
+];
+
+// Whether a run is reported so, and leaves its meters so.
+fn is_changed(
+    rt: &(impl Threads + Wait + Sync),
+    alloc: Global,
+    run: &ChangedRun,
+) -> Result<bool, AllocError> {
+    let [first, second, third, fourth] = run.lines;
+    let all = [SETUP_TO_ROOM, first, second, third, fourth];
+    let sink = MemSink::new(alloc, 1000, 4096, Vec::new(alloc))?;
+    let call = changed(rt, alloc, &all, run.on, run.spares, sink)?;
+    let report = call.ended.sink.bytes().strip_prefix(ACCEPTED.as_bytes());
+    let (said, spare) = run.left;
+    Ok(
+        call.ended.status == 0
+            && report == Some(run.report.as_bytes())
+            && call.said.as_slice() == said.as_bytes()
+            && call.spare.as_slice() == spare.as_bytes(),
+    )
+}
+
+// Each meter has the records of its time, and says so where it is taken out; the next one has none of
+// them.
+#[test]
+fn meters_are_changed_between_segments(rt: HostRuntime) -> Result<(), Fail> {
+    for run in &RUNS {
+        assert!(rt; is_changed(&rt, rt.alloc(), run)?, "{}", run.report);
+    }
+    Ok(())
+}
 
 /// A call to a room, which ends in the second segment; a change behind it, and two behind the frame of the
 /// third segment.
@@ -25,41 +143,57 @@ pub(crate) fn is_front(octets: &[u8]) -> bool {
     REPORT.as_bytes().starts_with(octets)
 }
 
-// The lines of events take eleven writes and then two, and each meter's line takes two.
+// The write that fails, and how many octets are written before it. The lines of events take eleven writes and
+// then two, and each meter's line takes two.
+const WRITES: [(u32, usize); 17] = [
+    (1, 0),
+    (2, 6),
+    (3, 12),
+    (4, 18),
+    (5, 24),
+    (6, 30),
+    (7, 36),
+    (8, 42),
+    (9, 48),
+    (10, 54),
+    (11, 60),
+    (12, 66),
+    (13, 72),
+    (14, 74),
+    (15, 80),
+    (16, 84),
+    (17, 90),
+];
+
+// Whether a run one write of which fails has written this many octets of its report, and whether it has done
+// the events, and left the meters, that belong to them.
+fn is_cut(
+    rt: &(impl Threads + Wait + Sync),
+    alloc: Global,
+    write: u32,
+    octets: usize,
+) -> Result<bool, AllocError> {
+    let sink = MemSink::new(alloc, 100, 6, [write].to_vec(alloc)?)?;
+    let call = changed(rt, alloc, &LINES, &ONE_PEG, 1, sink)?;
+    let (events, said) = if octets < BEHIND_FIRST {
+        (2, "peg 0 0\n")
+    } else {
+        (3, "")
+    };
+    Ok(
+        call.ended.status == 4
+            && call.ended.order.len() == events
+            && call.said.as_slice() == said.as_bytes()
+            && call.spare.is_empty()
+            && call.ended.sink.bytes().len() == octets
+            && is_front(call.ended.sink.bytes()),
+    )
+}
+
 #[test]
 fn meters_are_kept_where_a_write_fails(rt: HostRuntime) -> Result<(), Fail> {
-    let alloc = rt.alloc();
-    // The write that fails, and how many octets are written before it.
-    for (write, octets) in [
-        (1, 0),
-        (2, 6),
-        (3, 12),
-        (4, 18),
-        (5, 24),
-        (6, 30),
-        (7, 36),
-        (8, 42),
-        (9, 48),
-        (10, 54),
-        (11, 60),
-        (12, 66),
-        (13, 72),
-        (14, 74),
-        (15, 80),
-        (16, 84),
-        (17, 90),
-    ] {
-        let sink = MemSink::new(alloc, 100, 6, [write].to_vec(alloc)?)?;
-        let (ended, left) = changed(&rt, alloc, &LINES, 1, 1, sink)?;
-        // The events that were done, and what is left: the meters that are on, and the spare ones.
-        let (events, meters) = if octets < BEHIND_FIRST {
-            (2, "peg 0 0\nand ")
-        } else {
-            (3, "and ")
-        };
-        assert_eq!(rt; (ended.status, ended.order.len()), (4, events));
-        assert_eq!(rt; left.as_slice(), meters.as_bytes());
-        assert!(rt; ended.sink.bytes().len() == octets && is_front(ended.sink.bytes()));
+    for (write, octets) in &WRITES {
+        assert!(rt; is_cut(&rt, rt.alloc(), *write, *octets)?, "{write}");
     }
     Ok(())
 }

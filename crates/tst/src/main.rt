@@ -15,6 +15,8 @@
 #[cfg(test)]
 mod changes;
 #[cfg(test)]
+mod gates;
+#[cfg(test)]
 mod refusals;
 #[cfg(test)]
 mod tests;

@@ -1,35 +1,40 @@
 // A run in which meters are changed, where memory may run out: no meter is lost or is in both lists. One
 // request of it may be refused, whichever it is (`.ci/memory --calls`).
-use crate::changes::{BEHIND_FIRST, LINES, REPORT, is_front};
-use crate::tests::changed;
+use crate::changes::{BEHIND_FIRST, LINES, ONE_PEG, REPORT, changed, is_front};
+use crate::tests::Metered;
 use ex_io::MemSink;
 use std::alloc::{AllocError, Global};
 use std::sync::Wait;
 use std::thread::Threads;
 
-// What is left: the meters that are on, and the spare ones. Before the call ended, and before the first change.
-const UNTOLD: &str = "peg 0 0\nand peg 0 0\n";
+// What is said of the meters that are on, and of the spare one. Before the call ended, and before the first change.
+const UNTOLD: (&str, &str) = ("peg 0 0\n", "peg 0 0\n");
 
-const TOLD: &str = "peg 1 1\nand peg 0 0\n";
+const TOLD: (&str, &str) = ("peg 1 1\n", "peg 0 0\n");
 
 // After the first change, and after the next.
-const CHANGED: &str = "peg 0 0\nand ";
+const CHANGED: (&str, &str) = ("peg 0 0\n", "");
 
-const NONE: &str = "and ";
+const NONE: (&str, &str) = ("", "");
+
+// Whether this is left.
+fn has_left(call: &Metered, left: (&str, &str)) -> bool {
+    let (said, spare) = left;
+    call.said.as_slice() == said.as_bytes() && call.spare.as_slice() == spare.as_bytes()
+}
 
 // Whether a run ends as it may, once there was memory for what is handed in and for what is left.
 fn is_kept(rt: &(impl Threads + Wait + Sync), alloc: Global) -> Result<bool, AllocError> {
     let sink = MemSink::new(alloc, 100, 4096, Vec::new(alloc))?;
-    let (ended, left) = changed(rt, alloc, &LINES, 1, 1, sink)?;
-    let octets = ended.sink.bytes().len();
-    let left = left.as_slice();
-    let may_be_left = match (ended.status, octets) {
-        (0, _) => octets == REPORT.len() && left == NONE.as_bytes(),
-        (5, 0) => left == UNTOLD.as_bytes() || left == TOLD.as_bytes(),
-        (5, BEHIND_FIRST) => left == CHANGED.as_bytes() || left == NONE.as_bytes(),
+    let call = changed(rt, alloc, &LINES, &ONE_PEG, 1, sink)?;
+    let octets = call.ended.sink.bytes().len();
+    let may_be_left = match (call.ended.status, octets) {
+        (0, _) => octets == REPORT.len() && has_left(&call, NONE),
+        (5, 0) => has_left(&call, UNTOLD) || has_left(&call, TOLD),
+        (5, BEHIND_FIRST) => has_left(&call, CHANGED) || has_left(&call, NONE),
         _ => false,
     };
-    Ok(may_be_left && is_front(ended.sink.bytes()))
+    Ok(may_be_left && is_front(call.ended.sink.bytes()))
 }
 
 #[test]

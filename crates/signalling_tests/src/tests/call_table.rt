@@ -151,7 +151,7 @@ fn fits(row: &Row, state: u8) -> bool {
 fn gives_the_acts_of_the_table(rt: HostRuntime) {
     for row in &TABLE {
         for state in 0..64u8 {
-            assert!(rt; fits(row, state), "{:?} in state {state}", row.octets);
+            assert!(rt; fits(row, state), "state {state}");
         }
     }
 }
@@ -171,25 +171,15 @@ fn tells_what_is_not_expected(rt: HostRuntime) {
     let unknown = b"\x08\x02\x00\x01\x3F";
     let caller = leg(3, Side::Caller);
     let called = leg(19, Side::Called);
-    assert_eq!(rt;
-        told(alerting, &caller),
-        Some((true, 1, Some(101), Some(3)))
-    );
-    assert_eq!(rt; told(unknown, &caller), Some((true, 1, Some(97), Some(3))));
-    assert_eq!(rt;
-        told(alerting, &called),
-        Some((false, 1, Some(101), Some(19)))
-    );
-    assert_eq!(rt;
-        told(unknown, &called),
-        Some((false, 1, Some(97), Some(19)))
-    );
+    assert!(rt; told(alerting, &caller) == Some((true, 1, Some(101), Some(3))));
+    assert!(rt; told(unknown, &caller) == Some((true, 1, Some(97), Some(3))));
+    assert!(rt; told(alerting, &called) == Some((false, 1, Some(101), Some(19))));
+    assert!(rt; told(unknown, &called) == Some((false, 1, Some(97), Some(19))));
 }
 
 #[test]
 fn tells_the_state(rt: HostRuntime) {
     let answer = status(&leg(10, Side::Caller), 30);
-    assert!(rt; answer.flag);
-    assert_eq!(rt; answer.kind, MessageKind::Status);
-    assert_eq!(rt; (answer.cause, answer.state), (Some(30), Some(10)));
+    assert!(rt; answer.flag && answer.kind == MessageKind::Status);
+    assert!(rt; answer.cause == Some(30) && answer.state == Some(10));
 }

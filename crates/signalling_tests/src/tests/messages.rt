@@ -98,7 +98,7 @@ fn is_read(row: &Row) -> bool {
 #[test]
 fn reads_messages(rt: HostRuntime) {
     for row in &MESSAGES {
-        assert!(rt; is_read(row), "at {:?}", row.octets);
+        assert!(rt; is_read(row), "{}", row.reference);
     }
 }
 
@@ -119,24 +119,22 @@ const DISCARDED: [(&[u8], Discard); 7] = [
 
 #[test]
 fn discards(rt: HostRuntime) {
-    for (octets, wanted) in DISCARDED {
-        assert!(rt; is_discarded(octets, wanted), "{octets:?}");
+    for (octets, wanted) in &DISCARDED {
+        assert!(rt; is_discarded(octets, *wanted));
     }
+    assert!(rt; are_discarded(Discard::Short, 1, 1));
+    assert!(rt; are_discarded(Discard::Discriminator, 255, 65_280));
+    assert!(rt; are_discarded(Discard::ReferenceLength, 0, 255));
+}
 
-    // Every message of one octet, and of two.
-    for (wanted, of_one, of_two) in [
-        (Discard::Short, 1, 1),
-        (Discard::Discriminator, 255, 65_280),
-        (Discard::ReferenceLength, 0, 255),
-    ] {
-        let ones = (0..256u16).filter(|n| is_discarded(&[(n % 256) as u8], wanted));
-        assert_eq!(rt; ones.count(), of_one, "{wanted}");
-        let twos = (0..65_536u32).filter(|n| is_discarded(
-            &((n % 65_536) as u16).to_be_bytes(),
-            wanted,
-        ));
-        assert_eq!(rt; twos.count(), of_two, "{wanted}");
-    }
+// Whether this many messages of one octet are discarded for this reason, and this many of two octets.
+fn are_discarded(wanted: Discard, of_one: usize, of_two: usize) -> bool {
+    let ones = (0..256u16).filter(|n| is_discarded(&[(n % 256) as u8], wanted));
+    let twos = (0..65_536u32).filter(|n| is_discarded(
+        &((n % 65_536) as u16).to_be_bytes(),
+        wanted,
+    ));
+    ones.count() == of_one && twos.count() == of_two
 }
 
 // Whether a discard has this number and this text.
@@ -183,8 +181,8 @@ const CAUSES: [(&[u8], Option<u8>); 7] = [
 
 #[test]
 fn reads_causes(rt: HostRuntime) {
-    for (octets, wanted) in CAUSES {
-        assert_eq!(rt; cause_in(octets), wanted, "{octets:?}");
+    for (octets, wanted) in &CAUSES {
+        assert!(rt; cause_in(octets) == *wanted);
     }
 }
 
@@ -223,8 +221,8 @@ const CHANNELS: [(&[u8], Option<ChannelIdentification>); 7] = [
 
 #[test]
 fn reads_channels(rt: HostRuntime) {
-    for (octets, wanted) in CHANNELS {
-        assert_eq!(rt; channel_in(octets), wanted, "{octets:?}");
+    for (octets, wanted) in &CHANNELS {
+        assert!(rt; channel_in(octets) == *wanted);
     }
 }
 
@@ -254,7 +252,7 @@ fn writes(rt: HostRuntime) {
         ..Outgoing::new(true, 1, MessageKind::Status)
     };
     assert!(rt; is_written(&status, STATUS));
-    assert_eq!(rt; state_and_class(STATUS), Some((Some(0), None)));
+    assert!(rt; state_and_class(STATUS) == Some((Some(0), None)));
     let setup = Outgoing {
         complete: true,
         bearer: b"\x80\x90\xA3",
@@ -301,8 +299,8 @@ fn writes_the_longest(rt: HostRuntime) {
         high: &[5; 3],
     };
     assert!(rt; is_written(&longest, LONGEST));
-    assert_eq!(rt; LONGEST.len(), 107);
-    assert_eq!(rt; state_and_class(LONGEST), Some((Some(63), Some(0x87))));
+    assert!(rt; LONGEST.len() == 107);
+    assert!(rt; state_and_class(LONGEST) == Some((Some(63), Some(0x87))));
 }
 
 // The contents of bearer capabilities, and what each asks for.
@@ -323,8 +321,8 @@ const BEARERS: [(&[u8], BearerCapability); 11] = [
 
 #[test]
 fn reads_bearers(rt: HostRuntime) {
-    for (contents, wanted) in BEARERS {
-        assert_eq!(rt; BearerCapability::of(contents), wanted, "at {contents:?}");
+    for (contents, wanted) in &BEARERS {
+        assert!(rt; BearerCapability::of(contents) == *wanted);
     }
 }
 
@@ -340,19 +338,20 @@ fn has_digits(contents: &[u8], wanted: Option<&[u8]>) -> bool {
     }
 }
 
+const DIGITS: [(&[u8], Option<&[u8]>); 7] = [
+    (b"\x80101", Some(b"101")),
+    (b"\xC1\xB1\x30\xB9", Some(b"109")),
+    (b"\x80", Some(b"")),
+    (b"", Some(b"")),
+    (b"\x80*21", None),
+    (b"\x801\x3A", None),
+    (b"\x8001234567890123456789", Some(b"01234567890123456789")),
+];
+
 #[test]
 fn reads_digits(rt: HostRuntime) {
-    let rows: [(&[u8], Option<&[u8]>); 7] = [
-        (b"\x80101", Some(b"101")),
-        (b"\xC1\xB1\x30\xB9", Some(b"109")),
-        (b"\x80", Some(b"")),
-        (b"", Some(b"")),
-        (b"\x80*21", None),
-        (b"\x801\x3A", None),
-        (b"\x8001234567890123456789", Some(b"01234567890123456789")),
-    ];
-    for (contents, wanted) in rows {
-        assert!(rt; has_digits(contents, wanted), "at {contents:?}");
+    for (contents, wanted) in &DIGITS {
+        assert!(rt; has_digits(contents, *wanted));
     }
 }
 
@@ -430,6 +429,6 @@ fn is_asked(asked: &Asked) -> bool {
 #[test]
 fn reads_what_is_asked(rt: HostRuntime) {
     for asked in &ASKED {
-        assert!(rt; is_asked(asked), "at {:?}", asked.octets);
+        assert!(rt; is_asked(asked));
     }
 }

@@ -72,12 +72,12 @@ fn add(plan: &mut Plan, number: u16) -> Result<(), PlanFault> {
 fn is_full_with_256(rt: HostRuntime) {
     let mut plan = Plan::new(rt.alloc());
     for step in 0..256u16 {
-        assert_eq!(rt; add(&mut plan, step * 37 % 512), Ok(()));
+        assert!(rt; add(&mut plan, step * 37 % 512) == Ok(()));
     }
-    assert_eq!(rt; add(&mut plan, 0), Err(PlanFault::Prefix));
-    assert_eq!(rt; add(&mut plan, 999), Err(PlanFault::TooMany));
-    assert_eq!(rt; plan.look(b"037"), Found::Line(5));
-    assert_eq!(rt; plan.look(b"999"), Found::Nothing);
+    assert!(rt; add(&mut plan, 0) == Err(PlanFault::Prefix));
+    assert!(rt; add(&mut plan, 999) == Err(PlanFault::TooMany));
+    assert!(rt; plan.look(b"037") == Found::Line(5));
+    assert!(rt; plan.look(b"999") == Found::Nothing);
 }
 
 // Whether a fault has this number and this text.
