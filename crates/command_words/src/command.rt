@@ -140,7 +140,8 @@ fn generation_in(matches: &ArgMatches) -> Option<Command>
 
 // Running out of memory says nothing of the words; any other kind says that they are no command.
 fn fault_of(error: &Error) -> WordsFault
-    ensures { result ≡ WordsFault.NoCommand → kind_of error.now ≢ ErrorKind.OutOfMemory }
+    ensures no_command { result ≡ WordsFault.NoCommand → kind_of error.now ≢ ErrorKind.OutOfMemory }
+    ensures memory { result ≡ WordsFault.Memory → kind_of error.now ≡ ErrorKind.OutOfMemory }
 {
     match error.kind() {
         ErrorKind::OutOfMemory => WordsFault::Memory,
