@@ -131,20 +131,21 @@ fn reports(alloc: Global, bridges: u8, steps: &[Step], wanted: &str) -> Result<b
 
 const SETUP: Step = Message(0, "080200010504038090A31803A98381700480313031");
 
+const WHOLE_CALL: [Step; 10] = [
+    SETUP,
+    Message(1, "0802800101"),
+    Message(1, "0802800107"),
+    Message(0, "080200010F"),
+    Frame(&[0x21, 0xA1]),
+    Frame(&[0x22, 0xA2]),
+    Frame(&[0x23, 0xA3]),
+    Message(0, "080200014508028090"),
+    Message(1, "080280014D"),
+    Message(0, "080200015A"),
+];
+
 #[test]
 fn a_whole_call(rt: HostRuntime) -> Result<(), Fail> {
-    let steps = [
-        SETUP,
-        Message(1, "0802800101"),
-        Message(1, "0802800107"),
-        Message(0, "080200010F"),
-        Frame(&[0x21, 0xA1]),
-        Frame(&[0x22, 0xA2]),
-        Frame(&[0x23, 0xA3]),
-        Message(0, "080200014508028090"),
-        Message(1, "080280014D"),
-        Message(0, "080200015A"),
-    ];
     let wanted = "1 message 0:08028001021803A98381 1:0802000105A104038090A31803A98381700480313031\n\
         2 message 0:0802800101\n\
         3 message moved 0 0 1:080200010F 0:0802800107\n\
@@ -156,7 +157,7 @@ fn a_whole_call(rt: HostRuntime) -> Result<(), Fail> {
         8 message 0:080280014D 1:080200014508028290\n\
         9 message 1:080200015A\n\
         10 message\n";
-    let came = came_of(rt.alloc(), 0, false, &steps, wanted)?;
+    let came = came_of(rt.alloc(), 0, false, &WHOLE_CALL, wanted)?;
     let told = CallRecord {
         caller: first(0),
         called: Party::Line(first(1)),
@@ -170,39 +171,41 @@ fn a_whole_call(rt: HostRuntime) -> Result<(), Fail> {
     Ok(())
 }
 
+const REFUSED_OR_MOVED: [Step; 4] = [
+    Nail(0, 1),
+    SETUP,
+    Message(0, "080200020504038090A31803A18381700480313031"),
+    Message(0, "080200030504038090A3700480393939"),
+];
+
 #[test]
 fn refused_or_moved_to_another_channel(rt: HostRuntime) -> Result<(), Fail> {
-    let steps = [
-        Nail(0, 1),
-        SETUP,
-        Message(0, "080200020504038090A31803A18381700480313031"),
-        Message(0, "080200030504038090A3700480393939"),
-    ];
     let wanted = "1 granted 0 0\n\
         2 message 0:080280015A080282AC\n\
         3 message 0:08028002021803A98382 1:0802000105A104038090A31803A98382700480313031\n\
         4 message 0:080280035A08028281\n";
-    let came = came_of(rt.alloc(), 0, false, &steps, wanted)?;
+    let came = came_of(rt.alloc(), 0, false, &REFUSED_OR_MOVED, wanted)?;
     assert!(rt; came.is_reported && came.calls == 0);
     let full = "15 granted 0 0\n16 message 0:080280015A080282A2\n";
     assert!(rt; reports(rt.alloc(), 0, &[Fill(1), SETUP], full)?);
     Ok(())
 }
 
+const CLEAR_COLLISION: [Step; 10] = [
+    SETUP,
+    Message(1, "0802800101"),
+    Message(1, "0802800107"),
+    Message(0, "080200014508028090"),
+    Message(1, "080280014508028090"),
+    Message(1, "080280014D"),
+    Message(0, "080200014D"),
+    Message(0, "0802000175"),
+    Message(1, "080280014D"),
+    Message(1, "080280015A"),
+];
+
 #[test]
 fn clear_collision(rt: HostRuntime) -> Result<(), Fail> {
-    let steps = [
-        SETUP,
-        Message(1, "0802800101"),
-        Message(1, "0802800107"),
-        Message(0, "080200014508028090"),
-        Message(1, "080280014508028090"),
-        Message(1, "080280014D"),
-        Message(0, "080200014D"),
-        Message(0, "0802000175"),
-        Message(1, "080280014D"),
-        Message(1, "080280015A"),
-    ];
     let wanted = "4 message 0:080280014D 1:080200014508028290\n\
         5 message 1:080200014D\n\
         6 message\n\
@@ -210,21 +213,22 @@ fn clear_collision(rt: HostRuntime) -> Result<(), Fail> {
         8 message 0:080280017D0802829E140100\n\
         9 message 1:080200015A080282D1\n\
         10 message\n";
-    assert!(rt; reports(rt.alloc(), 0, &steps, wanted)?);
+    assert!(rt; reports(rt.alloc(), 0, &CLEAR_COLLISION, wanted)?);
     Ok(())
 }
 
+const LENIENT: [Step; 7] = [
+    Message(0, "080200010570048031303104038090A3"),
+    Message(0, "080200020504038090A39E700180700480313031"),
+    Message(0, "080200030504038090A32803414243700480313031"),
+    Message(0, "0802000405A104038090A37004803130"),
+    Message(0, "0802000505A104038090A396700480313031"),
+    Message(0, "08010105"),
+    Message(0, ""),
+];
+
 #[test]
 fn lenient_reading(rt: HostRuntime) -> Result<(), Fail> {
-    let steps = [
-        Message(0, "080200010570048031303104038090A3"),
-        Message(0, "080200020504038090A39E700180700480313031"),
-        Message(0, "080200030504038090A32803414243700480313031"),
-        Message(0, "0802000405A104038090A37004803130"),
-        Message(0, "0802000505A104038090A396700480313031"),
-        Message(0, "08010105"),
-        Message(0, ""),
-    ];
     let wanted = "1 message 0:08028001021803A98381 1:0802000105A104038090A31803A98381700480313031\n\
         2 message 0:08028002021803A98382 1:0802000205A104038090A31803A98382700480313031\n\
         3 message 0:08028003021803A98383 1:0802000305A104038090A31803A98383700480313031\n\
@@ -232,23 +236,24 @@ fn lenient_reading(rt: HostRuntime) -> Result<(), Fail> {
         5 message 0:080280055A0802829C\n\
         6 message\n\
         7 message\n";
-    assert!(rt; reports(rt.alloc(), 0, &steps, wanted)?);
+    assert!(rt; reports(rt.alloc(), 0, &LENIENT, wanted)?);
     Ok(())
 }
 
+const MORE_DIGITS: [Step; 9] = [
+    Message(0, "080200010504038090A370028031"),
+    Message(0, "080200020504038090A3"),
+    Message(0, "0802000175"),
+    Message(0, "0802000305A104038090A370028031"),
+    Message(0, "0802000305A104038090A3"),
+    Message(0, "080200030504038090A37000"),
+    Message(0, "080200014508028090"),
+    Message(0, "080200015A"),
+    Message(0, "0802000046790186"),
+];
+
 #[test]
 fn more_digits_awaited(rt: HostRuntime) -> Result<(), Fail> {
-    let steps = [
-        Message(0, "080200010504038090A370028031"),
-        Message(0, "080200020504038090A3"),
-        Message(0, "0802000175"),
-        Message(0, "0802000305A104038090A370028031"),
-        Message(0, "0802000305A104038090A3"),
-        Message(0, "080200030504038090A37000"),
-        Message(0, "080200014508028090"),
-        Message(0, "080200015A"),
-        Message(0, "0802000046790186"),
-    ];
     let wanted = "1 message 0:080280010D1803A98381\n\
         2 message 0:080280020D1803A98382\n\
         3 message 0:080280017D0802829E140102\n\
@@ -258,23 +263,24 @@ fn more_digits_awaited(rt: HostRuntime) -> Result<(), Fail> {
         7 message 0:080280014D\n\
         8 message\n\
         9 message 0:080280004E790186\n";
-    assert!(rt; reports(rt.alloc(), 0, &steps, wanted)?);
+    assert!(rt; reports(rt.alloc(), 0, &MORE_DIGITS, wanted)?);
     Ok(())
 }
 
+const IN_PARTS: [Step; 9] = [
+    Message(0, "0802000105040288906C0400803536700281317C0288907D029181"),
+    Message(0, "080200017B700180"),
+    Message(0, "080200017B6C0300803970028030"),
+    Message(0, "080200017BA17003803137"),
+    Message(0, "080200017B70028037"),
+    Message(1, "080280017B70028037"),
+    Message(0, "080200020504038090A3"),
+    Message(0, "080200027B7003803330"),
+    Message(0, "080200027B70028037"),
+];
+
 #[test]
 fn a_number_in_parts(rt: HostRuntime) -> Result<(), Fail> {
-    let steps = [
-        Message(0, "0802000105040288906C0400803536700281317C0288907D029181"),
-        Message(0, "080200017B700180"),
-        Message(0, "080200017B6C0300803970028030"),
-        Message(0, "080200017BA17003803137"),
-        Message(0, "080200017B70028037"),
-        Message(1, "080280017B70028037"),
-        Message(0, "080200020504038090A3"),
-        Message(0, "080200027B7003803330"),
-        Message(0, "080200027B70028037"),
-    ];
     let wanted = "1 message 0:080280010D1803A98381\n\
         2 message\n\
         3 message\n\
@@ -285,7 +291,7 @@ fn a_number_in_parts(rt: HostRuntime) -> Result<(), Fail> {
         7 message 0:080280020D1803A98382\n\
         8 message moved 0 0 0:0802800202 0:0802800207\n\
         9 message\n";
-    assert!(rt; reports(rt.alloc(), 1, &steps, wanted)?);
+    assert!(rt; reports(rt.alloc(), 1, &IN_PARTS, wanted)?);
     Ok(())
 }
 
@@ -314,11 +320,11 @@ const GIVEN_UP: [(&str, &str, &str); 9] = [
 #[test]
 fn callers_are_cleared_for_what_they_dial(rt: HostRuntime) -> Result<(), Fail> {
     let alloc = rt.alloc();
-    for (setup, information, cause) in GIVEN_UP {
+    for (setup, information, cause) in &GIVEN_UP {
         let steps = [
             Fill(1),
-            Message(0, setup),
-            Message(0, information),
+            Message(0, *setup),
+            Message(0, *information),
             Message(0, "080200014D"),
         ];
         let wanted = format!(in alloc;
@@ -342,33 +348,35 @@ fn a_call_to_a_room(rt: HostRuntime) -> Result<(), Fail> {
     Ok(())
 }
 
+const UNEXPECTED: [Step; 4] = [
+    SETUP,
+    Message(0, "0802000101"),
+    Message(0, "080200013F"),
+    Message(0, "0802000105"),
+];
+
 #[test]
 fn unexpected_messages(rt: HostRuntime) -> Result<(), Fail> {
-    let steps = [
-        SETUP,
-        Message(0, "0802000101"),
-        Message(0, "080200013F"),
-        Message(0, "0802000105"),
-    ];
     let wanted = "2 message 0:080280017D080282E5140103\n\
         3 message 0:080280017D080282E1140103\n\
         4 message\n";
-    assert!(rt; reports(rt.alloc(), 0, &steps, wanted)?);
+    assert!(rt; reports(rt.alloc(), 0, &UNEXPECTED, wanted)?);
     Ok(())
 }
 
+const RESTARTS: [Step; 4] = [
+    SETUP,
+    Message(1, "0802000046790186"),
+    Message(1, "08020000461803A98382790180"),
+    Message(0, "080280004E790186"),
+];
+
 #[test]
 fn restarts(rt: HostRuntime) -> Result<(), Fail> {
-    let steps = [
-        SETUP,
-        Message(1, "0802000046790186"),
-        Message(1, "08020000461803A98382790180"),
-        Message(0, "080280004E790186"),
-    ];
     let wanted = "2 message 0:0802800145080282A9 1:080280004E790186\n\
         3 message 1:080280004E1803A98382790180\n\
         4 message\n";
-    let came = came_of(rt.alloc(), 0, false, &steps, wanted)?;
+    let came = came_of(rt.alloc(), 0, false, &RESTARTS, wanted)?;
     let told = CallRecord {
         caller: first(0),
         called: Party::Line(first(1)),
@@ -381,20 +389,21 @@ fn restarts(rt: HostRuntime) -> Result<(), Fail> {
     Ok(())
 }
 
+const WITH_TONES: [Step; 8] = [
+    SETUP,
+    Message(1, "0802800101"),
+    Frame(&[]),
+    Frame(&[]),
+    Message(1, "080280015A08028091"),
+    Frame(&[]),
+    Message(0, "0802000046790186"),
+    Frame(&[]),
+];
+
 // What the first line hears: this octet on its first bearer channel, and nothing on the others.
 #[test]
 fn tones_are_heard(rt: HostRuntime) -> Result<(), Fail> {
     let alloc = rt.alloc();
-    let steps = [
-        SETUP,
-        Message(1, "0802800101"),
-        Frame(&[]),
-        Frame(&[]),
-        Message(1, "080280015A08028091"),
-        Frame(&[]),
-        Message(0, "0802000046790186"),
-        Frame(&[]),
-    ];
     let idle = "D5".repeat(alloc, 29)?;
     let wanted = format!(in alloc;
         "2 message 0:08028001011E028288\n\
@@ -405,7 +414,7 @@ fn tones_are_heard(rt: HostRuntime) -> Result<(), Fail> {
         7 message 0:080280004E790186\n\
         8 frame 3\n"
     )?;
-    let came = came_of(alloc, 0, true, &steps, wanted.as_str())?;
+    let came = came_of(alloc, 0, true, &WITH_TONES, wanted.as_str())?;
     assert!(rt; came.is_reported && came.tones == (1, 1));
     Ok(())
 }

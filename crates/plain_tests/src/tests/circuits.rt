@@ -69,137 +69,152 @@ fn are_heard(
     Ok(true)
 }
 
+const CONNECTED: [Step; 5] = [
+    Connect(0, 1),
+    Frame(&[0x01, 0x81]),
+    Frame(&[0x02, 0x82]),
+    Frame(&[0x03, 0x83]),
+    Frame(&[0x04, 0x84]),
+];
+
+const HEARD_WHEN_CONNECTED: [(u32, u8, u8); 8] = [
+    (0, 0, IDLE),
+    (1, 0, IDLE),
+    (2, 0, 0x81),
+    (3, 0, 0x82),
+    (0, 1, IDLE),
+    (1, 1, IDLE),
+    (2, 1, 0x01),
+    (3, 1, 0x02),
+];
+
 #[test]
 fn octets_pass_after_two_frames(rt: HostRuntime) -> Result<(), Fail> {
-    let steps = [
-        Connect(0, 1),
-        Frame(&[0x01, 0x81]),
-        Frame(&[0x02, 0x82]),
-        Frame(&[0x03, 0x83]),
-        Frame(&[0x04, 0x84]),
-    ];
-    let table = [
-        (0, 0, IDLE),
-        (1, 0, IDLE),
-        (2, 0, 0x81),
-        (3, 0, 0x82),
-        (0, 1, IDLE),
-        (1, 1, IDLE),
-        (2, 1, 0x01),
-        (3, 1, 0x02),
-    ];
-    assert!(rt; are_heard(&rt, rt.alloc(), &steps, &table)?);
+    assert!(rt; are_heard(&rt, rt.alloc(), &CONNECTED, &HEARD_WHEN_CONNECTED)?);
     Ok(())
 }
+
+const USED_AGAIN: [Step; 8] = [
+    Connect(0, 1),
+    Frame(&[0x01, 0x81, 0xC1]),
+    Frame(&[0x02, 0x82, 0xC2]),
+    Clear(0),
+    Connect(0, 2),
+    Frame(&[0x03, 0x83, 0xC3]),
+    Frame(&[0x04, 0x84, 0xC4]),
+    Frame(&[0x05, 0x85, 0xC5]),
+];
+
+const HEARD_WHEN_USED_AGAIN: [(u32, u8, u8); 9] = [
+    (2, 0, IDLE),
+    (3, 0, IDLE),
+    (4, 0, 0xC3),
+    (2, 1, IDLE),
+    (3, 1, IDLE),
+    (4, 1, IDLE),
+    (2, 2, IDLE),
+    (3, 2, IDLE),
+    (4, 2, 0x03),
+];
 
 #[test]
 fn a_slot_used_again_starts_anew(rt: HostRuntime) -> Result<(), Fail> {
-    let steps = [
-        Connect(0, 1),
-        Frame(&[0x01, 0x81, 0xC1]),
-        Frame(&[0x02, 0x82, 0xC2]),
-        Clear(0),
-        Connect(0, 2),
-        Frame(&[0x03, 0x83, 0xC3]),
-        Frame(&[0x04, 0x84, 0xC4]),
-        Frame(&[0x05, 0x85, 0xC5]),
-    ];
-    let table = [
-        (2, 0, IDLE),
-        (3, 0, IDLE),
-        (4, 0, 0xC3),
-        (2, 1, IDLE),
-        (3, 1, IDLE),
-        (4, 1, IDLE),
-        (2, 2, IDLE),
-        (3, 2, IDLE),
-        (4, 2, 0x03),
-    ];
-    assert!(rt; are_heard(&rt, rt.alloc(), &steps, &table)?);
+    assert!(rt; are_heard(&rt, rt.alloc(), &USED_AGAIN, &HEARD_WHEN_USED_AGAIN)?);
     Ok(())
 }
+
+const LATER: Step = Frame(&[0xAA, 0xAA, 0x2A]);
+
+const SATURATED: [Step; 9] = [
+    Seat(0, 0),
+    Seat(1, 0),
+    Seat(2, 0),
+    Frame(&[0xAA, 0xAA, 0xAA]),
+    LATER,
+    LATER,
+    LATER,
+    LATER,
+    LATER,
+];
+
+const HEARD_WHEN_SATURATED: [(u32, u8, u8); 8] = [
+    (0, 0, IDLE),
+    (3, 0, IDLE),
+    (4, 0, 0xAA),
+    (4, 1, 0xAA),
+    (4, 2, 0xAA),
+    (5, 0, IDLE),
+    (5, 1, IDLE),
+    (5, 2, 0xAA),
+];
 
 #[test]
 fn a_room_saturates_once(rt: HostRuntime) -> Result<(), Fail> {
-    let later = Frame(&[0xAA, 0xAA, 0x2A]);
-    let steps = [
-        Seat(0, 0),
-        Seat(1, 0),
-        Seat(2, 0),
-        Frame(&[0xAA, 0xAA, 0xAA]),
-        later,
-        later,
-        later,
-        later,
-        later,
-    ];
-    let table = [
-        (0, 0, IDLE),
-        (3, 0, IDLE),
-        (4, 0, 0xAA),
-        (4, 1, 0xAA),
-        (4, 2, 0xAA),
-        (5, 0, IDLE),
-        (5, 1, IDLE),
-        (5, 2, 0xAA),
-    ];
-    assert!(rt; are_heard(&rt, rt.alloc(), &steps, &table)?);
+    assert!(rt; are_heard(&rt, rt.alloc(), &SATURATED, &HEARD_WHEN_SATURATED)?);
     Ok(())
 }
+
+const REST: Step = Frame(&[0x12, 0x92]);
+
+const ALONE: [Step; 7] = [Seat(0, 5), Frame(&[0x11]), REST, REST, REST, REST, REST];
+
+const HEARD_ALONE: [(u32, u8, u8); 3] = [(3, 0, IDLE), (4, 0, IDLE), (5, 0, IDLE)];
+
+const PAIRED: [Step; 8] = [
+    Seat(0, 5),
+    Seat(1, 5),
+    Frame(&[0x11, 0x91]),
+    REST,
+    REST,
+    REST,
+    REST,
+    REST,
+];
+
+const HEARD_PAIRED: [(u32, u8, u8); 6] = [
+    (3, 0, IDLE),
+    (3, 1, IDLE),
+    (4, 0, 0x91),
+    (4, 1, 0x11),
+    (5, 0, 0x92),
+    (5, 1, 0x12),
+];
 
 #[test]
 fn small_rooms(rt: HostRuntime) -> Result<(), Fail> {
-    let rest = Frame(&[0x12, 0x92]);
-    let alone = [Seat(0, 5), Frame(&[0x11]), rest, rest, rest, rest, rest];
-    let silent = [(3, 0, IDLE), (4, 0, IDLE), (5, 0, IDLE)];
-    assert!(rt; are_heard(&rt, rt.alloc(), &alone, &silent)?);
-    let paired = [
-        Seat(0, 5),
-        Seat(1, 5),
-        Frame(&[0x11, 0x91]),
-        rest,
-        rest,
-        rest,
-        rest,
-        rest,
-    ];
-    let table = [
-        (3, 0, IDLE),
-        (3, 1, IDLE),
-        (4, 0, 0x91),
-        (4, 1, 0x11),
-        (5, 0, 0x92),
-        (5, 1, 0x12),
-    ];
-    assert!(rt; are_heard(&rt, rt.alloc(), &paired, &table)?);
+    assert!(rt; are_heard(&rt, rt.alloc(), &ALONE, &HEARD_ALONE)?);
+    assert!(rt; are_heard(&rt, rt.alloc(), &PAIRED, &HEARD_PAIRED)?);
     Ok(())
 }
 
+const SILENCE: Step = Frame(&[]);
+
+const TONES: [Step; 9] = [
+    SILENCE,
+    Tone(0, Kind::Ringback),
+    Tone(1, Kind::Busy),
+    SILENCE,
+    SILENCE,
+    SILENCE,
+    SILENCE,
+    Clear(0),
+    SILENCE,
+];
+
+const HEARD_WITH_TONES: [(u32, u8, u8); 8] = [
+    (0, 0, IDLE),
+    (1, 0, 0x11),
+    (2, 0, 0x22),
+    (3, 0, 0x33),
+    (4, 0, 0x11),
+    (5, 0, IDLE),
+    (1, 1, 0x44),
+    (5, 1, 0x44),
+];
+
 #[test]
 fn a_tone_sounds_at_once(rt: HostRuntime) -> Result<(), Fail> {
-    let idle = Frame(&[]);
-    let steps = [
-        idle,
-        Tone(0, Kind::Ringback),
-        Tone(1, Kind::Busy),
-        idle,
-        idle,
-        idle,
-        idle,
-        Clear(0),
-        idle,
-    ];
-    let table = [
-        (0, 0, IDLE),
-        (1, 0, 0x11),
-        (2, 0, 0x22),
-        (3, 0, 0x33),
-        (4, 0, 0x11),
-        (5, 0, IDLE),
-        (1, 1, 0x44),
-        (5, 1, 0x44),
-    ];
-    assert!(rt; are_heard(&rt, rt.alloc(), &steps, &table)?);
+    assert!(rt; are_heard(&rt, rt.alloc(), &TONES, &HEARD_WITH_TONES)?);
     Ok(())
 }
 

@@ -1,31 +1,32 @@
 // Which orders are lawful.
-use std::test::Fail;
 use test_traffic::{Post, is_lawful};
 
 fn post(worker: u8, segment: u32) -> Post {
     Post { worker, segment }
 }
 
+// Orders of five events, of which 1 to 3 are of one segment, 4 and 5 of the next but one; and whether each is
+// lawful.
+const ORDERS: [(&[u32], bool); 11] = [
+    (&[1, 2, 3, 4, 5], true),
+    (&[2, 1, 3, 5, 4], true),
+    (&[1, 3, 2, 4, 5], true),
+    // An event of a worker's overtakes an earlier one, or an event of an earlier segment.
+    (&[3, 2, 1, 4, 5], false),
+    (&[1, 2, 4, 3, 5], false),
+    // One is missing, comes twice, or is none of the trace.
+    (&[1, 2, 3, 4], false),
+    (&[1, 2, 3, 4, 4], false),
+    (&[1, 2, 2, 4, 5], false),
+    (&[1, 2, 3, 4, 5, 5], false),
+    (&[0, 2, 3, 4, 5], false),
+    (&[1, 2, 3, 4, 6], false),
+];
+
 #[test]
-fn orders_are_lawful_or_not(rt: HostRuntime) -> Result<(), Fail> {
-    // Events 1 to 3 are of one segment, 4 and 5 of the next but one.
+fn orders_are_lawful_or_not(rt: HostRuntime) {
     let posts = [post(0, 0), post(8, 0), post(0, 0), post(8, 2), post(0, 2)];
-    for (order, lawful) in [
-        ([1, 2, 3, 4, 5].as_slice(), true),
-        (&[2, 1, 3, 5, 4], true),
-        (&[1, 3, 2, 4, 5], true),
-        // An event of a worker's overtakes an earlier one, or an event of an earlier segment.
-        (&[3, 2, 1, 4, 5], false),
-        (&[1, 2, 4, 3, 5], false),
-        // One is missing, comes twice, or is none of the trace.
-        (&[1, 2, 3, 4], false),
-        (&[1, 2, 3, 4, 4], false),
-        (&[1, 2, 2, 4, 5], false),
-        (&[1, 2, 3, 4, 5, 5], false),
-        (&[0, 2, 3, 4, 5], false),
-        (&[1, 2, 3, 4, 6], false),
-    ] {
-        assert!(rt; is_lawful(&posts, order) == lawful);
+    for (order, lawful) in &ORDERS {
+        assert!(rt; is_lawful(&posts, order) == *lawful);
     }
-    Ok(())
 }
