@@ -1,34 +1,30 @@
 -- The answers of a run and the lines of its report.
-use Rattle.std.proofs.Common.{◌≡◌, ℕ, suc, ◌+◌, Bool, true, false, not, if◌then◌else◌, List, [], ◌∷◌, ◌++◌, length, map, take, drop, Option, Some, None, slice_get, slice_index, refl, sym, ap, subst, ◌∙◌, arith, add-one, append_assoc, append-nil, length-append}
+use Rattle.std.proofs.Common.{◌≡◌, ℕ, suc, ◌+◌, List, [], ◌∷◌, ◌++◌, length, map, take, drop, Option, Some, slice_get, slice_index, refl, sym, ap, subst, ◌∙◌, arith, add-one, append_assoc, append-nil, length-append}
 use Rattle.std.specs.Prelude.{All}
 use Rattle.std.specs.List.{cons_option}
 use Rattle.std.proofs.lemmas.List.{take-append-drop}
 use Rattle.std.proofs.lemmas.List.Elements.{All-nil, All-cons, All-head, All-tail, All-append, filter_map-append}
 use Rattle.std.proofs.Math.Seq.{take-append_seam, drop-append_seam}
-use Rattle.circuit_model.specs.declared.channel.Slot.{Slot}
 use Rattle.circuit_model.specs.declared.circuit.Kind.{Kind}
 use Rattle.circuit_model.specs.FrameInput.{Input}
-use Rattle.circuit_model.specs.Ports.{ports_with, port_of}
-use Rattle.control_memory.specs.Layout.{Layout}
 use Rattle.exchange_events.specs.declared.answer.Answer.{Answer}
 use Rattle.exchange_events.specs.declared.reply.Reply.{Reply}
 use Rattle.exchange_events.specs.declared.trace.Event.{Event}
-use Rattle.exchange_events.specs.declared.trace.Event.TheVariants.{Nail, Seat, Free, Message, Frame}
+use Rattle.exchange_events.specs.declared.trace.Event.TheVariants.{Frame}
 use Rattle.exchange_events.specs.declared.trace.Trace.{Trace}
-use Rattle.call_profile.specs.IdleSlots.{idle, is_nailed}
 use Rattle.exchange_events.specs.Kept.{kept_of}
 use Rattle.exchange_events.specs.Orders.{IsEvent, event_at}
 use Rattle.exchange_events.proofs.EventNumbers.{event_there}
 use Rattle.seat_history.specs.declared.known.Known.{Known}
 use Rattle.seat_history.specs.Histories.{StartsWith, before, unseen}
 use Rattle.exchange_core.specs.Boards.{Board, AnswersAt, setting_at, world_at}
-use Rattle.exchange_events.specs.Sizes.{Setting, Dimensions}
+use Rattle.exchange_events.specs.Sizes.{Setting}
 use Rattle.exchange_events.specs.Sound.{setting_of}
-use Rattle.call_profile.specs.Step.{MovesAtMost, events_of, may_nail, next, reply, run, world_after_all}
+use Rattle.call_profile.specs.Step.{MovesAtMost, events_of, next, reply, run, world_after_all}
 use Rattle.exchange_core.specs.Working.{Entry, IsNumbered, order_of, world_after}
 use Rattle.call_profile.proofs.QuietEventLemmas.{passed_same}
 use Rattle.call_profile.specs.Expiring.{outcome_of_frame}
-use Rattle.call_profile.specs.World.{World, is_full, pass, seat_reply, start}
+use Rattle.call_profile.specs.World.{World, pass, start}
 use Rattle.exchange_core.proofs.StepLemmas.{world_more}
 use Rattle.tone_rules.specs.Tables.{table_of}
 use Rattle.call_processor.specs.Frames.{IsPlayed, Plays}

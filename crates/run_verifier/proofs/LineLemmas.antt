@@ -1,19 +1,14 @@
 -- The line of an event that was done.
-use Rattle.std.proofs.Common.{◌≡◌, ℕ, Bool, true, false, not, if◌then◌else◌, List, [], ◌∷◌, ◌++◌, length, Option, Some, None, Result, Ok, Err, OnOk, refl, sym, ap, subst, ◌∙◌}
+use Rattle.std.proofs.Common.{◌≡◌, ℕ, List, [], ◌∷◌, ◌++◌, length, Result, Ok, Err, OnOk, refl, sym, ap, subst, ◌∙◌}
 use Rattle.std.proofs.lemmas.List.Elements.{All-nil, All-cons}
-use Rattle.circuit_model.specs.declared.channel.Slot.{Slot}
 use Rattle.circuit_model.specs.FrameInput.{Input}
 use Rattle.circuit_model.specs.Hears.{hears}
-use Rattle.circuit_model.specs.Ports.{port_of, ports_with}
-use Rattle.control_memory.specs.Layout.{Layout}
 use Rattle.exchange_events.specs.declared.reply.Reply.{Reply}
 use Rattle.exchange_events.specs.declared.trace.Event.{Event}
-use Rattle.exchange_events.specs.declared.trace.Event.TheVariants.{Nail, Seat, Free, Message, Frame}
+use Rattle.exchange_events.specs.declared.trace.Event.TheVariants.{Frame}
 use Rattle.exchange_events.specs.Kept.{kept_of}
-use Rattle.exchange_events.specs.Sizes.{Setting, Dimensions}
-use Rattle.call_profile.specs.IdleSlots.{idle, is_nailed}
-use Rattle.call_profile.specs.Step.{may_nail, reply}
-use Rattle.call_profile.specs.World.{World, is_full, pass, seat_reply}
+use Rattle.call_profile.specs.Step.{reply}
+use Rattle.call_profile.specs.World.{pass}
 use Rattle.call_profile.proofs.QuietEventLemmas.{passed_same}
 use Rattle.call_processor.specs.Frames.{IsPlayed}
 use Rattle.call_processor.proofs.FrameLemmas.{still_ready}
