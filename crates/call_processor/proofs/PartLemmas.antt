@@ -6,7 +6,7 @@ use Rattle.std.proofs.lemmas.Bool.Decides.{nat_tests}
 use Rattle.std.proofs.lemmas.List.Elements.{filter-append}
 use Rattle.std.proofs.lemmas.List.Sums.{sum_by-cons}
 use Rattle.exchange_events.specs.declared.trace.Trace.{Trace}
-use Rattle.exchange_events.specs.Orders.{Worker, segment_of}
+use Rattle.exchange_events.specs.Orders.{Worker, IsEvent, segment_of}
 use Rattle.exchange_events.specs.Sound.{AreSegments, last_of}
 use Rattle.call_processor.specs.Parts.{events_of_segment, is_its, part_of}
 
@@ -26,6 +26,18 @@ few_ended n last = one (nat_lt last n)
     one : (b : Bool) → cond b 1 0 ≤ 1
     one true = omega arith
     one false = omega arith
+
+-- behind the last segment there is no event
+in_last : (ends : List ℕ) (n : ℕ) → 1 ≤ n → n ≤ last_of ends → segment_of ends n < length ends
+in_last [] n low high = absurd (omega (arith, low, high))
+in_last (last ∷ []) n low high = let off : nat_lt last n ≡ false = grind (arith, nat_tests, high) in rw off (omega arith)
+in_last (first ∷ second ∷ ends) n low high =
+    let rest = in_last (second ∷ ends) n low high in
+    let one = few_ended n first in
+    omega (arith, sum_by-cons (λ last. cond (nat_lt last n) 1 0) first (second ∷ ends), rest, one)
+
+pub in_segment : (trace : Trace) (n : ℕ) → AreSegments (length trace.events) trace.segments → IsEvent trace n → segment_of trace.segments n < length trace.segments
+in_segment trace n segments is = in_last trace.segments n is.0 (let high = is.1 in omega (arith, high, segments.whole))
 
 -- at least k segments end before n where the first k do
 pub at_least : (ends : List ℕ) (n k : ℕ) → k ≤ length ends → ((i : ℕ) → i < k → get_or ends i 0 < n) → k ≤ segment_of ends n

@@ -1,5 +1,5 @@
 -- How far the events of a trace are done, and which may come next.
-use Rattle.std.proofs.Common.{◌≡◌, ◌≢◌, ℕ, zero, suc, ◌+◌, ◌-◌, ◌%◌, ◌<◌, ◌≤◌, Bool, true, false, cond, nat_lt, nat_eq, eqb, List, [], ◌∷◌, ◌++◌, length, get_or, set, slice_index, Contains, filter, Option, refl, sym, ap, subst, ◌∙◌, arith, inl, inr}
+use Rattle.std.proofs.Common.{◌≡◌, ◌≢◌, ℕ, zero, suc, ◌+◌, ◌-◌, ◌%◌, ◌<◌, ◌≤◌, Bool, true, false, cond, nat_eq, eqb, List, [], ◌∷◌, ◌++◌, length, get_or, set, slice_index, Contains, filter, Option, refl, sym, ap, subst, ◌∙◌, arith, inl, inr}
 use Rattle.std.specs.Prelude.{All, AllPairs}
 use Rattle.std.specs.List.{range_with_len}
 use Rattle.std.proofs.lemmas.Bool.{cases_lt, cases_eq, ne_eqb}
@@ -7,16 +7,15 @@ use Rattle.std.proofs.lemmas.Bool.Decides.{nat_tests}
 use Rattle.std.proofs.lemmas.List.{get_or-set_same, get_or-set_other}
 use Rattle.std.proofs.lemmas.List.Elements.{All-contains, Contains-append_cases, Contains-append_left, Contains-append_right, filter_passes}
 use Rattle.std.proofs.lemmas.List.FromFn.{length-range_with_len, get_or-range_with_len}
-use Rattle.std.proofs.lemmas.List.Sums.{sum_by-cons}
 use Rattle.std.proofs.Math.Nat.{mod-lt}
 use Rattle.exchange_events.specs.declared.trace.Event.{Event}
 use Rattle.exchange_events.specs.declared.trace.Event.TheVariants.{Nail, Seat, Free, Message, Frame}
 use Rattle.exchange_events.specs.declared.trace.Trace.{Trace}
 use Rattle.exchange_events.specs.Orders.{Worker, Processor, Frame_worker, IsEvent, Precedes, SameWorker, file_order, segment_of, worker_of}
-use Rattle.exchange_events.specs.Sound.{IsSound, last_of}
+use Rattle.exchange_events.specs.Sound.{IsSound}
 use Rattle.exchange_events.proofs.EventNumbers.{event_there}
 use Rattle.call_processor.specs.Parts.{events_of_segment}
-use Rattle.call_processor.proofs.PartLemmas.{below_last}
+use Rattle.call_processor.proofs.PartLemmas.{below_last, in_segment}
 use Rattle.run_verifier.specs.Verdicts.{MayFollow}
 use Rattle.run_verifier.specs.Turns.{AreOwn, AreTurns, EndsAt, IsIn, IsLeft, IsNext, IsUntouched, place_at, place_in, place_of_worker}
 
@@ -125,23 +124,8 @@ module _ (trace : Trace) (k first end : ℕ) (all : events_of_segment trace k �
     ]
 
 -- behind the last segment there is no event
-in_last : (ends : List ℕ) (n : ℕ) → 1 ≤ n → n ≤ last_of ends → segment_of ends n < length ends
-in_last [] n low high = absurd (omega (arith, low, high))
-in_last (last ∷ []) n low high = let off : nat_lt last n ≡ false = grind (arith, nat_tests, high) in rw off (omega arith)
-in_last (first ∷ second ∷ ends) n low high =
-    let rest = in_last (second ∷ ends) n low high in
-    let one = at_most_one (nat_lt first n) in
-    omega (arith, sum_by-cons (λ last. cond (nat_lt last n) 1 0) first (second ∷ ends), rest, one)
-  where
-    at_most_one : (b : Bool) → cond b 1 0 ≤ 1
-    at_most_one true = omega arith
-    at_most_one false = omega arith
-
-pub in_segment : (trace : Trace) (n : ℕ) → IsSound trace → IsEvent trace n → segment_of trace.segments n < length trace.segments
-in_segment trace n sound is = in_last trace.segments n is.0 (let high = is.1 in omega (arith, high, sound.segments.whole))
-
 none_in : (trace : Trace) (k m : ℕ) → IsSound trace → k ≡ length trace.segments → IsIn trace k m → ⊥
-none_in trace k m sound behind is = let before = in_segment trace m sound is.0 in let at = is.1 in omega (arith, before, at, behind)
+none_in trace k m sound behind is = let before = in_segment trace m sound.segments is.0 in let at = is.1 in omega (arith, before, at, behind)
 
 pub none_ends : (trace : Trace) (k end : ℕ) → IsSound trace → k ≡ length trace.segments → EndsAt trace k end
 none_ends trace k end sound behind = record {
@@ -245,7 +229,7 @@ module _ (trace : Trace) (k end : ℕ) (next order : List ℕ) (sound : IsSound 
 
       not_later : k < segment_of trace.segments n → ⊥
       not_later more = elim left [
-        | inl behind ↦ let within = in_segment trace n sound may.known in omega (arith, more, behind, within)
+        | inl behind ↦ let within = in_segment trace n sound.segments may.known in omega (arith, more, behind, within)
         | inr pending ↦
             let q = slice_index next pending.0 in
             let own = turns.own pending.0 pending.1 pending.2 in

@@ -1,5 +1,5 @@
 -- Segments that are done one after another make a lawful order.
-use Rattle.std.proofs.Common.{◌≡◌, ◌≢◌, ℕ, zero, suc, ◌+◌, ◌-◌, ◌*◌, ◌^◌, ◌<◌, ◌≤◌, ◌&&◌, Bool, true, false, cond, nat_lt, nat_eq, List, [], ◌∷◌, ◌++◌, length, take, drop, get_or, slice_index, Some, Contains, filter, refl, sym, ap, subst, ◌∙◌, arith, inl, inr, length-append, length-take-le, append_assoc}
+use Rattle.std.proofs.Common.{◌≡◌, ◌≢◌, ℕ, zero, suc, ◌+◌, ◌-◌, ◌*◌, ◌^◌, ◌<◌, ◌≤◌, ◌&&◌, Bool, true, cond, nat_eq, List, [], ◌∷◌, ◌++◌, length, take, drop, get_or, slice_index, Some, Contains, filter, refl, sym, ap, subst, ◌∙◌, arith, inl, inr, length-append, length-take-le, append_assoc}
 use Rattle.std.specs.Prelude.{All, AllPairs}
 use Rattle.std.specs.List.{range_with_len}
 use Rattle.std.proofs.lemmas.Bool.{cases_lt}
@@ -8,7 +8,6 @@ use Rattle.std.proofs.lemmas.List.{length-map, get_or_default, get_or-take, get_
 use Rattle.std.proofs.lemmas.List.Elements.{All-nil, All-append, All-weaker, All-contains, All-contains_itself, All-filter, Contains-append_left, Contains-append_right, Contains-append_cases, Contains-get_or, filter-append}
 use Rattle.std.proofs.lemmas.List.FromFn.{length-range_with_len, get_or-range_with_len}
 use Rattle.std.proofs.lemmas.List.Kept.{AllPairs-cons, AllPairs-filter}
-use Rattle.std.proofs.lemmas.List.Sums.{sum_by-cons}
 use Rattle.std.proofs.Math.Seq.{drop-cons, drop-append_seam, take-append-add}
 use Rattle.exchange_events.specs.declared.trace.Event.{Event}
 use Rattle.exchange_events.specs.declared.trace.Trace.{Trace}
@@ -21,7 +20,7 @@ use Rattle.exchange_events.specs.Sound.{IsSound, last_of}
 use Rattle.exchange_events.proofs.EventNumbers.{event_there}
 use Rattle.exchange_core.specs.Working.{Entry, order_of}
 use Rattle.call_processor.specs.Parts.{is_worker, does, is_its, part_of}
-use Rattle.call_processor.proofs.PartLemmas.{at_least, at_most, rises, below_last}
+use Rattle.call_processor.proofs.PartLemmas.{at_least, at_most, in_segment, rises, below_last}
 use Rattle.segment_run.specs.Segment.{new_events, of_worker, IsChief, IsOfSegment, Ran, RanWhole}
 use Rattle.segment_run.specs.Segments.{IsDoneBelow, events_before}
 
@@ -256,23 +255,11 @@ cut_short trace k v w below ran =
 
 -- ---- all segments
 
-in_last : (ends : List ℕ) (n : ℕ) → 1 ≤ n → n ≤ last_of ends → segment_of ends n < length ends
-in_last [] n low high = absurd (omega (arith, low, high))
-in_last (last ∷ []) n low high = let off : nat_lt last n ≡ false = grind (arith, nat_tests, high) in rw off (omega arith)
-in_last (first ∷ second ∷ ends) n low high =
-    let rest = in_last (second ∷ ends) n low high in
-    let one = at_most_one (nat_lt first n) in
-    omega (arith, sum_by-cons (λ last. cond (nat_lt last n) 1 0) first (second ∷ ends), rest, one)
-  where
-    at_most_one : (b : Bool) → cond b 1 0 ≤ 1
-    at_most_one true = omega arith
-    at_most_one false = omega arith
-
 -- an order of all segments holds every event
 pub all_done : (trace : Trace) (order : List ℕ) → IsSound trace → IsDoneBelow trace (length trace.segments) order → IsLawful trace order
 all_done trace order sound below = record {
   begun = below.lawful;
-  whole = λ n is. below.all n is (in_last trace.segments n is.0 (let high = is.1 in omega (arith, high, sound.segments.whole)));
+  whole = λ n is. below.all n is (in_segment trace n sound.segments is);
 }
 
 -- ---- how many events were done
