@@ -45,21 +45,40 @@ fn join_three(image: &mut Image)
     join(image, second, second, 0);
 }
 
-// Two lines with two internal slots and three paths.
-fn three_paths(alloc: Global) -> Result<Image, AllocError>
-    ensures external { IfOk result (λ m. m.external ≡ 2) }
-    ensures bridges { IfOk result (λ m. m.bridges ≡ 0) }
-    ensures slots { IfOk result (λ m. m.slots ≡ 2) }
-{
-    let mut image = Image::new(alloc, 2, 0, 2)?;
-    join_three(&mut image);
-    Ok(image)
+// What passes from stage to stage, and the tables that say where to.
+#[derive(Drop)]
+struct Parts {
+    image: Image,
+    buffer: FrameBuffer,
+    highway: Highway,
+    crossed: Crossed,
+    out: FrameBuffer,
 }
 
-fn spoken(alloc: Global) -> Result<FrameBuffer, AllocError>
-    ensures lines { IfOk result (λ b. b.lines ≡ 2) }
+// The parts for so many lines and internal slots, without a path. Memory may run out at each, so they are made apart
+// from what is done with them.
+fn parts_for(alloc: Global, lines: u8, slots: u8) -> Result<Parts, AllocError>
+    requires lines { (1 ≤ lines) × (lines ≤ 34) }
+    requires slots { (1 ≤ slots) × (slots ≤ 59) }
+    ensures image { IfOk result (λ p. (p.image.external ≡ lines) × (p.image.bridges ≡ 0) × (p.image.slots ≡ slots)) }
+    ensures buffers { IfOk result (λ p. (p.buffer.lines ≡ lines) × (p.out.lines ≡ lines)) }
+    ensures highway { IfOk result (λ p. (p.highway.lines ≡ lines) × (p.highway.slots ≡ slots)) }
+    ensures crossed { IfOk result (λ p. (p.crossed.lines ≡ lines) × (p.crossed.slots ≡ slots)) }
 {
-    let mut buffer = FrameBuffer::new(alloc, 2)?;
+    Ok(Parts {
+        image: Image::new(alloc, lines, 0, slots)?,
+        buffer: FrameBuffer::new(alloc, lines)?,
+        highway: Highway::new(alloc, lines, slots)?,
+        crossed: Crossed::new(alloc, lines, slots)?,
+        out: FrameBuffer::new(alloc, lines)?,
+    })
+}
+
+// Says what two lines say.
+fn speak(buffer: &mut FrameBuffer)
+    requires lines { buffer.old.lines ≡ 2 }
+    ensures lines { buffer.new.lines ≡ 2 }
+{
     let mut octets = [IDLE; 30];
     octets[0] = 0x11;
     octets[1] = 0x12;
@@ -68,7 +87,19 @@ fn spoken(alloc: Global) -> Result<FrameBuffer, AllocError>
     octets[1] = IDLE;
     buffer.put_line(1, &octets);
     buffer.swap();
-    Ok(buffer)
+}
+
+// Two lines that speak, with two internal slots and three paths.
+fn two_lines(alloc: Global) -> Result<Parts, AllocError>
+    ensures image { IfOk result (λ p. (p.image.external ≡ 2) × (p.image.bridges ≡ 0) × (p.image.slots ≡ 2)) }
+    ensures buffers { IfOk result (λ p. (p.buffer.lines ≡ 2) × (p.out.lines ≡ 2)) }
+    ensures highway { IfOk result (λ p. (p.highway.lines ≡ 2) × (p.highway.slots ≡ 2)) }
+    ensures crossed { IfOk result (λ p. (p.crossed.lines ≡ 2) × (p.crossed.slots ≡ 2)) }
+{
+    let mut parts = parts_for(alloc, 2, 2)?;
+    join_three(&mut parts.image);
+    speak(&mut parts.buffer);
+    Ok(parts)
 }
 
 // How many slots of the lines are not idle.
@@ -88,21 +119,18 @@ fn stage_by_stage(
 ) -> Result<[[u8; 4]; 2], AllocError>
     requires levels { levels ≤ 3 }
 {
-    let image = three_paths(alloc)?;
-    let buffer = spoken(alloc)?;
-    let mut highway = Highway::new(alloc, 2, 2)?;
-    let mut crossed = Crossed::new(alloc, 2, 2)?;
-    let mut out = FrameBuffer::new(alloc, 2)?;
+    let mut parts = two_lines(alloc)?;
     carry_by(
         rt,
         way,
         levels,
-        &buffer,
-        &image,
-        &mut highway,
-        &mut crossed,
-        &mut out,
+        &parts.buffer,
+        &parts.image,
+        &mut parts.highway,
+        &mut parts.crossed,
+        &mut parts.out,
     );
+    let (highway, crossed) = (&parts.highway, &parts.crossed);
     let sent = [
         highway.get(0, 0),
         highway.get(0, 1),
@@ -134,18 +162,21 @@ fn octets_pass_stage_by_stage(rt: HostRuntime) -> Result<(), Fail> {
 
 #[test]
 fn octets_reach_their_outlets(rt: HostRuntime) -> Result<(), AllocError> {
-    let image = three_paths(rt.alloc())?;
-    let buffer = spoken(rt.alloc())?;
-    let mut highway = Highway::new(rt.alloc(), 2, 2)?;
-    let mut crossed = Crossed::new(rt.alloc(), 2, 2)?;
-    let mut out = FrameBuffer::new(rt.alloc(), 2)?;
-    carry(&buffer, &image, &mut highway, &mut crossed, &mut out);
-    out.swap();
+    let mut parts = two_lines(rt.alloc())?;
+    carry(
+        &parts.buffer,
+        &parts.image,
+        &mut parts.highway,
+        &mut parts.crossed,
+        &mut parts.out,
+    );
+    parts.out.swap();
+    let out = &parts.out;
     let first = [
         out.get(Slot { line: 0, place: 0 }),
         out.get(Slot { line: 0, place: 1 }),
     ];
     let second = out.get(Slot { line: 1, place: 0 });
-    assert_eq!(&rt; (first, second, speaking(&out)), ([0x21, 0x12], 0x11, 3));
+    assert!(&rt; first == [0x21, 0x12] && second == 0x11 && speaking(out) == 3);
     Ok(())
 }

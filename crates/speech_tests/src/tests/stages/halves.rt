@@ -4,6 +4,7 @@ ghost use Rattle.std.specs.Prelude.{◌≡◌, ◌≤◌, ◌<◌};
 ghost use Rattle.frame_buffer.specs.Highways.{SameHighwaySize};
 ghost use Rattle.control_memory.specs.Image.{lines_of};
 
+use super::{Parts, parts_for};
 use circuit_model::{PLACES, Slot};
 use control_memory::Image;
 use frame_buffer::{Crossed, FrameBuffer, Highway};
@@ -105,28 +106,29 @@ fn carried(
     requires lines { (1 ≤ lines) × (lines ≤ 34) }
     requires levels { levels ≤ 3 }
 {
-    let mut image = Image::new(alloc, lines, 0, 59)?;
-    connect_all(&mut image, lines);
-    let mut buffer = FrameBuffer::new(alloc, lines)?;
-    fill(buffer.filled());
-    buffer.swap();
-    let mut highway = Highway::new(alloc, lines, 59)?;
-    let mut crossed = Crossed::new(alloc, lines, 59)?;
-    let mut out = FrameBuffer::new(alloc, lines)?;
+    let mut parts = parts_for(alloc, lines, 59)?;
+    connect_all(&mut parts.image, lines);
+    fill(parts.buffer.filled());
+    parts.buffer.swap();
     carry_by(
         rt,
         way,
         levels,
-        &buffer,
-        &image,
-        &mut highway,
-        &mut crossed,
-        &mut out,
+        &parts.buffer,
+        &parts.image,
+        &mut parts.highway,
+        &mut parts.crossed,
+        &mut parts.out,
     );
+    octets_of(alloc, &mut parts)
+}
+
+// The octets on both highways, and those that were read.
+fn octets_of(alloc: Global, parts: &mut Parts) -> Result<Vec<u8>, AllocError> {
     let mut octets = Vec::new(alloc);
-    octets.extend_from_slice(highway.parts())?;
-    octets.extend_from_slice(crossed.parts())?;
-    octets.extend_from_slice(out.filled())?;
+    octets.extend_from_slice(parts.highway.parts())?;
+    octets.extend_from_slice(parts.crossed.parts())?;
+    octets.extend_from_slice(parts.out.filled())?;
     Ok(octets)
 }
 
