@@ -55,7 +55,7 @@ struct Parts {
     out: FrameBuffer,
 }
 
-// The parts for so many lines and internal slots, without a path. Memory may run out at each, so they are made apart
+// The parts for n lines with their internal slots, without a path. Memory may run out at each, so they are made apart
 // from what is done with them.
 fn parts_for(alloc: Global, lines: u8, slots: u8) -> Result<Parts, AllocError>
     requires lines { (1 ≤ lines) × (lines ≤ 34) }
