@@ -2,3 +2,4 @@ pub mod Working
 pub mod Boards
 pub mod Tools
 pub mod Ahead
+pub mod Beginnings

@@ -44,7 +44,7 @@ returns-clause-ready g c =
     let input = c.args.input.now in
     let a = frame_asks (board_of x) x.journal n input c.work-response.new.tool c.in-Image.image c.requires.sound c.requires.frame c.in-Image.is c.work-response.ensures.shows c.work-response.ensures.tool in
     let more = c.frame.ensures.carries (boundary w) (next_frame (EngineCarries c.args.engine.now) c.in-Image.image (setting x).dimensions w a c.requires.ready.carried) in
-    subst (λ (y : Working). IsReadyAt y c.frame.new.self (Image c.frame.new.image)) (sym c.work-response.ensures.journal)
+    subst (λ (y : Working). IsReadyAt y c.frame.new.self (Image c.frame.new.image)) (sym {b = with_event x n} c.work-response.ensures.journal)
     (ready_after EngineCarries (λ (e : Stages). e.next) engine_sizes (board_of x) x.journal (with_event x n).journal 0 n input c.frame.new.self c.in-Image.image c.frame.new.image
     c.requires.frame refl a.size c.frame.ensures.image
     (subst (λ (l : Input). EngineCarries c.frame.new.self (w.inputs ++ l ∷ []) (w.held ++ w.holding.circuits ∷ []) (w.seated ++ w.ports ∷ [])) c.as_slice.ensures more)
