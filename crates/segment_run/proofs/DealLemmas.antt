@@ -94,6 +94,10 @@ module _ {J : Type 0} (number : J → ℕ) (known : J → Known) (trace : Trace)
     pub turns : k.left + turns_left (seats js) ≡ v.left
     pub all : turns_left (seats js) ≡ loads_below trace segment i
 
+  -- so by equal jobs, and by what seat 0 knows where it is the same
+  pub dealing_moved : (i : ℕ) (js others : List J) (k after : Known) → others ≡ js → after ≡ k → Dealing i js k → Dealing i others after
+  dealing_moved i js others k after same is d = rw (same, is) d
+
   -- no worker has a seat yet
   pub none_yet : (js : List J) → js ≡ [] → IsTrue v.baton → Dealing 0 js v
   none_yet js none held = subst (λ (l : List J). Dealing 0 l v) (sym none) (record {

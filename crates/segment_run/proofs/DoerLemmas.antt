@@ -147,10 +147,6 @@ order_for : (n : ℕ) (events : List ℕ) → order_of (entries_for n events) �
 order_for n [] = refl
 order_for n (m ∷ events) = ap (λ (l : List ℕ). m ∷ l) (order_for n events)
 
-cancel : (xs ys zs : List Entry) → xs ++ ys ≡ xs ++ zs → ys ≡ zs
-cancel [] ys zs e = e
-cancel (x ∷ xs) ys zs e = cancel xs ys zs (cc e)
-
 -- what seat 0 shows once it has joined the seats of these doers, and the history grew by rest
 pub record Joined (trace : Trace) (segment : ℕ) (v k : Known) (rest : List Entry) (ts : List Doer) : Type 0 where
   pub grew : k.seen ≡ v.seen ++ rest

@@ -1,6 +1,6 @@
 -- Which elements a list has.
 use Rattle.std.proofs.Common.{◌≡◌, ℕ, zero, suc, ◌+◌, ◌<◌, ◌≤◌, ◌⊎◌, inl, inr, Bool, true, false, cond, ◌&&◌, List, [], ◌∷◌, ◌++◌, map, filter, length, slice_get, Some, refl, sym, ap, ◌∙◌, subst, arith, length-append}
-use Rattle.std.specs.Prelude.{slice_index_or, slice_set, ◌||◌, nat_eq}
+use Rattle.std.specs.Prelude.{slice_index_or, ◌||◌, nat_eq}
 use Rattle.std.specs.List.{All, list_any, range_with_len}
 use Rattle.std.proofs.lemmas.Bool.Decides.{nat_tests}
 use Rattle.segment_run.specs.Merging.{IsOneOf}
@@ -34,18 +34,6 @@ module _ {X : Type 0} where
       late : (zs : List X) → In x (zs ++ x ∷ [])
       late [] = inl refl
       late (z ∷ zs) = inr (late zs)
-
-  pub all_either : (P : X → Type 0) (xs ys : List X) → All P (xs ++ ys) → All P xs × All P ys
-  all_either P xs ys a = (in_all P xs (λ y i. all_in P (xs ++ ys) a y (early y xs i)), in_all P ys (λ y i. all_in P (xs ++ ys) a y (late y xs i)))
-    where
-      early : (y : X) (zs : List X) → In y zs → In y (zs ++ ys)
-      early y [] i = absurd i
-      early y (z ∷ zs) (inl same) = inl same
-      early y (z ∷ zs) (inr more) = inr (early y zs more)
-
-      late : (y : X) (zs : List X) → In y ys → In y (zs ++ ys)
-      late y [] i = i
-      late y (z ∷ zs) i = inr (late y zs i)
 
   pub no_length : (xs : List X) → length xs ≡ 0 → xs ≡ []
   no_length [] h = refl
@@ -131,18 +119,6 @@ module _ {X : Type 0} where
   got_read [] i x h e = absurd (omega (arith, h))
   got_read (y ∷ ys) zero x h e = ap Some (sym e)
   got_read (y ∷ ys) (suc i) x h e = got_read ys i x (omega (arith, h)) e
-
-  -- what is in a list once one place was written
-  pub got_set : (xs : List X) (i j : ℕ) (x y : X) → slice_get (slice_set xs i x) j ≡ Some y → ((i ≡ j) × (x ≡ y)) ⊎ (slice_get xs j ≡ Some y)
-  got_set [] i j x y e = inr e
-  got_set (z ∷ xs) zero zero x y e = inl (refl, cc e)
-  got_set (z ∷ xs) zero (suc j) x y e = inr e
-  got_set (z ∷ xs) (suc i) zero x y e = inr e
-  got_set (z ∷ xs) (suc i) (suc j) x y e = more (got_set xs i j x y e)
-    where
-      more : ((i ≡ j) × (x ≡ y)) ⊎ (slice_get xs j ≡ Some y) → ((suc i ≡ suc j) × (x ≡ y)) ⊎ (slice_get xs j ≡ Some y)
-      more (inl t) = inl (ap suc t.0, t.1)
-      more (inr t) = inr t
 
 module _ {X Y : Type 0} (f : X → Y) where
   pub in_map : (xs : List X) (x : X) → In x xs → In (f x) (map f xs)

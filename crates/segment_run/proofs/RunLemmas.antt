@@ -64,10 +64,6 @@ abbrev pub sum_left : List Known → ℕ
 sum_left [] = 0
 sum_left (w ∷ ws) = w.left + sum_left ws
 
-joined_left : (c : Known) (ws : List Known) → (after_joins c ws).left ≡ c.left + sum_left ws
-joined_left c [] = omega arith
-joined_left c (w ∷ ws) = let h = joined_left c ws in omega (arith, h)
-
 record Unchanged (c k : Known) : Type 0 where
   number : k.number ≡ c.number
   own : k.own ≡ c.own

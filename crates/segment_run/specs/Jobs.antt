@@ -1,5 +1,5 @@
 -- The jobs of a segment's workers, and what came of them. Source: this exchange's own.
-use Rattle.std.specs.Prelude.{◌≡◌, ℕ, ◌<◌, List, [], map, All, vec_capacity}
+use Rattle.std.specs.Prelude.{◌≡◌, ℕ, ◌<◌, ◌≤◌, List, [], length, map, All, vec_capacity}
 use Rattle.std.specs.List.{AllZip}
 use Rattle.circuit_model.specs.declared.circuit.Kind.{Kind}
 use Rattle.exchange_core.specs.declared.tool.Tool.{Tool}
@@ -46,9 +46,12 @@ HasDone holds plays tones known board trace segment j f =
 abbrev pub HaveDone : {T K : Type 0} → (K → List Placed → Type 0) → Plays → (T → Known) → Board → Trace → ℕ → List (Job T K) → List (Finished T K) → Type 0
 HaveDone holds plays known board trace segment jobs done = AllZip (HasDone holds plays (table_of trace.tones) known board trace segment) jobs done
 
--- no job is left, and the list has the room that it had
-abbrev pub IsThrough : {T K : Type 0} → Crew T K → Crew T K → Type 0
-IsThrough before after = (after.jobs.items ≡ []) × (vec_capacity after.jobs ≡ vec_capacity before.jobs)
+-- n jobs of a crew were done, and none is left: what came of each is there, and both lists have the room that they had
+pub record IsThrough {T K : Type 0} (n : ℕ) (before after : Crew T K) : Type 0 where
+  pub none : after.jobs.items ≡ []
+  pub kept : vec_capacity after.jobs ≡ vec_capacity before.jobs
+  pub room : vec_capacity before.done ≤ vec_capacity after.done
+  pub count : length after.done.items ≡ n
 
 -- whichever of these jobs is the frame worker's, the engine and the tool are ready for its next frame
 abbrev pub AreReady : {T E K : Type 0} → Carrying E → (E → ℕ) → (E → Dimensions) → (T → Known) → Board → E → Tool → List (Job T K) → Type 0

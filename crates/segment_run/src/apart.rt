@@ -10,7 +10,7 @@ ghost use Rattle.segment_run.specs.Team.{load};
 
 use crate::answers::SegmentDone;
 use crate::merge::merge;
-use crate::working::{Gathered, work_all};
+use crate::working::work_all;
 use crate::workroom::Workroom;
 use call_processor::{Keeper, Workplace, numbers_of};
 use exchange_core::{Switchboard, Tool};
@@ -54,31 +54,23 @@ pub fn run_apart<B: Switchboard, G: Gate, C: Carrier, K: Keeper, R: Threads + Wa
         → AddsAnswers K.holds C.plays (table_of trace.now.tones) (B.board board.now) (B.known seat.old) (B.known seat.new) kept keeper.new) }
     ensures kept { OnErr result ((kept : List Placed) → K.holds keeper.old kept → K.holds keeper.new kept) }
 {
-    let Gathered {
-        mut workplaces,
-        mut used,
-        crew,
-        engine,
-        tool,
-        whole,
-    } = work_all(
+    let mut done = work_all(
         rt, alloc, board, seat, trace, segment, engine, tool, workroom, loads, gate,
     );
-    if !whole {
+    if !done.whole {
         return Err(AllocError);
     }
     let (first, end) = numbers_of(trace, segment);
-    merge_or_cut(keeper, &mut used, (end - first) as usize)?;
-    give_back(&mut used, &mut workplaces);
-    let workroom = Workroom {
-        workplaces,
-        used,
-        crew,
-    };
+    merge_or_cut(keeper, &mut done.used, (end - first) as usize)?;
+    give_back(&mut done.used, &mut done.workplaces);
     Ok(SegmentDone {
-        engine,
-        tool,
-        workroom,
+        engine: done.engine,
+        tool: done.tool,
+        workroom: Workroom {
+            workplaces: done.workplaces,
+            used: done.used,
+            crew: done.crew,
+        },
     })
 }
 

@@ -50,11 +50,7 @@ pub fn run_by_caller<B: Switchboard, G: Gate, C: Carrier, K: Keeper, R: Threads 
 {
     let mut engine = engine;
     let mut tool = tool;
-    let Workroom {
-        mut workplaces,
-        used,
-        crew,
-    } = workroom;
+    let mut workroom = workroom;
     let kept = keeper.count();
     let done = run_alone(
         rt,
@@ -65,7 +61,7 @@ pub fn run_by_caller<B: Switchboard, G: Gate, C: Carrier, K: Keeper, R: Threads 
         segment,
         &mut engine,
         &mut tool,
-        &mut workplaces[0],
+        &mut workroom.workplaces[0],
         keeper,
         gate,
     );
@@ -76,10 +72,6 @@ pub fn run_by_caller<B: Switchboard, G: Gate, C: Carrier, K: Keeper, R: Threads 
     Ok(SegmentDone {
         engine,
         tool,
-        workroom: Workroom {
-            workplaces,
-            used,
-            crew,
-        },
+        workroom,
     })
 }

@@ -42,9 +42,7 @@ pub fn call_processors<B: Switchboard, G: Gate, K: Keeper, R: Threads + Wait + S
     requires all_may { All (MayProcess B.known (B.board board.now) trace.now segment) crew.jobs.items }
     requires room { vec_len crew.jobs + 1 ≤ vec_capacity crew.done }
     requires empty { crew.done.items ≡ [] }
-    ensures jobs { IsThrough crew result }
-    ensures room { vec_capacity crew.done ≤ vec_capacity result.done }
-    ensures count { length result.done.items ≡ length crew.jobs.items + 1 }
+    ensures through { IsThrough (length crew.jobs.items + 1) crew result }
     ensures seated { All (λ f. B.seated board.now f.seat) result.done.items }
     ensures works { HaveProcessed K.holds B.known (B.board board.now) trace.now segment (crew.jobs.items ++ job ∷ []) result.done.items }
 {
@@ -80,9 +78,7 @@ pub fn call_processors<B: Switchboard, G: Gate, K: Keeper, R: Threads + Wait + S
             requires all_may { All (MayProcess B.known (B.board board.now) trace.now segment) crew.jobs.items }
             requires room { vec_len crew.jobs + 2 ≤ vec_capacity crew.done }
             requires empty { crew.done.items ≡ [] }
-            ensures jobs { IsThrough crew result }
-            ensures room { vec_capacity crew.done ≤ vec_capacity result.done }
-            ensures count { length result.done.items ≡ length crew.jobs.items + 1 }
+            ensures through { IsThrough (length crew.jobs.items + 1) crew result }
             ensures seated { All (λ f. B.seated board.entry.now f.seat) result.done.items }
             ensures works { HaveProcessed K.holds B.known (B.board board.entry.now) trace.entry.now segment (crew.jobs.items ++ next ∷ []) result.done.items }
         { call_processors(rt, alloc, board, trace, segment, next, crew, shortage, gate) },

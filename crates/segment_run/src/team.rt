@@ -54,9 +54,7 @@ fn with_frames<B: Switchboard, G: Gate, C: Carrier, K: Keeper, R: Threads + Wait
     requires all_may { All (MayProcess B.known (B.board board.now) trace.now segment) crew.jobs.items }
     requires room { vec_len crew.jobs ≤ vec_capacity crew.done }
     requires empty { crew.done.items ≡ [] }
-    ensures jobs { IsThrough crew result.1 }
-    ensures room { vec_capacity crew.done ≤ vec_capacity result.1.done }
-    ensures count { length result.1.done.items ≡ length crew.jobs.items }
+    ensures through { IsThrough (length crew.jobs.items) crew result.1 }
     ensures seated { B.seated board.now result.0.finished.seat × All (λ f. B.seated board.now f.seat) result.1.done.items }
     ensures frames { HasDoneFrames K.holds C.plays B.known (B.board board.now) trace.now segment (B.known frames.seat) result.0.finished }
     ensures ready { FinishesReady C.carries C.next C.sizes B.known (B.board board.now) result.0 }
@@ -97,9 +95,7 @@ fn with_frames<B: Switchboard, G: Gate, C: Carrier, K: Keeper, R: Threads + Wait
             requires all_may { All (MayProcess B.known (B.board board.now) trace.now segment) crew.jobs.items }
             requires room { vec_len crew.jobs + 1 ≤ vec_capacity crew.done }
             requires empty { crew.done.items ≡ [] }
-            ensures jobs { IsThrough crew result }
-            ensures room { vec_capacity crew.done ≤ vec_capacity result.done }
-            ensures count { length result.done.items ≡ length crew.jobs.items + 1 }
+            ensures through { IsThrough (length crew.jobs.items + 1) crew result }
             ensures seated { All (λ f. B.seated board.entry.now f.seat) result.done.items }
             ensures works { HaveProcessed K.holds B.known (B.board board.entry.now) trace.entry.now segment (crew.jobs.items ++ next ∷ []) result.done.items }
         { call_processors(rt, alloc, board, trace, segment, next, crew, shortage, gate) },
@@ -128,9 +124,7 @@ pub fn side_by_side<B: Switchboard, G: Gate, C: Carrier, K: Keeper, R: Threads +
     requires ready { AreReady C.carries C.next C.sizes B.known (B.board board.now) engine tool crew.jobs.items }
     requires room { vec_len crew.jobs ≤ vec_capacity crew.done }
     requires empty { crew.done.items ≡ [] }
-    ensures jobs { IsThrough crew result.crew }
-    ensures room { vec_capacity crew.done ≤ vec_capacity result.crew.done }
-    ensures count { length result.crew.done.items ≡ length crew.jobs.items }
+    ensures through { IsThrough (length crew.jobs.items) crew result.crew }
     ensures seated { All (λ f. B.seated board.now f.seat) result.crew.done.items }
     ensures works { HaveDone K.holds C.plays B.known (B.board board.now) trace.now segment crew.jobs.items result.crew.done.items }
     ensures ready { StayReady C.carries C.next C.sizes B.known (B.board board.now) trace.now crew.jobs.items result }

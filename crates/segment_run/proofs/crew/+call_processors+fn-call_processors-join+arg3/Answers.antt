@@ -27,11 +27,11 @@ join-mine-requires-after_bounds g t c lifetimes outlive =
 pub returns-clause-seated : goal.returns-clause-seated
 returns-clause-seated g t c =
     let P : Finished _ _ → Type 0 = λ w. g.B.Switchboard.seated c.args.board.now w.seat in
-    subst (All P) (sym c.push_reserved-2.ensures.items) (All-push P c.join-mine.result.1.done.items c.join-mine.result.0 c.join-mine.ensures.second.1.1.1.0 c.join-mine.ensures.first.0)
+    subst (All P) (sym c.push_reserved-2.ensures.items) (All-push P c.join-mine.result.1.done.items c.join-mine.result.0 c.join-mine.ensures.second.1.0 c.join-mine.ensures.first.0)
 
 pub returns-clause-works : goal.returns-clause-works
 returns-clause-works g t c =
     let R : Job _ _ → Finished _ _ → Type 0 = HasProcessed g.K.Keeper.holds g.B.Switchboard.known (g.B.Switchboard.board c.args.board.now) c.args.trace.now c.args.segment in
     subst (AllZip R (c.args.crew.jobs.items ++ c.args.job ∷ [])) (sym c.push_reserved-2.ensures.items)
     (subst (λ (js : List (Job _ _)). AllZip R (js ++ c.args.job ∷ []) (c.join-mine.result.1.done.items ++ c.join-mine.result.0 ∷ [])) (sym c.in-Some.ensures.items)
-    (zip_more R (c.pop.new.self.items ++ c.in-Some.next ∷ []) c.join-mine.result.1.done.items c.args.job c.join-mine.result.0 c.join-mine.ensures.second.1.1.1.1 c.join-mine.ensures.first.1))
+    (zip_more R (c.pop.new.self.items ++ c.in-Some.next ∷ []) c.join-mine.result.1.done.items c.args.job c.join-mine.result.0 c.join-mine.ensures.second.1.1 c.join-mine.ensures.first.1))

@@ -1,4 +1,4 @@
-use Rattle.std.proofs.Common.{rules, ◌≡◌, ℕ, ◌+◌, ◌≤◌, ◌++◌, ◌∷◌, [], List, sym, subst, ap, ◌∙◌, refl, arith, nat_eq, length, slice_index_or, length-append}
+use Rattle.std.proofs.Common.{rules, ◌≡◌, ℕ, ◌+◌, ◌≤◌, ◌++◌, ◌∷◌, [], sym, subst, ap, ◌∙◌, refl, arith, nat_eq, length, slice_index_or, length-append}
 use Rattle.std.specs.Prelude.{vec_capacity}
 use Rattle.std.specs.List.{All}
 use Rattle.std.specs.declared.alloc.Global.{Global}
@@ -6,7 +6,7 @@ use Rattle.std.specs.declared.vec.Vec.{Vec}
 use Rattle.std.proofs.lemmas.List.Elements.{All-push}
 use Rattle.seat_history.specs.declared.known.Known.{Known}
 use Rattle.segment_run.specs.declared.dealing.Job.{Job}
-use Rattle.segment_run.proofs.DealLemmas.{Dealing, enough, none_dealt, none_yet, one_dealt}
+use Rattle.segment_run.proofs.DealLemmas.{Dealing, dealing_moved, enough, none_dealt, none_yet, one_dealt}
 use Rattle.segment_run.proofs.dealing.deal.Goals.{then-turns-gt0+in-Some, else-turns-gt0}
 use Rattle.segment_run.proofs.dealing.deal.Goals as goal
 
@@ -15,21 +15,12 @@ loop-worker-init g c =
     let K = g.B.Switchboard.known in
     let S : Job _ _ → Type 0 = λ j. g.B.Switchboard.seated c.args.board.now j.seat in
     let none = c.requires.room.1 in
-    let d = none_yet (λ (j : Job _ _). j.worker) (λ (j : Job _ _). K j.seat) c.args.trace.now c.args.segment (K c.args.seat.now) c.args.jobs.items none c.requires.chief.1 in
     let long = ap length none in
     record {
       seated = c.requires.seated;
       others = subst (All S) (sym none) (λ k x h. absurd (omega (arith, h)));
       few = omega (arith, long);
-      below = d.below;
-      dealt = d.dealt;
-      idle = d.idle;
-      chief = d.chief;
-      still = d.still;
-      baton = d.baton;
-      frames = d.frames;
-      turns = d.turns;
-      all = d.all;
+      dealing = none_yet (λ (j : Job _ _). j.worker) (λ (j : Job _ _). K j.seat) c.args.trace.now c.args.segment (K c.args.seat.now) c.args.jobs.items none c.requires.chief.1;
       room = c.requires.room.0;
       lent = let nine = c.requires.workplaces in omega (arith, long, nine);
       kept = refl;
@@ -42,7 +33,7 @@ split-mine-requires-clause-turns g c =
     let last = c.from-processors.ensures in
     let within = c.loop-worker-test.true in
     let le : c.loop-worker.worker ≤ c.args.trace.now.processors = omega (arith, last, within) in
-    let h = enough (λ (j : Job _ _). j.worker) (λ (j : Job _ _). K j.seat) c.args.trace.now c.args.segment (K c.args.seat.now) c.loop-worker.worker c.loop-worker.jobs.items (K c.loop-worker.seat) le inv.turns inv.all c.requires.turns in
+    let h = enough (λ (j : Job _ _). j.worker) (λ (j : Job _ _). K j.seat) c.args.trace.now c.args.segment (K c.args.seat.now) c.loop-worker.worker c.loop-worker.jobs.items (K c.loop-worker.seat) le inv.dealing.turns inv.dealing.all c.requires.turns in
     let is = c.requires.loads c.loop-worker.worker le in
     omega (arith, h, is)
 
@@ -62,28 +53,14 @@ loop-worker-preserved g c =
     let js = c.loop-worker.jobs.items in
     let inv = c.loop-worker.invariant in
     let is = c.requires.loads i le in
-    let so_far : Dealing number known trace segment v i js (K c.loop-worker.seat) = record {
-      below = inv.below;
-      dealt = inv.dealt;
-      idle = inv.idle;
-      chief = inv.chief;
-      still = inv.still;
-      baton = inv.baton;
-      frames = inv.frames;
-      turns = inv.turns;
-      all = inv.all;
-    } in
     elim c.if-turns-gt0.branch [
       | then-turns-gt0+in-Some w ↦
           let j : Job _ _ = record { worker = i; seat = w.split-mine.result; workplace = w.in-Some.workplace } in
-          let h = enough number known trace segment v i js (K c.loop-worker.seat) le inv.turns inv.all c.requires.turns in
+          let h = enough number known trace segment v i js (K c.loop-worker.seat) le inv.dealing.turns inv.dealing.all c.requires.turns in
           let d : Dealing number known trace segment v (i + 1) (js ++ j ∷ []) (K w.split-mine.new.seat) =
           one_dealt number known trace segment v i (slice_index_or c.args.loads.now i 0) (nat_eq i c.from-processors.result) js j (K c.loop-worker.seat) (K w.split-mine.new.seat) le is refl (omega (arith, h, is)) (ap (nat_eq i) last)
-          w.split-mine.ensures.old w.split-mine.ensures.new so_far in
+          w.split-mine.ensures.old w.split-mine.ensures.new inv.dealing in
           let items : c.if-turns-gt0.jobs.items ≡ js ++ j ∷ [] = ap (λ (l : Vec (Job _ _) Global). l.items) w.jobs-is ∙ w.push_reserved.ensures.items in
-          let a : Dealing number known trace segment v (i + 1) c.if-turns-gt0.jobs.items (K c.if-turns-gt0.seat) =
-          subst (λ (l : List (Job _ _)). Dealing number known trace segment v (i + 1) l (K c.if-turns-gt0.seat)) (sym items)
-          (subst (λ (s : _). Dealing number known trace segment v (i + 1) (js ++ j ∷ []) (K s)) (sym w.seat-is) d) in
           let long = ap length items in
           let more = length-append js (j ∷ []) in
           let few = inv.few in
@@ -91,41 +68,22 @@ loop-worker-preserved g c =
             seated = subst (g.B.Switchboard.seated c.args.board.now) (sym w.seat-is) w.split-mine.ensures.seated.0;
             others = subst (All S) (sym items) (All-push S js j inv.others w.split-mine.ensures.seated.1);
             few = omega (arith, long, more, few);
-            below = a.below;
-            dealt = a.dealt;
-            idle = a.idle;
-            chief = a.chief;
-            still = a.still;
-            baton = a.baton;
-            frames = a.frames;
-            turns = a.turns;
-            all = a.all;
+            dealing = dealing_moved number known trace segment v (i + 1) _ _ _ _ items (ap K w.seat-is) d;
             room = subst (λ (l : Vec (Job _ _) Global). 9 ≤ vec_capacity l) (sym w.jobs-is) (search rules);
             lent = search rules;
             kept = search rules;
           }
       | else-turns-gt0 w ↦
           let none = w.if-turns-gt0.false in
-          let d : Dealing number known trace segment v (i + 1) js (K c.loop-worker.seat) = none_dealt number known trace segment v i js (K c.loop-worker.seat) (omega (arith, is, none)) so_far in
+          let d : Dealing number known trace segment v (i + 1) js (K c.loop-worker.seat) = none_dealt number known trace segment v i js (K c.loop-worker.seat) (omega (arith, is, none)) inv.dealing in
           let items : c.if-turns-gt0.jobs.items ≡ js = ap (λ (l : Vec (Job _ _) Global). l.items) w.jobs-is in
-          let a : Dealing number known trace segment v (i + 1) c.if-turns-gt0.jobs.items (K c.if-turns-gt0.seat) =
-          subst (λ (l : List (Job _ _)). Dealing number known trace segment v (i + 1) l (K c.if-turns-gt0.seat)) (sym items)
-          (subst (λ (s : _). Dealing number known trace segment v (i + 1) js (K s)) (sym w.seat-is) d) in
           let long = ap length items in
           let few = inv.few in
           record {
             seated = subst (g.B.Switchboard.seated c.args.board.now) (sym w.seat-is) inv.seated;
             others = subst (All S) (sym items) inv.others;
             few = omega (arith, long, few);
-            below = a.below;
-            dealt = a.dealt;
-            idle = a.idle;
-            chief = a.chief;
-            still = a.still;
-            baton = a.baton;
-            frames = a.frames;
-            turns = a.turns;
-            all = a.all;
+            dealing = dealing_moved number known trace segment v (i + 1) _ _ _ _ items (ap K w.seat-is) d;
             room = subst (λ (l : Vec (Job _ _) Global). 9 ≤ vec_capacity l) (sym w.jobs-is) inv.room;
             lent = search rules;
             kept = search rules;
