@@ -30,6 +30,12 @@ Keep holds [] (ps ∷ parts) = ⊥
 Keep holds (w ∷ used) [] = ⊥
 Keep holds (w ∷ used) (ps ∷ parts) = holds w.keeper ps × Keep holds used parts
 
+-- these workplaces keep parts that are apart
+pub record AreKeptApart {K : Type 0} (holds : K → List Placed → Type 0) (used : List (Workplace K)) : Type 0 where
+  pub parts : List (List Placed)
+  pub kept : Keep holds used parts
+  pub apart : AreApart parts
+
 -- the answers of all parts in the order of the history
 pub record IsMerged (parts : List (List Placed)) (answers : List Placed) : Type 0 where
   pub rising : IsRising answers

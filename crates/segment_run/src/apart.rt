@@ -1,10 +1,10 @@
 //! A segment whose workers run side by side, each in a thread of its own.
-ghost use Rattle.std.specs.Prelude.{◌≡◌, ◌+◌, ◌≤◌, ℕ, List, [], IfOk, OnOk, OnErr, length, slice_index, vec_len, vec_capacity};
+ghost use Rattle.std.specs.Prelude.{◌≡◌, ◌+◌, ◌≤◌, ℕ, List, [], IsTrue, IfOk, OnOk, OnErr, length, slice_index, vec_len, vec_capacity};
 ghost use Rattle.exchange_core.specs.Boards.{turns_of};
 ghost use Rattle.tone_rules.specs.Tables.{table_of};
 ghost use Rattle.call_processor.specs.declared.worked.Placed.{Placed};
 ghost use Rattle.call_processor.specs.Frames.{IsReadyFor};
-ghost use Rattle.segment_run.specs.Merging.{AddsMerged, AreApart, Keep, all_of};
+ghost use Rattle.segment_run.specs.Merging.{AddsMerged, AreApart, AreKeptApart, Keep, all_of};
 ghost use Rattle.segment_run.specs.Segment.{AddsAnswers, IsChief, MayRun, Ran, RanTo};
 ghost use Rattle.segment_run.specs.Team.{load};
 
@@ -57,11 +57,8 @@ pub fn run_apart<B: Switchboard, G: Gate, C: Carrier, K: Keeper, R: Threads + Wa
     let mut done = work_all(
         rt, alloc, board, seat, trace, segment, engine, tool, workroom, loads, gate,
     );
-    if !done.whole {
-        return Err(AllocError);
-    }
     let (first, end) = numbers_of(trace, segment);
-    merge_or_cut(keeper, &mut done.used, (end - first) as usize)?;
+    merge_or_cut(keeper, &mut done.used, done.whole, (end - first) as usize)?;
     give_back(&mut done.used, &mut done.workplaces);
     Ok(SegmentDone {
         engine: done.engine,
@@ -74,20 +71,25 @@ pub fn run_apart<B: Switchboard, G: Gate, C: Carrier, K: Keeper, R: Threads + Wa
     })
 }
 
-// Merges what was kept at these workplaces behind what the keeper keeps. Where memory runs out, it keeps
-// what it kept.
+// Merges what was kept at these workplaces behind what the keeper keeps, where all parts were done whole.
+// Else, and where memory runs out, it keeps what it kept.
 fn merge_or_cut<K: Keeper>(
     keeper: &mut K,
     used: &mut Vec<Workplace<K>>,
+    whole: bool,
     count: usize,
 ) -> Result<(), AllocError>
+    ensures whole { OnOk result (IsTrue whole) }
     ensures merged { OnOk result ((kept : List Placed) (parts : List (List Placed)) → K.holds keeper.old kept → Keep K.holds used.old.items parts
         → AreApart parts → length (all_of parts) ≤ count → AddsMerged K.holds kept parts keeper.new) }
-    ensures kept { OnErr result ((kept : List Placed) (parts : List (List Placed)) → K.holds keeper.old kept → Keep K.holds used.old.items parts
-        → AreApart parts → K.holds keeper.new kept) }
+    ensures kept { OnErr result ((kept : List Placed) → K.holds keeper.old kept → (IsTrue whole → AreKeptApart K.holds used.old.items)
+        → K.holds keeper.new kept) }
     ensures count { length used.new.items ≡ length used.old.items }
     ensures room { vec_capacity used.new ≡ vec_capacity used.old }
 {
+    if !whole {
+        return Err(AllocError);
+    }
     let kept = keeper.count();
     let done = merge(keeper, used, count);
     if done.is_err() {

@@ -13,19 +13,19 @@ numbers_of-first-requires-clause-sound g c = subst IsSound (sym c.requires.may.t
 
 pub returns-in_err-merge_or_cut-clause-kept : goal.returns-in_err-merge_or_cut-clause-kept
 returns-in_err-merge_or_cut-clause-kept g c =
-    let whole : IsTrue c.work_all-done.result.whole = search rules in
+    on_err c.from_residual.result (λ kept held. c.in_err-merge_or_cut.ensures.kept kept held (λ whole.
     let all = c.work_all-done.ensures.works.done whole in
-    on_err c.from_residual.result (λ kept held. c.in_err-merge_or_cut.ensures.kept kept all.parts held all.kept all.apart)
+    record { parts = all.parts; kept = all.kept; apart = all.apart }))
 
 pub returns-clause-whole : goal.returns-clause-whole
 returns-clause-whole g c =
-    let whole : IsTrue c.work_all-done.result.whole = search rules in
+    let whole = c.in_ok-merge_or_cut.ensures.whole in
     let all = c.work_all-done.ensures.works.done whole in
     record { whole = all.whole; long = all.long; ready = all.ready }
 
 pub returns-clause-answered : goal.returns-clause-answered
 returns-clause-answered g c = λ kept held.
-    let whole : IsTrue c.work_all-done.result.whole = search rules in
+    let whole = c.in_ok-merge_or_cut.ensures.whole in
     let all = c.work_all-done.ensures.works.done whole in
     let first = c.numbers_of-first.result.0 in
     let end = c.numbers_of-first.result.1 in
