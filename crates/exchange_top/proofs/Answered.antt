@@ -1,8 +1,7 @@
 -- The answers of a run and the lines of its report.
-use Rattle.std.proofs.Common.{◌≡◌, ℕ, suc, ◌+◌, List, [], ◌∷◌, ◌++◌, length, map, take, drop, Option, Some, slice_get, slice_index, refl, sym, ap, subst, ◌∙◌, arith, add-one, append_assoc, append-nil, length-append}
+use Rattle.std.proofs.Common.{◌≡◌, ℕ, suc, ◌+◌, List, [], ◌∷◌, ◌++◌, length, map, take, drop, Option, Some, slice_get, slice_index, refl, sym, ap, subst, ◌∙◌, arith, append_assoc, length-append}
 use Rattle.std.specs.Prelude.{All}
 use Rattle.std.specs.List.{cons_option}
-use Rattle.std.proofs.lemmas.List.{take-append-drop}
 use Rattle.std.proofs.lemmas.List.Elements.{All-nil, All-cons, All-head, All-tail, All-append, filter_map-append}
 use Rattle.std.proofs.Math.Seq.{take-append_seam, drop-append_seam}
 use Rattle.circuit_model.specs.declared.circuit.Kind.{Kind}
@@ -19,42 +18,23 @@ use Rattle.seat_history.specs.declared.known.Known.{Known}
 use Rattle.seat_history.specs.Histories.{StartsWith, before, unseen}
 use Rattle.exchange_core.specs.Boards.{Board, AnswersAt, setting_at, world_at}
 use Rattle.exchange_events.specs.Sizes.{Setting}
-use Rattle.exchange_events.specs.Sound.{setting_of}
 use Rattle.call_profile.specs.Step.{MovesAtMost, events_of, next, reply, run, world_after_all}
-use Rattle.exchange_core.specs.Working.{Entry, IsNumbered, order_of, world_after}
+use Rattle.exchange_core.specs.Working.{Entry, IsNumbered, order_of}
 use Rattle.call_profile.proofs.QuietEventLemmas.{passed_same}
 use Rattle.call_profile.specs.Expiring.{outcome_of_frame}
 use Rattle.call_profile.specs.World.{World, pass, start}
 use Rattle.exchange_core.proofs.StepLemmas.{world_more}
-use Rattle.tone_rules.specs.Tables.{table_of}
 use Rattle.call_processor.specs.Frames.{IsPlayed, Plays}
 use Rattle.segment_run.specs.Segment.{AreAnswered, IsAnswered, new_events}
 use Rattle.segment_run.proofs.OrderLemmas.{order_grown}
 use Rattle.report_text.specs.Report.{answer_line, answer_lines, frame_line, lines_sent, octet_of, report_line}
 use Rattle.exchange_top.specs.Outcomes.{MovesFew}
-use Rattle.report_text.specs.RunReport.{Played, report, event_line, event_lines, report_with, sent_at}
-use Rattle.exchange_top.specs.Running.{GrewFew, fabric_at, grown_calls, grown_lines}
+use Rattle.report_text.specs.RunReport.{report, event_line, event_lines, sent_at}
+use Rattle.exchange_top.specs.Running.{GrewFew, fabric_at, grown_calls}
 use Rattle.exchange_top.specs.Telling.{calls_answered}
-use Rattle.call_profile.specs.CallsTold.{calls_ended, calls_told, calls_kept}
+use Rattle.call_profile.specs.CallsTold.{calls_ended, calls_kept}
 use Rattle.report_text.proofs.KeptLines.{same_line}
-use Rattle.exchange_top.proofs.Reports.{sent_played, take_snoc}
-
--- ---- the lines of answers
-
-pub lines_append : (xs ys : List Answer) → answer_lines (xs ++ ys) ≡ answer_lines xs ++ answer_lines ys
-lines_append [] ys = refl
-lines_append (a ∷ xs) ys = ap (λ (l : List ℕ). answer_line a ++ l) (lines_append xs ys) ∙ sym (append_assoc (answer_line a) (answer_lines xs) (answer_lines ys))
-
--- one answer more is noted
-pub lines_more : (answers : List Answer) (i : ℕ) (a : Answer) → slice_get answers i ≡ Some a → answer_lines (take (i + 1) answers) ≡ answer_lines (take i answers) ++ answer_line a
-lines_more answers i a found =
-    ap (λ (n : ℕ). answer_lines (take n answers)) (add-one i)
-    ∙ (ap answer_lines (take_snoc answers i a found)
-    ∙ (lines_append (take i answers) (a ∷ []) ∙ ap (λ (l : List ℕ). answer_lines (take i answers) ++ l) (append-nil (answer_line a))))
-
--- what is noted so far, and the rest
-pub lines_split : (answers : List Answer) (i : ℕ) → answer_lines answers ≡ answer_lines (take i answers) ++ answer_lines (drop i answers)
-lines_split answers i = ap answer_lines (sym (take-append-drop i answers)) ∙ lines_append (take i answers) (drop i answers)
+use Rattle.exchange_top.proofs.Reports.{sent_played}
 
 -- ---- an order that goes on
 
@@ -64,29 +44,12 @@ events_long trace (n ∷ order) known =
     let e = event_there trace n (All-head (IsEvent trace) n order known) in
     ap suc (events_long trace order (All-tail (IsEvent trace) n order known)) ∙ sym (ap (λ (o : Option Event). length (cons_option o (events_of trace.events order))) e.1)
 
-event_lines-append : (played : Played) (s : Setting) (w : World) (order more : List ℕ) (es fs : List Event) → length order ≡ length es
-    → event_lines played s w (order ++ more) (es ++ fs) ≡ event_lines played s w order es ++ event_lines played s (world_after_all s w es) more fs
-event_lines-append played s w [] more [] fs same = refl
-event_lines-append played s w [] more (e ∷ es) fs same = absurd (omega (arith, same))
-event_lines-append played s w (n ∷ order) more [] fs same = absurd (omega (arith, same))
-event_lines-append played s w (n ∷ order) more (e ∷ es) fs same =
-    ap (λ (l : List ℕ). event_line played s w n e ++ l) (event_lines-append played s (next s w e) order more es fs (omega (arith, same)))
-    ∙ sym (append_assoc (event_line played s w n e) (event_lines played s (next s w e) order es) (event_lines played s (world_after_all s (next s w e) es) more fs))
-
 run-append : (s : Setting) (w : World) (es fs : List Event) → run s w (es ++ fs) ≡ run s w es ++ run s (world_after_all s w es) fs
 run-append s w [] fs = refl
 run-append s w (e ∷ es) fs = ap (λ (l : List Reply). reply s w e ∷ l) (run-append s (next s w e) es fs)
 
 pub events_append : (trace : Trace) (order more : List ℕ) → events_of trace.events (order ++ more) ≡ events_of trace.events order ++ events_of trace.events more
 events_append trace order more = filter_map-append (event_at trace.events) order more
-
--- the report of a longer order begins with the report of its beginning
-pub report_append : (played : Played) (slots : ℕ) (trace : Trace) (order more : List ℕ) → All (IsEvent trace) order → report_with played slots trace (order ++ more)
-    ≡ report_with played slots trace order ++ event_lines played (setting_of slots trace) (world_after slots trace order) more (events_of trace.events more)
-report_append played slots trace order more known =
-    let s = setting_of slots trace in
-    ap (event_lines played s (start s.dimensions) (order ++ more)) (events_append trace order more)
-    ∙ event_lines-append played s (start s.dimensions) order more (events_of trace.events order) (events_of trace.events more) (events_long trace order known)
 
 -- ---- the line of an answer
 
@@ -187,21 +150,6 @@ module _ (plays : Plays) (tones : Kind → List ℕ) (board : Board) (v w : Know
   pub lines_told : answer_lines answers ≡ event_lines (plays tones) (setting_at board) (world_at board v.seen) (new_events v w) (events_of board.trace.events (new_events v w))
   lines_told = all_told.lines
 
-  module _ (before_known : All (IsEvent board.trace) (order_of v.seen)) where
-    -- the report grows by the lines of the answers
-    pub report_grown : report_with (plays tones) board.slots board.trace (order_of w.seen) ≡ report_with (plays tones) board.slots board.trace (order_of v.seen) ++ answer_lines answers
-    report_grown =
-        ap (report_with (plays tones) board.slots board.trace) (order_grown v w begins)
-        ∙ (report_append (plays tones) board.slots board.trace (order_of v.seen) (new_events v w) before_known
-        ∙ ap (λ (l : List ℕ). report_with (plays tones) board.slots board.trace (order_of v.seen) ++ l) (sym lines_told))
-
-    -- what was noted of the answers so far is a prefix of the report
-    pub report_front : (i : ℕ) → report_with (plays tones) board.slots board.trace (order_of w.seen)
-        ≡ (report_with (plays tones) board.slots board.trace (order_of v.seen) ++ answer_lines (take i answers)) ++ answer_lines (drop i answers)
-    report_front i =
-        let done = report_with (plays tones) board.slots board.trace (order_of v.seen) in
-        report_grown ∙ (ap (λ (l : List ℕ). done ++ l) (lines_split answers i) ∙ sym (append_assoc done (answer_lines (take i answers)) (answer_lines (drop i answers))))
-
   -- few paths were moved
   pub few_told : GrewFew board v w
   few_told = all_told.few
@@ -212,12 +160,6 @@ module _ (plays : Plays) (tones : Kind → List ℕ) (board : Board) (v w : Know
 
 -- ---- what the history grew by
 
--- the report grows by the lines of the events
-pub text_grown : (plays : Plays) (board : Board) (v w : Known) → StartsWith w.seen v.seen → All (IsEvent board.trace) (order_of v.seen)
-    → report plays board.slots board.trace (order_of w.seen) ≡ report plays board.slots board.trace (order_of v.seen) ++ grown_lines plays board v w
-text_grown plays board v w begins known =
-    ap (report plays board.slots board.trace) (order_grown v w begins) ∙ report_append (plays (table_of board.trace.tones)) board.slots board.trace (order_of v.seen) (new_events v w) known
-
 -- few paths were moved, also in these events
 pub few_grown : (board : Board) (v w : Known) → StartsWith w.seen v.seen → MovesFew (fabric_at board) board.trace (order_of v.seen) → GrewFew board v w → MovesFew (fabric_at board) board.trace (order_of w.seen)
 few_grown board v w begins few more =
@@ -227,18 +169,3 @@ few_grown board v w begins few more =
     let split : events_of board.trace.events (order_of w.seen) ≡ old ++ new = ap (events_of board.trace.events) (order_grown v w begins) ∙ events_append board.trace (order_of v.seen) (new_events v w) in
     subst (All (MovesAtMost board.bound)) (sym (ap (run s (start s.dimensions)) split ∙ run-append s (start s.dimensions) old new))
     (All-append (MovesAtMost board.bound) (run s (start s.dimensions) old) (run s (world_at board v.seen) new) few more)
-
-calls_append : (xs ys : List Reply) → calls_ended (xs ++ ys) ≡ calls_ended xs ++ calls_ended ys
-calls_append [] ys = refl
-calls_append (r ∷ xs) ys = ap (λ l. calls_kept (kept_of r) ++ l) (calls_append xs ys) ∙ sym (append_assoc (calls_kept (kept_of r)) (calls_ended xs) (calls_ended ys))
-
--- the calls noted grow by those that ended in these events
-pub calls_grown : (board : Board) (v w : Known) → StartsWith w.seen v.seen
-    → calls_told board.slots board.trace (order_of w.seen) ≡ calls_told board.slots board.trace (order_of v.seen) ++ grown_calls board v w
-calls_grown board v w begins =
-    let s = setting_at board in
-    let old = events_of board.trace.events (order_of v.seen) in
-    let new = events_of board.trace.events (new_events v w) in
-    let split : events_of board.trace.events (order_of w.seen) ≡ old ++ new = ap (events_of board.trace.events) (order_grown v w begins) ∙ events_append board.trace (order_of v.seen) (new_events v w) in
-    ap calls_ended (ap (run s (start s.dimensions)) split ∙ run-append s (start s.dimensions) old new)
-    ∙ calls_append (run s (start s.dimensions) old) (run s (world_at board v.seen) new)

@@ -17,7 +17,7 @@ use Rattle.line_list.specs.declared.listing.Listing.TheVariants as listing
 use Rattle.line_list.specs.Lines.{Line, calls_of, line_of, listed, text_of}
 use Rattle.call_profile.specs.CallsTold.{calls_kept}
 use Rattle.report_text.specs.Report.{answer_line, answer_lines}
-use Rattle.exchange_top.specs.Running.{AreOfAnswers, GrewFew, grown_calls, grown_lines}
+use Rattle.exchange_top.specs.Running.{AreOfAnswers, IsAdded, grown_calls}
 use Rattle.exchange_top.specs.Telling.{calls_answered}
 use Rattle.exchange_top.proofs.Answered.{calls_told_of, few_told, lines_told}
 
@@ -50,13 +50,6 @@ module _ (l : Listing) (before after : List Line) (kept answers : List Placed) (
 
   pub calls_added : calls_of after ≡ calls_of before ++ calls_answered (map (λ (p : Placed). p.answer) answers)
   calls_added = ap calls_of grown ∙ calls_append before (map (line_of l) answers) ∙ ap (λ (rs : List CallRecord). calls_of before ++ rs) (calls_answers l answers)
-
--- what a segment's answers added to the lines before
-pub record IsAdded (plays : Plays) (l : Listing) (board : Board) (v w : Known) (before after : List Line) : Type 0 where
-  pub kept : AreOfAnswers l after
-  pub lines : text_of after ≡ text_of before ++ listed l (grown_lines plays board v w)
-  pub few : GrewFew board v w
-  pub calls : calls_of after ≡ calls_of before ++ grown_calls board v w
 
 pub added : (plays : Plays) (l : Listing) (board : Board) (trace : Trace) (segment : ℕ) (v w : Known) (before after : List Line) → trace ≡ board.trace → Ran trace segment v w → AreOfAnswers l before
     → ((kept : List Placed) → before ≡ map (line_of l) kept → AddsAnswers (λ (ls : List Line) (ps : List Placed). ls ≡ map (line_of l) ps) plays (table_of trace.tones) board v w kept after)

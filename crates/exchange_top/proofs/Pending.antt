@@ -1,5 +1,5 @@
 -- What was written of a report when a run ends.
-use Rattle.std.proofs.Common.{◌≡◌, ℕ, ◌+◌, List, [], ◌++◌, length, take, Option, Result, Ok, Err, OnErr, OnOk, refl, arith, sym, subst, ◌∙◌, ap, length-append, inl, inr}
+use Rattle.std.proofs.Common.{◌≡◌, ℕ, ◌+◌, List, [], ◌++◌, length, take, Option, Some, IsSomeAnd, Result, Ok, Err, OnErr, OnOk, refl, arith, sym, subst, ◌∙◌, ap, length-append, inl, inr}
 use Rattle.std.proofs.KnownBytes.{Appends-nil, Appends-trans}
 use Rattle.std.proofs.lemmas.List.{append_assoc, append-nil, take-append-le}
 use Rattle.std.proofs.Math.Seq.{take-append-add}
@@ -25,6 +25,14 @@ on_ok (Err e) p = tt
 pub on_ok_then : {T E P Q : Type 0} (r : Result T E) → OnOk r P → (P → Q) → OnOk r Q
 on_ok_then (Ok x) p then = then p
 on_ok_then (Err e) p then = tt
+
+pub on_err_then : {T E P Q : Type 0} (r : Result T E) → OnErr r P → (P → Q) → OnErr r Q
+on_err_then (Ok x) p then = tt
+on_err_then (Err e) p then = then p
+
+-- what holds of the value that there may be
+pub at_some : {T : Type 0} (P : T → Type 0) (o : Option T) (x : T) → Some x ≡ o → IsSomeAnd o P → P x
+at_some P o x is holds = subst (λ (known : Option _). IsSomeAnd known P) (sym is) holds
 
 pub ok_both : {T E P Q R : Type 0} (r : Result T E) → OnOk r P → OnOk r Q → (P → Q → R) → OnOk r R
 ok_both (Ok x) p q both = both p q

@@ -12,22 +12,23 @@ use Rattle.exchange_core.specs.Working.{order_of}
 use Rattle.call_profile.specs.CallsTold.{calls_told}
 use Rattle.call_processor.specs.Frames.{Plays}
 use Rattle.line_list.specs.declared.listing.Listing.{Listing}
-use Rattle.line_list.specs.Lines.{listed}
+use Rattle.line_list.specs.Lines.{Line, listed, text_of}
 use Rattle.segment_run.specs.Segment.{IsChief, Ran, RanWhole, new_events}
 use Rattle.segment_run.specs.Segments.{IsDoneBelow}
 use Rattle.segment_run.proofs.OrderLemmas.{count_done, grown_known, one_more, order_grown}
-use Rattle.meters.specs.Changing.{Step, Meters_changed, Metering, IsPast, AreMetered, after_steps, changes_at, handed_in, records_of, steps_text, with_changes}
+use Rattle.meters.specs.Changing.{Step, Meters_changed, Metering, IsAt, IsPast, AreMetered, after_steps, changes_at, handed_in, records_of, steps_text, with_changes}
 use Rattle.meters.proofs.Changes.{after-append, law_of_lines, metered-events, metered-first, records-append, records-changes, text-append}
-use Rattle.meters.proofs.Cursor.{next_above, none_between}
+use Rattle.meters.proofs.Cursor.{at_next, next_above, none_between}
 use Rattle.meters.proofs.Placed.{NoneBetween, records-with, with-segment}
 use Rattle.exchange_top.specs.Changes.{AreChangesBegun, AreChangesDone}
-use Rattle.exchange_top.specs.Outcomes.{IsInterrupted}
-use Rattle.exchange_top.specs.Running.{GrewFew, GrowthIsTold, grown_calls, grown_lines}
+use Rattle.exchange_top.specs.Outcomes.{IsInterrupted, IsUnwritten}
+use Rattle.exchange_top.specs.Running.{GrewFew, GrowthIsTold, IsAdded, grown_calls, grown_lines}
 use Rattle.exchange_top.specs.Story.{story}
+use Rattle.exchange_top.specs.Streams.{AppendsFront}
 use Rattle.exchange_top.specs.Telling.{AreLeft, AreMeteredBeyond, AreTold, AreToldFront, meter_story}
 use Rattle.exchange_top.proofs.Stories.{grown_are_events, grown_length, grown_records, grown_steps, grown_text, story_grown, story_records}
 use Rattle.exchange_top.proofs.Tellings.{beyond_none, both_beyond}
-use Rattle.exchange_top.proofs.Underway.{IsUnderway, begun_segment, underway_more}
+use Rattle.exchange_top.proofs.Underway.{IsUnderway, begun_changes, begun_flush, begun_segment, underway_first, underway_more}
 
 -- the place of a segment's beginning: how many events come before it
 abbrev pub place_of : List ℕ → ℕ → ℕ
@@ -212,3 +213,95 @@ pub joined : (before grown all said after : List ℕ) → said ≡ [] → after 
 joined before grown all said after silent is =
     ap (λ (t : List ℕ). t ++ all) is
     ∙ (append_assoc before grown all ∙ ap (λ (t : List ℕ). t ++ (grown ++ all)) (sym (append-nil before) ∙ ap (λ (t : List ℕ). before ++ t) (sym silent)))
+
+-- ---- by the trace that code knows, which is the board's, its changes and its ends of segments
+
+module _ {M : Type 0} {stands : M → List CallRecord → Type 0} {text : M → List CallRecord → List ℕ} {old spare : List M} {plays : Plays} {l : Listing} {board : Board} where
+  -- writing what is pending failed
+  pub unwritten_here : {k : ℕ} {v : Known} {meters spares : List M} {cursor : ℕ} {before now : Option (List ℕ)} {pending : List ℕ} → IsUnderway plays l board (λ steps. steps_text text steps (handed_in old spare)) k v before now pending
+      → AreOn stands text old spare plays l board k v meters spares cursor → {new : Option (List ℕ)} → AppendsFront now new pending
+      → IsUnwritten plays l board.slots (meter_story stands text old spare meters spares) board.trace (order_of v.seen) before new
+  unwritten_here {k} {v} {meters} {spares} {cursor} {before} {now} {pending} so_far on {new} front =
+      begun_flush plays l board (meter_story stands text old spare meters spares) k v before now pending so_far new front on.left
+
+module _ {M : Type 0} (stands : M → List CallRecord → Type 0) (text : M → List CallRecord → List ℕ) (old spare : List M) (plays : Plays) (l : Listing) (board : Board) where
+  module _ (trace : Trace) (changes : List ℕ) (same : trace ≡ board.trace) (changes_are : changes ≡ trace.changes) where
+    same_changes : changes ≡ board.trace.changes
+    same_changes = changes_are ∙ ap (λ (t : Trace). t.changes) same
+
+    -- memory ran out in the changes before the first segment
+    pub interrupted_first : {v : Known} → v ≡ first_seat (turns_of board) → {said : List ℕ} → said ≡ [] → {now now_spare : List M} {all : List ℕ} → AreChangesBegun stands text changes 0 old spare said now now_spare all → {known : Option (List ℕ)}
+        → IsInterrupted plays l board.slots (meter_story stands text old spare now now_spare) board.trace (order_of v.seen) known known
+    interrupted_first {v} fresh {said} silent {now} {now_spare} {all} begun {known} =
+        let b = begun_moved changes board.trace.changes 0 0 said same_changes refl silent begun in
+        begun_changes plays l board.slots (meter_story stands text old spare now now_spare) board.trace (order_of v.seen) known b.count b.left (ap (λ (s : Known). order_of s.seen) fresh) b.are
+        (beyond_none stands text (after_steps (replicate b.count Meters_changed) (handed_in old spare)) now now_spare (b.made.left (handed_in old spare) (metered-first stands text old spare)))
+
+    -- before the first segment, where no line is kept
+    module _ (v : Known) (fresh : v ≡ first_seat (turns_of board)) (said : List ℕ) (silent : said ≡ []) (now now_spare : List M) (all : List ℕ) (cursor : ℕ)
+        (d : AreChangesDone stands text changes 0 old spare said now now_spare all cursor) where
+      changed : AreChangesDone stands text board.trace.changes 0 old spare [] now now_spare all cursor
+      changed = done_moved changes board.trace.changes 0 0 said same_changes refl silent d
+
+      pub first_on : AreOn stands text old spare plays l board 0 v now now_spare cursor
+      first_on = changed_first stands text old spare plays l board v fresh now now_spare all cursor changed
+
+      pub first_underway : {known : Option (List ℕ)} {lines : List Line} → lines ≡ [] → IsUnderway plays l board (λ steps. steps_text text steps (handed_in old spare)) 0 v known known (text_of lines ++ all)
+      first_underway {known} {lines} none =
+          underway_first plays l board (λ steps. steps_text text steps (handed_in old spare)) v known (text_of lines ++ all) fresh
+          (said_first stands text old spare plays l board v fresh now now_spare all cursor changed ∙ sym (ap (λ (ls : List Line). text_of ls ++ all) none))
+
+    -- a segment more
+    module _ (ends : List ℕ) (ends_are : ends ≡ trace.segments) (sound : IsSound trace) (k : ℕ) (v : Known) (meters spares : List M) (cursor : ℕ) (before then : Option (List ℕ)) (pending : List ℕ) (inside : k < length ends)
+        (so_far : IsUnderway plays l board (λ steps. steps_text text steps (handed_in old spare)) k v before then pending) (on : AreOn stands text old spare plays l board k v meters spares cursor) where
+      same_ends : ends ≡ board.trace.segments
+      same_ends = ends_are ∙ ap (λ (t : Trace). t.segments) same
+
+      same_place : get_or ends k 0 ≡ place_of board.trace.segments (suc k)
+      same_place = ap (λ (xs : List ℕ). get_or xs k 0) same_ends
+
+      sound_there : IsSound board.trace
+      sound_there = subst IsSound same sound
+
+      within : k < length board.trace.segments
+      within = let long = ap (λ (xs : List ℕ). length xs) same_ends in omega (arith, long, inside)
+
+      pub next_at : IsAt changes cursor (get_or ends k 0)
+      next_at =
+          subst (λ (cs : List ℕ). IsAt cs cursor (get_or ends k 0)) (sym same_changes)
+          (subst (λ (n : ℕ). IsAt board.trace.changes cursor n) (sym same_place)
+          (at_next board.trace.segments board.trace.changes (length board.trace.events) k sound_there.segments sound_there.changes within cursor on.past))
+
+      module _ (w : Known) (ran : Ran trace k v w) where
+        ran_there : Ran board.trace k v w
+        ran_there = subst (λ (t : Trace). Ran t k v w) same ran
+
+        -- memory ran out in it
+        pub interrupted_here : {mid : List M} → GrowthIsTold (AreToldFront stands text meters mid) board v w
+            → IsInterrupted plays l board.slots (meter_story stands text old spare mid spares) board.trace (order_of w.seen) before then
+        interrupted_here {mid} front = interrupted_segment stands text old spare plays l board k v w meters spares cursor sound_there within so_far.done on ran_there mid front before then pending so_far
+
+        -- it was done, and its calls were noted
+        module _ (whole : RanWhole trace k v w) (mid : List M) (told : GrowthIsTold (AreTold stands text meters mid) board v w) (said : List ℕ) (silent : said ≡ []) (now now_spare : List M) (all : List ℕ) where
+          whole_there : RanWhole board.trace k v w
+          whole_there = subst (λ (t : Trace). RanWhole t k v w) same whole
+
+          -- memory ran out in the changes behind it
+          pub interrupted_behind : AreChangesBegun stands text changes (get_or ends k 0) mid spares said now now_spare all
+              → IsInterrupted plays l board.slots (meter_story stands text old spare now now_spare) board.trace (order_of w.seen) before then
+          interrupted_behind b =
+              interrupted_changes stands text old spare plays l board k v w meters spares cursor sound_there within so_far.done on ran_there whole_there mid told now now_spare all
+              (begun_moved changes board.trace.changes (get_or ends k 0) (place_of board.trace.segments (suc k)) said same_changes same_place silent b) before then pending so_far
+
+          module _ (cursor_now : ℕ) (d : AreChangesDone stands text changes (get_or ends k 0) mid spares said now now_spare all cursor_now) where
+            changed_then : AreChangesDone stands text board.trace.changes (place_of board.trace.segments (suc k)) mid spares [] now now_spare all cursor_now
+            changed_then = done_moved changes board.trace.changes (get_or ends k 0) (place_of board.trace.segments (suc k)) said same_changes same_place silent d
+
+            pub then_on : AreOn stands text old spare plays l board (k + 1) w now now_spare cursor_now
+            then_on = on_more stands text old spare plays l board k v w meters spares cursor sound_there within so_far.done on ran_there whole_there mid told now now_spare all cursor_now changed_then
+
+            pub then_underway : {lines after : List Line} → pending ≡ text_of lines ++ said → IsChief (turns_of board) w → IsAdded plays l board v w lines after
+                → IsUnderway plays l board (λ steps. steps_text text steps (handed_in old spare)) (k + 1) w before then (text_of after ++ all)
+            then_underway {lines} {after} are chief added =
+                underway_changed stands text old spare plays l board k v w meters spares cursor sound_there within so_far.done on ran_there whole_there mid told now now_spare all cursor_now changed_then before then pending (text_of after ++ all) so_far
+                chief added.few (joined (text_of lines) (listed l (grown_lines plays board v w)) all said (text_of after) silent added.lines ∙ ap (λ (t : List ℕ). t ++ (listed l (grown_lines plays board v w) ++ all)) (sym are))

@@ -1,5 +1,5 @@
 -- A run, segment after segment, and how it ends.
-use Rattle.std.proofs.Common.{◌≡◌, ℕ, ◌+◌, ◌*◌, ◌≤◌, List, [], ◌++◌, length, Option, refl, sym, ap, subst, ◌∙◌, arith, append-nil, inl, inr}
+use Rattle.std.proofs.Common.{◌≡◌, ℕ, ◌+◌, ◌*◌, ◌≤◌, List, [], ◌++◌, length, Option, Result, Ok, Err, IsErrAnd, refl, sym, ap, subst, ◌∙◌, arith, append-nil, inl, inr}
 use Rattle.std.specs.Prelude.{replicate}
 use Rattle.std.specs.Io.KnownBytes.{Appends}
 use Rattle.std.proofs.KnownBytes.{Appends-nil}
@@ -15,7 +15,7 @@ use Rattle.exchange_core.specs.Working.{order_of}
 use Rattle.call_processor.specs.Frames.{Plays}
 use Rattle.segment_run.specs.Segment.{IsChief, Ran, RanWhole, new_events}
 use Rattle.segment_run.specs.Segments.{IsDoneBelow}
-use Rattle.segment_run.proofs.OrderLemmas.{none, one_more, cut_short, all_done, first_chief, order_grown}
+use Rattle.segment_run.proofs.OrderLemmas.{none as none_done, one_more, cut_short, all_done, first_chief, order_grown}
 use Rattle.line_list.specs.declared.listing.Listing.{Listing}
 use Rattle.exchange_top.specs.Outcomes.{EndsWithSegment, IsFlushed, IsInterrupted, IsRunWhole, IsUnwritten, MovesFew}
 use Rattle.meters.specs.Changing.{Step, Meters_changed, changes_at, records_of}
@@ -23,7 +23,9 @@ use Rattle.meters.proofs.Changes.{records-changes}
 use Rattle.exchange_top.specs.Story.{story}
 use Rattle.exchange_top.specs.Telling.{MeterStory}
 use Rattle.call_profile.specs.CallsTold.{calls_told}
-use Rattle.exchange_top.specs.Running.{GrewFew, fabric_at}
+use Rattle.exchange_top.specs.declared.run.RunFault.{RunFault}
+use Rattle.exchange_top.specs.declared.run.RunFault.TheVariants.{Memory, Write}
+use Rattle.exchange_top.specs.Running.{GrewFew, fabric_at, status_of}
 use Rattle.exchange_top.specs.Streams.{AppendsFront}
 use Rattle.exchange_top.proofs.Answered.{few_grown}
 use Rattle.exchange_top.proofs.Stories.{story_records}
@@ -43,7 +45,7 @@ pub record IsUnderway (plays : Plays) (l : Listing) (board : Board) (written : W
 
 -- nothing is written
 ends_none : (plays : Plays) (l : Listing) (slots : ℕ) (written : Writing) (trace : Trace) → EndsWithSegment plays l slots written trace [] []
-ends_none plays l slots written trace = record { segments = 0; first = []; others = []; parts = refl; done = none trace; text_is = inl refl }
+ends_none plays l slots written trace = record { segments = 0; first = []; others = []; parts = refl; done = none_done trace; text_is = inl refl }
 
 -- what ends with a segment of an order does so of a longer one
 ends_longer : (plays : Plays) (l : Listing) (slots : ℕ) (written : Writing) (trace : Trace) (order more : List ℕ) (text : List ℕ) → EndsWithSegment plays l slots written trace order text
@@ -57,50 +59,37 @@ ends_longer plays l slots written trace order more text e = record {
   text_is = e.text_is;
 }
 
--- no event was done
-pub begun_none : (plays : Plays) (l : Listing) (slots : ℕ) (m : MeterStory) (trace : Trace) (order : List ℕ) (known : Option (List ℕ)) → order ≡ [] → m.left_beyond [] []
-    → IsInterrupted plays l slots m trace order known known
-begun_none plays l slots m trace order known empty told = rw empty (record {
-  lawful = (none trace).lawful;
-  segments = 0;
-  whole = [];
-  rest = [];
-  parts = refl;
-  done = none trace;
-  next = All-nil _;
-  text = [];
-  appended = Appends-nil known;
-  ends = ends_none plays l slots m.written trace;
-  steps = [];
-  others = story plays l slots trace [];
-  steps_are = refl;
-  more = [];
-  calls_are = refl;
-  meters = subst (m.left_beyond []) (sym (story_records plays l slots trace [] (All-nil _))) told;
-})
+-- no event was done, and at the most some of the changes before the first one
+module _ (plays : Plays) (l : Listing) (slots : ℕ) (m : MeterStory) (trace : Trace) (order : List ℕ) (known : Option (List ℕ)) where
+  begun_early : (steps others : List Step) → order ≡ [] → story plays l slots trace [] ≡ steps ++ others → records_of steps ≡ [] → records_of others ≡ [] → m.left_beyond steps []
+      → IsInterrupted plays l slots m trace order known known
+  begun_early steps others empty are none left told = rw empty (record {
+    lawful = (none_done trace).lawful;
+    segments = 0;
+    whole = [];
+    rest = [];
+    parts = refl;
+    done = none_done trace;
+    next = All-nil _;
+    text = [];
+    appended = Appends-nil known;
+    ends = ends_none plays l slots m.written trace;
+    steps = steps;
+    others = others;
+    steps_are = are;
+    more = [];
+    calls_are = none;
+    meters = subst (m.left_beyond steps) (sym left) told;
+  })
 
--- some of the changes before the first event were made
-pub begun_changes : (plays : Plays) (l : Listing) (slots : ℕ) (m : MeterStory) (trace : Trace) (order : List ℕ) (known : Option (List ℕ)) (count left : ℕ) → order ≡ []
-    → changes_at trace.changes 0 ≡ replicate count Meters_changed ++ replicate left Meters_changed → m.left_beyond (replicate count Meters_changed) []
-    → IsInterrupted plays l slots m trace order known known
-begun_changes plays l slots m trace order known count left empty are told = rw empty (record {
-  lawful = (none trace).lawful;
-  segments = 0;
-  whole = [];
-  rest = [];
-  parts = refl;
-  done = none trace;
-  next = All-nil _;
-  text = [];
-  appended = Appends-nil known;
-  ends = ends_none plays l slots m.written trace;
-  steps = replicate count Meters_changed;
-  others = replicate left Meters_changed;
-  steps_are = append-nil (changes_at trace.changes 0) ∙ are;
-  more = [];
-  calls_are = records-changes count;
-  meters = subst (m.left_beyond (replicate count Meters_changed)) (sym (records-changes left)) told;
-})
+  pub begun_none : order ≡ [] → m.left_beyond [] [] → IsInterrupted plays l slots m trace order known known
+  begun_none empty told = begun_early [] (story plays l slots trace []) empty refl refl (story_records plays l slots trace [] (All-nil _)) told
+
+  -- some of these changes were made
+  pub begun_changes : (count left : ℕ) → order ≡ [] → changes_at trace.changes 0 ≡ replicate count Meters_changed ++ replicate left Meters_changed → m.left_beyond (replicate count Meters_changed) []
+      → IsInterrupted plays l slots m trace order known known
+  begun_changes count left empty are told =
+      begun_early (replicate count Meters_changed) (replicate left Meters_changed) empty (append-nil (changes_at trace.changes 0) ∙ are) (records-changes count) (records-changes left) told
 
 module _ (plays : Plays) (l : Listing) (board : Board) (written : Writing) where
   -- before the first segment
@@ -109,7 +98,7 @@ module _ (plays : Plays) (l : Listing) (board : Board) (written : Writing) where
   underway_first seat known pending fresh all = rw fresh (record {
     chief = first_chief (turns_of board);
     numbers = omega arith;
-    done = none board.trace;
+    done = none_done board.trace;
     text = record { done = []; written = Appends-nil known; rest = all; whole = ends_none plays l board.slots written board.trace };
     few = All-nil _;
   })
@@ -189,3 +178,13 @@ module _ (plays : Plays) (l : Listing) (board : Board) (m : MeterStory) (k : ℕ
     few = so_far.few;
     meters = left;
   }
+
+-- ---- what came of a run
+
+pub status_memory : {C : Type 0} (r : Result C RunFault) → IsErrAnd r (λ fault. fault ≡ Memory) → status_of r ≡ 5
+status_memory {C} (Ok e) is = absurd is
+status_memory {C} (Err f) is = ap (λ (fault : RunFault). status_of {C = C} (Err fault)) is
+
+pub status_write : {C : Type 0} (r : Result C RunFault) → IsErrAnd r (λ fault. fault ≡ Write) → status_of r ≡ 4
+status_write {C} (Ok e) is = absurd is
+status_write {C} (Err f) is = ap (λ (fault : RunFault). status_of {C = C} (Err fault)) is

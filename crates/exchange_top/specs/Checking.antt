@@ -96,7 +96,8 @@ ChecksTo strict status left reads written writes source_old sink_old source_new 
 
 -- all of the input was read; its report is its trace's in a lawful order; the line that says so was written; and no event was done, and
 -- no meter noted a call
-pub record IsFoundValid (left : List Step → Type 0) (strict : Bool) (left_old left_new : Option (List ℕ)) (order : List ℕ) (old new : Option (List ℕ)) : Type 0 where
+pub record IsFoundValid (left : List Step → Type 0) (strict : Bool) (left_old left_new : Option (List ℕ))
+    (order : List ℕ) (old new : Option (List ℕ)) : Type 0 where
   pub bytes : List ℕ
   pub input : IsWholeInput left_old left_new bytes
   pub trace : Trace
@@ -108,7 +109,8 @@ pub record IsFoundValid (left : List Step → Type 0) (strict : Bool) (left_old 
   pub meters : left []
 
 -- its report isn't, and the line that says which of its lines is the first that isn't good was written
-pub record IsFoundInvalid (left : List Step → Type 0) (strict : Bool) (left_old left_new : Option (List ℕ)) (order : List ℕ) (old new : Option (List ℕ)) : Type 0 where
+pub record IsFoundInvalid (left : List Step → Type 0) (strict : Bool) (left_old left_new : Option (List ℕ))
+    (order : List ℕ) (old new : Option (List ℕ)) : Type 0 where
   pub bytes : List ℕ
   pub input : IsWholeInput left_old left_new bytes
   pub trace : Trace

@@ -1,7 +1,6 @@
 -- A run of a trace, segment by segment. Source: this exchange's own.
-use Rattle.std.specs.Prelude.{◌≡◌, ◌≤◌, ◌*◌, ◌++◌, ℕ, List, None, All, map, replicate}
+use Rattle.std.specs.Prelude.{◌≡◌, ◌++◌, ℕ, List, All, Result, Ok, Err, None, Some, map}
 use Rattle.tone_rules.specs.Tables.{table_of}
-use Rattle.control_memory.specs.Layout.{Layout}
 use Rattle.seat_history.specs.declared.known.Known.{Known}
 use Rattle.exchange_core.specs.Boards.{Board, setting_at, world_at}
 use Rattle.call_profile.specs.Step.{run, events_of, MovesAtMost}
@@ -9,22 +8,15 @@ use Rattle.segment_run.specs.Segment.{new_events}
 use Rattle.call_processor.specs.Frames.{Plays}
 use Rattle.call_processor.specs.declared.worked.Placed.{Placed}
 use Rattle.line_list.specs.declared.listing.Listing.{Listing}
-use Rattle.line_list.specs.Lines.{Line, line_of, listed, text_of}
+use Rattle.line_list.specs.Lines.{Line, calls_of, line_of, listed, text_of}
 use Rattle.std.specs.declared.option.Option.{Option}
-use Rattle.exchange_core.specs.Working.{order_of}
-use Rattle.exchange_events.specs.declared.trace.Trace.{Trace}
-use Rattle.exchange_top.specs.Outcomes.{Fabric, IsInterrupted, IsUnwritten}
+use Rattle.exchange_top.specs.declared.run.RunFault.{RunFault}
+use Rattle.exchange_top.specs.declared.run.RunFault.TheVariants.{Memory, Write}
+use Rattle.exchange_top.specs.Outcomes.{Fabric}
 use Rattle.exchange_events.specs.declared.record.CallRecord.{CallRecord}
 use Rattle.report_text.specs.RunReport.{event_lines}
-use Rattle.exchange_top.specs.Telling.{MeterStory, Telling}
+use Rattle.exchange_top.specs.Telling.{Telling}
 use Rattle.call_profile.specs.CallsTold.{calls_ended}
-
--- a map of paths that an exchange with n lines can begin with: it has as many, 1 to 59 internal slots, and no path yet
-pub record IsUnused (lines width depth : ℕ) (layout : Layout) : Type 0 where
-  pub wide : width ≡ lines
-  pub some : 1 ≤ depth
-  pub few : depth ≤ 59
-  pub bare : layout ≡ replicate (30 * lines) None
 
 -- the fabric of a board
 abbrev pub fabric_at : Board → Fabric
@@ -53,9 +45,20 @@ AddsText plays l board v w before after = text_of after ≡ text_of before ++ li
 abbrev pub AreOfAnswers : Listing → List Line → Type 0
 AreOfAnswers l lines = (answers : List Placed) × (lines ≡ map (line_of l) answers)
 
--- how a run on a board was cut short, whose order is what a seat has seen: a write failed, or memory ran out
-abbrev pub IsUnwrittenBy : Plays → Listing → Board → MeterStory → Trace → Known → (old new : Option (List ℕ)) → Type 0
-IsUnwrittenBy plays l board m trace seat old new = IsUnwritten plays l board.slots m trace (order_of seat.seen) old new
+-- lines that belong to some answers, and what a segment added to those before: the lines of the events that the history grew by, and their calls; few
+-- paths were moved in them
+pub record IsAdded (plays : Plays) (l : Listing) (board : Board) (v w : Known) (before after : List Line) : Type 0 where
+  pub kept : AreOfAnswers l after
+  pub lines : AddsText plays l board v w before after
+  pub few : GrewFew board v w
+  pub calls : calls_of after ≡ calls_of before ++ grown_calls board v w
 
-abbrev pub IsInterruptedBy : Plays → Listing → Board → MeterStory → Trace → Known → (old new : Option (List ℕ)) → Type 0
-IsInterruptedBy plays l board m trace seat old new = IsInterrupted plays l board.slots m trace (order_of seat.seen) old new
+-- the status that answers what came of a run, and the engine that is handed out then
+abbrev pub status_of : {C : Type 0} → Result C RunFault → ℕ
+status_of (Ok engine) = 0
+status_of (Err Write) = 4
+status_of (Err Memory) = 5
+
+abbrev pub engine_of : {C : Type 0} → Result C RunFault → Option C
+engine_of (Ok engine) = Some engine
+engine_of (Err fault) = None

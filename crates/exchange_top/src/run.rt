@@ -1,17 +1,14 @@
-ghost use Rattle.std.specs.Prelude.{◌≡◌, ◌+◌, ◌≤◌, ◌++◌, [], length, vec_capacity, IfOk, OnOk, OnErr, IsErrOf};
-ghost use Rattle.std.specs.Io.KnownBytes.{Appends};
-ghost use Rattle.ex_io.specs.Ends.{Rose};
+ghost use Rattle.std.specs.Prelude.{◌≡◌, ◌⊎◌, ◌+◌, ◌≤◌, ◌++◌, ℕ, [], length, vec_capacity, IfOk};
 ghost use Rattle.exchange_top.specs.declared.run.RunFault.TheVariants.{Memory, Write};
-ghost use Rattle.exchange_events.specs.Sound.{IsSound, setting_of};
-ghost use Rattle.exchange_core.specs.Working.{order_of, world_after};
+ghost use Rattle.exchange_events.specs.Sound.{IsSound};
+ghost use Rattle.exchange_core.specs.Beginnings.{IsUnused};
+ghost use Rattle.exchange_core.specs.Working.{order_of};
 ghost use Rattle.seat_history.specs.Seats.{first_seat};
 ghost use Rattle.shared_exchange.specs.Sharing.{IsSeated};
-ghost use Rattle.call_processor.specs.Frames.{CarriesFrames, IsReady};
-ghost use Rattle.meters.specs.Changing.{handed_in, steps_text};
-ghost use Rattle.exchange_top.specs.Outcomes.{IsInterrupted, IsRunWhole, IsUnwritten};
-ghost use Rattle.exchange_top.specs.Story.{story};
-ghost use Rattle.exchange_top.specs.Telling.{meter_story};
-ghost use Rattle.exchange_top.specs.Running.{IsUnused};
+ghost use Rattle.call_processor.specs.Frames.{IsReady};
+ghost use Rattle.exchange_top.specs.Commands.{RunsTo, parties};
+ghost use Rattle.exchange_top.specs.Outcomes.{fabric};
+ghost use Rattle.exchange_top.specs.Running.{engine_of, status_of};
 
 use crate::segments::{Carried, report_segments};
 use control_memory::{Image, PathMap};
@@ -30,7 +27,7 @@ use std::sync::Wait;
 use std::thread::Threads;
 
 /// Why a run did not come to its end (this exchange's own).
-#[derive(Clone, Copy, Debug, PartialEq, Eq)]
+#[derive(Clone, Copy)]
 pub enum RunFault {
     /// There was no memory.
     Memory,
@@ -88,27 +85,28 @@ pub fn run<
     requires empty { order.old.items ≡ [] }
     requires blank { lines.old ≡ [] }
     requires room { length trace.now.events ≤ vec_capacity order.old }
-    ensures whole { OnOk result (IsRunWhole C.plays L.listing (record { slots = P.depth paths; most_moves = P.bound paths })
-        (meter_story (λ m. stands m) (λ m. text m) meters.old.items spare.old.items meters.new.items spare.new.items) trace.now order.new.items) }
-    ensures text { OnOk result (Appends (K.written sink.old) (K.written sink.new)
-        (steps_text (λ m. text m) (story C.plays L.listing (P.depth paths) trace.now order.new.items) (handed_in meters.old.items spare.old.items))) }
-    ensures carried { IfOk result (λ e. CarriesFrames C.carries e (world_after (P.depth paths) trace.now order.new.items)) }
-    ensures sized { IfOk result (λ e. C.sizes e ≡ (setting_of (P.depth paths) trace.now).dimensions) }
-    ensures steady { OnOk result (K.faults sink.new ≡ K.faults sink.old) }
-
-    ensures unwritten { IsErrOf result RunFault.Write → IsUnwritten C.plays L.listing (P.depth paths)
-        (meter_story (λ m. stands m) (λ m. text m) meters.old.items spare.old.items meters.new.items spare.new.items)
-        trace.now order.new.items (K.written sink.old) (K.written sink.new) }
-    ensures interrupted { IsErrOf result RunFault.Memory → IsInterrupted C.plays L.listing (P.depth paths)
-        (meter_story (λ m. stands m) (λ m. text m) meters.old.items spare.old.items meters.new.items spare.new.items)
-        trace.now order.new.items (K.written sink.old) (K.written sink.new) }
-    ensures cause { IsErrOf result RunFault.Write → Rose (K.faults sink.old) (K.faults sink.new) }
-    ensures no_fault { IsErrOf result RunFault.Memory → K.faults sink.new ≡ K.faults sink.old }
+    ensures runs { RunsTo (parties C.plays C.sizes C.carries (engine_of result)
+        (λ m. stands m) (λ m. text m) meters.old.items spare.old.items meters.new.items spare.new.items)
+        (fabric P.depth P.bound paths)
+        L.listing trace.now (status_of result) order.new.items K.written K.faults sink.old sink.new }
+    ensures writes { (status_of result ≡ 4) ⊎ (K.faults sink.new ≡ K.faults sink.old) }
 {
-    let (board, seat, carried) = equipped(alloc, trace, paths, lines)?;
-    let mut seat = seat;
+    let (board, mut seat, carried) = equipped(alloc, trace, paths, lines)?;
+    let mut carried = Some(carried);
+    let mut said = Vec::new(alloc);
     let done = report_segments(
-        rt, alloc, &board, &mut seat, trace, carried, lines, sink, gate, meters, spare,
+        rt,
+        alloc,
+        &board,
+        &mut seat,
+        trace,
+        &mut carried,
+        lines,
+        &mut said,
+        sink,
+        gate,
+        meters,
+        spare,
     );
     note_order(order, board.close(seat).journal());
     done
@@ -136,15 +134,34 @@ fn equipped<'t, P: PathMap + Drop, C: Carrier, L: ListingKind + Send + Drop>(
     ensures ready { IfOk result (λ r. IsReady C.carries C.next C.sizes r.0.setting [] r.2.engine r.2.tool) }
 {
     let slots = paths.slots();
-    let (external, bridges) = (trace.external, trace.bridges);
     let core = Core::new(alloc, trace, paths)?;
     let (board, seat) = SharedExchange::open(alloc, core)?;
-    let carried = Carried {
-        engine: C::new(alloc, external, bridges, slots)?,
-        tool: Tool::Image(Image::new(alloc, external, bridges, slots)?),
-        workroom: Workroom::new(alloc, lines)?,
-    };
+    let carried = carried_first(alloc, trace, slots, lines)?;
     Ok((board, seat, carried))
+}
+
+// What the first segment of a run begins with: the engine, a control memory, and a workroom. It is made
+// apart from the exchange, since each value that an early return drops is dear to prove.
+fn carried_first<T: Drop, C: Carrier, L: ListingKind + Send + Drop>(
+    alloc: Global,
+    trace: &Trace,
+    slots: u8,
+    lines: &LineList<L>,
+) -> Result<Carried<T, C, L>, AllocError>
+    requires sound { IsSound trace.now }
+    requires slots { 1 ≤ slots × (slots ≤ 59) }
+    ensures ready { IfOk result (λ r. (bound : ℕ)
+        → IsReady C.carries C.next C.sizes (record { trace = trace.now; slots = slots; bound = bound }) [] r.engine r.tool) }
+{
+    let (external, bridges) = (trace.external, trace.bridges);
+    let workroom = Workroom::new(alloc, lines)?;
+    let image = Image::new(alloc, external, bridges, slots)?;
+    let engine = C::new(alloc, external, bridges, slots)?;
+    Ok(Carried {
+        engine,
+        tool: Tool::Image(image),
+        workroom,
+    })
 }
 
 // Notes the numbers of the events of a journal.

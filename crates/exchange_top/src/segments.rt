@@ -1,23 +1,20 @@
 //! The segments of a run, and what is written of each.
-ghost use Rattle.std.specs.Prelude.{◌≡◌, ◌⊎◌, ℕ, ◌+◌, ◌*◌, ◌<◌, ◌≤◌, ◌++◌, ◌^◌, List, [], drop, length, IfOk, OnOk, OnErr, IsErrOf};
-ghost use Rattle.std.specs.declared.option.Option.{Option};
+ghost use Rattle.std.specs.Prelude.{◌≡◌, ◌⊎◌, ◌*◌, ◌<◌, ◌≤◌, ◌++◌, [], drop, length, IsSomeAnd, OnOk, OnErr};
 ghost use Rattle.std.specs.Io.KnownBytes.{Appends};
 ghost use Rattle.ex_io.specs.Ends.{Rose};
 ghost use Rattle.seat_history.specs.Seats.{first_seat};
-ghost use Rattle.exchange_core.specs.Boards.{turns_of, setting_at, world_at};
+ghost use Rattle.exchange_core.specs.Boards.{turns_of};
 ghost use Rattle.exchange_events.specs.Sound.{IsSound};
 ghost use Rattle.exchange_core.specs.Working.{order_of};
-ghost use Rattle.call_processor.specs.Frames.{CarriesFrames, IsReady, IsReadyFor};
+ghost use Rattle.call_processor.specs.Frames.{IsReady, IsReadyFor};
 ghost use Rattle.segment_run.specs.Segment.{IsChief, Ran, RanWhole};
 ghost use Rattle.segment_run.specs.Segments.{IsDoneBelow};
-ghost use Rattle.exchange_top.specs.declared.run.RunFault.TheVariants.{Memory, Write};
 ghost use Rattle.line_list.specs.Lines.{calls_of, text_of};
-ghost use Rattle.meters.specs.Changing.{handed_in, steps_text};
-ghost use Rattle.exchange_top.specs.Outcomes.{IsFlushed, IsRunWhole};
-ghost use Rattle.exchange_top.specs.Running.{AddsText, AreOfAnswers, GrewFew, GrowthIsTold, IsInterruptedBy, IsUnwrittenBy, fabric_at};
-ghost use Rattle.exchange_top.specs.Story.{story};
+ghost use Rattle.exchange_top.specs.Commands.{RunsTo, parties};
+ghost use Rattle.exchange_top.specs.Outcomes.{IsFlushed};
+ghost use Rattle.exchange_top.specs.Running.{AreOfAnswers, GrowthIsTold, IsAdded, engine_of, fabric_at, status_of};
 ghost use Rattle.exchange_top.specs.Streams.{AppendsFront};
-ghost use Rattle.exchange_top.specs.Telling.{AreTold, AreToldFront, meter_story};
+ghost use Rattle.exchange_top.specs.Telling.{AreTold, AreToldFront};
 
 use crate::changing::change_at;
 use crate::run::RunFault;
@@ -55,7 +52,7 @@ pub struct Carried<T, C, L> {
 /// Runs the segments of a board's trace one after the other, writes of them what is listed, and tells
 /// the meters of the calls that end. Then the changes behind a segment are made, those before the first
 /// event before any segment. The lines of a segment are written once all of that is done; until then they
-/// are kept in `lines`, and what the meters say that are taken out behind them.
+/// are kept in `lines`, and what the meters say that are taken out behind them, in `said`.
 pub fn report_segments<
     B: Switchboard,
     K: Sink,
@@ -69,65 +66,49 @@ pub fn report_segments<
     board: &B,
     seat: &mut B::Seat,
     trace: &Trace,
-    carried: Carried<B::Seat, C, L>,
+    carried: &mut Option<Carried<B::Seat, C, L>>,
     lines: &mut LineList<L>,
+    said: &mut Vec<u8>,
     sink: &mut K,
     gate: &G,
     meters: &mut Vec<Box<dyn Meter>>,
     spare: &mut VecDeque<Box<dyn Meter>>,
 ) -> Result<C, RunFault>
     requires blank { lines.old ≡ [] }
+    requires silent { said.old.items ≡ [] }
     requires seated { B.seated board.now seat.old }
     requires trace { trace.now ≡ (B.board board.now).trace }
     requires sound { IsSound trace.now }
     requires fresh { B.known seat.old ≡ first_seat (turns_of (B.board board.now)) }
-    requires ready { IsReady C.carries C.next C.sizes (B.board board.now) [] carried.engine carried.tool }
+    requires ready { IsSomeAnd carried.old (λ c. IsReady C.carries C.next C.sizes (B.board board.now) [] c.engine c.tool) }
     ensures seated { B.seated board.now seat.new }
     ensures chief { IsChief (turns_of (B.board board.now)) (B.known seat.new) }
-    ensures whole { OnOk result (IsRunWhole C.plays L.listing (fabric_at (B.board board.now))
-        (meter_story (λ m. stands m) (λ m. text m) meters.old.items spare.old.items meters.new.items spare.new.items)
-        trace.now (order_of (B.known seat.new).seen)) }
-    ensures text { OnOk result (Appends (K.written sink.old) (K.written sink.new)
-        (steps_text (λ m. text m) (story C.plays L.listing (B.board board.now).slots trace.now (order_of (B.known seat.new).seen))
-        (handed_in meters.old.items spare.old.items))) }
-    ensures carried { IfOk result (λ e. CarriesFrames C.carries e (world_at (B.board board.now) (B.known seat.new).seen)) }
-    ensures sized { IfOk result (λ e. C.sizes e ≡ (setting_at (B.board board.now)).dimensions) }
-    ensures steady { OnOk result (K.faults sink.new ≡ K.faults sink.old) }
-
-    ensures unwritten { IsErrOf result RunFault.Write → IsUnwrittenBy C.plays L.listing (B.board board.now)
-        (meter_story (λ m. stands m) (λ m. text m) meters.old.items spare.old.items meters.new.items spare.new.items)
-        trace.now (B.known seat.new) (K.written sink.old) (K.written sink.new) }
-    ensures interrupted { IsErrOf result RunFault.Memory → IsInterruptedBy C.plays L.listing (B.board board.now)
-        (meter_story (λ m. stands m) (λ m. text m) meters.old.items spare.old.items meters.new.items spare.new.items)
-        trace.now (B.known seat.new) (K.written sink.old) (K.written sink.new) }
-    ensures cause { IsErrOf result RunFault.Write → Rose (K.faults sink.old) (K.faults sink.new) }
-    ensures no_fault { IsErrOf result RunFault.Memory → K.faults sink.new ≡ K.faults sink.old }
+    ensures runs { RunsTo (parties C.plays C.sizes C.carries (engine_of result)
+        (λ m. stands m) (λ m. text m) meters.old.items spare.old.items meters.new.items spare.new.items)
+        (fabric_at (B.board board.now)) L.listing (B.board board.now).trace
+        (status_of result) (order_of (B.known seat.new).seen) K.written K.faults sink.old sink.new }
+    ensures writes { (status_of result ≡ 4) ⊎ (K.faults sink.new ≡ K.faults sink.old) }
 {
-    let mut carried = carried;
     let ends = trace.segments.as_slice();
     let changes = trace.changes.as_slice();
-    let mut said = Vec::new(alloc);
-    let mut made = change_at(changes, 0, 0, meters, spare, &mut said)?;
-    flush_full(sink, lines, &mut said)?;
+    let mut made = change_at(changes, 0, 0, meters, spare, said)?;
+    flush_full(sink, lines, said)?;
     for segment in 0..ends.len() as u32 {
-        carried = report_segment(
+        report_segment(
             rt, alloc, board, seat, trace, segment, carried, lines, gate, meters,
         )?;
-        made = change_at(
-            changes,
-            made,
-            ends[segment as usize],
-            meters,
-            spare,
-            &mut said,
-        )?;
-        flush_full(sink, lines, &mut said)?;
+        made = change_at(changes, made, ends[segment as usize], meters, spare, said)?;
+        flush_full(sink, lines, said)?;
     }
-    flush(sink, lines, &mut said)?;
-    Ok(carried.engine)
+    flush(sink, lines, said)?;
+    let Some(last) = carried.take() else {
+        unreachable!()
+    };
+    Ok(last.engine)
 }
 
-// Runs one segment, and keeps the lines of its events behind those before them.
+// Runs one segment, and keeps the lines of its events behind those before them. What goes from one segment
+// to the next is taken out meanwhile, so that no early return holds it: its drop there is dear to prove.
 fn report_segment<
     B: Switchboard,
     G: Gate,
@@ -141,11 +122,11 @@ fn report_segment<
     seat: &mut B::Seat,
     trace: &Trace,
     segment: u32,
-    carried: Carried<B::Seat, C, L>,
+    carried: &mut Option<Carried<B::Seat, C, L>>,
     lines: &mut LineList<L>,
     gate: &G,
     meters: &mut Vec<Box<dyn Meter>>,
-) -> Result<Carried<B::Seat, C, L>, AllocError>
+) -> Result<(), AllocError>
     requires seated { B.seated board.now seat.old }
     requires trace { trace.now ≡ (B.board board.now).trace }
     requires sound { IsSound trace.now }
@@ -154,35 +135,41 @@ fn report_segment<
     requires numbers { (B.known seat.old).made ≤ 9 * segment }
     requires kept { AreOfAnswers L.listing lines.old }
     requires done { IsDoneBelow trace.now segment (order_of (B.known seat.old).seen) }
-    requires ready { IsReadyFor C.carries C.next C.sizes (B.board board.now) (B.known seat.old) carried.engine carried.tool }
+    requires ready { IsSomeAnd carried.old (λ c. IsReadyFor C.carries C.next C.sizes (B.board board.now) (B.known seat.old) c.engine c.tool) }
     ensures seated { B.seated board.now seat.new }
     ensures chief { IsChief (turns_of (B.board board.now)) (B.known seat.new) }
     ensures ran { Ran trace.now segment (B.known seat.old) (B.known seat.new) }
     ensures whole { OnOk result (RanWhole trace.now segment (B.known seat.old) (B.known seat.new)) }
-    ensures kept { OnOk result (AreOfAnswers L.listing lines.new) }
-    ensures lines { OnOk result (AddsText C.plays L.listing (B.board board.now) (B.known seat.old) (B.known seat.new) lines.old lines.new) }
-    ensures few { OnOk result (GrewFew (B.board board.now) (B.known seat.old) (B.known seat.new)) }
+    ensures added { OnOk result (IsAdded C.plays L.listing (B.board board.now) (B.known seat.old) (B.known seat.new) lines.old lines.new) }
     ensures told { OnOk result (GrowthIsTold (AreTold (λ m. stands m) (λ m. text m) meters.old.items meters.new.items)
         (B.board board.now) (B.known seat.old) (B.known seat.new)) }
     ensures told_front { OnErr result (GrowthIsTold (AreToldFront (λ m. stands m) (λ m. text m) meters.old.items meters.new.items)
         (B.board board.now) (B.known seat.old) (B.known seat.new)) }
-    ensures ready { IfOk result (λ c. IsReadyFor C.carries C.next C.sizes (B.board board.now) (B.known seat.new) c.engine c.tool) }
+    ensures ready { OnOk result (IsSomeAnd carried.new (λ c. IsReadyFor C.carries C.next C.sizes (B.board board.now) (B.known seat.new) c.engine c.tool)) }
 {
-    let Carried {
-        engine,
-        tool,
-        workroom,
-    } = carried;
+    let Some(before) = carried.take() else {
+        unreachable!()
+    };
     let told = lines.records().len();
     let done = run_segment_with(
-        rt, alloc, board, seat, trace, segment, engine, tool, workroom, lines, gate,
+        rt,
+        alloc,
+        board,
+        seat,
+        trace,
+        segment,
+        before.engine,
+        before.tool,
+        before.workroom,
+        lines,
+        gate,
     )?;
-    tell(meters, records_behind(lines, told))?;
-    Ok(Carried {
+    *carried = Some(Carried {
         engine: done.engine,
         tool: done.tool,
         workroom: done.workroom,
-    })
+    });
+    tell(meters, records_behind(lines, told))
 }
 
 // The records of the calls that ended, behind the first n.

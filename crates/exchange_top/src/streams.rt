@@ -12,7 +12,7 @@ use std::alloc::{AllocError, Global};
 const PIECE: usize = 65_536;
 
 /// Why an input could not be read (this exchange's own).
-#[derive(Clone, Copy, Debug, PartialEq, Eq)]
+#[derive(Clone, Copy)]
 pub enum ReadFault {
     /// There was no memory for the bytes.
     Memory,

@@ -1,5 +1,4 @@
-use Rattle.std.proofs.Common.{Err, refl, ap}
-use Rattle.exchange_top.specs.Commands.{Whole, Unwritten_from, No_memory_from}
+use Rattle.exchange_top.specs.Commands.{No_memory_from}
 use Rattle.exchange_top.proofs.Tellings.{none_beyond}
 use Rattle.exchange_top.proofs.Underway.{begun_none}
 use Rattle.exchange_top.proofs.call.run_on.Goals as goal
@@ -9,14 +8,8 @@ returns-in_default-clause-runs g c =
     let e = c.without_events.ensures in
     No_memory_from e.status (begun_none _ _ _ _ _ _ _ e.none (none_beyond _ _ _ _))
 
-pub returns-in-Ok-run-clause-runs : goal.returns-in-Ok-run-clause-runs
-returns-in-Ok-run-clause-runs g c = let r = c.in-Ok-run.ensures in Whole refl r.whole r.text (r.sized, r.carried)
-
 pub returns-in-Err-Write-clause-runs : goal.returns-in-Err-Write-clause-runs
-returns-in-Err-Write-clause-runs g c =
-    let r = c.in-Err-Write.ensures in
-    let write = ap Err c.in-Err-Write.field-0-is in
-    Unwritten_from refl (r.cause write) (r.unwritten write)
+returns-in-Err-Write-clause-runs g c = rw c.in-Err-Write.field-0-is at c.in-Err-Write.ensures.runs
 
 pub returns-in-Err-Memory-clause-runs : goal.returns-in-Err-Memory-clause-runs
-returns-in-Err-Memory-clause-runs g c = let r = c.in-Err-Memory.ensures in No_memory_from refl (r.interrupted (ap Err c.in-Err-Memory.field-0-is))
+returns-in-Err-Memory-clause-runs g c = rw c.in-Err-Memory.field-0-is at c.in-Err-Memory.ensures.runs

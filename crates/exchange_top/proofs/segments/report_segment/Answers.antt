@@ -1,9 +1,10 @@
 use Rattle.std.proofs.Common.{length, ap, ◌∙◌, arith, subst}
+use Rattle.call_processor.specs.Frames.{IsReady}
 use Rattle.segment_run.proofs.LoadLemmas.{turns_for}
 use Rattle.segment_run.proofs.OrderLemmas.{numbers_left, seen_done}
 use Rattle.exchange_top.specs.Telling.{AreTold, AreToldFront}
 use Rattle.exchange_top.proofs.Kept.{added, told_behind, told_within}
-use Rattle.exchange_top.proofs.Pending.{on_err}
+use Rattle.exchange_top.proofs.Pending.{at_some, on_err, on_err_then, on_ok, on_ok_then}
 use Rattle.exchange_top.proofs.Tellings.{none_front}
 use Rattle.exchange_top.proofs.segments.report_segment.Goals as goal
 
@@ -23,51 +24,30 @@ run_segment_with-requires-clause-may g c lifetimes outlive =
 pub returns-in_err-done-clause-told_front : goal.returns-in_err-done-clause-told_front
 returns-in_err-done-clause-told_front g c = on_err c.from_residual.result (none_front _ _ _ _)
 
+pub run_segment_with-requires-clause-ready : goal.run_segment_with-requires-clause-ready
+run_segment_with-requires-clause-ready g c lifetimes outlive =
+    at_some (λ carried. IsReady g.C.Carrier.carries g.C.Carrier.next g.C.Carrier.sizes (g.B.Switchboard.board c.args.board.now) (g.B.Switchboard.known c.args.seat.now).seen carried.engine carried.tool) _ c.in-Some.before c.in-Some.ensures.value c.requires.ready
+
 pub records_behind-requires : goal.records_behind-requires
 records_behind-requires g c =
-    let board = g.B.Switchboard.board c.args.board.now in
-    let v = g.B.Switchboard.known c.args.seat.now in
-    let w = g.B.Switchboard.known c.run_segment_with.new.seat in
-    let a = added g.C.Carrier.plays g.L.ListingKind.listing board c.args.trace.now c.args.segment v w c.args.lines.now c.run_segment_with.new.keeper c.requires.trace c.run_segment_with.ensures.ran c.requires.kept c.in_ok-done.ensures.answered in
+    let a = added _ _ _ _ _ _ _ _ _ c.requires.trace c.run_segment_with.ensures.ran c.requires.kept c.in_ok-done.ensures.answered in
     told_within _ _ _ _ _ _ _ a _ (ap length c.records-told.ensures)
 
-pub returns-in_err-tell-clause-told_front : goal.returns-in_err-tell-clause-told_front
-returns-in_err-tell-clause-told_front g c =
-    let board = g.B.Switchboard.board c.args.board.now in
-    let v = g.B.Switchboard.known c.args.seat.now in
-    let w = g.B.Switchboard.known c.run_segment_with.new.seat in
-    let a = added g.C.Carrier.plays g.L.ListingKind.listing board c.args.trace.now c.args.segment v w c.args.lines.now c.run_segment_with.new.keeper c.requires.trace c.run_segment_with.ensures.ran c.requires.kept c.in_ok-done.ensures.answered in
-    on_err c.from_residual-in_err-tell.result
-    (subst (AreToldFront _ _ c.args.meters.now.items c.tell.new.meters.items) (c.records_behind.ensures ∙ told_behind _ _ _ _ _ _ _ a _ (ap length c.records-told.ensures)) c.in_err-tell.ensures.front)
+pub returns-clause-whole : goal.returns-clause-whole
+returns-clause-whole g c = on_ok c.tell.result c.in_ok-done.ensures.whole.whole
 
-pub returns-clause-kept : goal.returns-clause-kept
-returns-clause-kept g c =
-    let board = g.B.Switchboard.board c.args.board.now in
-    let v = g.B.Switchboard.known c.args.seat.now in
-    let w = g.B.Switchboard.known c.run_segment_with.new.seat in
-    let a = added g.C.Carrier.plays g.L.ListingKind.listing board c.args.trace.now c.args.segment v w c.args.lines.now c.run_segment_with.new.keeper c.requires.trace c.run_segment_with.ensures.ran c.requires.kept c.in_ok-done.ensures.answered in
-    a.kept
+pub returns-clause-ready : goal.returns-clause-ready
+returns-clause-ready g c = on_ok c.tell.result c.in_ok-done.ensures.whole.ready
 
-pub returns-clause-lines : goal.returns-clause-lines
-returns-clause-lines g c =
-    let board = g.B.Switchboard.board c.args.board.now in
-    let v = g.B.Switchboard.known c.args.seat.now in
-    let w = g.B.Switchboard.known c.run_segment_with.new.seat in
-    let a = added g.C.Carrier.plays g.L.ListingKind.listing board c.args.trace.now c.args.segment v w c.args.lines.now c.run_segment_with.new.keeper c.requires.trace c.run_segment_with.ensures.ran c.requires.kept c.in_ok-done.ensures.answered in
-    a.lines
-
-pub returns-clause-few : goal.returns-clause-few
-returns-clause-few g c =
-    let board = g.B.Switchboard.board c.args.board.now in
-    let v = g.B.Switchboard.known c.args.seat.now in
-    let w = g.B.Switchboard.known c.run_segment_with.new.seat in
-    let a = added g.C.Carrier.plays g.L.ListingKind.listing board c.args.trace.now c.args.segment v w c.args.lines.now c.run_segment_with.new.keeper c.requires.trace c.run_segment_with.ensures.ran c.requires.kept c.in_ok-done.ensures.answered in
-    a.few
+pub returns-clause-added : goal.returns-clause-added
+returns-clause-added g c = on_ok c.tell.result (added _ _ _ _ _ _ _ _ _ c.requires.trace c.run_segment_with.ensures.ran c.requires.kept c.in_ok-done.ensures.answered)
 
 pub returns-clause-told : goal.returns-clause-told
 returns-clause-told g c =
-    let board = g.B.Switchboard.board c.args.board.now in
-    let v = g.B.Switchboard.known c.args.seat.now in
-    let w = g.B.Switchboard.known c.run_segment_with.new.seat in
-    let a = added g.C.Carrier.plays g.L.ListingKind.listing board c.args.trace.now c.args.segment v w c.args.lines.now c.run_segment_with.new.keeper c.requires.trace c.run_segment_with.ensures.ran c.requires.kept c.in_ok-done.ensures.answered in
-    subst (AreTold _ _ c.args.meters.now.items c.tell.new.meters.items) (c.records_behind.ensures ∙ told_behind _ _ _ _ _ _ _ a _ (ap length c.records-told.ensures)) c.in_ok-tell.ensures.told
+    let a = added _ _ _ _ _ _ _ _ _ c.requires.trace c.run_segment_with.ensures.ran c.requires.kept c.in_ok-done.ensures.answered in
+    on_ok_then c.tell.result c.tell.ensures.told (subst (AreTold _ _ c.args.meters.now.items c.tell.new.meters.items) (c.records_behind.ensures ∙ told_behind _ _ _ _ _ _ _ a _ (ap length c.records-told.ensures)))
+
+pub returns-clause-told_front : goal.returns-clause-told_front
+returns-clause-told_front g c =
+    let a = added _ _ _ _ _ _ _ _ _ c.requires.trace c.run_segment_with.ensures.ran c.requires.kept c.in_ok-done.ensures.answered in
+    on_err_then c.tell.result c.tell.ensures.front (subst (AreToldFront _ _ c.args.meters.now.items c.tell.new.meters.items) (c.records_behind.ensures ∙ told_behind _ _ _ _ _ _ _ a _ (ap length c.records-told.ensures)))

@@ -1,4 +1,4 @@
-use Rattle.std.proofs.Common.{◌≡◌, [], ◌++◌}
+use Rattle.std.proofs.Common.{◌≡◌, [], ◌++◌, IsSomeAnd}
 use Rattle.call_processor.specs.Frames.{IsReady}
 use Rattle.line_list.specs.Lines.{text_of}
 use Rattle.meters.specs.Changing.{handed_in, steps_text}
@@ -13,7 +13,7 @@ invariant-loop-segment g l = record {
   seated : g.B.Switchboard.seated l.board l.seat;
   underway : IsUnderway g.C.Carrier.plays g.L.ListingKind.listing (g.B.Switchboard.board l.board) (λ steps. steps_text (λ m. (goal.Meter-dyn g (m.vtable, m.value)).text m.value) steps (handed_in l.fn.meters.items l.fn.spare.items)) l.segment (g.B.Switchboard.known l.seat) (g.K.Sink.written l.fn.sink) (g.K.Sink.written l.sink) (text_of l.lines ++ l.said.items);
   silent : l.said.items ≡ [];
-  ready : IsReady g.C.Carrier.carries g.C.Carrier.next g.C.Carrier.sizes (g.B.Switchboard.board l.board) (g.B.Switchboard.known l.seat).seen l.carried.engine l.carried.tool;
+  ready : IsSomeAnd l.carried (λ c. IsReady g.C.Carrier.carries g.C.Carrier.next g.C.Carrier.sizes (g.B.Switchboard.board l.board) (g.B.Switchboard.known l.seat).seen c.engine c.tool);
   steady : g.K.Sink.faults l.sink ≡ g.K.Sink.faults l.fn.sink;
   on : AreOn (λ m. (goal.Meter-dyn g (m.vtable, m.value)).stands m.value) (λ m. (goal.Meter-dyn g (m.vtable, m.value)).text m.value) l.fn.meters.items l.fn.spare.items g.C.Carrier.plays g.L.ListingKind.listing (g.B.Switchboard.board l.board) l.segment (g.B.Switchboard.known l.seat) l.meters.items l.spare.items l.made;
 }
