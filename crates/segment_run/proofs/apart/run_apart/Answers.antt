@@ -1,4 +1,4 @@
-use Rattle.std.proofs.Common.{rules, ◌≡◌, ◌-◌, IsTrue, Result, Ok, Err, OnErr, length, subst, sym, ap, arith, ◌∙◌}
+use Rattle.std.proofs.Common.{◌≡◌, ◌-◌, Result, Ok, Err, OnErr, length, subst, sym, ap, arith, ◌∙◌}
 use Rattle.exchange_events.specs.Sound.{IsSound}
 use Rattle.call_processor.specs.Parts.{events_of_segment}
 use Rattle.segment_run.proofs.LoadLemmas.{long_range}
