@@ -29,7 +29,7 @@ use Rattle.segment_run.specs.Segment.{AreAnswered, IsAnswered, new_events}
 use Rattle.segment_run.proofs.OrderLemmas.{order_grown}
 use Rattle.report_text.specs.Report.{answer_line, answer_lines, frame_line, lines_sent, octet_of, report_line}
 use Rattle.exchange_top.specs.Outcomes.{MovesFew}
-use Rattle.report_text.specs.RunReport.{report, event_line, event_lines, sent_at}
+use Rattle.report_text.specs.RunReport.{event_line, event_lines, sent_at}
 use Rattle.exchange_top.specs.Running.{GrewFew, fabric_at, grown_calls}
 use Rattle.exchange_top.specs.Telling.{calls_answered}
 use Rattle.call_profile.specs.CallsTold.{calls_ended, calls_kept}

@@ -1,14 +1,11 @@
 -- Meters that note calls and are changed, and then more.
-use Rattle.std.proofs.Common.{◌≡◌, ℕ, List, [], ◌∷◌, ◌++◌, map, refl, sym, ap, ◌∙◌, subst, append-nil}
-use Rattle.std.specs.List.{AllZip}
-use Rattle.std.specs.Prelude.{replicate}
+use Rattle.std.proofs.Common.{ℕ, List, [], refl, sym, append-nil}
 use Rattle.exchange_events.specs.declared.record.CallRecord.{CallRecord}
-use Rattle.meters.specs.Changing.{Step, Meters_changed, Metering, Watch, AreMetered, HasNoted, after_steps, begun, handed_in}
-use Rattle.meters.specs.Telling.{IsTold}
+use Rattle.meters.specs.Changing.{Metering, AreMetered, handed_in}
 use Rattle.meters.proofs.Changes.{metered-first, zip_compose, zip_other}
 use Rattle.meters.proofs.Zips.{zip-same}
 use Rattle.meters.proofs.Told.{told-equal, told-same, told-then, told_front-none}
-use Rattle.exchange_top.specs.Telling.{AreLeft, AreMeteredBeyond, AreToldFront, IsToldBeyond}
+use Rattle.exchange_top.specs.Telling.{AreLeft, AreMeteredBeyond, AreToldFront}
 
 module _ {M : Type 0} (stands : M → List CallRecord → Type 0) (text : M → List CallRecord → List ℕ) where
   pub none_front : (ms : List M) (calls : List CallRecord) → AreToldFront stands text ms ms calls
