@@ -70,20 +70,24 @@ impl Changing {
         };
         let mut events: u32 = 0;
         for line in script.text.as_str().lines() {
-            if is_event(line) {
-                if events == 0 {
-                    changing.draw(&mut random, 0)?;
-                }
-                events = events.saturating_add(1);
-            }
-            changing.text.push_str(line)?;
-            changing.text.push_str("\n")?;
-            if line == "sync" {
-                changing.draw(&mut random, events)?;
-            }
+            events = changing.append(&mut random, line, events)?;
         }
         changing.draw(&mut random, events)?;
         Ok(changing)
+    }
+
+    // Adds a line behind n events, and changes where there may be some. How many events there are then.
+    fn append(&mut self, random: &mut Random, line: &str, events: u32) -> Result<u32, AllocError> {
+        let is_event = is_event(line);
+        if is_event && events == 0 {
+            self.draw(random, 0)?;
+        }
+        let events = events.saturating_add(u32::from(is_event));
+        write!(self.text, "{line}\n")?;
+        if line == "sync" {
+            self.draw(random, events)?;
+        }
+        Ok(events)
     }
 
     /// What its changes find, one after the other.
@@ -168,6 +172,16 @@ fn held_by(records: &[CallRecord]) -> (u32, u32) {
     (total, longest)
 }
 
+// The first n meters.
+fn meters_in(alloc: Global, count: u32) -> Result<Vec<PlainMeter>, AllocError> {
+    let mut meters = Vec::new(alloc);
+    for number in 0..count {
+        let records = Vec::new(alloc);
+        meters.push(PlainMeter { number, records })?;
+    }
+    Ok(meters)
+}
+
 /// Meters that are on and spare ones, as lists, and what those said that were taken out: each line behind
 /// the number of the events before it.
 #[derive(Drop)]
@@ -180,24 +194,11 @@ pub struct PlainMeters {
 impl PlainMeters {
     /// As many as are handed in.
     pub fn of(alloc: Global, changing: &Changing) -> Result<PlainMeters, AllocError> {
-        let mut meters = PlainMeters {
-            on: Vec::new(alloc),
-            spare: Vec::new(alloc),
+        Ok(PlainMeters {
+            on: meters_in(alloc, changing.on)?,
+            spare: meters_in(alloc, changing.spare)?,
             said: String::new(alloc),
-        };
-        for number in 0..changing.on {
-            meters.on.push(PlainMeter {
-                number,
-                records: Vec::new(alloc),
-            })?;
-        }
-        for number in 0..changing.spare {
-            meters.spare.push(PlainMeter {
-                number,
-                records: Vec::new(alloc),
-            })?;
-        }
-        Ok(meters)
+        })
     }
 
     /// Notes records of calls.
@@ -236,12 +237,13 @@ impl PlainMeters {
         self.said.as_str()
     }
 
-    /// Appends what all say that are left: those that are on, and then the spare ones.
-    pub fn append_left(&self, out: &mut String) -> Result<(), AllocError> {
+    /// Whether all that are left say this: those that are on, and then the spare ones.
+    pub fn leave(&self, alloc: Global, left: &[u8]) -> Result<bool, AllocError> {
+        let mut wanted = String::new(alloc);
         for meter in self.on.iter().chain(self.spare.iter()) {
-            meter.append("", out)?;
+            meter.append("", &mut wanted)?;
         }
-        Ok(())
+        Ok(left == wanted.as_bytes())
     }
 }
 
@@ -264,15 +266,19 @@ impl Parted {
         };
         let mut count: u32 = 0;
         for line in report.lines() {
-            if line.starts_with(is_digit) {
-                count = count.saturating_add(1);
-                parted.events.push_str(line)?;
-                parted.events.push_str("\n")?;
-            } else {
-                write!(parted.said, "{count} {line}\n")?;
-            }
+            count = parted.append(line, count)?;
         }
         Ok(parted)
+    }
+
+    // Adds a line behind n lines of events. How many there are then.
+    fn append(&mut self, line: &str, count: u32) -> Result<u32, AllocError> {
+        if line.starts_with(is_digit) {
+            write!(self.events, "{line}\n")?;
+            return Ok(count.saturating_add(1));
+        }
+        write!(self.said, "{count} {line}\n")?;
+        Ok(count)
     }
 }
 

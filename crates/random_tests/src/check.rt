@@ -133,23 +133,30 @@ pub fn agreed<S: Setting, G: Gate, R: Threads + Wait + Sync>(
         return Ok(None);
     };
     let parted = Parted::of(alloc, report)?;
-    let events = parted.events.as_str();
-    if strict && !events.lines().all(tells_of_no_moves) {
-        return Ok(None);
-    }
-    let (trace, events) = (changing.text.as_str(), events.as_bytes());
-    if !is_verdict(rt, alloc, trace, events, strict, Verdict::Valid) {
-        return Ok(None);
-    }
-    compared(
+    if !is_whole(
+        rt,
         alloc,
-        script,
-        setting,
+        changing.text.as_str(),
+        parted.events.as_str(),
         strict,
-        &changing,
-        &parted,
-        heard.left.as_slice(),
-    )
+    ) {
+        return Ok(None);
+    }
+    let left = heard.left.as_slice();
+    compared(alloc, script, setting, strict, &changing, &parted, left)
+}
+
+// Whether the verifier finds the lines of events of a report valid, and where they are of a strict fabric each
+// number of moved paths in them is 0.
+fn is_whole<R: Threads + Sync>(
+    rt: &R,
+    alloc: Global,
+    trace: &str,
+    events: &str,
+    strict: bool,
+) -> bool {
+    (!strict || events.lines().all(tells_of_no_moves))
+        && is_verdict(rt, alloc, trace, events.as_bytes(), strict, Verdict::Valid)
 }
 
 // What is said of the order of a report, where it is lawful, and where the plain program says the same
@@ -166,16 +173,17 @@ fn compared<S: Setting>(
     let Some(order) = order_of(alloc, parted.events.as_str())? else {
         return Ok(None);
     };
-    let (posts, events) = (script.posts.as_slice(), script.events.as_slice());
-    let order = order.as_slice();
+    let (posts, order) = (script.posts.as_slice(), order.as_slice());
     if !is_lawful(posts, order) {
         return Ok(None);
     }
+    let events = script.events.as_slice();
     let plain = setting.program(alloc, strict)?;
-    if !is_said_by(alloc, plain, events, order, changing, parted, left)? {
-        return Ok(None);
+    if is_said_by(alloc, plain, events, order, changing, parted, left)? {
+        Ok(Some(Taken::of(alloc, posts, order, changing.counts())?))
+    } else {
+        Ok(None)
     }
-    Ok(Some(Taken::of(alloc, posts, order, changing.counts())?))
 }
 
 // Whether a plain program that takes the events in an order says the lines of events of a report, and
@@ -191,12 +199,11 @@ fn is_said_by<P: Plain + Drop>(
 ) -> Result<bool, AllocError> {
     let mut plain = plain;
     let meters = metered(alloc, &mut plain, events, order, changing)?;
-    if meters.said() != parted.said.as_str() {
-        return Ok(false);
-    }
-    let mut wanted = String::new(alloc);
-    meters.append_left(&mut wanted)?;
-    Ok(left == wanted.as_bytes() && is_wanted(parted.events.as_str(), plain.text()))
+    Ok(
+        is_wanted(parted.events.as_str(), plain.text())
+            && meters.said() == parted.said.as_str()
+            && meters.leave(alloc, left)?,
+    )
 }
 
 // Takes the events in an order, with plain meters that are changed at their places.
@@ -212,17 +219,28 @@ fn metered<P: Plain>(
     meters.change(alloc, places, 0)?;
     let mut done: u32 = 0;
     for number in order {
-        let before = plain.records().len();
-        if let Some(event) = of_event(events, *number) {
-            plain.take(alloc, event)?;
-        }
-        if let Some(more) = plain.records().get(before..) {
-            meters.note(more)?;
-        }
         done = done.saturating_add(1);
+        take_metered(alloc, plain, of_event(events, *number), &mut meters)?;
         meters.change(alloc, places, done)?;
     }
     Ok(meters)
+}
+
+// Takes an event, and notes the calls that ended with it to plain meters.
+fn take_metered<P: Plain>(
+    alloc: Global,
+    plain: &mut P,
+    event: Option<&PlainEvent>,
+    meters: &mut PlainMeters,
+) -> Result<(), AllocError> {
+    let before = plain.records().len();
+    if let Some(event) = event {
+        plain.take(alloc, event)?;
+    }
+    match plain.records().get(before..) {
+        Some(more) => meters.note(more),
+        None => Ok(()),
+    }
 }
 
 // The words that ask for a run.
@@ -263,63 +281,70 @@ fn heard_of<G: Gate, R: Threads + Wait + Sync>(
     strict: bool,
     gate: &G,
 ) -> Result<Heard, AllocError> {
-    let mut meters: Vec<Box<dyn Meter>> = Vec::new(alloc);
-    for number in 0..changing.on {
-        match number % 3 {
-            0 => meters.push(Box::new(alloc, CallDetail::new(alloc, CALLS)?)?)?,
-            1 => meters.push(Box::new(alloc, PegCount::new())?)?,
-            _ => meters.push(Box::new(alloc, HoldingTime::new())?)?,
-        }
-    }
-    let mut spare: VecDeque<Box<dyn Meter>> = VecDeque::new(alloc);
-    for number in 0..changing.spare {
-        match number % 3 {
-            0 => spare.push_back(Box::new(alloc, CallDetail::new(alloc, CALLS)?)?)?,
-            1 => spare.push_back(Box::new(alloc, PegCount::new())?)?,
-            _ => spare.push_back(Box::new(alloc, HoldingTime::new())?)?,
-        }
-    }
-    let Ends {
-        words,
-        mut source,
-        mut sink,
-    } = Ends::of(alloc, changing.text.as_str(), strict)?;
-    let outcome: Outcome<Engine> = exchange(
-        rt,
-        alloc,
-        &words,
-        &mut source,
-        &mut sink,
-        gate,
-        &mut meters,
-        &mut spare,
-    );
-    // The spare ones come behind the others, to say what they say.
-    for _ in 0..changing.spare {
-        if let Some(meter) = spare.pop_front() {
-            meters.push(meter)?;
-        }
-    }
-    what_was_heard(alloc, outcome.status == 0, sink.bytes(), meters.as_slice())
-}
-
-// What was heard of a run that came to its end, from its report and its meters; nothing of any other. It
-// has no value of the run to drop, so that little is to be proved where memory runs out.
-fn what_was_heard(
-    alloc: Global,
-    is_whole: bool,
-    report: &[u8],
-    meters: &[Box<dyn Meter>],
-) -> Result<Heard, AllocError> {
+    let mut ends = Ends::of(alloc, changing.text.as_str(), strict)?;
     let mut heard = Heard {
         report: Vec::new(alloc),
         left: Vec::new(alloc),
     };
-    if is_whole {
-        heard.report.extend_from_slice(report)?;
-        append_summaries(meters, &mut heard.left)?;
+    if is_run(rt, alloc, changing, gate, &mut ends, &mut heard.left)? {
+        heard.report.extend_from_slice(ends.sink.bytes())?;
     }
     Ok(heard)
+}
+
+// Calls the exchange with meters and spare ones, and appends what those say then that are on, and then what
+// the spare ones do. Whether the trace was run, and nothing is appended where it was not. The ends are the
+// caller's, so that they are no value to drop where memory runs out for a meter.
+fn is_run<G: Gate, R: Threads + Wait + Sync>(
+    rt: &R,
+    alloc: Global,
+    changing: &Changing,
+    gate: &G,
+    ends: &mut Ends,
+    left: &mut Vec<u8>,
+) -> Result<bool, AllocError> {
+    let mut boxed: VecDeque<Box<dyn Meter>> = VecDeque::new(alloc);
+    for number in (0..changing.on).chain(0..changing.spare) {
+        match number % 3 {
+            0 => boxed.push_back(Box::new(alloc, CallDetail::new(alloc, CALLS)?)?)?,
+            1 => boxed.push_back(Box::new(alloc, PegCount::new())?)?,
+            _ => boxed.push_back(Box::new(alloc, HoldingTime::new())?)?,
+        }
+    }
+    let on = boxed.len().min(changing.on as usize);
+    let mut spare = boxed.split_off(on)?;
+    let mut meters = Vec::from(boxed);
+    let outcome: Outcome<Engine> = exchange(
+        rt,
+        alloc,
+        &ends.words,
+        &mut ends.source,
+        &mut ends.sink,
+        gate,
+        &mut meters,
+        &mut spare,
+    );
+    let spare = Vec::from(spare);
+    say_if(
+        outcome.status == 0,
+        meters.as_slice(),
+        spare.as_slice(),
+        left,
+    )
+}
+
+// Appends what meters say, and then what spare ones do, if they are to. Whether they are.
+fn say_if(
+    is_whole: bool,
+    on: &[Box<dyn Meter>],
+    spare: &[Box<dyn Meter>],
+    out: &mut Vec<u8>,
+) -> Result<bool, AllocError> {
+    if is_whole {
+        append_summaries(on, out)?;
+        append_summaries(spare, out)?;
+    }
+    Ok(is_whole)
 }
 
 // Whether the numbers of moved paths of a line are 0, if it tells some.

@@ -26,26 +26,59 @@ pub fn drawn(alloc: Global, random: &mut Random, kind: Kind) -> Result<Trial, Al
     let processors = 1 + random.below(8);
     let events = 50 + u32::from(random.below(200));
     let pace = draw_pace(random);
-    let header = format!(in alloc; "exchange 1 {external} {bridges} {processors}\n")?;
-    let mut script = Script::new(alloc, header, processors);
     let lines = Lines {
         kind,
         external,
         bridges,
     };
-    let mut yardstick = Yardstick::new(alloc, lines)?;
+    let mut draft = Draft::new(alloc, lines, processors)?;
     for _ in 0..events {
-        let event = draw_event(alloc, random, kind, &yardstick)?;
-        yardstick.step(alloc, &event)?;
-        script.append(event, random.once_in(pace))?;
+        let event = draw_event(alloc, random, kind, &draft.yardstick)?;
+        draft.take(alloc, event, random.once_in(pace))?;
     }
-    Ok(Trial {
-        script,
-        lines,
-        frames: yardstick.frames(),
-        refused: yardstick.refused(),
-        octets: yardstick.octets(),
-    })
+    Ok(draft.drawn(lines))
+}
+
+/// A trace that is being drawn, and what takes its events.
+#[derive(Drop)]
+struct Draft {
+    script: Script,
+    yardstick: Yardstick,
+}
+
+impl Draft {
+    // A trace with these lines before its first event, for n call processors.
+    fn new(alloc: Global, lines: Lines, processors: u8) -> Result<Draft, AllocError> {
+        let Lines {
+            external,
+            bridges,
+            ..
+        } = lines;
+        let header = format!(in alloc; "exchange 1 {external} {bridges} {processors}\n")?;
+        let yardstick = Yardstick::new(alloc, lines)?;
+        Ok(Draft {
+            script: Script::new(alloc, header, processors),
+            yardstick,
+        })
+    }
+
+    // Takes an event, which ends its segment or not.
+    fn take(&mut self, alloc: Global, event: PlainEvent, ends: bool) -> Result<(), AllocError> {
+        self.yardstick.step(alloc, &event)?;
+        self.script.append(event, ends)
+    }
+
+    // The trace, with its lines.
+    fn drawn(self, lines: Lines) -> Trial {
+        let Draft { script, yardstick } = self;
+        Trial {
+            script,
+            lines,
+            frames: yardstick.frames(),
+            refused: yardstick.refused(),
+            octets: yardstick.octets(),
+        }
+    }
 }
 
 // The next event of a trace, after the events that the yardstick has taken.

@@ -28,6 +28,7 @@
 mod changes;
 mod check;
 mod counts;
+mod delayed;
 mod draw;
 mod orders;
 mod spoiled;
@@ -102,24 +103,31 @@ fn run<R: Print + Eprint + Threads + Wait + Sync>(
     traces: u32,
 ) -> io::Result<bool> {
     let (name, other) = names_of(kind);
-    let mut random = Random::new(SEED);
     let mut orders = Orders::default();
     let mut counts = Counts::default();
+    run_all(rt, alloc, kind, traces, &mut counts, &mut orders)?;
+    print_orders(rt, name, other, orders)?;
+    print_counts(rt, name, counts)?;
+    Ok(orders.is_whole(traces))
+}
+
+/// Runs n traces of a kind, and prints which of them have reports that are not the wanted ones.
+fn run_all<R: Print + Threads + Wait + Sync>(
+    rt: &R,
+    alloc: Global,
+    kind: Kind,
+    traces: u32,
+    counts: &mut Counts,
+    orders: &mut Orders,
+) -> io::Result<()> {
+    let mut random = Random::new(SEED);
     for number in 1..=traces {
-        if !run_one(rt, alloc, &mut random, kind, &mut counts, &mut orders)? {
+        if !run_one(rt, alloc, &mut random, kind, counts, orders)? {
+            let (name, _) = names_of(kind);
             println!(rt; "{name}: trace {number} differs")?;
         }
     }
-    print_orders(rt, name, other, orders)?;
-    let Counts {
-        refused,
-        frames,
-        octets,
-    } = counts;
-    println!(rt;
-        "{name}: {frames} frames; in file order {refused} events refused, {octets} octets other than idle"
-    )?;
-    Ok(orders.is_whole(traces))
+    Ok(())
 }
 
 /// Draws a trace of calls, counts it and runs it. Whether all reports were the plain program's.
@@ -146,31 +154,51 @@ fn run_calls<R: Print + Eprint + Threads + Wait + Sync>(
     alloc: Global,
     traces: u32,
 ) -> io::Result<bool> {
-    let mut random = Random::new(SEED);
     let mut orders = Orders::default();
     let mut counts = CallCounts::new();
     let mut verdicts = Verdicts::default();
+    run_all_of_calls(rt, alloc, traces, &mut counts, &mut orders, &mut verdicts)?;
+    print_orders(rt, "calls", "plain program", orders)?;
+    print_calls(rt, &counts, &verdicts)?;
+    Ok(orders.is_whole(traces) && counts.is_whole() && verdicts.is_whole())
+}
+
+/// Runs n traces of calls, and prints which of them have reports that are not the plain program's.
+fn run_all_of_calls<R: Print + Threads + Wait + Sync>(
+    rt: &R,
+    alloc: Global,
+    traces: u32,
+    counts: &mut CallCounts,
+    orders: &mut Orders,
+    verdicts: &mut Verdicts,
+) -> io::Result<()> {
+    let mut random = Random::new(SEED);
     for number in 1..=traces {
-        if !run_one_of_calls(
-            rt,
-            alloc,
-            &mut random,
-            &mut counts,
-            &mut orders,
-            &mut verdicts,
-        )? {
+        if !run_one_of_calls(rt, alloc, &mut random, counts, orders, verdicts)? {
             println!(rt; "calls: trace {number} differs")?;
         }
     }
-    print_orders(rt, "calls", "plain program", orders)?;
-    let courses = counts.courses;
-    println!(rt; "calls: in file order {courses}")?;
+    Ok(())
+}
+
+/// Prints what traces of calls came to.
+fn print_calls(rt: &impl Print, counts: &CallCounts, verdicts: &Verdicts) -> io::Result<()> {
+    println!(rt; "calls: in file order {}", counts.courses)?;
     print_moves(rt, counts.moves)?;
     print_tones(rt, counts.tones)?;
-    let expiries = counts.expiries;
-    println!(rt; "calls: in file order timers ran out {expiries}")?;
-    println!(rt; "calls: verified reports {verdicts}")?;
-    Ok(orders.is_whole(traces) && counts.is_whole() && verdicts.is_whole())
+    println!(rt; "calls: in file order timers ran out {}", counts.expiries)?;
+    println!(rt; "calls: verified reports {verdicts}")
+}
+
+fn print_counts(rt: &impl Print, name: &str, counts: Counts) -> io::Result<()> {
+    let Counts {
+        refused,
+        frames,
+        octets,
+    } = counts;
+    println!(rt;
+        "{name}: {frames} frames; in file order {refused} events refused, {octets} octets other than idle"
+    )
 }
 
 /// Prints how many traces had the wanted reports.

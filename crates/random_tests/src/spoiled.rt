@@ -4,7 +4,7 @@ use std::alloc::{AllocError, Global};
 use test_traffic::Random;
 
 /// What is done to a report.
-#[derive(Clone, Copy, Debug, PartialEq, Eq)]
+#[derive(Clone, Copy, PartialEq, Eq)]
 pub enum Change {
     /// Nothing.
     Nothing,
@@ -82,10 +82,13 @@ fn text_of(alloc: Global, lines: &[String]) -> Result<String, AllocError> {
 
 fn append(text: &mut String, lines: &[String]) -> Result<(), AllocError> {
     for line in lines {
-        text.push_str(line.as_str())?;
-        text.push_str("\n")?;
+        append_line(text, line.as_str())?;
     }
     Ok(())
+}
+
+fn append_line(text: &mut String, line: &str) -> Result<(), AllocError> {
+    write!(text, "{line}\n")
 }
 
 // The lines, where n of them from one on give way to the ones at these places among the n.
@@ -105,8 +108,7 @@ fn moved(
     let mut text = text_of(alloc, front)?;
     for place in places {
         if let Some(line) = part.get(*place) {
-            text.push_str(line.as_str())?;
-            text.push_str("\n")?;
+            append_line(&mut text, line.as_str())?;
         }
     }
     append(&mut text, rest)?;
@@ -121,20 +123,28 @@ fn spelled_anew(
     change: Change,
 ) -> Result<Option<String>, AllocError> {
     for (place, line) in lines.iter().enumerate().skip(at) {
-        let Some(line) = anew(alloc, line.as_str(), change)? else {
-            continue;
-        };
-        let (Some(front), Some(rest)) = (lines.get(..place), lines.get(place.saturating_add(1)..))
-        else {
-            return Ok(None);
-        };
-        let mut text = text_of(alloc, front)?;
-        text.push_str(line.as_str())?;
-        text.push_str("\n")?;
-        append(&mut text, rest)?;
-        return Ok(Some(text));
+        if let Some(line) = anew(alloc, line.as_str(), change)? {
+            return replaced(alloc, lines, place, line.as_str());
+        }
     }
     Ok(None)
+}
+
+// The lines with another one in this place.
+fn replaced(
+    alloc: Global,
+    lines: &[String],
+    place: usize,
+    line: &str,
+) -> Result<Option<String>, AllocError> {
+    let (Some(front), Some(rest)) = (lines.get(..place), lines.get(place.saturating_add(1)..))
+    else {
+        return Ok(None);
+    };
+    let mut text = text_of(alloc, front)?;
+    append_line(&mut text, line)?;
+    append(&mut text, rest)?;
+    Ok(Some(text))
 }
 
 // A line that is spelled anew. None where it has nothing to be changed.

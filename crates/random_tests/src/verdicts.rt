@@ -37,8 +37,7 @@ impl Verdicts {
     ) -> Result<bool, AllocError> {
         let mut random = Random::new(script.text.len() as u64);
         let strict = random.once_in(2);
-        let order = drawn_order(alloc, script.posts.as_slice(), &mut random)?;
-        let lines = lines_in(alloc, script, setting, strict, order.as_slice())?;
+        let lines = drawn_lines(alloc, script, setting, strict, &mut random)?;
         for (entry, found) in CHANGES.iter().zip(self.found.iter_mut()) {
             if !random.once_in(ONE_OF) {
                 continue;
@@ -47,20 +46,8 @@ impl Verdicts {
                 continue;
             };
             let strict = strict != (entry.0 == Change::OtherFabric);
-            let wanted = plain_verdict(alloc, script, setting, strict, report.as_str())?;
-            if !is_verdict(
-                rt,
-                alloc,
-                script.text.as_str(),
-                report.as_bytes(),
-                strict,
-                wanted,
-            ) {
+            if !is_found(rt, alloc, script, setting, strict, report.as_str(), found)? {
                 return Ok(false);
-            }
-            match wanted {
-                Verdict::Valid => found.0 = found.0.saturating_add(1),
-                Verdict::Invalid(_) => found.1 = found.1.saturating_add(1),
             }
         }
         Ok(true)
@@ -90,6 +77,29 @@ impl fmt::Display for Verdicts {
         }
         Ok(())
     }
+}
+
+// Verifies a report, and counts the verdict where it is the plain program's own. Whether it is.
+fn is_found<S: Setting, R: Threads + Sync>(
+    rt: &R,
+    alloc: Global,
+    script: &Script,
+    setting: &S,
+    strict: bool,
+    report: &str,
+    found: &mut (u32, u32),
+) -> Result<bool, AllocError> {
+    let plain = setting.program(alloc, strict)?;
+    let wanted = plain_verdict(alloc, script, plain, report)?;
+    let (trace, report) = (script.text.as_str(), report.as_bytes());
+    if !is_verdict(rt, alloc, trace, report, strict, wanted) {
+        return Ok(false);
+    }
+    match wanted {
+        Verdict::Valid => found.0 = found.0.saturating_add(1),
+        Verdict::Invalid(_) => found.1 = found.1.saturating_add(1),
+    }
+    Ok(true)
 }
 
 /// Whether the verifier says of a report what is wanted.
@@ -146,22 +156,45 @@ fn are_free(posts: &[Post], one: u32, next: u32) -> bool {
     one.segment == next.segment && one.worker != next.worker
 }
 
-// The lines of a plain program that takes the events in an order, with their numbers, without line feeds.
-fn lines_in<S: Setting>(
+// The lines of a plain program that takes the events in a lawful order that is drawn, with their numbers,
+// without line feeds.
+fn drawn_lines<S: Setting>(
     alloc: Global,
     script: &Script,
     setting: &S,
     strict: bool,
-    order: &[u32],
+    random: &mut Random,
 ) -> Result<Vec<String>, AllocError> {
+    let order = drawn_order(alloc, script.posts.as_slice(), random)?;
     let mut plain = setting.program(alloc, strict)?;
+    take_all(
+        alloc,
+        &mut plain,
+        script.events.as_slice(),
+        order.as_slice(),
+    )?;
+    numbered_lines(alloc, order.as_slice(), plain.text())
+}
+
+// Takes the events in an order.
+fn take_all<P: Plain>(
+    alloc: Global,
+    plain: &mut P,
+    events: &[PlainEvent],
+    order: &[u32],
+) -> Result<(), AllocError> {
     for number in order {
-        if let Some(event) = of_event(script.events.as_slice(), *number) {
+        if let Some(event) = of_event(events, *number) {
             plain.take(alloc, event)?;
         }
     }
+    Ok(())
+}
+
+// The lines of a report with these numbers in place of its own.
+fn numbered_lines(alloc: Global, order: &[u32], report: &str) -> Result<Vec<String>, AllocError> {
     let mut lines = Vec::new(alloc);
-    for (number, line) in order.iter().zip(plain.text().lines()) {
+    for (number, line) in order.iter().zip(report.lines()) {
         if let Some((_, words)) = numbered(line) {
             lines.push(format!(in alloc; "{number} {words}")?)?;
         }
@@ -171,24 +204,33 @@ fn lines_in<S: Setting>(
 
 // What a plain program says that does the events again in the order of a report, from nothing: the report
 // is valid, or which line is the first that can't be, or is lacking.
-fn plain_verdict<S: Setting>(
+fn plain_verdict<P: Plain + Drop>(
     alloc: Global,
     script: &Script,
-    setting: &S,
-    strict: bool,
+    plain: P,
     report: &str,
 ) -> Result<Verdict, AllocError> {
-    let mut plain = setting.program(alloc, strict)?;
-    let posts = script.posts.as_slice();
-    let mut done = vec![in alloc; false; posts.len()]?;
+    let mut plain = plain;
+    let mut done = vec![in alloc; false; script.posts.len()]?;
+    replayed(alloc, script, &mut plain, done.as_mut_slice(), report)
+}
+
+// The same for a program before its first event, where no event is marked as done.
+fn replayed<P: Plain>(
+    alloc: Global,
+    script: &Script,
+    plain: &mut P,
+    done: &mut [bool],
+    report: &str,
+) -> Result<Verdict, AllocError> {
     let mut rest = report;
     let mut number: u32 = 0;
-    for _ in posts {
+    for _ in script.posts.as_slice() {
         number = number.saturating_add(1);
         let Some((line, behind)) = rest.split_once('\n') else {
             return Ok(Verdict::Invalid(number));
         };
-        if !is_next(alloc, &mut plain, script, done.as_mut_slice(), line)? {
+        if !is_next(alloc, plain, script, done, line)? {
             return Ok(Verdict::Invalid(number));
         }
         rest = behind;

@@ -1,9 +1,8 @@
 use crate::check::{Plain, Setting};
+use crate::delayed::Delayed;
 use circuit_model::{IDLE, PLACES, Slot};
-use frame_buffer::DelayLine;
 use plain_model::Exchange;
 use std::alloc::{AllocError, Global};
-use std::marker::Model;
 use test_exchange::{CallRecord, PlainEvent, append_octets};
 
 /// Which events a trace has, and what says the octets that are heard in it.
@@ -58,22 +57,12 @@ pub struct Yardstick {
     ports: usize,
     nails: Vec<Nail>,
     seats: Vec<Slot>,
-    delay: DelayLine,
+    delay: Delayed,
     plain: Exchange,
     report: String,
     events: u32,
     refused: u32,
     octets: u32,
-}
-
-impl Model for Yardstick {
-    ghost use Rattle.std.specs.Prelude.{◌≡◌, ℕ};
-
-    ghost Value = { ℕ };
-
-    ghost view = { λ y. y.external };
-
-    ghost invariant = { λ y. y.delay.external ≡ y.external };
 }
 
 impl Yardstick {
@@ -90,7 +79,7 @@ impl Yardstick {
             ports: usize::from(bridges) * usize::from(PLACES),
             nails: Vec::new(alloc),
             seats: Vec::new(alloc),
-            delay: DelayLine::new(alloc, external)?,
+            delay: Delayed::new(alloc, external)?,
             plain: Exchange::new(alloc),
             report: String::new(alloc),
             events: 0,
@@ -198,9 +187,7 @@ impl Yardstick {
         for line in 0..self.external {
             self.line(frame, line)?;
         }
-        if input.len() == usize::from(self.external) {
-            self.delay.push(input);
-        }
+        self.delay.push(input);
         Ok(())
     }
 
@@ -236,17 +223,8 @@ impl Yardstick {
     /// What arrived two frames before on the other end of a nail that is two frames old.
     fn delayed(&self, frame: u32, at: Slot) -> u8 {
         match self.nail_of(at) {
-            Some((from, since)) if frame >= 2 && since <= frame - 2 => self.back_two(from),
+            Some((from, since)) if frame >= 2 && since <= frame - 2 => self.delay.back_two(from),
             _ => IDLE,
-        }
-    }
-
-    /// What arrived on a slot two frames before; a slot of a nail is always one of the exchange.
-    fn back_two(&self, from: Slot) -> u8 {
-        if from.line < self.external && from.place < PLACES {
-            self.delay.back_two(from)
-        } else {
-            IDLE
         }
     }
 }

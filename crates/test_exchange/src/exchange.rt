@@ -2,7 +2,7 @@
 
 ghost use Rattle.std.specs.Prelude.{◌<◌, IfSome, IfOk};
 
-use crate::elements::receive;
+use crate::elements::{Received, receive};
 use crate::legs::{Leg, Peer, State, leg_at, leg_named, put_leg, replace_leg};
 use crate::no_leg::answer_without_leg;
 use crate::numbers::Number;
@@ -237,19 +237,41 @@ impl PlainExchange {
         };
         sent.course = Course::Unanswered;
         if let Some(leg) = leg_named(self.legs(), line, message.flag, message.reference) {
-            let calls = self.calls(alloc)?;
-            let cause = self.act(alloc, leg, &message, &mut sent)?;
-            for call in &calls {
-                self.tell_if_ended(*call, cause, &mut sent)?;
-            }
-        } else if message.reference == 0 {
-            self.restart(alloc, line, &message, &mut sent)?;
-        } else if message.kind == SETUP && !message.flag {
-            self.set_up(alloc, line, &message, &mut sent)?;
+            self.take_for_leg(alloc, leg, &message, &mut sent)?;
         } else {
-            answer_without_leg(alloc, line, &message, &mut sent)?;
+            self.take_without_leg(alloc, line, &message, &mut sent)?;
         }
         Ok(sent)
+    }
+
+    // Takes a message to a leg, and tells of the call that ends with it.
+    fn take_for_leg(
+        &mut self,
+        alloc: Global,
+        leg: Leg,
+        message: &Received,
+        sent: &mut Sent,
+    ) -> Result<(), AllocError> {
+        let calls = self.calls(alloc)?;
+        let cause = self.act(alloc, leg, message, sent)?;
+        self.tell_ended(calls.as_slice(), cause, sent)
+    }
+
+    // Takes a message that names no leg.
+    fn take_without_leg(
+        &mut self,
+        alloc: Global,
+        line: u8,
+        message: &Received,
+        sent: &mut Sent,
+    ) -> Result<(), AllocError> {
+        if message.reference == 0 {
+            self.restart(alloc, line, message, sent)
+        } else if message.kind == SETUP && !message.flag {
+            self.set_up(alloc, line, message, sent)
+        } else {
+            answer_without_leg(alloc, line, message, sent)
+        }
     }
 
     /// Whether no circuit names a slot and no leg holds it.
@@ -317,16 +339,18 @@ impl PlainExchange {
         Ok(calls)
     }
 
-    /// Tells of a call where its caller isn't in the call any more.
-    pub(crate) fn tell_if_ended(
+    /// Tells of those calls whose callers aren't in them any more.
+    pub(crate) fn tell_ended(
         &self,
-        call: CallRecord,
+        calls: &[CallRecord],
         cause: u8,
         sent: &mut Sent,
     ) -> Result<(), AllocError> {
-        match leg_at(self.legs(), call.caller) {
-            Some(leg) if leg.is_calling() => {}
-            _ => sent.records.push(CallRecord { cause, ..call })?,
+        for call in calls {
+            match leg_at(self.legs(), call.caller) {
+                Some(leg) if leg.is_calling() => {}
+                _ => sent.records.push(CallRecord { cause, ..*call })?,
+            }
         }
         Ok(())
     }

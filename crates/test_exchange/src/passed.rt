@@ -54,29 +54,20 @@ impl Passed {
         requires { place < 30 }
     {
         let mut octets = bare_message(alloc, Side::Called, reference, SETUP)?;
-        octets.push(SENDING_COMPLETE)?;
-        pass_on(&mut octets, BEARER_CAPABILITY, self.bearer.as_slice(), 10)?;
-        add_channel(&mut octets, place)?;
-        pass_on(
-            &mut octets,
-            CALLING_PARTY_NUMBER,
-            self.calling.as_slice(),
-            22,
-        )?;
-        pass_on(&mut octets, CALLED_PARTY_NUMBER, self.called.as_slice(), 21)?;
-        pass_on(
-            &mut octets,
-            LOW_LAYER_COMPATIBILITY,
-            self.low.as_slice(),
-            16,
-        )?;
-        pass_on(
-            &mut octets,
-            HIGH_LAYER_COMPATIBILITY,
-            self.high.as_slice(),
-            3,
-        )?;
+        self.add_to(&mut octets, place)?;
         Ok(octets)
+    }
+
+    fn add_to(&self, octets: &mut Vec<u8>, place: u8) -> Result<(), AllocError>
+        requires { place < 30 }
+    {
+        octets.push(SENDING_COMPLETE)?;
+        pass_on(octets, BEARER_CAPABILITY, self.bearer.as_slice(), 10)?;
+        add_channel(octets, place)?;
+        pass_on(octets, CALLING_PARTY_NUMBER, self.calling.as_slice(), 22)?;
+        pass_on(octets, CALLED_PARTY_NUMBER, self.called.as_slice(), 21)?;
+        pass_on(octets, LOW_LAYER_COMPATIBILITY, self.low.as_slice(), 16)?;
+        pass_on(octets, HIGH_LAYER_COMPATIBILITY, self.high.as_slice(), 3)
     }
 }
 

@@ -1,7 +1,7 @@
 //! A run over a list of events, and its report.
 
 use crate::exchange::PlainExchange;
-use crate::sent::{CallRecord, Course, Sent};
+use crate::sent::{CallRecord, Course, Sent, Signal};
 use circuit_model::{IDLE, PLACES, Slot};
 use std::alloc::{AllocError, Global};
 
@@ -124,15 +124,17 @@ impl PlainRun {
     }
 
     fn frame(&mut self, alloc: Global, input: &[Option<[u8; 30]>]) -> Result<(), AllocError> {
-        let Some((frame, sent)) = self.exchange.boundary(alloc, input)? else {
-            return Ok(());
-        };
+        match self.exchange.boundary(alloc, input)? {
+            Some((frame, sent)) => self.tell_frame(frame, &sent),
+            None => Ok(()),
+        }
+    }
+
+    // What is sent in a frame, and what the lines hear in it.
+    fn tell_frame(&mut self, frame: u32, sent: &Sent) -> Result<(), AllocError> {
         self.records.extend_from_slice(sent.records.as_slice())?;
         write!(self.report, "frame {frame}")?;
-        for signal in &sent.sends {
-            write!(self.report, " send {}:", signal.line)?;
-            append_octets(&mut self.report, signal.octets.as_slice())?;
-        }
+        append_sends(&mut self.report, " send ", sent.sends.as_slice())?;
         for line in 0..self.exchange.external() {
             self.line(frame, line)?;
         }
@@ -162,9 +164,13 @@ fn append_sent(report: &mut String, sent: &Sent) -> Result<(), AllocError> {
     if let Some((there, back)) = sent.moved {
         write!(report, " moved {there} {back}")?;
     }
-    for signal in &sent.sends {
-        let line = signal.line;
-        write!(report, " {line}:")?;
+    append_sends(report, " ", sent.sends.as_slice())
+}
+
+// Adds messages, each behind these characters and its line.
+fn append_sends(report: &mut String, front: &str, sends: &[Signal]) -> Result<(), AllocError> {
+    for signal in sends {
+        write!(report, "{front}{}:", signal.line)?;
         append_octets(report, signal.octets.as_slice())?;
     }
     Ok(())

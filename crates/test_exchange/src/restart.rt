@@ -71,6 +71,18 @@ impl PlainExchange {
             Some(_) => Course::RestartedChannel,
             None => Course::RestartedLine,
         };
+        self.restart_legs(alloc, line, scope, sent)?;
+        acknowledge(alloc, line, scope, sent)
+    }
+
+    // The legs are gone of the slots of a line that are restarted.
+    fn restart_legs(
+        &mut self,
+        alloc: Global,
+        line: u8,
+        scope: Scope,
+        sent: &mut Sent,
+    ) -> Result<(), AllocError> {
         let calls = self.calls(alloc)?;
         for place in 0..PLACES {
             let at = Slot { line, place };
@@ -78,14 +90,7 @@ impl PlainExchange {
                 self.restart_leg(alloc, leg, scope, calls.as_slice(), sent)?;
             }
         }
-        let mut octets = Vec::from_slice(alloc, &[0x08, 0x02, 0x80, 0x00, RESTART_ACKNOWLEDGE])?;
-        if let Some(place) = scope.place {
-            if place < PLACES {
-                add_channel(&mut octets, place)?;
-            }
-        }
-        add_element(&mut octets, RESTART_INDICATOR, &[scope.indicator])?;
-        sent.send(line, octets)
+        Ok(())
     }
 
     // A leg is gone whose slot is restarted. Its call is recorded at the first of its legs.
@@ -102,13 +107,7 @@ impl PlainExchange {
             Some(peer) if peer.is_calling() => peer.at,
             _ => leg.at,
         };
-        let told = calls.iter().find(|call| call.caller == caller).copied();
-        if let (Some(call), false) = (told, is_told(sent.records.as_slice(), caller)) {
-            sent.records.push(CallRecord {
-                cause: TEMPORARY_FAILURE,
-                ..call
-            })?;
-        }
+        tell_restarted(calls, caller, sent)?;
         self.remove(leg);
         match peer {
             Some(peer) if scope.holds(leg.at.line, peer.at) => Ok(()),
@@ -117,6 +116,29 @@ impl PlainExchange {
     }
 }
 
+// Tells of a caller's call, if that isn't told yet.
+fn tell_restarted(calls: &[CallRecord], caller: Slot, sent: &mut Sent) -> Result<(), AllocError> {
+    let told = calls.iter().find(|call| call.caller == caller).copied();
+    if let (Some(call), false) = (told, is_told(sent.records.as_slice(), caller)) {
+        sent.records.push(CallRecord {
+            cause: TEMPORARY_FAILURE,
+            ..call
+        })?;
+    }
+    Ok(())
+}
+
 fn is_told(records: &[CallRecord], caller: Slot) -> bool {
     records.iter().any(|told| told.caller == caller)
+}
+
+// The answer to a RESTART, which names what it named.
+fn acknowledge(alloc: Global, line: u8, scope: Scope, sent: &mut Sent) -> Result<(), AllocError> {
+    let mut octets = Vec::from_slice(alloc, &[0x08, 0x02, 0x80, 0x00, RESTART_ACKNOWLEDGE])?;
+    match scope.place {
+        Some(place) if place < PLACES => add_channel(&mut octets, place)?,
+        _ => {}
+    }
+    add_element(&mut octets, RESTART_INDICATOR, &[scope.indicator])?;
+    sent.send(line, octets)
 }

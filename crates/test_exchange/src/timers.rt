@@ -100,17 +100,26 @@ impl PlainExchange {
     ) -> Result<(), AllocError> {
         let place = (frame % u32::from(PLACES)) as u8;
         for line in 0..self.external {
-            let at = Slot { line, place };
-            if let Some((leg, expiry)) = self.due(at, frame) {
-                let calls = self.calls(alloc)?;
-                self.run_out(alloc, leg, expiry, sent)?;
-                for call in &calls {
-                    self.tell_if_ended(*call, NO_USER_RESPONDING, sent)?;
-                }
-                self.expired.push(Expired { frame, at, expiry })?;
-            }
+            self.expire_at(alloc, frame, Slot { line, place }, sent)?;
         }
         Ok(())
+    }
+
+    // Does what is due of the leg at a slot, and tells of the call that ends with it.
+    fn expire_at(
+        &mut self,
+        alloc: Global,
+        frame: u32,
+        at: Slot,
+        sent: &mut Sent,
+    ) -> Result<(), AllocError> {
+        let Some((leg, expiry)) = self.due(at, frame) else {
+            return Ok(());
+        };
+        self.expired.push(Expired { frame, at, expiry })?;
+        let calls = self.calls(alloc)?;
+        self.run_out(alloc, leg, expiry, sent)?;
+        self.tell_ended(calls.as_slice(), NO_USER_RESPONDING, sent)
     }
 
     // The leg at a slot, where it has waited long enough for something to be done.
@@ -158,18 +167,23 @@ impl PlainExchange {
 
     // The last message once more.
     fn send_again(&mut self, alloc: Global, leg: Leg, sent: &mut Sent) -> Result<(), AllocError> {
-        let since = self.next_frame();
-        for held in self.legs.iter_mut() {
-            if held.at == leg.at {
-                held.since = since;
-                held.resent = true;
-            }
-        }
+        self.wait_again(leg.at);
         if let Some(kept) = self.kept.iter().find(|kept| kept.at == leg.at) {
             let octets = Vec::from_slice(alloc, kept.octets.as_slice())?;
             sent.send(leg.at.line, octets)?;
         }
         Ok(())
+    }
+
+    // The leg at a slot, whose message is sent once more, waits from the next frame on.
+    fn wait_again(&mut self, at: Slot) {
+        let since = self.next_frame();
+        for held in self.legs.iter_mut() {
+            if held.at == at {
+                held.since = since;
+                held.resent = true;
+            }
+        }
     }
 
     /// Sends RELEASE to the user of a leg, with a cause or without, and keeps it.

@@ -6,87 +6,90 @@ use test_exchange::{Act, Course, Refusal};
 /// How often each course of a message came.
 #[derive(Clone, Copy)]
 pub struct Counts {
-    counts: [(Course, u32); 38],
+    // In the order of `COURSES`.
+    counts: [u32; 38],
 }
 
-// Each course, not come yet.
-const NONE: [(Course, u32); 38] = [
-    (Course::Discarded, 0),
-    (Course::Unanswered, 0),
-    (Course::NoLeg, 0),
-    (Course::RestartedChannel, 0),
-    (Course::RestartedLine, 0),
-    (Course::Overlap, 0),
-    (Course::MoreDigits, 0),
-    (Course::DialledLine, 0),
-    (Course::DialledRoom, 0),
-    (Course::Offered, 0),
-    (Course::Seated, 0),
-    (Course::For(Act::Nothing), 0),
-    (Course::For(Act::Unexpected), 0),
-    (Course::For(Act::Enquiry), 0),
-    (Course::For(Act::Proceeding), 0),
-    (Course::For(Act::Alerting), 0),
-    (Course::For(Act::Answer), 0),
-    (Course::For(Act::Disconnect), 0),
-    (Course::For(Act::Released), 0),
-    (Course::For(Act::Gone), 0),
-    (Course::Refused(Refusal::NoBearer), 0),
-    (Course::Refused(Refusal::BearerLength), 0),
-    (Course::Refused(Refusal::BearerNotCarried), 0),
-    (Course::Refused(Refusal::ChannelInvalid), 0),
-    (Course::Refused(Refusal::NoNumber), 0),
-    (Course::Refused(Refusal::NoDigits), 0),
-    (Course::Refused(Refusal::UnknownNumber), 0),
-    (Course::Refused(Refusal::UnfinishedNumber), 0),
-    (Course::Refused(Refusal::ChannelTaken), 0),
-    (Course::Refused(Refusal::LineFull), 0),
-    (Course::Refused(Refusal::CalledLineFull), 0),
-    (Course::Refused(Refusal::NoPort), 0),
-    (Course::GivenUp(Refusal::NoNumber), 0),
-    (Course::GivenUp(Refusal::NoDigits), 0),
-    (Course::GivenUp(Refusal::UnknownNumber), 0),
-    (Course::GivenUp(Refusal::UnfinishedNumber), 0),
-    (Course::GivenUp(Refusal::CalledLineFull), 0),
-    (Course::GivenUp(Refusal::NoPort), 0),
+// Each course.
+const COURSES: [Course; 38] = [
+    Course::Discarded,
+    Course::Unanswered,
+    Course::NoLeg,
+    Course::RestartedChannel,
+    Course::RestartedLine,
+    Course::Overlap,
+    Course::MoreDigits,
+    Course::DialledLine,
+    Course::DialledRoom,
+    Course::Offered,
+    Course::Seated,
+    Course::For(Act::Nothing),
+    Course::For(Act::Unexpected),
+    Course::For(Act::Enquiry),
+    Course::For(Act::Proceeding),
+    Course::For(Act::Alerting),
+    Course::For(Act::Answer),
+    Course::For(Act::Disconnect),
+    Course::For(Act::Released),
+    Course::For(Act::Gone),
+    Course::Refused(Refusal::NoBearer),
+    Course::Refused(Refusal::BearerLength),
+    Course::Refused(Refusal::BearerNotCarried),
+    Course::Refused(Refusal::ChannelInvalid),
+    Course::Refused(Refusal::NoNumber),
+    Course::Refused(Refusal::NoDigits),
+    Course::Refused(Refusal::UnknownNumber),
+    Course::Refused(Refusal::UnfinishedNumber),
+    Course::Refused(Refusal::ChannelTaken),
+    Course::Refused(Refusal::LineFull),
+    Course::Refused(Refusal::CalledLineFull),
+    Course::Refused(Refusal::NoPort),
+    Course::GivenUp(Refusal::NoNumber),
+    Course::GivenUp(Refusal::NoDigits),
+    Course::GivenUp(Refusal::UnknownNumber),
+    Course::GivenUp(Refusal::UnfinishedNumber),
+    Course::GivenUp(Refusal::CalledLineFull),
+    Course::GivenUp(Refusal::NoPort),
 ];
 
 impl Counts {
     /// Nothing has come.
     pub fn new() -> Counts {
-        Counts { counts: NONE }
+        Counts { counts: [0; 38] }
     }
 
     /// Counts one message.
     pub fn note(&mut self, course: Course) {
-        for entry in self.counts.iter_mut() {
-            if entry.0 == course {
-                entry.1 = entry.1.saturating_add(1);
+        for (entry, count) in COURSES.iter().zip(self.counts.iter_mut()) {
+            if *entry == course {
+                *count = count.saturating_add(1);
             }
         }
     }
 
     /// Adds what was counted elsewhere.
     pub fn add(&mut self, other: &Counts) {
-        for (entry, more) in self.counts.iter_mut().zip(other.counts.iter()) {
-            entry.1 = entry.1.saturating_add(more.1);
+        for (count, more) in self.counts.iter_mut().zip(other.counts.iter()) {
+            *count = count.saturating_add(*more);
         }
     }
 
     /// Whether every course has come.
     pub fn is_whole(&self) -> bool {
-        self.counts.iter().all(|entry| entry.1 > 0)
+        self.counts.iter().all(|count| *count > 0)
     }
 }
 
 impl fmt::Display for Counts {
     fn fmt<W: fmt::Write>(&self, f: &mut fmt::Formatter<W>) -> fmt::Result {
-        let mut separator = "";
-        for entry in self.counts.iter() {
-            let (course, count) = *entry;
-            let words = words_for(course);
-            write!(f, "{separator}{count} {words}")?;
-            separator = ", ";
+        let mut is_first = true;
+        for (course, count) in COURSES.iter().zip(self.counts.iter()) {
+            if !is_first {
+                f.write_str(", ")?;
+            }
+            is_first = false;
+            let words = words_for(*course);
+            write!(f, "{count} {words}")?;
         }
         Ok(())
     }

@@ -7,27 +7,28 @@ use test_exchange::{Expired, Expiry};
 /// first, and in a frame behind another one.
 #[derive(Clone, Copy)]
 pub struct Expiries {
-    counts: [(Expiry, u32); 7],
+    // In the order of `EACH`.
+    counts: [u32; 7],
     beyond: u32,
     beside: u32,
 }
 
-// Each expiry, not come yet.
-const NONE: [(Expiry, u32); 7] = [
-    (Expiry::Digits, 0),
-    (Expiry::SetupAgain, 0),
-    (Expiry::SetupOver, 0),
-    (Expiry::Proceeding, 0),
-    (Expiry::Disconnect, 0),
-    (Expiry::ReleaseAgain, 0),
-    (Expiry::ReleaseOver, 0),
+// Each expiry.
+const EACH: [Expiry; 7] = [
+    Expiry::Digits,
+    Expiry::SetupAgain,
+    Expiry::SetupOver,
+    Expiry::Proceeding,
+    Expiry::Disconnect,
+    Expiry::ReleaseAgain,
+    Expiry::ReleaseOver,
 ];
 
 impl Expiries {
     /// Nothing has come.
     pub fn new() -> Expiries {
         Expiries {
-            counts: NONE,
+            counts: [0; 7],
             beyond: 0,
             beside: 0,
         }
@@ -51,17 +52,17 @@ impl Expiries {
     }
 
     fn note(&mut self, expiry: Expiry) {
-        for entry in self.counts.iter_mut() {
-            if entry.0 == expiry {
-                entry.1 = entry.1.saturating_add(1);
+        for (entry, count) in EACH.iter().zip(self.counts.iter_mut()) {
+            if *entry == expiry {
+                *count = count.saturating_add(1);
             }
         }
     }
 
     /// Adds what was counted elsewhere.
     pub fn add(&mut self, other: &Expiries) {
-        for (entry, more) in self.counts.iter_mut().zip(other.counts.iter()) {
-            entry.1 = entry.1.saturating_add(more.1);
+        for (count, more) in self.counts.iter_mut().zip(other.counts.iter()) {
+            *count = count.saturating_add(*more);
         }
         self.beyond = self.beyond.saturating_add(other.beyond);
         self.beside = self.beside.saturating_add(other.beside);
@@ -69,15 +70,14 @@ impl Expiries {
 
     /// Whether all that is counted has come.
     pub fn is_whole(&self) -> bool {
-        self.counts.iter().all(|entry| entry.1 > 0) && self.beyond > 0 && self.beside > 0
+        self.counts.iter().all(|count| *count > 0) && self.beyond > 0 && self.beside > 0
     }
 }
 
 impl fmt::Display for Expiries {
     fn fmt<W: fmt::Write>(&self, f: &mut fmt::Formatter<W>) -> fmt::Result {
-        for entry in self.counts.iter() {
-            let (expiry, count) = *entry;
-            let words = words_for(expiry);
+        for (expiry, count) in EACH.iter().zip(self.counts.iter()) {
+            let words = words_for(*expiry);
             write!(f, "{count} {words}, ")?;
         }
         let Expiries { beyond, beside, .. } = *self;

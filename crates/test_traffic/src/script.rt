@@ -41,12 +41,13 @@ impl Script {
 
     /// Adds an event, and the end of its segment where that ends with it.
     pub fn append(&mut self, event: PlainEvent, ends: bool) -> Result<(), AllocError> {
+        let worker = worker_of(&event, self.processors);
         append_event(&mut self.text, &event)?;
+        self.events.push(event)?;
         self.posts.push(Post {
-            worker: worker_of(&event, self.processors),
+            worker,
             segment: self.segment,
         })?;
-        self.events.push(event)?;
         if ends {
             self.text.push_str("sync\n")?;
             self.segment = self.segment.saturating_add(1);
@@ -77,34 +78,32 @@ fn worker_of(event: &PlainEvent, processors: u8) -> u8 {
 fn append_event(text: &mut String, event: &PlainEvent) -> Result<(), AllocError> {
     match event {
         PlainEvent::Nail(x, y) => {
-            text.push_str("nail")?;
-            append_slot(text, *x)?;
-            append_slot(text, *y)?;
+            append_slot(text, "nail", *x)?;
+            append_slot(text, "", *y)?;
         }
         PlainEvent::Seat(x, room) => {
-            text.push_str("seat")?;
-            append_slot(text, *x)?;
+            append_slot(text, "seat", *x)?;
             write!(text, " {room}")?;
         }
-        PlainEvent::Free(x) => {
-            text.push_str("free")?;
-            append_slot(text, *x)?;
-        }
-        PlainEvent::Message(line, octets) => {
-            write!(text, "M {line}")?;
-            if !octets.is_empty() {
-                text.push_str(" ")?;
-            }
-            append_octets(text, octets.as_slice())?;
-        }
+        PlainEvent::Free(x) => append_slot(text, "free", *x)?,
+        PlainEvent::Message(line, octets) => append_message(text, *line, octets.as_slice())?,
         PlainEvent::Frame(input) => append_frame(text, input.as_slice())?,
     }
     text.push_str("\n")
 }
 
-fn append_slot(text: &mut String, at: Slot) -> Result<(), AllocError> {
+// Adds a slot behind a word.
+fn append_slot(text: &mut String, word: &str, at: Slot) -> Result<(), AllocError> {
     let channel = channel_of(at.place.min(29));
-    write!(text, " {}/{channel}", at.line)
+    write!(text, "{word} {}/{channel}", at.line)
+}
+
+fn append_message(text: &mut String, line: u8, octets: &[u8]) -> Result<(), AllocError> {
+    write!(text, "M {line}")?;
+    if !octets.is_empty() {
+        text.push_str(" ")?;
+    }
+    append_octets(text, octets)
 }
 
 fn append_frame(text: &mut String, input: &[Option<[u8; 30]>]) -> Result<(), AllocError> {

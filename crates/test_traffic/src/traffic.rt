@@ -41,25 +41,31 @@ const STRICT_SLOTS: u8 = 59;
 // The numbers of a plan: one for each line, two rooms, and a longer one.
 fn draw_numbers(alloc: Global, external: u8) -> Result<Vec<Number>, AllocError> {
     let mut numbers = Vec::new(alloc);
-    for line in 0..external {
-        let digits = format!(in alloc; "1{line:02}")?;
-        numbers.push(Number {
-            digits: digits.into_bytes(),
-            target: Target::Line(line),
-        })?;
-    }
+    add_lines(alloc, &mut numbers, external)?;
     for room in 0..2 {
         let digits = format!(in alloc; "3{room}")?;
-        numbers.push(Number {
-            digits: digits.into_bytes(),
-            target: Target::Room(room),
-        })?;
+        add_number(&mut numbers, digits.into_bytes(), Target::Room(room))?;
     }
-    numbers.push(Number {
-        digits: Vec::from_slice(alloc, b"20304050607080901020")?,
-        target: Target::Line(0),
-    })?;
+    let digits = Vec::from_slice(alloc, b"20304050607080901020")?;
+    add_number(&mut numbers, digits, Target::Line(0))?;
     Ok(numbers)
+}
+
+fn add_lines(alloc: Global, numbers: &mut Vec<Number>, external: u8) -> Result<(), AllocError> {
+    for line in 0..external {
+        let digits = format!(in alloc; "1{line:02}")?;
+        add_number(numbers, digits.into_bytes(), Target::Line(line))?;
+    }
+    Ok(())
+}
+
+fn add_number(
+    numbers: &mut Vec<Number>,
+    digits: Vec<u8>,
+    target: Target,
+) -> Result<(), AllocError> {
+    numbers.push(Number { digits, target })?;
+    Ok(())
 }
 
 fn append_numbers(text: &mut String, numbers: &[Number]) -> Result<(), AllocError> {
@@ -204,11 +210,16 @@ impl Setting {
     fn header(&self, alloc: Global, processors: u8) -> Result<String, AllocError> {
         let (external, bridges) = (self.external, self.bridges);
         let mut text = format!(in alloc; "exchange 1 {external} {bridges} {processors}\n")?;
-        append_numbers(&mut text, self.numbers.as_slice())?;
-        append_tone(&mut text, "ringback", self.tones.ringback.as_slice())?;
-        append_tone(&mut text, "busy", self.tones.busy.as_slice())?;
-        append_timers(&mut text, &self.timers)?;
+        self.append_to(&mut text)?;
         Ok(text)
+    }
+
+    // Appends the lines of numbers, tones and timers.
+    fn append_to(&self, text: &mut String) -> Result<(), AllocError> {
+        append_numbers(text, self.numbers.as_slice())?;
+        append_tone(text, "ringback", self.tones.ringback.as_slice())?;
+        append_tone(text, "busy", self.tones.busy.as_slice())?;
+        append_timers(text, &self.timers)
     }
 
     /// A plain exchange of this setting before its first event, on a strict fabric or on the other.
@@ -243,31 +254,81 @@ pub fn draw_traffic(alloc: Global, random: &mut Random, events: u32) -> Result<D
     let setting = Setting::draw(alloc, random)?;
     let processors = 1 + random.below(8);
     let pace = draw_pace(random);
-    let mut script = Script::new(alloc, setting.header(alloc, processors)?, processors);
-    let mut run = PlainRun::new(alloc, setting.exchange(alloc, false)?);
-    let mut counts = Counts::new();
     let mut pauses = Pauses::draw(random);
     let crowd = Crowd::draw(random, &pauses);
+    let mut draft = Draft::new(alloc, &setting, processors)?;
     for number in 0..events {
-        let event = if pauses.has_frame(random) {
-            draw_pause(alloc, random, run.exchange().external())?
-        } else {
-            draw_next(alloc, random, crowd, number, run.exchange())?
-        };
-        if let Some(course) = run.step(alloc, &event)? {
-            counts.note(course);
-        }
-        script.append(event, random.once_in(pace))?;
+        let event = draft.next_event(alloc, random, &mut pauses, crowd, number)?;
+        draft.take(alloc, event, random.once_in(pace))?;
     }
-    Ok(Drawn {
-        script,
-        setting,
-        counts,
-        moved: run.paths_moved(),
-        chains: run.exchange().chains(),
-        sounded: run.exchange().tones_given(),
-        expiries: Expiries::of(run.exchange().expired()),
-    })
+    Ok(draft.drawn(setting))
+}
+
+/// A trace that is being drawn, and what the plain exchange makes of it.
+#[derive(Drop)]
+struct Draft {
+    script: Script,
+    run: PlainRun,
+    counts: Counts,
+}
+
+impl Draft {
+    // A trace of this setting before its first event, for n call processors.
+    fn new(alloc: Global, setting: &Setting, processors: u8) -> Result<Draft, AllocError> {
+        let text = setting.header(alloc, processors)?;
+        let exchange = setting.exchange(alloc, false)?;
+        Ok(Draft {
+            script: Script::new(alloc, text, processors),
+            run: PlainRun::new(alloc, exchange),
+            counts: Counts::new(),
+        })
+    }
+
+    // The next event, after n.
+    fn next_event(
+        &self,
+        alloc: Global,
+        random: &mut Random,
+        pauses: &mut Pauses,
+        crowd: Crowd,
+        number: u32,
+    ) -> Result<PlainEvent, AllocError>
+        requires { crowd.within < 16 }
+    {
+        let exchange = self.run.exchange();
+        if pauses.has_frame(random) {
+            draw_pause(alloc, random, exchange.external())
+        } else {
+            draw_next(alloc, random, crowd, number, exchange)
+        }
+    }
+
+    // Takes an event, which ends its segment or not.
+    fn take(&mut self, alloc: Global, event: PlainEvent, ends: bool) -> Result<(), AllocError> {
+        if let Some(course) = self.run.step(alloc, &event)? {
+            self.counts.note(course);
+        }
+        self.script.append(event, ends)
+    }
+
+    // The trace, with its setting.
+    fn drawn(self, setting: Setting) -> Drawn {
+        let Draft {
+            script,
+            run,
+            counts,
+        } = self;
+        let exchange = run.exchange();
+        Drawn {
+            script,
+            setting,
+            counts,
+            moved: run.paths_moved(),
+            chains: exchange.chains(),
+            sounded: exchange.tones_given(),
+            expiries: Expiries::of(exchange.expired()),
+        }
+    }
 }
 
 // The next event, after n.

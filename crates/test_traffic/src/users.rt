@@ -254,6 +254,17 @@ fn setup(
     let flag = random.once_in(30);
     let reference = draw_reference(random);
     let mut octets = header(alloc, flag, reference, SETUP)?;
+    add_setup_elements(alloc, &mut octets, random, exchange)?;
+    damage(&mut octets, random);
+    Ok(octets)
+}
+
+fn add_setup_elements(
+    alloc: Global,
+    octets: &mut Vec<u8>,
+    random: &mut Random,
+    exchange: &PlainExchange,
+) -> Result<(), AllocError> {
     let mut last = Vec::new(alloc);
     for element in 0..7 {
         let mut drawn = Vec::new(alloc);
@@ -264,9 +275,7 @@ fn setup(
             octets.extend_from_slice(drawn.as_slice())?;
         }
     }
-    octets.extend_from_slice(last.as_slice())?;
-    damage(&mut octets, random);
-    Ok(octets)
+    octets.extend_from_slice(last.as_slice())
 }
 
 fn add_setup_element(
