@@ -14,7 +14,7 @@ use std::test::Fail;
 use strict_map::StrictMap;
 
 /// One step of a worked example, over two external lines and one bridge line.
-#[derive(Clone, Copy, Debug)]
+#[derive(Clone, Copy)]
 enum Step {
     Pair(Slot, Slot),
     Seat(Slot, u8),
@@ -33,7 +33,7 @@ enum Step {
 }
 
 /// What a step is answered.
-#[derive(Clone, Copy, Debug, PartialEq, Eq)]
+#[derive(Clone, Copy, PartialEq, Eq)]
 enum Told {
     Done,
     Busy,
@@ -51,9 +51,11 @@ use Told::{Busy, By, Done, Full, Moved, Number, Room};
 
 const SILENT: Told = Told::Heard(Heard::Silent);
 
-fn path(since: u32) -> Told {
-    Told::Heard(Heard::Path { since })
-}
+const SINCE_0: Told = Told::Heard(Heard::Path { since: 0 });
+
+const SINCE_1: Told = Told::Heard(Heard::Path { since: 1 });
+
+const SINCE_4: Told = Told::Heard(Heard::Path { since: 4 });
 
 fn on(line: u8, place: u8) -> Slot {
     Slot { line, place }
@@ -125,14 +127,32 @@ fn take<P: PathMap>(rt: &impl Abort, map: &mut CircuitMap<P>, image: &mut Image,
     }
 }
 
-/// Takes the steps over a map without circuits, on a fabric without paths, and compares what each is
-/// answered.
-fn check_over<P: PathMap + Drop>(
+/// Takes the steps. Whether each is answered as it should be.
+fn are_answered<P: PathMap>(
+    rt: &impl Abort,
+    map: &mut CircuitMap<P>,
+    image: &mut Image,
+    steps: &[(Step, Told)],
+) -> bool
+    requires lines { (map.old.external ≡ 2) × (map.old.bridges ≡ 1) }
+    requires image { (image.old.external ≡ 2) × (image.old.bridges ≡ 1) × (image.old.slots ≡ map.old.slots) }
+{
+    for (step, answer) in steps {
+        if take(rt, map, image, *step) != *answer {
+            return false;
+        }
+    }
+    true
+}
+
+/// Takes the steps over a map without circuits, on a fabric without paths. Whether each is answered as it
+/// should be.
+fn hold_over<P: PathMap + Drop>(
     rt: &impl Abort,
     alloc: Global,
     paths: P,
     steps: &[(Step, Told)],
-) -> Result<(), Fail>
+) -> Result<bool, AllocError>
     requires lines { P.width paths ≡ 3 }
     requires slots { (1 ≤ P.depth paths) × (P.depth paths ≤ 59) }
     requires bare { IsBare (P.layout paths) }
@@ -140,20 +160,21 @@ fn check_over<P: PathMap + Drop>(
     let slots = paths.slots();
     let mut map = CircuitMap::new(alloc, paths, 2, 1)?;
     let mut image = Image::new(alloc, 2, 1, slots)?;
-    for (step, answer) in steps {
-        assert_eq!(rt; take(rt, &mut map, &mut image, *step), *answer, "{step:?}");
-    }
-    Ok(())
+    Ok(are_answered(rt, &mut map, &mut image, steps))
 }
 
 /// The same on a fabric of thirty internal slots.
-fn check(rt: &impl Abort, alloc: Global, steps: &[(Step, Told)]) -> Result<(), Fail> {
-    check_over(rt, alloc, FabricMap::new(alloc, 3)?, steps)
+fn hold(rt: &impl Abort, alloc: Global, steps: &[(Step, Told)]) -> Result<bool, AllocError> {
+    hold_over(rt, alloc, FabricMap::new(alloc, 3)?, steps)
 }
 
 /// The same on a fabric of fifty-nine.
-fn check_strict(rt: &impl Abort, alloc: Global, steps: &[(Step, Told)]) -> Result<(), Fail> {
-    check_over(rt, alloc, StrictMap::new(alloc, 3)?, steps)
+fn hold_strictly(
+    rt: &impl Abort,
+    alloc: Global,
+    steps: &[(Step, Told)],
+) -> Result<bool, AllocError> {
+    hold_over(rt, alloc, StrictMap::new(alloc, 3)?, steps)
 }
 
 /// Half of each external line sits at the bridge line, and then the next two slots are connected:
@@ -168,140 +189,188 @@ fn between_full_lines(alloc: Global, answer: Told) -> Result<Vec<(Step, Told)>, 
     }
     steps.push((Pair(on(0, 15), on(1, 15)), answer))?;
     steps.push((Frame, Number(0)))?;
-    steps.push((Hears(on(1, 15)), path(0)))?;
-    steps.push((Hears(on(2, 29)), path(0)))?;
+    steps.push((Hears(on(1, 15)), SINCE_0))?;
+    steps.push((Hears(on(2, 29)), SINCE_0))?;
     Ok(steps)
 }
 
 #[test]
 fn on_thirty_slots_paths_move(rt: HostRuntime) -> Result<(), Fail> {
     let steps = between_full_lines(rt.alloc(), Moved(2, 0))?;
-    check(&rt, rt.alloc(), &steps)
+    assert!(rt; hold(&rt, rt.alloc(), &steps)?);
+    Ok(())
 }
 
 #[test]
 fn on_fifty_nine_slots_none_moves(rt: HostRuntime) -> Result<(), Fail> {
     let steps = between_full_lines(rt.alloc(), Moved(0, 0))?;
-    check_strict(&rt, rt.alloc(), &steps)
+    assert!(rt; hold_strictly(&rt, rt.alloc(), &steps)?);
+    Ok(())
 }
+
+const NEAR: Slot = Slot { line: 0, place: 0 };
+
+const FAR: Slot = Slot { line: 1, place: 29 };
+
+const BESIDE: Slot = Slot { line: 0, place: 1 };
+
+const CONNECTION: [(Step, Told); 19] = [
+    (Frame, Number(0)),
+    (Hears(NEAR), SILENT),
+    (Pair(NEAR, FAR), Moved(0, 0)),
+    (Hears(NEAR), SILENT),
+    (Frame, Number(1)),
+    (Pair(BESIDE, FAR), Busy),
+    (Tone(NEAR, Kind::Busy), Busy),
+    (Frame, Number(2)),
+    (Hears(NEAR), SINCE_1),
+    (Hears(FAR), SINCE_1),
+    (Hears(BESIDE), SILENT),
+    (Clear(FAR), Done),
+    (Frame, Number(3)),
+    (Hears(NEAR), SILENT),
+    (Hears(FAR), SILENT),
+    (Pair(BESIDE, FAR), Moved(0, 0)),
+    (Frame, Number(4)),
+    (Hears(NEAR), SILENT),
+    (Hears(FAR), SINCE_4),
+];
 
 #[test]
 fn a_connection_is_heard_both_ways_until_it_is_cleared(rt: HostRuntime) -> Result<(), Fail> {
-    let (a, b, c) = (on(0, 0), on(1, 29), on(0, 1));
-    let steps = [
-        (Frame, Number(0)),
-        (Hears(a), SILENT),
-        (Pair(a, b), Moved(0, 0)),
-        (Hears(a), SILENT),
-        (Frame, Number(1)),
-        (Pair(c, b), Busy),
-        (Tone(a, Kind::Busy), Busy),
-        (Frame, Number(2)),
-        (Hears(a), path(1)),
-        (Hears(b), path(1)),
-        (Hears(c), SILENT),
-        (Clear(b), Done),
-        (Frame, Number(3)),
-        (Hears(a), SILENT),
-        (Hears(b), SILENT),
-        (Pair(c, b), Moved(0, 0)),
-        (Frame, Number(4)),
-        (Hears(a), SILENT),
-        (Hears(b), path(4)),
-    ];
-    check(&rt, rt.alloc(), &steps)
+    assert!(rt; hold(&rt, rt.alloc(), &CONNECTION)?);
+    Ok(())
 }
+
+const RUNG: Slot = Slot { line: 1, place: 7 };
+
+const RINGING: Told = Told::Heard(Heard::Tone {
+    kind: Kind::Ringback,
+    since: 0,
+});
+
+const TONE: [(Step, Told); 8] = [
+    (Tone(RUNG, Kind::Ringback), Done),
+    (Seat(RUNG, 5), Busy),
+    (Frame, Number(0)),
+    (Hears(RUNG), RINGING),
+    (Clear(RUNG), Done),
+    (Clear(RUNG), Done),
+    (Frame, Number(1)),
+    (Hears(RUNG), SILENT),
+];
 
 #[test]
 fn a_tone_sounds_until_it_is_cleared(rt: HostRuntime) -> Result<(), Fail> {
-    let a = on(1, 7);
-    let ringing = Heard::Tone {
-        kind: Kind::Ringback,
-        since: 0,
-    };
-    let steps = [
-        (Tone(a, Kind::Ringback), Done),
-        (Seat(a, 5), Busy),
-        (Frame, Number(0)),
-        (Hears(a), Told::Heard(ringing)),
-        (Clear(a), Done),
-        (Clear(a), Done),
-        (Frame, Number(1)),
-        (Hears(a), SILENT),
-    ];
-    check(&rt, rt.alloc(), &steps)
+    assert!(rt; hold(&rt, rt.alloc(), &TONE)?);
+    Ok(())
 }
+
+const CALLER: Slot = Slot { line: 0, place: 4 };
+
+const CALLED: Slot = Slot { line: 1, place: 9 };
+
+const RINGING_CIRCUIT: Circuit = Circuit::Tone {
+    kind: Kind::Ringback,
+    to: CALLER,
+    since: 0,
+};
+
+const ANSWERED_CIRCUIT: Circuit = Circuit::Pair {
+    from: CALLED,
+    to: CALLER,
+    since: 1,
+};
+
+const ANSWERED: [(Step, Told); 11] = [
+    (Tone(CALLER, Kind::Ringback), Done),
+    (Step::Circuit(CALLER), By(Some(RINGING_CIRCUIT))),
+    (Frame, Number(0)),
+    (Answer(CALLER, CALLED), Moved(0, 0)),
+    (Step::Circuit(CALLER), By(Some(ANSWERED_CIRCUIT))),
+    (Answer(CALLED, CALLER), Busy),
+    (Frame, Number(1)),
+    (Hears(CALLER), SINCE_1),
+    (Hears(CALLED), SINCE_1),
+    (Clear(CALLED), Done),
+    (Step::Circuit(CALLER), By(None)),
+];
 
 #[test]
 fn an_answered_call_takes_its_ringing_away_at_once(rt: HostRuntime) -> Result<(), Fail> {
-    let (a, b) = (on(0, 4), on(1, 9));
-    let ringing = Circuit::Tone {
-        kind: Kind::Ringback,
-        to: a,
-        since: 0,
-    };
-    let answered = Circuit::Pair {
-        from: b,
-        to: a,
-        since: 1,
-    };
-    let steps = [
-        (Tone(a, Kind::Ringback), Done),
-        (Step::Circuit(a), By(Some(ringing))),
-        (Frame, Number(0)),
-        (Answer(a, b), Moved(0, 0)),
-        (Step::Circuit(a), By(Some(answered))),
-        (Answer(b, a), Busy),
-        (Frame, Number(1)),
-        (Hears(a), path(1)),
-        (Hears(b), path(1)),
-        (Clear(b), Done),
-        (Step::Circuit(a), By(None)),
-    ];
-    check(&rt, rt.alloc(), &steps)
+    assert!(rt; hold(&rt, rt.alloc(), &ANSWERED)?);
+    Ok(())
 }
+
+const MEMBER: Slot = Slot { line: 0, place: 3 };
+
+const OTHER: Slot = Slot { line: 1, place: 3 };
+
+const FIRST_PORT: Slot = Slot { line: 2, place: 0 };
+
+const SECOND_PORT: Slot = Slot { line: 2, place: 1 };
+
+const SEATED: [(Step, Told); 20] = [
+    (Seat(MEMBER, 5), Moved(0, 0)),
+    (Frame, Number(0)),
+    (Seat(OTHER, 63), Moved(0, 0)),
+    (Frame, Number(1)),
+    (Hears(MEMBER), SINCE_0),
+    (Hears(FIRST_PORT), SINCE_0),
+    (Sits(FIRST_PORT), Room(Some((5, 0)))),
+    (Hears(OTHER), SINCE_1),
+    (Hears(SECOND_PORT), SINCE_1),
+    (Sits(SECOND_PORT), Room(Some((63, 1)))),
+    (Sits(OTHER), Room(None)),
+    (Clear(MEMBER), Done),
+    (Frame, Number(2)),
+    (Hears(MEMBER), SILENT),
+    (Hears(FIRST_PORT), SILENT),
+    (Sits(FIRST_PORT), Room(None)),
+    (Sits(SECOND_PORT), Room(Some((63, 1)))),
+    (Seat(MEMBER, 6), Moved(0, 0)),
+    (Frame, Number(3)),
+    (Sits(FIRST_PORT), Room(Some((6, 3)))),
+];
 
 #[test]
 fn a_member_sits_in_the_lowest_free_port(rt: HostRuntime) -> Result<(), Fail> {
-    let (a, b, first, second) = (on(0, 3), on(1, 3), on(2, 0), on(2, 1));
-    let steps = [
-        (Seat(a, 5), Moved(0, 0)),
-        (Frame, Number(0)),
-        (Seat(b, 63), Moved(0, 0)),
-        (Frame, Number(1)),
-        (Hears(a), path(0)),
-        (Hears(first), path(0)),
-        (Sits(first), Room(Some((5, 0)))),
-        (Hears(b), path(1)),
-        (Hears(second), path(1)),
-        (Sits(second), Room(Some((63, 1)))),
-        (Sits(b), Room(None)),
-        (Clear(a), Done),
-        (Frame, Number(2)),
-        (Hears(a), SILENT),
-        (Hears(first), SILENT),
-        (Sits(first), Room(None)),
-        (Sits(second), Room(Some((63, 1)))),
-        (Seat(a, 6), Moved(0, 0)),
-        (Frame, Number(3)),
-        (Sits(first), Room(Some((6, 3)))),
-    ];
-    check(&rt, rt.alloc(), &steps)
+    assert!(rt; hold(&rt, rt.alloc(), &SEATED)?);
+    Ok(())
 }
 
-#[test]
-fn thirty_members_fill_a_bridge_line(rt: HostRuntime) -> Result<(), Fail> {
-    let mut steps = Vec::new(rt.alloc());
+// Thirty members, and one more that finds no port until one of them is cleared.
+fn around_a_full_line(alloc: Global) -> Result<Vec<(Step, Told)>, AllocError> {
+    let mut steps = Vec::new(alloc);
     for place in 0..30 {
         steps.push((Seat(on(0, place), 7), Moved(0, 0)))?;
     }
-    steps.push((Seat(on(1, 0), 7), Full))?;
-    steps.push((Frame, Number(0)))?;
-    steps.push((Hears(on(1, 0)), SILENT))?;
-    steps.push((Sits(on(2, 29)), Room(Some((7, 0)))))?;
-    steps.push((Clear(on(0, 4)), Done))?;
-    steps.push((Seat(on(1, 0), 8), Moved(0, 0)))?;
-    steps.push((Frame, Number(1)))?;
-    steps.push((Sits(on(2, 4)), Room(Some((8, 1)))))?;
-    check(&rt, rt.alloc(), &steps)
+    steps.extend_from_slice(&FULL)?;
+    Ok(steps)
+}
+
+const LATE: Slot = Slot { line: 1, place: 0 };
+
+const LAST_PORT: Slot = Slot { line: 2, place: 29 };
+
+const FIFTH: Slot = Slot { line: 0, place: 4 };
+
+const FIFTH_PORT: Slot = Slot { line: 2, place: 4 };
+
+const FULL: [(Step, Told); 8] = [
+    (Seat(LATE, 7), Full),
+    (Frame, Number(0)),
+    (Hears(LATE), SILENT),
+    (Sits(LAST_PORT), Room(Some((7, 0)))),
+    (Clear(FIFTH), Done),
+    (Seat(LATE, 8), Moved(0, 0)),
+    (Frame, Number(1)),
+    (Sits(FIFTH_PORT), Room(Some((8, 1)))),
+];
+
+#[test]
+fn thirty_members_fill_a_bridge_line(rt: HostRuntime) -> Result<(), Fail> {
+    let steps = around_a_full_line(rt.alloc())?;
+    assert!(rt; hold(&rt, rt.alloc(), &steps)?);
+    Ok(())
 }

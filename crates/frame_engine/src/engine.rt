@@ -1,11 +1,11 @@
 //! The engine of three stages and bridges, frame by frame.
 
-ghost use Rattle.std.specs.Prelude.{◌≡◌, ◌+◌, ◌<◌, length};
+ghost use Rattle.std.specs.Prelude.{◌≡◌, ℕ, ◌+◌, ◌<◌, ◌≤◌, IfOk, length};
+ghost use Rattle.circuit_model.specs.FrameInput.{idle_octet};
 ghost use Rattle.circuit_model.specs.Hears.{hears};
+ghost use Rattle.frame_buffer.specs.Highways.{octet_on};
+ghost use Rattle.frame_buffer.specs.Speech.{AllIdle};
 ghost use Rattle.frame_engine.specs.Carries.{EngineCarries};
-
-#[cfg(test)]
-mod tests;
 
 use crate::carrier::Carrier;
 use crate::intake::take_in;
@@ -70,6 +70,38 @@ impl Model for Engine {
     ghost invariant = { λ e. IsBuilt e.external e.bridges e.slots e.levels e.kept e.speech e.highway e.crossed e.read };
 }
 
+// The two speech memories. Memory may run out at each part of an engine, so the parts are made two by two.
+fn memories(alloc: Global, lines: u8) -> Result<(FrameBuffer, FrameBuffer), AllocError>
+    ensures lines { IfOk result (λ m. (m.0.lines ≡ lines) × (m.1.lines ≡ lines)) }
+    ensures idle { IfOk result (λ m. AllIdle lines m.0.readable) }
+{
+    let speech = FrameBuffer::new(alloc, lines)?;
+    let read = FrameBuffer::new(alloc, lines)?;
+    Ok((speech, read))
+}
+
+// The highways in front of the space stage and behind it.
+fn highways(alloc: Global, lines: u8, slots: u8) -> Result<(Highway, Crossed), AllocError>
+    ensures lines { IfOk result (λ h. (h.0.lines ≡ lines) × (h.1.lines ≡ lines)) }
+    ensures slots { IfOk result (λ h. (h.0.slots ≡ slots) × (h.1.slots ≡ slots)) }
+    ensures idle { IfOk result (λ h. (line slot : ℕ) → line < lines → slot < slots → octet_on h.1 line slot ≡ idle_octet) }
+{
+    let highway = Highway::new(alloc, lines, slots)?;
+    let crossed = Crossed::new(alloc, lines, slots)?;
+    Ok((highway, crossed))
+}
+
+impl Engine {
+    /// Sets how often each stage halves its lines at most, where halves are worth threads; at 0 no stage is
+    /// shared. A new engine's stages halve theirs three times. What is played does not depend on it.
+    pub fn halve_stages(&mut self, levels: u8)
+        requires levels { levels ≤ 3 }
+        ensures same { self.new ≡ self.old }
+    {
+        self.levels = levels;
+    }
+}
+
 impl Carrier for Engine {
     ghost sizes = { λ e. record { external = e.external; bridges = e.bridges; slots = e.slots } };
 
@@ -83,6 +115,9 @@ impl Carrier for Engine {
 
     fn new(alloc: Global, external: u8, bridges: u8, slots: u8) -> Result<Self, AllocError> {
         let lines = external + bridges;
+        let codes = CodeTable::new(alloc)?;
+        let (speech, read) = memories(alloc, lines)?;
+        let (highway, crossed) = highways(alloc, lines, slots)?;
         Ok(Engine {
             external,
             bridges,
@@ -90,11 +125,11 @@ impl Carrier for Engine {
             levels: LEVELS,
             next: 0,
             kept: Image::new(alloc, external, bridges, slots)?,
-            speech: FrameBuffer::new(alloc, lines)?,
-            highway: Highway::new(alloc, lines, slots)?,
-            crossed: Crossed::new(alloc, lines, slots)?,
-            read: FrameBuffer::new(alloc, lines)?,
-            codes: CodeTable::new(alloc)?,
+            speech,
+            highway,
+            crossed,
+            read,
+            codes,
         })
     }
 

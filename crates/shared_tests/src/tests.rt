@@ -1,4 +1,5 @@
 //! What no clause says: that the calls come to an end, in threads too. And a worked example, whose numbers were found by hand.
+mod opened;
 mod segments;
 mod traces;
 mod work;
@@ -6,53 +7,67 @@ mod work;
 ghost use Rattle.std.specs.Prelude.{◌≡◌, ◌≤◌, length};
 ghost use Rattle.exchange_events.specs.Sound.{IsSound};
 
-use exchange_core::{Core, Switchboard};
+use exchange_core::Switchboard;
 use exchange_events::Trace;
-use fabric_map::FabricMap;
-use gate::{OpenGate, TestGate};
-use segments::{are_five_frames, frames_run, is_nail, is_whole, processed, segments_at};
-use shared_exchange::SharedExchange;
-use std::alloc::Global;
+use gate::{Gate, OpenGate, TestGate};
+use opened::opened;
+use segments::{frames_are_answered, part_is_answered, segments_are_answered};
+use std::alloc::{AllocError, Global};
 use std::sync::Wait;
 use std::test::Fail;
 use std::thread::Threads;
 use traces::{nail_and_five_frames, nails_and_frames};
-use work::{Outcome, do_all, side_by_side};
+use work::{Outcome, Step, are_answered, side_by_side};
 
-// What one thread does with two seats. The place and the answer of each event, and the journal.
+// Does steps of two seats on one thread. Whether each is answered as it should be, and the journal has them in their
+// order.
 fn by_turns<R: Wait>(
     rt: &R,
     alloc: Global,
     trace: &Trace,
-    steps: &[(u32, u32)],
-) -> Option<(Vec<(u32, Outcome)>, Vec<(u32, u32)>)>
+    steps: &[Step],
+) -> Result<bool, AllocError>
     requires sound { IsSound trace.now }
     requires sizes { (trace.now.external ≡ 4) × (trace.now.bridges ≡ 0) × (length trace.now.events ≡ 62) }
     requires few { length steps.now ≤ 30 }
 {
-    let paths = FabricMap::new(alloc, 4).ok()?;
-    let core = Core::new(alloc, trace, paths).ok()?;
-    let (exchange, mut zero) = SharedExchange::open(alloc, core).ok()?;
+    let (exchange, mut zero) = opened(alloc, trace, 4)?;
     let mut one = exchange.split(&mut zero, 31, false);
-    let answers = do_all(rt, alloc, &exchange, trace, &mut zero, &mut one, steps)?;
+    let answered = are_answered(rt, alloc, &exchange, trace, &mut zero, &mut one, steps);
     exchange.join(&mut zero, one);
-    Some((answers, exchange.close(zero).into_journal()))
+    let journal = exchange.close(zero).into_journal();
+    Ok(answered && is_of_steps(journal.as_slice(), steps))
 }
 
-// What two threads do with all nails: how many each was granted, and the journal.
+// Whether a journal has these steps in their order.
+fn is_of_steps(journal: &[(u32, u32)], steps: &[Step]) -> bool {
+    let mut left = journal.iter();
+    for (done, _) in steps {
+        if left.next() != Some(done) {
+            return false;
+        }
+    }
+    left.next().is_none()
+}
+
+// Does all nails on two threads. Whether each is granted, and the journal has those of each thread in their order.
 fn in_threads<R: Threads + Wait + Sync>(
     rt: &R,
     alloc: Global,
     trace: &Trace,
-) -> Option<((u32, u32), Vec<(u32, u32)>)>
+) -> Result<bool, AllocError>
     requires sound { IsSound trace.now }
     requires sizes { (trace.now.external ≡ 4) × (trace.now.bridges ≡ 0) × (length trace.now.events ≡ 62) }
 {
-    let paths = FabricMap::new(alloc, 4).ok()?;
-    let core = Core::new(alloc, trace, paths).ok()?;
-    let (exchange, seat) = SharedExchange::open(alloc, core).ok()?;
+    let (exchange, seat) = opened(alloc, trace, 4)?;
     let (granted, seat) = side_by_side(rt, &exchange, trace, seat);
-    Some((granted, exchange.close(seat).into_journal()))
+    let journal = exchange.close(seat).into_journal();
+    Ok(granted == (30, 30) && has_all_nails(journal.as_slice()))
+}
+
+// Whether a journal has the nails of both seats, and nothing else.
+fn has_all_nails(journal: &[(u32, u32)]) -> bool {
+    journal.len() == 60 && has_every_second(journal, 0, 1) && has_every_second(journal, 1, 2)
 }
 
 // The events of a seat, in the order of the journal, are every second one from `first` on, thirty in all.
@@ -69,62 +84,84 @@ fn has_every_second(journal: &[(u32, u32)], seat: u32, first: u32) -> bool {
     next == first.saturating_add(60)
 }
 
+// Seat 1 is granted a nail, which seat 0 then finds busy; seat 0 does both frames.
+const STEPS: [Step; 5] = [
+    ((1, 1), (0, Outcome::Granted(0, 0))),
+    ((0, 1), (1, Outcome::Busy)),
+    ((0, 61), (2, Outcome::Frame(0))),
+    ((1, 2), (3, Outcome::Granted(0, 0))),
+    ((0, 62), (4, Outcome::Frame(1))),
+];
+
+// Two seats with a trace of their own. (Made in a test, a trace would be dropped at each of its ways out.)
+fn two_seats_agree(rt: &impl Wait, alloc: Global) -> Result<bool, AllocError> {
+    let trace = nails_and_frames(alloc)?;
+    by_turns(rt, alloc, &trace, &STEPS)
+}
+
+// Two threads with a trace of their own.
+fn two_threads_agree(rt: &(impl Threads + Wait + Sync), alloc: Global) -> Result<bool, AllocError> {
+    let trace = nails_and_frames(alloc)?;
+    in_threads(rt, alloc, &trace)
+}
+
+// A call processor with a trace of its own.
+fn processor_answers(rt: &impl Wait, alloc: Global) -> Result<bool, AllocError> {
+    let trace = nail_and_five_frames(alloc)?;
+    part_is_answered(rt, alloc, &trace)
+}
+
+// A frame worker with a trace of its own.
+fn frame_worker_answers(
+    rt: &(impl Threads + Wait + Sync),
+    alloc: Global,
+) -> Result<bool, AllocError> {
+    let trace = nail_and_five_frames(alloc)?;
+    frames_are_answered(rt, alloc, &trace)
+}
+
+// All workers with a trace of their own.
+fn all_workers_answer<G: Gate>(
+    rt: &(impl Threads + Wait + Sync),
+    alloc: Global,
+    gate: &G,
+) -> Result<bool, AllocError> {
+    let trace = nail_and_five_frames(alloc)?;
+    segments_are_answered(rt, alloc, &trace, gate)
+}
+
 #[test]
 fn two_seats_share_one_history(rt: HostRuntime) -> Result<(), Fail> {
-    let trace = nails_and_frames(rt.alloc()).ok().ok_or("no trace")?;
-    // Seat 1 is granted a nail, which seat 0 then finds busy; seat 0 does both frames.
-    let steps = [(1, 1), (0, 1), (0, 61), (1, 2), (0, 62)];
-    let (answers, journal) = by_turns(&rt, rt.alloc(), &trace, &steps).ok_or("no run")?;
-    let expected = [
-        (0, Outcome::Granted(0, 0)),
-        (1, Outcome::Busy),
-        (2, Outcome::Frame(0)),
-        (3, Outcome::Granted(0, 0)),
-        (4, Outcome::Frame(1)),
-    ];
-    assert_eq!(rt; answers.as_slice(), expected.as_slice());
-    assert_eq!(rt; journal.as_slice(), steps.as_slice());
+    assert!(rt; two_seats_agree(&rt, rt.alloc())?);
     Ok(())
 }
 
 #[test]
 fn two_threads_share_one_history(rt: HostRuntime) -> Result<(), Fail> {
-    let trace = nails_and_frames(rt.alloc()).ok().ok_or("no trace")?;
-    let (granted, journal) = in_threads(&rt, rt.alloc(), &trace).ok_or("no run")?;
-    assert_eq!(rt; granted, (30, 30));
-    assert_eq!(rt; journal.len(), 60);
-    assert!(rt; has_every_second(&journal, 0, 1) && has_every_second(&journal, 1, 2));
+    assert!(rt; two_threads_agree(&rt, rt.alloc())?);
     Ok(())
 }
 
 #[test]
 fn a_call_processor_answers_its_part(rt: HostRuntime) -> Result<(), Fail> {
-    let trace = nail_and_five_frames(rt.alloc()).ok().ok_or("no trace")?;
-    let (nail, whole) = processed(&rt, rt.alloc(), &trace)?;
-    assert!(rt; whole && is_nail(nail.as_slice()));
+    assert!(rt; processor_answers(&rt, rt.alloc())?);
     Ok(())
 }
 
 #[test]
 fn a_frame_worker_answers_its_part(rt: HostRuntime) -> Result<(), Fail> {
-    let trace = nail_and_five_frames(rt.alloc()).ok().ok_or("no trace")?;
-    let (frames, whole) = frames_run(&rt, rt.alloc(), &trace)?;
-    assert!(rt; whole && are_five_frames(frames.as_slice()));
+    assert!(rt; frame_worker_answers(&rt, rt.alloc())?);
     Ok(())
 }
 
 #[test]
 fn segments_are_answered_whole_by_one_caller(rt: HostRuntime) -> Result<(), Fail> {
-    let trace = nail_and_five_frames(rt.alloc()).ok().ok_or("no trace")?;
-    let all = segments_at(&rt, rt.alloc(), &trace, &OpenGate)?;
-    assert!(rt; is_whole(all.as_slice()));
+    assert!(rt; all_workers_answer(&rt, rt.alloc(), &OpenGate)?);
     Ok(())
 }
 
 #[test]
 fn segments_are_answered_whole_in_threads(rt: HostRuntime) -> Result<(), Fail> {
-    let trace = nail_and_five_frames(rt.alloc()).ok().ok_or("no trace")?;
-    let all = segments_at(&rt, rt.alloc(), &trace, &TestGate::new(0, 9))?;
-    assert!(rt; is_whole(all.as_slice()));
+    assert!(rt; all_workers_answer(&rt, rt.alloc(), &TestGate::new(0, 9))?);
     Ok(())
 }

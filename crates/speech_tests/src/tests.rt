@@ -3,6 +3,7 @@ mod alaw;
 mod buffers;
 mod channels;
 mod engine;
+mod example_traces;
 mod ports;
 mod rooms;
 mod stages;

@@ -88,25 +88,39 @@ fn fill_row(map: &mut StrictMap) -> bool
     true
 }
 
+// Whether the worst case takes the last slot.
+fn takes_the_last_slot(map: &mut StrictMap) -> bool
+    requires lines { map.old.lines ≡ 34 }
+{
+    fill_column(map)
+        && fill_row(map)
+        && gets_for_a_while(map, on(0, 29), on(31, 29), 3)
+        && gets(map, on(0, 3), on(33, 0), 3)
+        && gets_for_a_while(map, on(0, 29), on(31, 29), 58)
+        && gets(map, on(33, 0), on(0, 29), 0)
+        && gets(map, on(0, 29), on(31, 29), 58)
+}
+
 #[test]
 fn the_worst_case_takes_the_last_slot(rt: HostRuntime) -> Result<(), AllocError> {
     let mut map = StrictMap::new(rt.alloc(), 34)?;
-    assert!(rt; fill_column(&mut map));
-    assert!(rt; fill_row(&mut map));
-    assert!(rt; gets_for_a_while(&mut map, on(0, 29), on(31, 29), 3));
-    assert!(rt; gets(&mut map, on(0, 3), on(33, 0), 3));
-    assert!(rt; gets_for_a_while(&mut map, on(0, 29), on(31, 29), 58));
-    assert!(rt; gets(&mut map, on(33, 0), on(0, 29), 0));
-    assert!(rt; gets(&mut map, on(0, 29), on(31, 29), 58));
+    assert!(rt; takes_the_last_slot(&mut map));
     Ok(())
+}
+
+// Whether a line without paths connects with itself, each slot once.
+fn connects_with_itself(map: &mut StrictMap) -> bool
+    requires lines { map.old.lines ≡ 1 }
+{
+    gets_for_a_while(map, on(0, 0), on(0, 1), 0)
+        && gets(map, on(0, 1), on(0, 0), 0)
+        && gets(map, on(0, 0), on(0, 1), 1)
+        && !gets(map, on(0, 0), on(0, 2), 2)
 }
 
 #[test]
 fn a_line_connects_with_itself(rt: HostRuntime) -> Result<(), AllocError> {
     let mut map = StrictMap::new(rt.alloc(), 1)?;
-    assert!(rt; gets_for_a_while(&mut map, on(0, 0), on(0, 1), 0));
-    assert!(rt; gets(&mut map, on(0, 1), on(0, 0), 0));
-    assert!(rt; gets(&mut map, on(0, 0), on(0, 1), 1));
-    assert!(rt; !gets(&mut map, on(0, 0), on(0, 2), 2));
+    assert!(rt; connects_with_itself(&mut map));
     Ok(())
 }

@@ -20,18 +20,26 @@ fn connect_free(map: &mut FabricMap, from: Slot, to: Slot) -> Option<u32>
     }
 }
 
-#[test]
-fn the_lowest_common_slot_is_taken(rt: HostRuntime) -> Result<(), AllocError> {
+// Whether each path takes the lowest slot that both of its lines have free, on two lines without paths.
+fn takes_common_slots(map: &mut FabricMap) -> bool
+    requires lines { map.old.lines ≡ 2 }
+{
     let near = Slot { line: 0, place: 0 };
     let far = Slot { line: 1, place: 0 };
     let next = Slot { line: 0, place: 1 };
     let beside = Slot { line: 1, place: 1 };
+    connect_free(map, near, far) == Some(0)
+        && connect_free(map, near, beside).is_none()
+        && connect_free(map, next, beside) == Some(0)
+        && map.slot_of(near) == Some(0)
+        && map.slot_of(next) == Some(1)
+        && connect_free(map, far, near) == Some(0)
+        && map.slot_of(far) == Some(0)
+}
+
+#[test]
+fn the_lowest_common_slot_is_taken(rt: HostRuntime) -> Result<(), AllocError> {
     let mut map = FabricMap::new(rt.alloc(), 2)?;
-    assert!(rt; connect_free(&mut map, near, far) == Some(0));
-    assert!(rt; connect_free(&mut map, near, beside).is_none());
-    assert!(rt; connect_free(&mut map, next, beside) == Some(0));
-    assert!(rt; map.slot_of(near) == Some(0) && map.slot_of(next) == Some(1));
-    assert!(rt; connect_free(&mut map, far, near) == Some(0));
-    assert!(rt; map.slot_of(far) == Some(0));
+    assert!(rt; takes_common_slots(&mut map));
     Ok(())
 }

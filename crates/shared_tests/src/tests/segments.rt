@@ -1,18 +1,19 @@
 //! Segments by the calls that keep whole answers: by one worker, by the frame worker, and by all of them.
-ghost use Rattle.std.specs.Prelude.{◌≡◌, ◌+◌, ◌*◌, ◌<◌, ◌≤◌, [], length, IfOk};
+ghost use Rattle.std.specs.Prelude.{◌≡◌, ◌+◌, ◌*◌, ◌<◌, ◌≤◌, length, IfOk};
 ghost use Rattle.exchange_events.specs.Sound.{IsSound};
 ghost use Rattle.exchange_core.specs.Boards.{turns_of};
 ghost use Rattle.exchange_core.specs.Working.{order_of};
 ghost use Rattle.seat_history.specs.Seats.{first_seat};
 ghost use Rattle.shared_exchange.specs.Sharing.{IsSeated};
-ghost use Rattle.call_processor.specs.Frames.{IsReady, IsReadyFor};
+ghost use Rattle.call_processor.specs.Frames.{IsReadyFor};
 ghost use Rattle.segment_run.specs.Segment.{IsChief};
 ghost use Rattle.segment_run.specs.Segments.{IsDoneBelow};
 
+use super::opened::opened;
 use super::work::{Outcome, kept_outcome};
 use call_processor::{Placed, process, run_frames};
 use control_memory::Image;
-use exchange_core::{Core, Switchboard, Tool};
+use exchange_core::{Switchboard, Tool};
 use exchange_events::{Answer, Trace};
 use fabric_map::FabricMap;
 use frame_engine::{Carrier, Engine};
@@ -25,7 +26,19 @@ use std::thread::Threads;
 
 /// What is shown of an answer: the number of its event, what it says, and the octet that each of two lines
 /// sends in its first place, where the event is a frame.
-pub type Shown = (u32, Outcome, Option<(u8, u8)>);
+type Shown = (u32, Outcome, Option<(u8, u8)>);
+
+/// What the nail is answered.
+const NAIL: [Shown; 1] = [(1, Outcome::Granted(0, 0), None)];
+
+/// What the five frames are answered: an octet leaves two frames after it came.
+const FIVE_FRAMES: [Shown; 5] = [
+    (2, Outcome::Frame(0), Some((0xD5, 0xD5))),
+    (3, Outcome::Frame(1), Some((0xD5, 0xD5))),
+    (4, Outcome::Frame(2), Some((129, 1))),
+    (5, Outcome::Frame(3), Some((130, 2))),
+    (6, Outcome::Frame(4), Some((131, 3))),
+];
 
 fn shown(answer: &Answer) -> Shown {
     let octets = match answer.octets.as_slice() {
@@ -35,21 +48,26 @@ fn shown(answer: &Answer) -> Shown {
     (answer.event, kept_outcome(answer), octets)
 }
 
-// Shows these answers behind what was shown.
-fn show(all: &mut Vec<Shown>, answers: &[Answer]) -> Result<(), AllocError> {
+// Whether this is shown of the answers, and of no more.
+fn show(answers: &[Answer], wanted: &[Shown]) -> bool {
+    let mut left = wanted.iter();
     for answer in answers {
-        all.push(shown(answer))?;
+        if left.next() != Some(&shown(answer)) {
+            return false;
+        }
     }
-    Ok(())
+    left.next().is_none()
 }
 
-// What is shown of a worker's answers.
-fn shown_of(alloc: Global, answers: &[Placed]) -> Result<Vec<Shown>, AllocError> {
-    let mut all = Vec::new(alloc);
+// Whether this is shown of a worker's answers, and of no more.
+fn are_shown(answers: &[Placed], wanted: &[Shown]) -> bool {
+    let mut left = wanted.iter();
     for placed in answers {
-        all.push(shown(&placed.answer))?;
+        if left.next() != Some(&shown(&placed.answer)) {
+            return false;
+        }
     }
-    Ok(all)
+    left.next().is_none()
 }
 
 // An exchange for a trace, with seat 0 of it, and an engine and a control memory for its first frame.
@@ -60,17 +78,19 @@ fn equipped<'t, C: Carrier>(
     requires sound { IsSound trace.now }
     requires sizes { (trace.now.external ≡ 2) × (trace.now.bridges ≡ 0) }
     ensures board { IfOk result (λ r. r.0.setting.trace ≡ trace.now) }
-    ensures seat { IfOk result (λ r. IsSeated r.0 r.1 × (r.1.known ≡ first_seat (length trace.now.events))) }
-    ensures ready { IfOk result (λ r. IsReady C.carries C.next C.sizes r.0.setting [] r.2 r.3) }
+    ensures seated { IfOk result (λ r. IsSeated r.0 r.1) }
+    ensures chief { IfOk result (λ r. IsChief (turns_of r.0.setting) r.1.known) }
+    ensures few { IfOk result (λ r. r.1.known.made ≤ 0) }
+    ensures done { IfOk result (λ r. IsDoneBelow trace.now 0 (order_of r.1.known.seen)) }
+    ensures ready { IfOk result (λ r. IsReadyFor C.carries C.next C.sizes r.0.setting r.1.known r.2 r.3) }
 {
-    let core = Core::new(alloc, trace, FabricMap::new(alloc, 2)?)?;
-    let (board, seat) = SharedExchange::open(alloc, core)?;
+    let image = Image::new(alloc, 2, 0, 30)?;
     let engine = C::new(alloc, 2, 0, 30)?;
-    let tool = Tool::Image(Image::new(alloc, 2, 0, 30)?);
-    Ok((board, seat, engine, tool))
+    let (board, seat) = opened(alloc, trace, 2)?;
+    Ok((board, seat, engine, Tool::Image(image)))
 }
 
-// Runs a segment of a trace, where all before it were run.
+// Runs a segment of a trace, where all before it were run. Whether it is answered so, and what the next one needs.
 fn run_next<B: Switchboard, G: Gate, C: Carrier, R: Threads + Wait + Sync>(
     rt: &R,
     alloc: Global,
@@ -81,7 +101,8 @@ fn run_next<B: Switchboard, G: Gate, C: Carrier, R: Threads + Wait + Sync>(
     engine: C,
     tool: Tool,
     gate: &G,
-) -> Result<SegmentAnswer<C>, AllocError>
+    wanted: &[Shown],
+) -> Result<(bool, C, Tool), AllocError>
     requires seated { B.seated board.now seat.old }
     requires trace { trace.now ≡ (B.board board.now).trace }
     requires sound { IsSound trace.now }
@@ -93,123 +114,137 @@ fn run_next<B: Switchboard, G: Gate, C: Carrier, R: Threads + Wait + Sync>(
     ensures seated { B.seated board.now seat.new }
     ensures chief { IsChief (turns_of (B.board board.now)) (B.known seat.new) }
     ensures few { (B.known seat.new).made ≤ 9 * (segment + 1) }
-    ensures done { IfOk result (λ a. IsDoneBelow trace.now (segment + 1) (order_of (B.known seat.new).seen)) }
-    ensures ready { IfOk result (λ a. IsReadyFor C.carries C.next C.sizes (B.board board.now) (B.known seat.new) a.engine a.tool) }
+    ensures done { IfOk result (λ r. IsDoneBelow trace.now (segment + 1) (order_of (B.known seat.new).seen)) }
+    ensures ready { IfOk result (λ r. IsReadyFor C.carries C.next C.sizes (B.board board.now) (B.known seat.new) r.1 r.2) }
 {
     let answer = run_segment(rt, alloc, board, seat, trace, segment, engine, tool, gate)?;
-    Ok(answer)
-}
-
-// Runs the first segment of a trace of two lines at an exchange of its own, and hands on what the next
-// one needs.
-fn run_first<'t, C: Carrier, G: Gate, R: Threads + Wait + Sync>(
-    rt: &R,
-    alloc: Global,
-    trace: &'t Trace,
-    gate: &G,
-) -> Result<
-    (
-        SharedExchange<'t, FabricMap>,
-        Seat<'t, FabricMap>,
-        SegmentAnswer<C>,
-    ),
-    AllocError,
->
-    requires sound { IsSound trace.now }
-    requires sizes { (trace.now.external ≡ 2) × (trace.now.bridges ≡ 0) }
-    requires segment { 0 < length trace.now.segments }
-    ensures board { IfOk result (λ r. r.0.setting.trace ≡ trace.now) }
-    ensures seated { IfOk result (λ r. IsSeated r.0 r.1) }
-    ensures chief { IfOk result (λ r. IsChief (turns_of r.0.setting) r.1.known) }
-    ensures few { IfOk result (λ r. r.1.known.made ≤ 9) }
-    ensures done { IfOk result (λ r. IsDoneBelow trace.now 1 (order_of r.1.known.seen)) }
-    ensures ready { IfOk result (λ r. IsReadyFor C.carries C.next C.sizes r.0.setting r.1.known r.2.engine r.2.tool) }
-{
-    let (board, seat, engine, tool) = equipped::<C>(alloc, trace)?;
-    let mut seat = seat;
-    let answer = run_next(rt, alloc, &board, &mut seat, trace, 0, engine, tool, gate)?;
-    Ok((board, seat, answer))
-}
-
-/// What both segments of a trace of two lines answer, one after the other.
-pub fn segments_at<G: Gate, R: Threads + Wait + Sync>(
-    rt: &R,
-    alloc: Global,
-    trace: &Trace,
-    gate: &G,
-) -> Result<Vec<Shown>, AllocError>
-    requires sound { IsSound trace.now }
-    requires sizes { (trace.now.external ≡ 2) × (trace.now.bridges ≡ 0) }
-    requires segments { length trace.now.segments ≡ 2 }
-{
-    let (board, seat, first) = run_first::<Engine, G, R>(rt, alloc, trace, gate)?;
-    let mut seat = seat;
     let SegmentAnswer {
         answers,
         engine,
         tool,
-    } = first;
-    let second = run_next(rt, alloc, &board, &mut seat, trace, 1, engine, tool, gate)?;
-    let mut all = Vec::new(alloc);
-    show(&mut all, answers.as_slice())?;
-    show(&mut all, second.answers.as_slice())?;
-    Ok(all)
+    } = answer;
+    Ok((show(answers.as_slice(), wanted), engine, tool))
 }
 
-/// What the call processor of a trace of two lines answers in its first segment, and whether that is all.
-pub fn processed<R: Wait>(
+// Runs both segments of a trace. Whether the nail and the five frames are answered as they should be.
+fn run_both<B: Switchboard, G: Gate, C: Carrier, R: Threads + Wait + Sync>(
+    rt: &R,
+    alloc: Global,
+    board: &B,
+    mut seat: B::Seat,
+    trace: &Trace,
+    engine: C,
+    tool: Tool,
+    gate: &G,
+) -> Result<bool, AllocError>
+    requires seated { B.seated board.now seat }
+    requires trace { trace.now ≡ (B.board board.now).trace }
+    requires sound { IsSound trace.now }
+    requires segments { length trace.now.segments ≡ 2 }
+    requires chief { IsChief (turns_of (B.board board.now)) (B.known seat) }
+    requires few { (B.known seat).made ≤ 0 }
+    requires done { IsDoneBelow trace.now 0 (order_of (B.known seat).seen) }
+    requires ready { IsReadyFor C.carries C.next C.sizes (B.board board.now) (B.known seat) engine tool }
+{
+    let (nailed, engine, tool) = run_next(
+        rt, alloc, board, &mut seat, trace, 0, engine, tool, gate, &NAIL,
+    )?;
+    let (carried, _, _) = run_next(
+        rt,
+        alloc,
+        board,
+        &mut seat,
+        trace,
+        1,
+        engine,
+        tool,
+        gate,
+        &FIVE_FRAMES,
+    )?;
+    Ok(nailed && carried)
+}
+
+/// Whether both segments of a trace of two lines are answered as they should be, one after the other.
+pub fn segments_are_answered<G: Gate, R: Threads + Wait + Sync>(
     rt: &R,
     alloc: Global,
     trace: &Trace,
-) -> Result<(Vec<Shown>, bool), AllocError>
+    gate: &G,
+) -> Result<bool, AllocError>
+    requires sound { IsSound trace.now }
+    requires sizes { (trace.now.external ≡ 2) × (trace.now.bridges ≡ 0) }
+    requires segments { length trace.now.segments ≡ 2 }
+{
+    let (board, seat, engine, tool) = equipped::<Engine>(alloc, trace)?;
+    run_both(rt, alloc, &board, seat, trace, engine, tool, gate)
+}
+
+// Whether a call processor answers the nail as it should be, and nothing else.
+fn processes<B: Switchboard, R: Wait>(
+    rt: &R,
+    alloc: Global,
+    board: &B,
+    seat: B::Seat,
+    trace: &Trace,
+) -> bool
+    requires seated { B.seated board.now seat }
+    requires trace { trace.now ≡ (B.board board.now).trace }
+    requires processors { 0 < trace.now.processors }
+    requires segments { 0 < length trace.now.segments }
+    requires first { B.known seat ≡ first_seat (length trace.now.events) }
+{
+    let worked = process(rt, alloc, board, seat, trace, 0, 0, &OpenGate);
+    worked.whole && are_shown(worked.answers.as_slice(), &NAIL)
+}
+
+/// Whether the call processor of a trace of two lines answers its part of the first segment, all of it.
+pub fn part_is_answered<R: Wait>(rt: &R, alloc: Global, trace: &Trace) -> Result<bool, AllocError>
     requires sound { IsSound trace.now }
     requires sizes { (trace.now.external ≡ 2) × (trace.now.bridges ≡ 0) }
     requires processors { 0 < trace.now.processors }
     requires segments { 0 < length trace.now.segments }
 {
-    let (board, seat, _, _) = equipped::<Engine>(alloc, trace)?;
-    let worked = process(rt, alloc, &board, seat, trace, 0, 0, &OpenGate);
-    let all = shown_of(alloc, worked.answers.as_slice())?;
-    Ok((all, worked.whole))
+    let (board, seat) = opened(alloc, trace, 2)?;
+    Ok(processes(rt, alloc, &board, seat, trace))
 }
 
-/// What the frame worker of a trace of two lines answers in its second segment, once the first one was run,
-/// and whether that is all.
-pub fn frames_run<R: Threads + Wait + Sync>(
+// Runs the first segment, and has the frame worker do the second one. Whether the five frames are answered as they
+// should be.
+fn carries<B: Switchboard, C: Carrier, R: Threads + Wait + Sync>(
+    rt: &R,
+    alloc: Global,
+    board: &B,
+    mut seat: B::Seat,
+    trace: &Trace,
+    engine: C,
+    tool: Tool,
+) -> Result<bool, AllocError>
+    requires seated { B.seated board.now seat }
+    requires trace { trace.now ≡ (B.board board.now).trace }
+    requires sound { IsSound trace.now }
+    requires segments { length trace.now.segments ≡ 2 }
+    requires chief { IsChief (turns_of (B.board board.now)) (B.known seat) }
+    requires few { (B.known seat).made ≤ 0 }
+    requires done { IsDoneBelow trace.now 0 (order_of (B.known seat).seen) }
+    requires ready { IsReadyFor C.carries C.next C.sizes (B.board board.now) (B.known seat) engine tool }
+{
+    let (nailed, engine, tool) = run_next(
+        rt, alloc, board, &mut seat, trace, 0, engine, tool, &OpenGate, &NAIL,
+    )?;
+    let framed = run_frames(rt, alloc, board, seat, trace, 1, engine, tool, &OpenGate);
+    Ok(nailed && framed.worked.whole && are_shown(framed.worked.answers.as_slice(), &FIVE_FRAMES))
+}
+
+/// Whether the frame worker of a trace of two lines answers the second segment, all of it, once the first one was run.
+pub fn frames_are_answered<R: Threads + Wait + Sync>(
     rt: &R,
     alloc: Global,
     trace: &Trace,
-) -> Result<(Vec<Shown>, bool), AllocError>
+) -> Result<bool, AllocError>
     requires sound { IsSound trace.now }
     requires sizes { (trace.now.external ≡ 2) × (trace.now.bridges ≡ 0) }
     requires segments { length trace.now.segments ≡ 2 }
 {
-    let (board, seat, first) = run_first::<Engine, OpenGate, R>(rt, alloc, trace, &OpenGate)?;
-    let SegmentAnswer { engine, tool, .. } = first;
-    let framed = run_frames(rt, alloc, &board, seat, trace, 1, engine, tool, &OpenGate);
-    let all = shown_of(alloc, framed.worked.answers.as_slice())?;
-    Ok((all, framed.worked.whole))
-}
-
-/// Whether this is what the nail is answered, and nothing else.
-pub fn is_nail(answers: &[Shown]) -> bool {
-    let expected = [(1, Outcome::Granted(0, 0), None)];
-    answers == expected.as_slice()
-}
-
-/// Whether this is what the five frames are answered: an octet leaves two frames after it came.
-pub fn are_five_frames(answers: &[Shown]) -> bool {
-    let expected = [
-        (2, Outcome::Frame(0), Some((0xD5, 0xD5))),
-        (3, Outcome::Frame(1), Some((0xD5, 0xD5))),
-        (4, Outcome::Frame(2), Some((129, 1))),
-        (5, Outcome::Frame(3), Some((130, 2))),
-        (6, Outcome::Frame(4), Some((131, 3))),
-    ];
-    answers == expected.as_slice()
-}
-
-/// Whether this is what the nail and the five frames are answered.
-pub fn is_whole(answers: &[Shown]) -> bool {
-    answers.len() == 6 && is_nail(&answers[..1]) && are_five_frames(&answers[1..])
+    let (board, seat, engine, tool) = equipped::<Engine>(alloc, trace)?;
+    carries(rt, alloc, &board, seat, trace, engine, tool)
 }

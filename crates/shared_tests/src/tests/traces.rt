@@ -44,17 +44,25 @@ fn silence(alloc: Global) -> Result<Input, AllocError>
     Ok(Input::of(vec![in alloc; None; 4]?))
 }
 
+// The nails, and two frames without octets.
+fn nails_and_two_frames(alloc: Global) -> Result<Vec<Event>, AllocError>
+    ensures count { IfOk result (λ v. length v.items ≡ 62) }
+    ensures fits { IfOk result (λ v. All (Fits 4) v.items) }
+{
+    let mut events = nails(alloc)?;
+    events.push(Event::Frame(silence(alloc)?))?;
+    events.push(Event::Frame(silence(alloc)?))?;
+    Ok(events)
+}
+
 /// A trace of four lines: events 1 to 60 are nails, and events 61 and 62 are frames without octets.
 pub fn nails_and_frames(alloc: Global) -> Result<Trace, AllocError>
     ensures sound { IfOk result IsSound }
     ensures sizes { IfOk result (λ t. (t.external ≡ 4) × (t.bridges ≡ 0)) }
     ensures count { IfOk result (λ t. length t.events ≡ 62) }
 {
-    let mut events = nails(alloc)?;
-    events.push(Event::Frame(silence(alloc)?))?;
-    events.push(Event::Frame(silence(alloc)?))?;
-    let mut ends = Vec::new(alloc);
-    ends.push(62)?;
+    let ends = vec![in alloc; 62]?;
+    let events = nails_and_two_frames(alloc)?;
     Ok(Trace {
         external: 4,
         bridges: 0,
@@ -97,6 +105,17 @@ fn push_frames(alloc: Global, events: &mut Vec<Event>) -> Result<(), AllocError>
     Ok(())
 }
 
+// A nail, and five frames.
+fn nail_and_frames(alloc: Global) -> Result<Vec<Event>, AllocError>
+    ensures count { IfOk result (λ v. length v.items ≡ 6) }
+    ensures fits { IfOk result (λ v. All (Fits 2) v.items) }
+{
+    let mut events = Vec::new(alloc);
+    events.push(Event::Nail(on(0, 0), on(1, 0)))?;
+    push_frames(alloc, &mut events)?;
+    Ok(events)
+}
+
 /// A trace of two lines and one call processor: a nail of their first slots in a segment of its own, and
 /// then five frames, in which line 0 sends the octets 1 to 5 there, and line 1 the octets 129 to 133.
 pub fn nail_and_five_frames(alloc: Global) -> Result<Trace, AllocError>
@@ -104,12 +123,8 @@ pub fn nail_and_five_frames(alloc: Global) -> Result<Trace, AllocError>
     ensures sizes { IfOk result (λ t. (t.external ≡ 2) × (t.bridges ≡ 0) × (t.processors ≡ 1)) }
     ensures segments { IfOk result (λ t. length t.segments ≡ 2) }
 {
-    let mut events = Vec::new(alloc);
-    events.push(Event::Nail(on(0, 0), on(1, 0)))?;
-    push_frames(alloc, &mut events)?;
-    let mut ends = Vec::new(alloc);
-    ends.push(1)?;
-    ends.push(6)?;
+    let ends = vec![in alloc; 1, 6]?;
+    let events = nail_and_frames(alloc)?;
     Ok(Trace {
         external: 2,
         bridges: 0,

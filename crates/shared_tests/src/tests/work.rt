@@ -15,7 +15,7 @@ use std::sync::Wait;
 use std::thread::{Threads, join};
 
 /// What an event is answered.
-#[derive(Clone, Copy, Debug, PartialEq, Eq)]
+#[derive(Clone, Copy, PartialEq, Eq)]
 pub enum Outcome {
     Granted(u32, u32),
     Busy,
@@ -109,17 +109,20 @@ fn nail_or_frame<B: Switchboard, R: Wait>(
     Some((place, answer_of(&reply)))
 }
 
-/// Steps of two seats in this order, each a seat's number and an event; seat 0 holds the baton, and the other one works at a desk. The place
-/// and the answer of each.
-pub fn do_all<B: Switchboard, R: Wait>(
+/// A step of two seats: a seat's number and an event, and the place and the answer of it.
+pub type Step = ((u32, u32), (u32, Outcome));
+
+/// Does steps of two seats in this order; seat 0 holds the baton, and the other one works at a desk. Whether each is
+/// answered as it should be.
+pub fn are_answered<B: Switchboard, R: Wait>(
     rt: &R,
     alloc: Global,
     board: &B,
     trace: &Trace,
     zero: &mut B::Seat,
     one: &mut B::Seat,
-    steps: &[(u32, u32)],
-) -> Option<Vec<(u32, Outcome)>>
+    steps: &[Step],
+) -> bool
     requires trace { trace.now ≡ (B.board board.now).trace }
     requires sizes { (trace.now.external ≡ 4) × (trace.now.bridges ≡ 0) × ((B.board board.now).slots ≡ 30) }
     requires zero { B.seated board.now zero.old × IsTrue (B.known zero.old).baton × (length steps.now ≤ (B.known zero.old).left) }
@@ -128,15 +131,16 @@ pub fn do_all<B: Switchboard, R: Wait>(
     ensures number { (B.known zero.new).number ≡ (B.known zero.old).number }
     ensures seats { ((B.known zero.new).made ≡ (B.known zero.old).made) × (length (B.known zero.new).kept ≡ length (B.known zero.old).kept) }
 {
-    let mut answers = Vec::new(alloc);
-    for &(number, event) in steps {
+    for &((number, event), wanted) in steps {
         let answer = match number {
             0 => nail_or_frame(rt, alloc, board, trace, zero, event),
             _ => nail(rt, board, trace, one, event, true),
         };
-        answers.push(answer?).ok()?;
+        if answer != Some(wanted) {
+            return false;
+        }
     }
-    Some(answers)
+    true
 }
 
 /// Every second event from `first` on is done, n. How many were granted.

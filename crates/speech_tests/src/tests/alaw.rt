@@ -82,12 +82,19 @@ static ENCODED: [(i32, u8); 52] = [
     (-4095, 0x2A),
 ];
 
+// Whether each octet has an eighth of its entry as its value.
+fn decode_so(decoded: &[i16; 256]) -> bool {
+    for octet in 0..=255u8 {
+        if 8 * expand(octet) != i32::from(decoded[usize::from(octet)]) {
+            return false;
+        }
+    }
+    true
+}
+
 #[test]
 fn octets_decode_as_elsewhere(rt: HostRuntime) {
-    for octet in 0..=255u8 {
-        let decoded = i32::from(DECODED[usize::from(octet)]);
-        assert_eq!(rt; 8 * expand(octet), decoded);
-    }
+    assert!(rt; decode_so(&DECODED));
 }
 
 /// Values that the standard leaves open, and their octets here: a decision value is the lower end of
@@ -105,14 +112,19 @@ fn is_coded(codes: &CodeTable, value: i32, octet: u8) -> bool {
     compress(value) == octet && codes.code(value) == octet
 }
 
+// Whether each value has its octet.
+fn are_coded(codes: &CodeTable, rows: &[(i32, u8)]) -> bool {
+    for (value, octet) in rows {
+        if !is_coded(codes, *value, *octet) {
+            return false;
+        }
+    }
+    true
+}
+
 #[test]
 fn values_encode_as_elsewhere(rt: HostRuntime) -> Result<(), AllocError> {
     let codes = CodeTable::new(rt.alloc())?;
-    for (value, octet) in &ENCODED {
-        assert!(&rt; is_coded(&codes, *value, *octet), "{value}");
-    }
-    for (value, octet) in &LEFT_OPEN {
-        assert!(&rt; is_coded(&codes, *value, *octet), "{value}");
-    }
+    assert!(&rt; are_coded(&codes, &ENCODED) && are_coded(&codes, &LEFT_OPEN));
     Ok(())
 }

@@ -28,7 +28,7 @@ fn two_frames_late(rt: HostRuntime) -> Result<(), AllocError> {
         heard_in_frame(&mut line, [None, None]),
         heard_in_frame(&mut line, [None, None]),
     ];
-    assert_eq!(&rt; heard, [IDLE, IDLE, 0x11, IDLE, 0x33]);
+    assert!(&rt; heard == [IDLE, IDLE, 0x11, IDLE, 0x33]);
     Ok(())
 }
 
@@ -51,7 +51,7 @@ fn halves_change_places(rt: HostRuntime) -> Result<(), AllocError> {
         heard_around_swap(&mut buffer, 0x11),
         heard_around_swap(&mut buffer, 0x22),
     ];
-    assert_eq!(&rt; heard, [(IDLE, 0x11), (0x11, 0x22)]);
+    assert!(&rt; heard == [(IDLE, 0x11), (0x11, 0x22)]);
     Ok(())
 }
 
@@ -61,9 +61,7 @@ fn highways_hold_octets(rt: HostRuntime) -> Result<(), AllocError> {
     let mut crossed = Crossed::new(rt.alloc(), 2, 3)?;
     highway.set(1, 2, 0x11);
     crossed.set(0, 1, highway.get(1, 2));
-    assert_eq!(&rt;
-        [crossed.get(0, 1), crossed.get(1, 0), highway.get(0, 0)],
-        [0x11, IDLE, IDLE]
-    );
+    assert!(&rt; crossed.get(0, 1) == 0x11);
+    assert!(&rt; crossed.get(1, 0) == IDLE && highway.get(0, 0) == IDLE);
     Ok(())
 }

@@ -1,11 +1,12 @@
 //! An engine over two lines: a path that moves from frame to frame, and a tone.
-ghost use Rattle.std.specs.Prelude.{◌≡◌, ℕ, ◌+◌, ◌<◌};
+ghost use Rattle.std.specs.Prelude.{◌≡◌, ◌+◌, ◌<◌, ◌≤◌, IfOk};
 ghost use Rattle.circuit_model.specs.declared.circuit.Kind.{Kind};
 ghost use Rattle.tone_rules.specs.Tables.{IsGiven};
 
 use circuit_model::{IDLE, Kind, Slot};
 use control_memory::{Heard, Image};
 use frame_engine::{Carrier, Engine};
+use std::alloc::{AllocError, Global};
 use std::test::Fail;
 use std::thread::Threads;
 use tone_rules::{ToneOctets, Tones};
@@ -18,7 +19,7 @@ const RINGING: Slot = Slot { line: 1, place: 1 };
 
 /// A frame over two external lines, and what is heard in it. A path leads from NEAR to FAR since
 /// frame 0, and RINGING has a tone since frame 1.
-#[derive(Clone, Copy, Debug)]
+#[derive(Clone, Copy)]
 struct Turn {
     /// The internal slot of the path.
     slot: u8,
@@ -71,6 +72,46 @@ fn carry(
     (out[1][29], out[1][1])
 }
 
+// Ringing tone of three octets, and busy tone of one.
+fn tones(alloc: Global) -> Result<Tones, AllocError>
+    ensures given { IfOk result (λ t. (kind : Kind) → IsGiven t kind) }
+{
+    Ok(Tones {
+        ringback: ToneOctets::of(vec![in alloc; 20, 21, 22]?),
+        busy: ToneOctets::of(vec![in alloc; 30]?),
+    })
+}
+
+/// Tones, a control memory, and a new engine of its sizes.
+#[derive(Drop)]
+pub(super) struct Parts {
+    pub(super) tones: Tones,
+    pub(super) image: Image,
+    pub(super) engine: Engine,
+}
+
+/// The parts for these sizes. Memory may run out at each, so they are made apart from what is done with them.
+pub(super) fn parts_for(
+    alloc: Global,
+    external: u8,
+    bridges: u8,
+    slots: u8,
+) -> Result<Parts, AllocError>
+    requires lines { (1 ≤ external) × (external ≤ 32) × (bridges ≤ 2) }
+    requires slots { (1 ≤ slots) × (slots ≤ 59) }
+    ensures external { IfOk result (λ p. (p.engine.external ≡ external) × (p.image.external ≡ external)) }
+    ensures bridges { IfOk result (λ p. (p.engine.bridges ≡ bridges) × (p.image.bridges ≡ bridges)) }
+    ensures slots { IfOk result (λ p. (p.engine.slots ≡ slots) × (p.image.slots ≡ slots)) }
+    ensures next { IfOk result (λ p. p.engine.next ≡ 0) }
+    ensures tones { IfOk result (λ p. (kind : Kind) → IsGiven p.tones kind) }
+{
+    Ok(Parts {
+        tones: tones(alloc)?,
+        image: Image::new(alloc, external, bridges, slots)?,
+        engine: Engine::new(alloc, external, bridges, slots)?,
+    })
+}
+
 // That there is memory is beside every contract.
 #[test]
 fn a_full_engine_is_made(rt: HostRuntime) -> Result<(), Fail> {
@@ -81,62 +122,75 @@ fn a_full_engine_is_made(rt: HostRuntime) -> Result<(), Fail> {
     Ok(())
 }
 
+// The frames: the path is moved before frames 2, 4 and 5.
+const TURNS: [Turn; 6] = [
+    Turn {
+        slot: 0,
+        sent: 10,
+        heard: (IDLE, IDLE),
+    },
+    Turn {
+        slot: 0,
+        sent: 11,
+        heard: (IDLE, 20),
+    },
+    Turn {
+        slot: 1,
+        sent: 12,
+        heard: (10, 21),
+    },
+    Turn {
+        slot: 1,
+        sent: 13,
+        heard: (11, 22),
+    },
+    Turn {
+        slot: 0,
+        sent: 14,
+        heard: (12, 20),
+    },
+    Turn {
+        slot: 1,
+        sent: 15,
+        heard: (13, 21),
+    },
+];
+
+// Whether the frames are heard as they should be, by an engine that has carried none.
+fn are_heard(
+    rt: &(impl Threads + Sync),
+    engine: &mut Engine,
+    image: &mut Image,
+    tones: &Tones,
+    turns: &[Turn; 6],
+) -> bool
+    requires external { (engine.old.external ≡ 2) × (image.old.external ≡ 2) }
+    requires bridges { (engine.old.bridges ≡ 0) × (image.old.bridges ≡ 0) }
+    requires slots { (engine.old.slots ≡ 2) × (image.old.slots ≡ 2) }
+    requires next { engine.old.next ≡ 0 }
+    requires tones { (kind : Kind) → IsGiven tones.now kind }
+{
+    for frame in 0..6 {
+        let turn = turns[frame as usize];
+        if turn.slot > 1 {
+            return false;
+        }
+        if carry(rt, engine, image, tones, frame, turn.slot, turn.sent) != turn.heard {
+            return false;
+        }
+    }
+    true
+}
+
 #[test]
 fn a_path_that_moves_is_heard_two_frames_late_and_loses_no_octet(
     rt: HostRuntime,
 ) -> Result<(), Fail> {
-    let turns = [
-        Turn {
-            slot: 0,
-            sent: 10,
-            heard: (IDLE, IDLE),
-        },
-        Turn {
-            slot: 0,
-            sent: 11,
-            heard: (IDLE, 20),
-        },
-        Turn {
-            slot: 1,
-            sent: 12,
-            heard: (10, 21),
-        },
-        Turn {
-            slot: 1,
-            sent: 13,
-            heard: (11, 22),
-        },
-        Turn {
-            slot: 0,
-            sent: 14,
-            heard: (12, 20),
-        },
-        Turn {
-            slot: 1,
-            sent: 15,
-            heard: (13, 21),
-        },
-    ];
-    let alloc = rt.alloc();
-    let tones = Tones {
-        ringback: ToneOctets::of(vec![in alloc; 20, 21, 22]?),
-        busy: ToneOctets::of(vec![in alloc; 30]?),
-    };
-    let mut engine = Engine::new(alloc, 2, 0, 2)?;
-    let mut image = Image::new(alloc, 2, 0, 2)?;
-    for frame in 0..6 {
-        let turn = turns[frame as usize];
-        assert!(rt; turn.slot < 2);
-        let heard = carry(
-            &rt,
-            &mut engine,
-            &mut image,
-            &tones,
-            frame,
-            turn.slot,
-            turn.sent,
-        );
-        assert_eq!(rt; heard, turn.heard, "{turn:?}");
-    }
+    let Parts {
+        tones,
+        mut image,
+        mut engine,
+    } = parts_for(rt.alloc(), 2, 0, 2)?;
+    assert!(rt; are_heard(&rt, &mut engine, &mut image, &tones, &TURNS));
     Ok(())
 }

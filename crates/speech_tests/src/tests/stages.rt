@@ -55,6 +55,25 @@ struct Parts {
     out: FrameBuffer,
 }
 
+// Two speech memories.
+fn memories(alloc: Global, lines: u8) -> Result<(FrameBuffer, FrameBuffer), AllocError>
+    ensures lines { IfOk result (λ m. (m.0.lines ≡ lines) × (m.1.lines ≡ lines)) }
+{
+    let buffer = FrameBuffer::new(alloc, lines)?;
+    let out = FrameBuffer::new(alloc, lines)?;
+    Ok((buffer, out))
+}
+
+// The highways in front of the space stage and behind it.
+fn highways(alloc: Global, lines: u8, slots: u8) -> Result<(Highway, Crossed), AllocError>
+    ensures lines { IfOk result (λ h. (h.0.lines ≡ lines) × (h.1.lines ≡ lines)) }
+    ensures slots { IfOk result (λ h. (h.0.slots ≡ slots) × (h.1.slots ≡ slots)) }
+{
+    let highway = Highway::new(alloc, lines, slots)?;
+    let crossed = Crossed::new(alloc, lines, slots)?;
+    Ok((highway, crossed))
+}
+
 // The parts for n lines with their internal slots, without a path. Memory may run out at each, so they are made apart
 // from what is done with them.
 fn parts_for(alloc: Global, lines: u8, slots: u8) -> Result<Parts, AllocError>
@@ -65,12 +84,14 @@ fn parts_for(alloc: Global, lines: u8, slots: u8) -> Result<Parts, AllocError>
     ensures highway { IfOk result (λ p. (p.highway.lines ≡ lines) × (p.highway.slots ≡ slots)) }
     ensures crossed { IfOk result (λ p. (p.crossed.lines ≡ lines) × (p.crossed.slots ≡ slots)) }
 {
+    let (buffer, out) = memories(alloc, lines)?;
+    let (highway, crossed) = highways(alloc, lines, slots)?;
     Ok(Parts {
         image: Image::new(alloc, lines, 0, slots)?,
-        buffer: FrameBuffer::new(alloc, lines)?,
-        highway: Highway::new(alloc, lines, slots)?,
-        crossed: Crossed::new(alloc, lines, slots)?,
-        out: FrameBuffer::new(alloc, lines)?,
+        buffer,
+        highway,
+        crossed,
+        out,
     })
 }
 
@@ -146,18 +167,38 @@ fn stage_by_stage(
     Ok([sent, got])
 }
 
+// Whether the two lines send and get the octets of their paths.
+fn pass_stage_by_stage(
+    rt: &(impl Threads + Sync),
+    alloc: Global,
+    way: Way,
+    levels: u8,
+) -> Result<bool, AllocError>
+    requires levels { levels ≤ 3 }
+{
+    let octets = stage_by_stage(rt, alloc, way, levels)?;
+    Ok(octets == [[0x12, 0x11, IDLE, 0x21], [0x12, 0x21, IDLE, 0x11]])
+}
+
 #[test]
 fn octets_pass_stage_by_stage(rt: HostRuntime) -> Result<(), Fail> {
     for (way, levels) in WAYS {
         assert!(rt; levels <= 3);
-        let octets = stage_by_stage(&rt, rt.alloc(), way, levels)?;
-        assert_eq!(rt;
-            octets,
-            [[0x12, 0x11, IDLE, 0x21], [0x12, 0x21, IDLE, 0x11]],
-            "{way:?} {levels}"
-        );
+        assert!(rt; pass_stage_by_stage(&rt, rt.alloc(), way, levels)?);
     }
     Ok(())
+}
+
+// Whether the slots of the two lines hear the octets of their paths, and no other slot hears one.
+fn have_reached(out: &FrameBuffer) -> bool
+    requires lines { out.now.lines ≡ 2 }
+{
+    let first = [
+        out.get(Slot { line: 0, place: 0 }),
+        out.get(Slot { line: 0, place: 1 }),
+    ];
+    let second = out.get(Slot { line: 1, place: 0 });
+    first == [0x21, 0x12] && second == 0x11 && speaking(out) == 3
 }
 
 #[test]
@@ -171,12 +212,6 @@ fn octets_reach_their_outlets(rt: HostRuntime) -> Result<(), AllocError> {
         &mut parts.out,
     );
     parts.out.swap();
-    let out = &parts.out;
-    let first = [
-        out.get(Slot { line: 0, place: 0 }),
-        out.get(Slot { line: 0, place: 1 }),
-    ];
-    let second = out.get(Slot { line: 1, place: 0 });
-    assert!(&rt; first == [0x21, 0x12] && second == 0x11 && speaking(out) == 3);
+    assert!(&rt; have_reached(&parts.out));
     Ok(())
 }

@@ -39,64 +39,75 @@ fn a_new_gate_has_not_passed(rt: HostRuntime) -> Result<(), Fail> {
     Ok(())
 }
 
+// What one thread calls, and whether the gate passes.
+const CALLS: [([Call; 3], bool); 6] = [
+    // The turn was over when the crossing began, and other events and frames are not held.
+    (
+        [
+            Call::BeforeTurn(6),
+            Call::AfterTurn(7),
+            Call::BeforeCrossing(3),
+        ],
+        true,
+    ),
+    (
+        [
+            Call::BeforeCrossing(2),
+            Call::AfterTurn(7),
+            Call::BeforeCrossing(3),
+        ],
+        true,
+    ),
+    // The turn waits for a crossing that doesn't begin.
+    (
+        [
+            Call::BeforeTurn(7),
+            Call::AfterTurn(7),
+            Call::BeforeCrossing(3),
+        ],
+        false,
+    ),
+    // The crossing waits for a turn that doesn't end.
+    (
+        [
+            Call::BeforeCrossing(3),
+            Call::BeforeTurn(7),
+            Call::AfterTurn(7),
+        ],
+        false,
+    ),
+    // Other events and frames don't count.
+    (
+        [
+            Call::AfterTurn(8),
+            Call::BeforeTurn(8),
+            Call::BeforeCrossing(3),
+        ],
+        false,
+    ),
+    (
+        [
+            Call::AfterTurn(7),
+            Call::BeforeCrossing(2),
+            Call::AfterCrossing(3),
+        ],
+        false,
+    ),
+];
+
+// Whether the gate passes where it should, and nowhere else.
+fn pass_as_wanted(rows: &[([Call; 3], bool)]) -> bool {
+    for (calls, wanted) in rows {
+        if passes(calls) != *wanted {
+            return false;
+        }
+    }
+    true
+}
+
 #[test]
 fn one_thread_alone_passes_only_where_nothing_is_held(rt: HostRuntime) -> Result<(), Fail> {
-    for (calls, wanted) in [
-        // The turn was over when the crossing began, and other events and frames are not held.
-        (
-            [
-                Call::BeforeTurn(6),
-                Call::AfterTurn(7),
-                Call::BeforeCrossing(3),
-            ],
-            true,
-        ),
-        (
-            [
-                Call::BeforeCrossing(2),
-                Call::AfterTurn(7),
-                Call::BeforeCrossing(3),
-            ],
-            true,
-        ),
-        // The turn waits for a crossing that doesn't begin.
-        (
-            [
-                Call::BeforeTurn(7),
-                Call::AfterTurn(7),
-                Call::BeforeCrossing(3),
-            ],
-            false,
-        ),
-        // The crossing waits for a turn that doesn't end.
-        (
-            [
-                Call::BeforeCrossing(3),
-                Call::BeforeTurn(7),
-                Call::AfterTurn(7),
-            ],
-            false,
-        ),
-        // Other events and frames don't count.
-        (
-            [
-                Call::AfterTurn(8),
-                Call::BeforeTurn(8),
-                Call::BeforeCrossing(3),
-            ],
-            false,
-        ),
-        (
-            [
-                Call::AfterTurn(7),
-                Call::BeforeCrossing(2),
-                Call::AfterCrossing(3),
-            ],
-            false,
-        ),
-    ] {
-        assert!(rt; passes(&calls) == wanted);
-    }
+    assert!(rt; pass_as_wanted(&CALLS));
     Ok(())
 }
 

@@ -4,7 +4,6 @@ ghost use Rattle.std.specs.Thread.{IsSync};
 ghost use Rattle.turn_lock.specs.Locks.{IsSeatOf};
 
 use super::sum::Sum;
-use std::alloc::Global;
 use std::sync::Wait;
 use std::thread::{Threads, join};
 use turn_lock::{Seat, TurnLock};
@@ -28,16 +27,17 @@ pub fn step_once<R: Wait>(
     Some(lock.step(rt, seat, event, &mut tool))
 }
 
-/// Steps of three seats in this order, each a seat's number and an event. None where a step finds no turn or no baton.
+/// Steps of three seats in this order, each a seat's number and an event. Whether the place and the sum of each are these;
+/// none where a step finds no turn or no baton.
 pub fn step_all<R: Wait>(
     rt: &R,
-    alloc: Global,
     lock: &TurnLock<Sum>,
     zero: &mut Seat<Sum>,
     one: &mut Seat<Sum>,
     two: &mut Seat<Sum>,
     steps: &[(u32, u32)],
-) -> Option<Vec<(u32, u64)>>
+    answers: &[(u32, u64)],
+) -> Option<bool>
     requires zero { IsSeatOf lock.now zero.old }
     requires one { IsSeatOf lock.now one.old }
     requires two { IsSeatOf lock.now two.old }
@@ -47,16 +47,17 @@ pub fn step_all<R: Wait>(
     ensures number { zero.new.known.number ≡ zero.old.known.number }
     ensures seats { (zero.new.known.made ≡ zero.old.known.made) × (length zero.new.known.kept ≡ length zero.old.known.kept) }
 {
-    let mut answers = Vec::new(alloc);
+    let mut left = answers.iter();
+    let mut same = true;
     for &(number, event) in steps {
         let answer = match number {
             0 => step_once(rt, lock, zero, event),
             1 => step_once(rt, lock, one, event),
             _ => step_once(rt, lock, two, event),
         };
-        answers.push(answer?).ok()?;
+        same = left.next() == Some(&answer?) && same;
     }
-    Some(answers)
+    Some(same && left.next().is_none())
 }
 
 /// Steps the events 1 to `count`.

@@ -1,12 +1,11 @@
-use Rattle.std.proofs.Common.{length, ap, arith}
+use Rattle.std.proofs.Common.{length, sym, ap, arith}
 use Rattle.exchange_events.specs.Orders.{Frame_worker}
 use Rattle.exchange_events.specs.declared.trace.Trace.{Trace}
 use Rattle.shared_tests.proofs.SeatLemmas.{chief_may}
-use Rattle.shared_tests.proofs.tests.segments.frames_run.Goals as goal
+use Rattle.shared_tests.proofs.tests.segments.carries.Goals as goal
 
 pub run_frames-framed-requires-clause-turns : goal.run_frames-framed-requires-clause-turns
 run_frames-framed-requires-clause-turns g c lifetimes outlive =
     let segments = c.requires.segments in
-    let first = c.in_ok-board.ensures in
-    let turns = ap (λ (t : Trace). length t.events) first.board in
-    chief_may c.args.trace.now 1 Frame_worker _ _ turns c.requires.sound (omega (arith, segments)) first.chief first.done
+    let turns = ap (λ (t : Trace). length t.events) (sym c.requires.trace) in
+    chief_may c.args.trace.now 1 Frame_worker _ _ turns c.requires.sound (omega (arith, segments)) c.run_next.ensures.chief c.in_ok-nailed.ensures.done

@@ -1,6 +1,6 @@
 use Rattle.control_memory.specs.Image.{SameSizes as SameImageSizes}
 use Rattle.circuit_map.specs.Connections.{SameSizes}
-use Rattle.circuit_tests.proofs.tests.check_over.Given as goal
+use Rattle.circuit_tests.proofs.tests.are_answered.Given as goal
 
 -- the sizes are as they were made
 abbrev pub invariant-loop-step : goal.invariant-loop-step

@@ -1,5 +1,5 @@
 use Rattle.std.proofs.Common.{◌≡◌, ◌+◌, ◌≤◌, IsTrue, length}
-use Rattle.shared_tests.proofs.tests.work.do_all.Given as goal
+use Rattle.shared_tests.proofs.tests.work.are_answered.Given as goal
 
 abbrev pub invariant-loop-number : goal.invariant-loop-number
 invariant-loop-number g l = record {

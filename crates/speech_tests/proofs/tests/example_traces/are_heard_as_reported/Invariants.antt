@@ -1,5 +1,5 @@
 use Rattle.std.proofs.Common.{◌≡◌}
-use Rattle.frame_engine.proofs.engine.tests.first_wrong.Given as goal
+use Rattle.speech_tests.proofs.tests.example_traces.are_heard_as_reported.Given as goal
 
 abbrev pub invariant-loop-frame : goal.invariant-loop-frame
 invariant-loop-frame g l = record {

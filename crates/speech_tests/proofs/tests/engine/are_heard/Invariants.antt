@@ -1,5 +1,5 @@
 use Rattle.std.proofs.Common.{◌≡◌}
-use Rattle.speech_tests.proofs.tests.engine.a_path_that_moves_is_heard_two_frames_late_and_loses_no_octet.Given as goal
+use Rattle.speech_tests.proofs.tests.engine.are_heard.Given as goal
 
 abbrev pub invariant-loop-frame : goal.invariant-loop-frame
 invariant-loop-frame g l = record {

@@ -1,8 +1,8 @@
 use Rattle.std.proofs.Common.{◌≡◌}
-use Rattle.frame_engine.proofs.engine.tests.lay_pairs.Given as goal
+use Rattle.speech_tests.proofs.tests.example_traces.seat_three.Given as goal
 
-abbrev pub invariant-loop-place : goal.invariant-loop-place
-invariant-loop-place l = record {
+abbrev pub invariant-loop-line : goal.invariant-loop-line
+invariant-loop-line l = record {
   external : l.image.external ≡ 3;
   bridges : l.image.bridges ≡ 1;
   slots : l.image.slots ≡ 30;

@@ -1,6 +1,0 @@
-use Rattle.exchange_events.specs.Orders.{Processor}
-use Rattle.shared_tests.proofs.SeatLemmas.{first_may}
-use Rattle.shared_tests.proofs.tests.segments.processed.Goals as goal
-
-pub process-worked-requires-clause-turns : goal.process-worked-requires-clause-turns
-process-worked-requires-clause-turns g c lifetimes outlive = first_may c.args.trace.now 0 (Processor 0) _ c.in_ok-board.ensures.seat.1
