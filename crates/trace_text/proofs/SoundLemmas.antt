@@ -169,6 +169,13 @@ part_keeps_length external given more word h =
           rw (← is) (length-set given line.0 (Some octets.0))
     ]
 
+-- one more word of a frame is put into it
+pub part_more : (external : ℕ) (given now : Input) (word : List ℕ) (all others : List (List ℕ)) (read : Result Input Reason) → all ≡ word ∷ others → length given ≡ external → with_part external given word ≡ Ok now
+    → with_parts external given all ≡ read → (length now ≡ external) × (with_parts external now others ≡ read)
+part_more external given now word all others read cut wide put same =
+    let step : with_parts external given all ≡ with_parts external now others = rw (cut, put) refl in
+    (part_keeps_length external given now word put ∙ wide, sym step ∙ same)
+
 pub parts_keep_length : (external : ℕ) (given input : Input) (words : List (List ℕ)) → with_parts external given words ≡ Ok input → length input ≡ length given
 parts_keep_length external given input [] h = let is : given ≡ input = grind (arith, h) in rw is refl
 parts_keep_length external given input (word ∷ words) h =
