@@ -10,7 +10,7 @@ use Rattle.call_profile.proofs.CommandLemmas.{both_true}
 use Rattle.call_states.specs.declared.leg.Leg.{Leg}
 use Rattle.call_timers.specs.declared.timers.Timers.{Timers}
 use Rattle.leg_table.specs.DueBounds.{IsNotDue, NoneDue, AreBoundsOf, AreLower}
-use Rattle.leg_table.specs.LegKeys.{AreKeysOf, key_by, leg_on}
+use Rattle.leg_table.specs.LegKeys.{AreKeysOf, key_by, leg_on, no_key}
 
 eq_or_apart : (a b : ℕ) → (a ≡ b) ⊎ (a ≡ b → ⊥)
 eq_or_apart a b = elim (true_or_false (a == b)) [
@@ -112,11 +112,15 @@ early_none timers other legs held bounds place frame bound same view near early 
     subst (λ (t : Timers). IsNotDue t frame (leg_on held line place)) same
     (subst (λ (os : List (Option Leg)). IsNotDue timers frame (leg_on os line place)) view (bound.each place frame near (grind (arith, nat_tests, early)) line))
 
--- ---- the keys, once a leg holds a slot
+-- ---- the keys, once a leg holds a slot, or none does
 
 pub keys_with : (lines : ℕ) (legs : List (Option Leg)) (keys : List ℕ) (n k line place key : ℕ) (leg : Leg) → AreKeysOf lines legs keys → n ≡ 30 * line + place → k ≡ 32 * line + place → place < 30 → n < length legs
     → FitsMessages leg → key ≡ key_by leg.side leg.reference → AreKeysOf lines (set legs n (Some leg)) (set keys k key)
 keys_with lines legs keys n k line place key leg found at there near inside told is = grind (arith, common_steps)
+
+pub keys_without : (lines : ℕ) (legs : List (Option Leg)) (keys : List ℕ) (n k line place : ℕ) → AreKeysOf lines legs keys → n ≡ 30 * line + place → k ≡ 32 * line + place → place < 30 → n < length legs
+    → AreKeysOf lines (set legs n None) (set keys k no_key)
+keys_without lines legs keys n k line place found at there near inside = grind (arith, common_steps)
 
 -- ---- the bounds, once a leg holds a slot
 
