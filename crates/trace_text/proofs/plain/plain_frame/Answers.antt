@@ -1,6 +1,5 @@
-use Rattle.std.proofs.Common.{rules, ◌≡◌, length, Ok}
+use Rattle.std.proofs.Common.{rules, ◌≡◌, length}
 use Rattle.std.proofs.lemmas.List.{with_items_is}
-use Rattle.trace_text.specs.TraceLines.{with_part}
 use Rattle.trace_text.specs.TracePlain.{TakesPart}
 use Rattle.trace_text.proofs.SoundLemmas.{part_more}
 use Rattle.trace_text.proofs.plain.plain_frame.Goals as goal
