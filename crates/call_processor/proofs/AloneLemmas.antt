@@ -154,17 +154,17 @@ module _ {K : Type 0} (holds : K → List Placed → Type 0) (board : Board) (oc
       keeps_lacking (HoldsBehind holds first) board octets stays events done rest n v w x k m front g.keeps h (λ answers held kept have. refused (kept ++ answers) (held kept have))
 
   -- nothing was done
-  pub in_order_none : (events : List ℕ) → DidInOrder events v false v
-  in_order_none events = record {
-    done = [];
-    first = (events, refl);
-    did = nothing_done v;
-    grew = sym (append-nil v.seen);
-    all = λ never. absurd (cc never);
-  }
-
   pub works_none : (events : List ℕ) → KeepsWork (HoldsBehind holds first) board octets events v first false v
   works_none events = keeps_front (HoldsBehind holds first) board octets events [] events v v first refl goes_none.keeps
+
+pub in_order_none : (events : List ℕ) (v : Known) → DidInOrder events v false v
+in_order_none events v = record {
+  done = [];
+  first = (events, refl);
+  did = nothing_done v;
+  grew = sym (append-nil v.seen);
+  all = λ never. absurd (cc never);
+}
 
 pub in_order_ended : (events : List ℕ) (v w : Known) (whole ended : Bool) → whole ≡ ended → DidInOrder events v ended w → DidInOrder events v whole w
 in_order_ended events v w whole ended same did = subst (λ (b : Bool). DidInOrder events v b w) (sym same) did

@@ -223,6 +223,10 @@ order_of_ends events ends k sound within =
 abbrev pub up_to : Trace → Worker → ℕ → ℕ → List ℕ
 up_to trace worker first event = filter (is_its trace worker) (range_with_len first (event - first))
 
+-- none comes before the first
+pub none_up_to : (trace : Trace) (worker : Worker) (first : ℕ) → [] ≡ up_to trace worker first first
+none_up_to trace worker first = let zero_it : 0 ≡ first - first = omega arith in ap (λ (n : ℕ). filter (is_its trace worker) (range_with_len first n)) zero_it
+
 -- the numbers up to one, and those from it on
 pub range_front : (first event end : ℕ) → first ≤ event → event ≤ end → range_with_len first (end - first) ≡ range_with_len first (event - first) ++ range_with_len event (end - event)
 range_front first event end low high =

@@ -21,7 +21,7 @@ use exchange_events::Trace;
 use frame_engine::Carrier;
 use gate::Gate;
 use std::alloc::{AllocError, Global};
-use std::mem::replace;
+use std::mem::swap;
 use std::sync::Wait;
 use std::thread::Threads;
 
@@ -66,7 +66,7 @@ fn do_next<B: Switchboard, G: Gate, C: Carrier, K: Keeper, R: Threads + Wait + S
         let processor = processor_at(trace, event);
         return do_event(rt, alloc, board, seat, processor, event, desk, keeper, gate);
     };
-    desk.tool = replace(tool, Tool::Nothing);
+    swap(&mut desk.tool, tool);
     let worker = u32::from(trace.processors);
     let done = do_frame(
         rt,
@@ -83,7 +83,7 @@ fn do_next<B: Switchboard, G: Gate, C: Carrier, K: Keeper, R: Threads + Wait + S
         keeper,
         gate,
     );
-    *tool = replace(&mut desk.tool, Tool::Nothing);
+    swap(tool, &mut desk.tool);
     done
 }
 

@@ -154,10 +154,10 @@ pub fn run_frames<B: Switchboard, G: Gate, C: Carrier, R: Threads + Wait + Sync>
     rt: &R,
     alloc: Global,
     board: &B,
-    seat: B::Seat,
+    mut seat: B::Seat,
     trace: &Trace,
     segment: u32,
-    engine: C,
+    mut engine: C,
     tool: Tool,
     gate: &G,
 ) -> Framed<B::Seat, C>
@@ -173,8 +173,6 @@ pub fn run_frames<B: Switchboard, G: Gate, C: Carrier, R: Threads + Wait + Sync>
     ensures ready { EndsReady C.carries C.next C.sizes B.known (B.board board.now) result }
     ensures octets { All (HasFrame C.plays (table_of trace.now.tones) (B.board board.now) (B.known result.worked.seat)) result.worked.answers.items }
 {
-    let mut seat = seat;
-    let mut engine = engine;
     let mut desk = Desk::new(tool);
     let mut octets = Vec::new(alloc);
     let mut keeper = AnswerList::new(alloc);
@@ -210,12 +208,12 @@ pub fn run_frames_at<B: Switchboard, G: Gate, C: Carrier, K: Keeper, R: Threads 
     rt: &R,
     alloc: Global,
     board: &B,
-    seat: B::Seat,
+    mut seat: B::Seat,
     trace: &Trace,
     segment: u32,
-    engine: C,
+    mut engine: C,
     tool: Tool,
-    workplace: Workplace<K>,
+    mut workplace: Workplace<K>,
     shortage: &Shortage,
     gate: &G,
 ) -> FinishedFrames<B::Seat, C, K>
@@ -227,9 +225,6 @@ pub fn run_frames_at<B: Switchboard, G: Gate, C: Carrier, K: Keeper, R: Threads 
     ensures works { HasDoneFrames K.holds C.plays B.known (B.board board.now) trace.now segment (B.known seat) result.finished }
     ensures ready { FinishesReady C.carries C.next C.sizes B.known (B.board board.now) result }
 {
-    let mut seat = seat;
-    let mut engine = engine;
-    let mut workplace = workplace;
     workplace.desk.tool = tool;
     let whole = do_frames(
         rt,

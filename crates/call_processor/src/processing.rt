@@ -96,7 +96,7 @@ pub fn process<B: Switchboard, G: Gate, R: Wait>(
     rt: &R,
     alloc: Global,
     board: &B,
-    seat: B::Seat,
+    mut seat: B::Seat,
     trace: &Trace,
     segment: u32,
     processor: u32,
@@ -112,7 +112,6 @@ pub fn process<B: Switchboard, G: Gate, R: Wait>(
     // An event that is no frame has no octets.
     ensures octets { All (λ p. p.answer.octets ≡ []) result.answers.items }
 {
-    let mut seat = seat;
     let mut desk = Desk::new(Tool::Nothing);
     let mut keeper = AnswerList::new(alloc);
     let done = do_events(
@@ -142,11 +141,11 @@ pub fn process_at<B: Switchboard, G: Gate, K: Keeper, R: Wait>(
     rt: &R,
     alloc: Global,
     board: &B,
-    seat: B::Seat,
+    mut seat: B::Seat,
     trace: &Trace,
     segment: u32,
     processor: u32,
-    workplace: Workplace<K>,
+    mut workplace: Workplace<K>,
     shortage: &Shortage,
     gate: &G,
 ) -> Finished<B::Seat, K>
@@ -156,8 +155,6 @@ pub fn process_at<B: Switchboard, G: Gate, K: Keeper, R: Wait>(
     ensures seated { B.seated board.now result.seat }
     ensures works { HasDoneEvents K.holds B.known (B.board board.now) trace.now segment processor (B.known seat) result }
 {
-    let mut seat = seat;
-    let mut workplace = workplace;
     workplace.desk.tool = Tool::Nothing;
     let whole = do_events(
         rt,

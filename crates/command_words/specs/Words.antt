@@ -18,13 +18,15 @@ positional name = record (new_rule name) { required = true; action = Some Set }
 abbrev pub flag : Text → Rule
 flag name = record (new_rule name) { long = Some name; action = Some SetTrue }
 
--- the simple command `run`, with the flag `--strict`
-unfoldable pub run_app : App
-run_app = with_rule (new_app (codes "run")) (flag (codes "strict"))
+-- a simple command with the flag `--strict`
+unfoldable pub strict_app : Text → App
+strict_app name = with_rule (new_app name) (flag (codes "strict"))
 
--- the simple command `check`, with the flag `--strict`
-unfoldable pub check_app : App
-check_app = with_rule (new_app (codes "check")) (flag (codes "strict"))
+abbrev pub run_app : App
+run_app = strict_app (codes "run")
+
+abbrev pub check_app : App
+check_app = strict_app (codes "check")
 
 -- the simple command `gen SEED CALLS`
 unfoldable pub gen_app : App

@@ -3,7 +3,7 @@ ghost use Rattle.command_words.specs.Words.{IsInRange, check_of, command_of, gen
 ghost use Rattle.clap.specs.Words.{first_value, found_of, kind_of};
 
 use crate::numerals::numeral_within;
-use crate::readings::{check_matches, gen_matches, run_matches};
+use crate::readings::{gen_matches, strict_matches};
 use clap::error::ErrorKind;
 use clap::{ArgMatches, Error};
 use std::alloc::Global;
@@ -12,7 +12,7 @@ use std::alloc::Global;
 const MOST_CALLS: u32 = 2000;
 
 /// What the words ask for.
-#[derive(Clone, Copy, Debug, PartialEq, Eq)]
+#[derive(Clone, Copy)]
 pub enum Command {
     /// `run`, or `run --strict`: to run the trace of the input, with the flag on a fabric where no path
     /// ever moves.
@@ -70,11 +70,15 @@ enum Name {
 fn name_in(words: &[String]) -> Option<Name>
     ensures { result ≡ name_in (map string_bytes words.now) }
 {
-    match words {
-        [word, ..] if word.as_str() == "run" => Some(Name::Run),
-        [word, ..] if word.as_str() == "gen" => Some(Name::Gen),
-        [word, ..] if word.as_str() == "check" => Some(Name::Check),
-        _ => None,
+    let word = words.first()?.as_str();
+    if word == "run" {
+        Some(Name::Run)
+    } else if word == "gen" {
+        Some(Name::Gen)
+    } else if word == "check" {
+        Some(Name::Check)
+    } else {
+        None
     }
 }
 
@@ -84,7 +88,7 @@ fn read_run(alloc: Global, words: &[String]) -> Result<Command, WordsFault>
     ensures calls { IfOk result IsInRange }
     ensures no_command { IsErrOf result WordsFault.NoCommand → run_of (map string_bytes words.now) ≡ None }
 {
-    match run_matches(alloc, words) {
+    match strict_matches(alloc, "run", words) {
         Ok(matches) => Ok(Command::Run {
             strict: is_strict(&matches),
         }),
@@ -98,7 +102,7 @@ fn read_check(alloc: Global, words: &[String]) -> Result<Command, WordsFault>
     ensures calls { IfOk result IsInRange }
     ensures no_command { IsErrOf result WordsFault.NoCommand → check_of (map string_bytes words.now) ≡ None }
 {
-    match check_matches(alloc, words) {
+    match strict_matches(alloc, "check", words) {
         Ok(matches) => Ok(Command::Check {
             strict: is_strict(&matches),
         }),

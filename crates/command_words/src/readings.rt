@@ -1,35 +1,26 @@
 // The words behind a command's name, as clap reads them.
 ghost use Rattle.std.specs.Prelude.{◌≡◌, ◌≢◌, codes, map, string_bytes, true, false, IfOk, IfErr};
 ghost use Rattle.clap.specs.Words.{first_value, found_of, kind_of};
-ghost use Rattle.command_words.specs.Words.{check_app, gen_app, run_app, takes_words, text_for};
+ghost use Rattle.command_words.specs.Words.{gen_app, strict_app, takes_words, text_for};
 
 use clap::error::ErrorKind;
 use clap::{Arg, ArgAction, ArgMatches, Command, Error};
 use std::alloc::Global;
 
-/// What clap reads in the words of `run`, which has a flag.
-pub(crate) fn run_matches<'a>(alloc: Global, words: &'a [String]) -> Result<ArgMatches<'a>, Error>
-    ensures taken { IfOk result (λ _. takes_words run_app (map string_bytes words.now) ≡ true) }
-    ensures refused { IfErr result (λ e. kind_of e ≢ ErrorKind.OutOfMemory → takes_words run_app (map string_bytes words.now) ≡ false) }
-    ensures strict { IfOk result (λ m. first_value (found_of m) (codes "strict") ≡ text_for (codes "strict") run_app (map string_bytes words.now)) }
+/// What clap reads in the words of a command with this name, which has a flag.
+pub(crate) fn strict_matches<'a>(
+    alloc: Global,
+    name: &'a str,
+    words: &'a [String],
+) -> Result<ArgMatches<'a>, Error>
+    ensures taken { IfOk result (λ _. takes_words (strict_app name.now) (map string_bytes words.now) ≡ true) }
+    ensures refused { IfErr result (λ e. kind_of e ≢ ErrorKind.OutOfMemory → takes_words (strict_app name.now) (map string_bytes words.now) ≡ false) }
+    ensures strict { IfOk result (λ m. first_value (found_of m) (codes "strict") ≡ text_for (codes "strict") (strict_app name.now) (map string_bytes words.now)) }
 {
     let strict = Arg::new(alloc, "strict")
         .long("strict")
         .action(ArgAction::SetTrue);
-    let command = Command::new(alloc, "run").arg(strict)?;
-    command.try_get_matches_from(words)
-}
-
-/// What clap reads in the words of `check`, which has a flag.
-pub(crate) fn check_matches<'a>(alloc: Global, words: &'a [String]) -> Result<ArgMatches<'a>, Error>
-    ensures taken { IfOk result (λ _. takes_words check_app (map string_bytes words.now) ≡ true) }
-    ensures refused { IfErr result (λ e. kind_of e ≢ ErrorKind.OutOfMemory → takes_words check_app (map string_bytes words.now) ≡ false) }
-    ensures strict { IfOk result (λ m. first_value (found_of m) (codes "strict") ≡ text_for (codes "strict") check_app (map string_bytes words.now)) }
-{
-    let strict = Arg::new(alloc, "strict")
-        .long("strict")
-        .action(ArgAction::SetTrue);
-    let command = Command::new(alloc, "check").arg(strict)?;
+    let command = Command::new(alloc, name).arg(strict)?;
     command.try_get_matches_from(words)
 }
 
@@ -43,9 +34,10 @@ pub(crate) fn gen_matches<'a>(alloc: Global, words: &'a [String]) -> Result<ArgM
     let seed = Arg::new(alloc, "SEED")
         .required(true)
         .action(ArgAction::Set);
+    let command = Command::new(alloc, "gen").arg(seed)?;
     let calls = Arg::new(alloc, "CALLS")
         .required(true)
         .action(ArgAction::Set);
-    let command = Command::new(alloc, "gen").arg(seed)?.arg(calls)?;
+    let command = command.arg(calls)?;
     command.try_get_matches_from(words)
 }

@@ -8,7 +8,7 @@ use Rattle.std.proofs.lemmas.Bool.Decides.{eqb_tells}
 use Rattle.circuit_model.specs.declared.channel.Slot.{Slot}
 use Rattle.control_memory.specs.Layout.{Path, Layout, number_of, path_in, path_out, path_to, place_sent, line_received, slot_read, IsSlot, HasPath, Legal}
 use Rattle.control_memory.specs.Connecting.{with_path, without_path, IsFree}
-use Rattle.control_memory.specs.Tables.{Table, HasSize, SameSize, entry, Agree, written, nothing, HasTables}
+use Rattle.control_memory.specs.Tables.{Table, AreBare, HasSize, SameSize, entry, Agree, written, nothing, HasTables}
 use Rattle.control_memory.proofs.Lookups.{path_in_found}
 use Rattle.control_memory.proofs.Steps.{legal_with, legal_without}
 use Rattle.control_memory.specs.Paths.{IsTabled}
@@ -137,14 +137,14 @@ tabled_without lines slots layout from to slot a b c a' b' c' t inside has size_
       (agree_sized a lines slots 30 _ _ t.incoming_size wrote_a) (agree_sized b lines slots lines _ _ t.space_size wrote_b) (agree_sized c lines 30 slots _ _ t.outgoing_size wrote_c);
 }
 
-pub tabled_bare : (lines slots : ℕ) (a b c : Table) → lines ≤ 34 → HasSize a lines slots 30 → HasSize b lines slots lines → HasSize c lines 30 slots → Agree lines slots (entry a) nothing → Agree lines slots (entry b) nothing → Agree lines 30 (entry c) nothing → IsTabled lines slots (bare lines) a b c
-tabled_bare lines slots a b c few size_a size_b size_c none_a none_b none_c = record {
+pub tabled_bare : (lines slots : ℕ) (a b c : Table) → lines ≤ 34 → AreBare lines slots a b c → IsTabled lines slots (bare lines) a b c
+tabled_bare lines slots a b c few are = record {
   few = few;
   legal = legal_bare lines slots;
-  incoming_size = size_a;
-  space_size = size_b;
-  outgoing_size = size_c;
-  tables = tables_bare lines slots (entry a) (entry b) (entry c) none_a none_b none_c;
+  incoming_size = are.incoming_size;
+  space_size = are.space_size;
+  outgoing_size = are.outgoing_size;
+  tables = tables_bare lines slots (entry a) (entry b) (entry c) are.none.incoming are.none.space are.none.outgoing;
 }
 
 number_is : (a b : ℕ) → Some a ≡ Some b → a ≡ b

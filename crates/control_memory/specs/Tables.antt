@@ -50,6 +50,13 @@ pub record HasNoPaths (lines slots : ℕ) (places crossed read : ℕ → ℕ →
   pub space : Agree lines slots crossed nothing
   pub outgoing : Agree lines 30 read nothing
 
+-- three tables of the sizes that n lines and m internal slots need, without a path
+pub record AreBare (lines slots : ℕ) (incoming space outgoing : Table) : Type 0 where
+  pub incoming_size : HasSize incoming lines slots 30
+  pub space_size : HasSize space lines slots lines
+  pub outgoing_size : HasSize outgoing lines 30 slots
+  pub none : HasNoPaths lines slots (entry incoming) (entry space) (entry outgoing)
+
 -- how a byte of a table is read: 255 is no number
 abbrev pub number_in : ℕ → Option ℕ
 number_in byte = if byte == 255 then None else Some byte

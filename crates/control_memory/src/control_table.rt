@@ -1,7 +1,8 @@
 //! A control table: a number, or none, for each place of each row.
 ghost use Rattle.std.specs.Prelude.{◌≡◌, ℕ, ◌<◌, true, Some, None, IfOk, IfSome};
-ghost use Rattle.control_memory.specs.Tables.{entry, HasSize, SameSize, Agree, IsRow, written, nothing};
+ghost use Rattle.control_memory.specs.Tables.{entry, AreBare, HasSize, SameSize, Agree, IsRow, written, nothing};
 
+use circuit_model::PLACES;
 use std::alloc::{AllocError, Global};
 use std::marker::Model;
 
@@ -32,6 +33,21 @@ impl Model for ControlTable {
     ghost view = { λ t. record { rows = t.rows; columns = t.columns; limit = t.limit; entries = map number_in t.bytes.items } };
 
     ghost invariant = { λ t. AreBytesOf t.rows t.columns t.limit t.bytes.items t.marks };
+}
+
+/// The tables of the incoming time switch, the space switch and the outgoing time switch for n lines and m
+/// internal slots, without any number.
+pub(crate) fn bare_tables(
+    alloc: Global,
+    lines: u8,
+    slots: u8,
+) -> Result<(ControlTable, ControlTable, ControlTable), AllocError>
+    ensures { IfOk result (λ t. AreBare lines slots t.0 t.1 t.2) }
+{
+    let incoming = ControlTable::new(alloc, lines, slots, PLACES)?;
+    let space = ControlTable::new(alloc, lines, slots, lines)?;
+    let outgoing = ControlTable::new(alloc, lines, PLACES, slots)?;
+    Ok((incoming, space, outgoing))
 }
 
 impl ControlTable {

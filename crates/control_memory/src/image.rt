@@ -4,7 +4,7 @@ ghost use Rattle.circuit_model.specs.Circuits.{same_slot};
 ghost use Rattle.control_memory.specs.Tables.{HasSize, entry, Agree, IsRow, written};
 ghost use Rattle.control_memory.specs.Image.{lines_of, port_number, sent, received, read, heard_at, room_at, IsCleared, IsQuiet, SameSizes, SameTables, EachSlot};
 
-use crate::control_table::ControlTable;
+use crate::control_table::{ControlTable, bare_tables};
 use crate::heard::Heard;
 use crate::heard_table::HeardTable;
 use crate::heard_word::HeardWord;
@@ -68,16 +68,19 @@ impl Image {
     {
         let lines = external + bridges;
         let places = usize::from(PLACES);
+        let rooms = vec![in alloc; None; places * usize::from(bridges)]?;
+        let heard = HeardTable::new(alloc, lines)?;
+        let (incoming, space, outgoing) = bare_tables(alloc, lines, slots)?;
         Ok(Image {
             frame: 0,
             external,
             bridges,
             slots,
-            incoming: ControlTable::new(alloc, lines, slots, PLACES)?,
-            space: ControlTable::new(alloc, lines, slots, lines)?,
-            outgoing: ControlTable::new(alloc, lines, PLACES, slots)?,
-            heard: HeardTable::new(alloc, lines)?,
-            rooms: vec![in alloc; None; places * usize::from(bridges)]?,
+            incoming,
+            space,
+            outgoing,
+            heard,
+            rooms,
         })
     }
 

@@ -5,7 +5,7 @@ ghost use Rattle.control_memory.specs.Image.{lines_of, HasLayout, SameSizes};
 ghost use Rattle.control_memory.specs.Connecting.{with_path, without_path, IsFree};
 ghost use Rattle.control_memory.specs.Paths.{Fabric, ends_of};
 
-use crate::control_table::ControlTable;
+use crate::control_table::{ControlTable, bare_tables};
 use crate::ends::Ends;
 use crate::hop::Hop;
 use crate::image::Image;
@@ -46,13 +46,15 @@ impl PathTable {
         ensures bare { IfOk result (λ t. t.layout ≡ replicate (30 * lines) None) }
         ensures legal { IfOk result (λ t. Legal lines slots t.layout) }
     {
+        let hops = vec![in alloc; None; usize::from(PLACES) * usize::from(lines)]?;
+        let (incoming, space, outgoing) = bare_tables(alloc, lines, slots)?;
         Ok(PathTable {
             lines,
             slots,
-            hops: vec![in alloc; None; usize::from(PLACES) * usize::from(lines)]?,
-            incoming: ControlTable::new(alloc, lines, slots, PLACES)?,
-            space: ControlTable::new(alloc, lines, slots, lines)?,
-            outgoing: ControlTable::new(alloc, lines, PLACES, slots)?,
+            hops,
+            incoming,
+            space,
+            outgoing,
         })
     }
 

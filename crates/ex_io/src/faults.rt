@@ -6,7 +6,7 @@ use crate::ends::Failed;
 use std::marker::Model;
 
 // A count of faults, which stops at its last value.
-#[derive(Debug, Drop)]
+#[derive(Drop)]
 pub(crate) struct Faults {
     count: u64,
 }

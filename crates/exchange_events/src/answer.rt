@@ -130,16 +130,22 @@ fn keep_with(alloc: Global, response: Response, out: &Outbox) -> Result<Kept, Al
         Response::NoPort => Kept::NoPort,
         Response::Freed => Kept::Freed,
         Response::NotNailed => Kept::NotNailed,
-        Response::Sent => Kept::Sent {
-            sends: keep_signals(alloc, out.sends.as_slice())?,
-            moved: out.moved,
-            records: keep_records(alloc, out.records.as_slice())?,
-        },
-        Response::Frame(number) => Kept::Frame {
-            number,
-            sends: keep_signals(alloc, out.sends.as_slice())?,
-            records: keep_records(alloc, out.records.as_slice())?,
-        },
+        Response::Sent => {
+            let (sends, records) = keep_lists(alloc, out.sends.as_slice(), out.records.as_slice())?;
+            Kept::Sent {
+                sends,
+                moved: out.moved,
+                records,
+            }
+        }
+        Response::Frame(number) => {
+            let (sends, records) = keep_lists(alloc, out.sends.as_slice(), out.records.as_slice())?;
+            Kept::Frame {
+                number,
+                sends,
+                records,
+            }
+        }
     })
 }
 
@@ -157,21 +163,39 @@ fn keep_reply(alloc: Global, reply: &Reply) -> Result<Kept, AllocError>
             sends,
             moved,
             records,
-        } => Kept::Sent {
-            sends: keep_signals(alloc, sends.as_slice())?,
-            moved: *moved,
-            records: keep_records(alloc, records.as_slice())?,
-        },
+        } => {
+            let (sends, records) = keep_lists(alloc, sends.as_slice(), records.as_slice())?;
+            Kept::Sent {
+                sends,
+                moved: *moved,
+                records,
+            }
+        }
         Reply::Frame {
             number,
             sends,
             records,
-        } => Kept::Frame {
-            number: *number,
-            sends: keep_signals(alloc, sends.as_slice())?,
-            records: keep_records(alloc, records.as_slice())?,
-        },
+        } => {
+            let (sends, records) = keep_lists(alloc, sends.as_slice(), records.as_slice())?;
+            Kept::Frame {
+                number: *number,
+                sends,
+                records,
+            }
+        }
     })
+}
+
+fn keep_lists(
+    alloc: Global,
+    signals: &[Signal],
+    records: &[CallRecord],
+) -> Result<(SignalList, RecordList), AllocError>
+    ensures { IfOk result (λ lists. (lists.0 ≡ signals.now) × (lists.1 ≡ records.now)) }
+{
+    let signals = keep_signals(alloc, signals)?;
+    let records = keep_records(alloc, records)?;
+    Ok((signals, records))
 }
 
 fn keep_signals(alloc: Global, signals: &[Signal]) -> Result<SignalList, AllocError>

@@ -10,7 +10,7 @@ use std::marker::Model;
 pub const MOST_SENDS: usize = 64;
 
 /// The octets of a message that is sent. Contracts see their list.
-#[derive(Clone, Debug, Default, Drop)]
+#[derive(Clone, Default, Drop)]
 pub struct Encoded {
     octets: ArrayVec<u8, LONGEST_MESSAGE>,
 }
@@ -49,12 +49,16 @@ impl Encoded {
         copied
     }
 
-    /// Becomes the octets of another message. It takes no memory, and touches no octet behind theirs.
+    /// Becomes the octets of another message. It takes no memory, and touches no octet behind the longer of
+    /// the two messages.
     pub fn copy_from(&mut self, other: &Encoded)
         ensures { self.new ≡ other.now }
     {
-        self.octets.clear();
-        match self.octets.try_extend_from_slice(other.octets.as_slice()) {
+        let octets = other.octets.as_slice();
+        self.octets.truncate(octets.len());
+        let (front, others) = octets.split_at(self.octets.len());
+        self.octets.as_mut_slice().copy_from_slice(front);
+        match self.octets.try_extend_from_slice(others) {
             Ok(()) => {}
             Err(_) => unreachable!(),
         }
@@ -62,7 +66,7 @@ impl Encoded {
 }
 
 /// A message that goes to the user of a line.
-#[derive(Clone, Debug, Default, Drop)]
+#[derive(Clone, Default, Drop)]
 pub struct Signal {
     /// The line, from 0 up.
     pub line: u8,

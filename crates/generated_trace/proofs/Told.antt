@@ -5,6 +5,7 @@ use Rattle.std.specs.List.{AllByRecursion, list_all}
 use Rattle.std.proofs.lemmas.Bool.{and_parts}
 use Rattle.std.proofs.lemmas.Bool.Decides.{nat_tests}
 use Rattle.std.proofs.lemmas.List.{append-nil}
+use Rattle.std.proofs.lemmas.List.Elements.{filter_map-append}
 use Rattle.std.proofs.lemmas.List.Folds.{list_all-append}
 use Rattle.std.proofs.lemmas.Fmt.{decimal_digit}
 use Rattle.exchange_events.specs.declared.trace.Trace.{Trace}
@@ -22,8 +23,8 @@ use Rattle.traffic_gen.proofs.Fit.{lines_fit}
 use Rattle.trace_text.specs.declared.said.Said.{Said}
 use Rattle.trace_text.specs.TraceLines.{says}
 use Rattle.trace_text.specs.TraceTimers.{timers_by}
-use Rattle.trace_text.specs.TraceGrammar.{EachSays, IsWhatLinesSay, IsTrace, events_in, numbers_in, plan_of, tones_in, tones_of, timers_in, timers_of, segment_ends, changes_after, changes_in, sizes_in, so_far}
-use Rattle.trace_text.proofs.TraceHolds.{events-append, sizes_first}
+use Rattle.trace_text.specs.TraceGrammar.{EachSays, IsWhatLinesSay, IsTrace, event_said, events_in, numbers_in, plan_of, tones_in, tones_of, timers_in, timers_of, segment_ends, changes_after, changes_in, sizes_in, so_far}
+use Rattle.trace_text.proofs.TraceHolds.{sizes_first}
 use Rattle.trace_text.proofs.TraceReadings.{one_trace}
 use Rattle.generated_trace.specs.Told.{said_by}
 use Rattle.generated_trace.specs.Generated.{HasExchangeSizes, IsTrafficOf, traffic_told}
@@ -51,19 +52,19 @@ events_behind (x ∷ xs) ys = let rest = events_behind xs ys in omega (arith, re
 
 -- ---- events and ends of segments
 
-event_said : (line : Line) → length (events_in (said_by line ∷ [])) ≡ (if is_event line then 1 else 0)
-event_said (Header external bridges processors) = refl
-event_said (ToLine number line) = refl
-event_said (ToRoom number room) = refl
-event_said (Nail one other place) = refl
-event_said (Message line octets) = refl
-event_said (Frame parts) = refl
-event_said Sync = refl
+event_counts : (line : Line) → length (events_in (said_by line ∷ [])) ≡ (if is_event line then 1 else 0)
+event_counts (Header external bridges processors) = refl
+event_counts (ToLine number line) = refl
+event_counts (ToRoom number room) = refl
+event_counts (Nail one other place) = refl
+event_counts (Message line octets) = refl
+event_counts (Frame parts) = refl
+event_counts Sync = refl
 
 one_more : (before : List Said) (line : Line) → length (events_in (before ++ said_by line ∷ [])) ≡ length (events_in before) + (if is_event line then 1 else 0)
 one_more before line =
-    ap length (events-append before (said_by line ∷ [])) ∙ length-append (events_in before) (events_in (said_by line ∷ []))
-    ∙ ap (λ (n : ℕ). length (events_in before) + n) (event_said line)
+    ap length (filter_map-append event_said before (said_by line ∷ [])) ∙ length-append (events_in before) (events_in (said_by line ∷ []))
+    ∙ ap (λ (n : ℕ). length (events_in before) + n) (event_counts line)
 
 -- the lines behind the numbers
 running_say : (before : List Said) (ls : List Line) → AllByRecursion Fits ls → list_all is_running ls ≡ true → sizes_in before ≡ Some eight
@@ -247,8 +248,8 @@ has_sizes seed calls t few is =
 all_events : (ls : List Line) → length (events_in (map said_by ls)) ≡ event_count ls
 all_events [] = refl
 all_events (line ∷ ls) =
-    ap length (events-append (said_by line ∷ []) (map said_by ls)) ∙ length-append (events_in (said_by line ∷ [])) (events_in (map said_by ls))
-    ∙ (let first = event_said line in let rest = all_events ls in omega arith)
+    ap length (filter_map-append event_said (said_by line ∷ []) (map said_by ls)) ∙ length-append (events_in (said_by line ∷ [])) (events_in (map said_by ls))
+    ∙ (let first = event_counts line in let rest = all_events ls in omega arith)
 
 pub events_counted : (seed calls : ℕ) (t : Trace) → calls ≤ 2000 → IsTrafficOf seed calls t → length t.events ≡ event_count (traffic_lines seed calls)
 events_counted seed calls t few is = ap length (told_so seed calls t few is).events ∙ all_events (traffic_lines seed calls)

@@ -9,10 +9,8 @@ use Rattle.circuit_model.proofs.Slots.{true_or_false}
 use Rattle.call_profile.proofs.CommandLemmas.{both_true}
 use Rattle.call_states.specs.declared.leg.Leg.{Leg}
 use Rattle.call_timers.specs.declared.timers.Timers.{Timers}
-use Rattle.leg_table.specs.declared.notes.Note.{Note}
-use Rattle.leg_table.specs.KeptNumbers.{IsTable}
 use Rattle.leg_table.specs.DueBounds.{IsNotDue, NoneDue, AreBoundsOf, AreLower}
-use Rattle.leg_table.specs.LegKeys.{AreKeysOf, key_by, leg_on}
+use Rattle.leg_table.specs.LegKeys.{AreKeysOf, key_by, leg_on, no_key}
 
 eq_or_apart : (a b : ℕ) → (a ≡ b) ⊎ (a ≡ b → ⊥)
 eq_or_apart a b = elim (true_or_false (a == b)) [
@@ -114,21 +112,20 @@ early_none timers other legs held bounds place frame bound same view near early 
     subst (λ (t : Timers). IsNotDue t frame (leg_on held line place)) same
     (subst (λ (os : List (Option Leg)). IsNotDue timers frame (leg_on os line place)) view (bound.each place frame near (grind (arith, nat_tests, early)) line))
 
--- ---- the keys, once a leg holds a slot
+-- ---- the keys, once a leg holds a slot, or none does
 
 pub keys_with : (lines : ℕ) (legs : List (Option Leg)) (keys : List ℕ) (n k line place key : ℕ) (leg : Leg) → AreKeysOf lines legs keys → n ≡ 30 * line + place → k ≡ 32 * line + place → place < 30 → n < length legs
     → FitsMessages leg → key ≡ key_by leg.side leg.reference → AreKeysOf lines (set legs n (Some leg)) (set keys k key)
 keys_with lines legs keys n k line place key leg found at there near inside told is = grind (arith, common_steps)
 
--- ---- a table, once a leg holds a slot: its keys and bounds, and what is kept
+pub keys_without : (lines : ℕ) (legs : List (Option Leg)) (keys : List ℕ) (n k line place : ℕ) → AreKeysOf lines legs keys → n ≡ 30 * line + place → k ≡ 32 * line + place → place < 30 → n < length legs
+    → AreKeysOf lines (set legs n None) (set keys k no_key)
+keys_without lines legs keys n k line place found at there near inside = grind (arith, common_steps)
 
-pub table_with : (lines : ℕ) (timers : Timers) (legs : List (Option Leg)) (keys bounds lower : List ℕ) (notes : List Note) (n k line place key first : ℕ) (leg : Leg)
-    → AreKeysOf lines legs keys → AreBoundsOf timers legs bounds → length notes ≡ 30 * lines
-    → n ≡ 30 * line + place → k ≡ 32 * line + place → place < 30 → n < length legs → FitsMessages leg → key ≡ key_by leg.side leg.reference
+-- ---- the bounds, once a leg holds a slot
+
+pub bounds_held : (timers : Timers) (legs : List (Option Leg)) (bounds lower : List ℕ) (n line place first : ℕ) (leg : Leg) → n ≡ 30 * line + place → place < 30 → n < length legs
     → length lower ≡ length bounds → AreLower bounds lower → slice_index lower place ≤ first → ((frame : ℕ) → frame < first → IsNotDue timers frame (Some leg))
-    → IsTable lines timers (set legs n (Some leg)) (set keys k key) notes lower
-table_with lines timers legs keys bounds lower notes n k line place key first leg found due room at there near inside told is places less low not_due = record {
-  found = keys_with lines legs keys n k line place key leg found at there near inside told is;
-  room = room;
-  due = bounds_with timers legs bounds lower due (places ∙ due.places) less n line place at near inside (Some leg) (λ frame early. not_due frame (omega (arith, early, low)));
-}
+    → AreBoundsOf timers legs bounds → AreBoundsOf timers (set legs n (Some leg)) lower
+bounds_held timers legs bounds lower n line place first leg at near inside places less low not_due due =
+    bounds_with timers legs bounds lower due (places ∙ due.places) less n line place at near inside (Some leg) (λ frame early. not_due frame (omega (arith, early, low)))

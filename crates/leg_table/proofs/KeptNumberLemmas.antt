@@ -106,10 +106,12 @@ note_stays (q ∷ os) (p ∷ ps) (suc n) octets at = ap (λ (rs : List Note). p 
 pub no_note : Note
 no_note = Message []
 
-pub inside_of : (o : Option Leg) (legs numbers n : ℕ) (leg : Leg) → o ≡ Some leg → IfSome o (λ _. n < legs) → numbers ≡ legs → n < numbers
-inside_of o legs numbers n leg is within same =
-    let inside : n < legs = subst (λ (q : Option Leg). IfSome q (λ _. n < legs)) is within in
-    omega (arith, inside, same)
+-- what counts at the slot of a leg, by the note that is there
+pub counts_by : (X : Type 0) (shown : Option Leg → Note → Option X) (os : List (Option Leg)) (ps : List Note) (n : ℕ) (o : Option Leg) (leg : Leg) (d note : Note) (counted : Note → Option X)
+    → o ≡ get_or os n None → o ≡ Some leg → IfSome o (λ _. n < length os) → length ps ≡ length os → get_or ps n d ≡ note → ((m : Note) → shown (Some leg) m ≡ counted m) → counted note ≡ get_or (shown_all X shown os ps) n None
+counts_by X shown os ps n o leg d note counted found is within same at counts =
+    let inside : n < length os = subst (λ (q : Option Leg). IfSome q (λ _. n < length os)) is within in
+    sym (counts_leg_at X shown os ps n leg d (sym found ∙ is) (omega (arith, inside, same)) ∙ ap (shown (Some leg)) at ∙ counts note)
 
 -- ---- a table, as contracts see it
 

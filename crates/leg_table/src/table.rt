@@ -7,8 +7,8 @@ ghost use Rattle.call_states.specs.Acts.{is_among};
 ghost use Rattle.call_states.specs.Status.{FitsMessages};
 ghost use Rattle.call_profile.specs.KeptMessages.{awaiting_answer};
 ghost use Rattle.leg_table.specs.KeptNumbers.{counting_all, keeping_all};
-ghost use Rattle.leg_table.specs.DueBounds.{NoneDue};
-ghost use Rattle.leg_table.specs.LegKeys.{IsRowOf};
+ghost use Rattle.leg_table.specs.DueBounds.{AreBoundsOf, NoneDue};
+ghost use Rattle.leg_table.specs.LegKeys.{AreKeysOf, IsRowOf};
 ghost use Rattle.call_profile.specs.Legs.{no_legs, leg_at, pending_at, kept_at, with_leg, with_waiting, with_kept, without_leg, leg_named, held_at, new_reference};
 ghost use Rattle.leg_table.specs.declared.notes.Note.TheVariants as A_note;
 
@@ -105,9 +105,14 @@ impl LegTable {
         requires unanswered { is_among awaiting_answer leg.state ≡ false }
         ensures { self.new ≡ with_leg self.old x leg }
     {
-        lower(&mut self.bounds, x.place, due_from(leg, &self.timers));
-        self.legs[x.number()] = Some(leg);
-        self.keys[key_index(x)] = key_of(leg);
+        hold(
+            &mut self.legs,
+            &mut self.keys,
+            &mut self.bounds,
+            &self.timers,
+            x,
+            leg,
+        );
     }
 
     /// Lets a leg hold a slot, in place of any other, and wait there with its number.
@@ -119,9 +124,14 @@ impl LegTable {
         ensures { self.new ≡ with_waiting self.old x leg pending }
     {
         keep(&mut self.notes, x, Note::Number(pending));
-        lower(&mut self.bounds, x.place, due_from(leg, &self.timers));
-        self.legs[x.number()] = Some(leg);
-        self.keys[key_index(x)] = key_of(leg);
+        hold(
+            &mut self.legs,
+            &mut self.keys,
+            &mut self.bounds,
+            &self.timers,
+            x,
+            leg,
+        );
     }
 
     /// Lets a leg hold a slot, in place of any other, and keeps there the message whose answer it waits for.
@@ -133,9 +143,14 @@ impl LegTable {
         ensures { self.new ≡ with_kept self.old x leg message.now }
     {
         keep_message(&mut self.notes, x, message);
-        lower(&mut self.bounds, x.place, due_from(leg, &self.timers));
-        self.legs[x.number()] = Some(leg);
-        self.keys[key_index(x)] = key_of(leg);
+        hold(
+            &mut self.legs,
+            &mut self.keys,
+            &mut self.bounds,
+            &self.timers,
+            x,
+            leg,
+        );
     }
 
     /// Lets a leg hold a slot, in place of any other, and go on to wait for the answer to the message that is
@@ -147,9 +162,14 @@ impl LegTable {
         requires state { is_among awaiting_answer leg.state ≡ true }
         ensures { (octets : List ℕ) → kept_at self.old x ≡ Some octets → self.new ≡ with_kept self.old x leg octets }
     {
-        lower(&mut self.bounds, x.place, due_from(leg, &self.timers));
-        self.legs[x.number()] = Some(leg);
-        self.keys[key_index(x)] = key_of(leg);
+        hold(
+            &mut self.legs,
+            &mut self.keys,
+            &mut self.bounds,
+            &self.timers,
+            x,
+            leg,
+        );
     }
 
     /// Lets no leg hold a slot; no number is pending there then, and no message kept.
@@ -225,6 +245,29 @@ impl LegTable {
         let start = ROW * usize::from(line);
         &self.keys[start..start + ROW]
     }
+}
+
+// Lets a leg hold a slot, in place of any other, with its key, and lowers the bound of its place.
+#[inline(always)]
+fn hold(
+    legs: &mut Vec<Option<Leg>>,
+    keys: &mut Vec<u32>,
+    bounds: &mut [u32; BOUNDS],
+    timers: &Timers,
+    x: Slot,
+    leg: Leg,
+)
+    requires inside { number_of x < length legs.old.items }
+    requires keys { (lines : ℕ) × AreKeysOf lines legs.old.items keys.old.items }
+    requires place { x.place < 30 }
+    requires told { FitsMessages leg }
+    ensures legs { legs.new.items ≡ slice_set legs.old.items (number_of x) (Some leg) }
+    ensures found { (lines : ℕ) → AreKeysOf lines legs.old.items keys.old.items → AreKeysOf lines legs.new.items keys.new.items }
+    ensures due { AreBoundsOf timers.now legs.old.items bounds.old → AreBoundsOf timers.now legs.new.items bounds.new }
+{
+    lower(bounds, x.place, due_from(leg, timers));
+    legs[x.number()] = Some(leg);
+    keys[key_index(x)] = key_of(leg);
 }
 
 // The leg of a slot with this number.

@@ -6,7 +6,7 @@ use Rattle.std.proofs.lemmas.Bool.{cases_eq, eq-eqb, ne_eqb}
 use Rattle.std.proofs.lemmas.List.Elements.{All-nil, All-cons, All-weaker}
 use Rattle.std.proofs.lemmas.List.Kept.{AllPairs-cons}
 use Rattle.trace_text.specs.declared.said.Said.{Said}
-use Rattle.trace_text.specs.declared.said.Said.TheVariants.{Nothing, Header, Numbered, Toned, Timed, Happens, Sync, Change}
+use Rattle.trace_text.specs.declared.said.Said.TheVariants.{Happens, Sync, Change}
 use Rattle.trace_text.specs.TraceGrammar.{events_in, open_segment_end, ends_after, segment_ends, changes_after, changes_in}
 use Rattle.exchange_events.specs.Sound.{last_of, AreSegments, AreChanges}
 
@@ -43,17 +43,13 @@ are_ends begun count [] le =
     let e = with_end begun count count [] le (no_ends count) in
     let none : count ≡ count + 0 = omega arith in
     subst (λ n. AreEnds begun n (open_segment_end begun count)) none (rw (append-nil (open_segment_end begun count)) at e)
-are_ends begun count (Nothing ∷ told) le = are_ends begun count told le
-are_ends begun count (Header sizes ∷ told) le = are_ends begun count told le
-are_ends begun count (Numbered number ∷ told) le = are_ends begun count told le
-are_ends begun count (Toned given ∷ told) le = are_ends begun count told le
-are_ends begun count (Timed given ∷ told) le = are_ends begun count told le
 are_ends begun count (Happens event ∷ told) le =
     let more : count + 1 + length (events_in told) ≡ count + length (event ∷ events_in told) = omega arith in
     let e = are_ends begun (count + 1) told (omega (arith, le)) in
     rw more at e
 are_ends begun count (Sync ∷ told) le = with_end begun count (count + length (events_in told)) (ends_after count count told) le (are_ends count count told (omega arith))
 are_ends begun count (Change ∷ told) le = with_end begun count (count + length (events_in told)) (ends_after count count told) le (are_ends count count told (omega arith))
+are_ends begun count (said ∷ told) le = are_ends begun count told le
 
 last_behind : (ends : List ℕ) → last_of (0 ∷ ends) ≡ last_of ends
 last_behind [] = refl
@@ -112,11 +108,6 @@ no_places i j d lt within = absurd (omega arith)
 
 are_places : (begun count : ℕ) (told : List Said) → ArePlaces begun count (ends_after begun count told) (changes_after count told)
 are_places begun count [] = record { from = All-nil (λ n. count ≤ n); rising = no_places; between = All-nil (λ n. is_place (begun ∷ open_segment_end begun count) n ≡ true) }
-are_places begun count (Nothing ∷ told) = are_places begun count told
-are_places begun count (Header sizes ∷ told) = are_places begun count told
-are_places begun count (Numbered number ∷ told) = are_places begun count told
-are_places begun count (Toned given ∷ told) = are_places begun count told
-are_places begun count (Timed given ∷ told) = are_places begun count told
 are_places begun count (Happens event ∷ told) =
     let e = are_places begun (count + 1) told in
     record {
@@ -128,6 +119,7 @@ are_places begun count (Sync ∷ told) = with_places begun count (ends_after cou
 are_places begun count (Change ∷ told) =
     with_places begun count (ends_after count count told) (count ∷ changes_after count told)
     (one_place count (ends_after count count told) (changes_after count told) (are_places count count told))
+are_places begun count (said ∷ told) = are_places begun count told
 
 pub changes_sound : (told : List Said) → length (changes_in told) ≤ 65535 → AreChanges (segment_ends told) (changes_in told)
 changes_sound told few =

@@ -27,16 +27,16 @@ use Rattle.exchange_events.specs.declared.trace.Event.TheVariants.{Nail, Seat, F
 use Rattle.number_plan.specs.declared.plan.Number.{Number}
 use Rattle.number_plan.specs.declared.target.Target.{Target}
 use Rattle.number_plan.specs.declared.target.Target.TheVariants as goal
-use Rattle.number_plan.specs.Plan.{is_number, is_number_taken, all_targets}
+use Rattle.number_plan.specs.Plan.{is_number, is_number_taken, all_targets, with_number}
 use Rattle.number_plan.proofs.OrderFacts.{all_with}
 use Rattle.exchange_events.specs.declared.trace.Trace.{Trace}
-use Rattle.trace_text.specs.TraceFields.{slash, numeral_in, external_line, slot, room, octets_written, thirty, at_most, longest_message, header}
+use Rattle.trace_text.specs.TraceFields.{slash, numeral_in, external_line, slot, room, octets_written, thirty, at_most, longest_message, exchange_sizes, header}
 use Rattle.trace_text.specs.TraceWords.{cut_at, numeral, lines, words, two, one_or_two, three, is_comment, is_blank, is_printable}
 use Rattle.trace_text.specs.TraceLines.{◌>>=◌, colon, with_part, with_parts, frame, message, nail, seat, free, target, number, numbered, tone, timer, toned, timed, happens, SoFar, before_events, by_kind, kind_of, by_words, by_place, reads, joins, says}
-use Rattle.trace_text.specs.TraceGrammar.{sizes_in, numbers_in, plan_of, events_in, changes_after, changes_in, so_far, EachSays, IsTrace}
+use Rattle.trace_text.specs.TraceGrammar.{sizes_in, number_said, numbers_in, plan_of, event_said, events_in, changes_in, so_far, EachSays, IsTrace}
 use Rattle.exchange_events.specs.Sound.{Fits, is_reached, IsSound}
 use Rattle.trace_text.proofs.TraceOctets.{in_range, are_octets}
-use Rattle.trace_text.proofs.TraceHolds.{sizes_first, events-append, plan_stays, plan_more, changes-append, changes_stay}
+use Rattle.trace_text.proofs.TraceHolds.{change_said, changes_more, events_more, plan_more, push, sizes_first, step}
 use Rattle.trace_text.proofs.SegmentLemmas.{segments_sound, changes_sound}
 
 -- a step that found something had something to begin with
@@ -169,6 +169,13 @@ part_keeps_length external given more word h =
           rw (← is) (length-set given line.0 (Some octets.0))
     ]
 
+-- one more word of a frame is put into it
+pub part_more : (external : ℕ) (given now : Input) (word : List ℕ) (all others : List (List ℕ)) (read : Result Input Reason) → all ≡ word ∷ others → length given ≡ external → with_part external given word ≡ Ok now
+    → with_parts external given all ≡ read → (length now ≡ external) × (with_parts external now others ≡ read)
+part_more external given now word all others read cut wide put same =
+    let step : with_parts external given all ≡ with_parts external now others = rw (cut, put) refl in
+    (part_keeps_length external given now word put ∙ wide, sym step ∙ same)
+
 pub parts_keep_length : (external : ℕ) (given input : Input) (words : List (List ℕ)) → with_parts external given words ≡ Ok input → length input ≡ length given
 parts_keep_length external given input [] h = let is : given ≡ input = grind (arith, h) in rw is refl
 parts_keep_length external given input (word ∷ words) h =
@@ -295,32 +302,27 @@ numbers_sizes external bridges processors sizes h =
     let same : record { external = e.0; bridges = b.0; processors = p.0 } ≡ sizes = grind (arith, p.2) in
     rw (← same) are
 
+three_sizes : (words : List (List ℕ)) (sizes : Sizes) → exchange_sizes words ≡ Some sizes → AreSizes sizes
+three_sizes (external ∷ bridges ∷ processors ∷ []) sizes h = numbers_sizes external bridges processors sizes h
+three_sizes others sizes h = absurd (grind (arith, h))
+
 pub header_sizes : (words : List (List ℕ)) (sizes : Sizes) → header words ≡ Some sizes → AreSizes sizes
-header_sizes [] sizes h = absurd (grind (arith, h))
-header_sizes (a ∷ []) sizes h = absurd (grind (arith, h))
-header_sizes (a ∷ b ∷ []) sizes h = absurd (grind (arith, h))
-header_sizes (a ∷ b ∷ c ∷ []) sizes h = absurd (grind (arith, h))
-header_sizes (a ∷ b ∷ c ∷ d ∷ []) sizes h = absurd (grind (arith, h))
-header_sizes (name ∷ version ∷ external ∷ bridges ∷ processors ∷ []) sizes h =
+header_sizes (name ∷ version ∷ others) sizes h =
     elim (true_or_false (bytes_eq name (codes "exchange") && bytes_eq version (codes "1"))) [
-      | inl named ↦ numbers_sizes external bridges processors sizes (rw named at h)
+      | inl named ↦ three_sizes others sizes (rw named at h)
       | inr other ↦ let failed = rw other at h in absurd (grind (arith, failed))
     ]
-header_sizes (a ∷ b ∷ c ∷ d ∷ e ∷ f ∷ others) sizes h = absurd (grind (arith, h))
+header_sizes others sizes h = absurd (grind (arith, h))
 
 -- what a line says is sound behind the lines so far: the sizes are an exchange's, and a number or an event fits that exchange
 abbrev pub IsOfExchange : Option Sizes → (Sizes → Type 0) → Type 0
 IsOfExchange known fits = (sizes : Sizes) × (known ≡ Some sizes) × fits sizes
 
 abbrev pub IsFine : SoFar → Said → Type 0
-IsFine s Nothing = Unit {0}
 IsFine s (Header sizes) = AreSizes sizes
 IsFine s (Numbered n) = IsOfExchange s.sizes (λ sizes. is_reached sizes.external n.target ≡ true)
-IsFine s (Toned given) = Unit {0}
-IsFine s (Timed given) = Unit {0}
 IsFine s (Happens e) = IsOfExchange s.sizes (λ sizes. Fits sizes.external e)
-IsFine s Sync = Unit {0}
-IsFine s Change = Unit {0}
+IsFine s other = Unit {0}
 
 event_fine : (s : SoFar) (sizes : Sizes) (r : Result Event Reason) (said : Said) → s.sizes ≡ Some sizes → ((e : Event) → r ≡ Ok e → Fits sizes.external e)
     → happens r ≡ Ok said → IsFine s said
@@ -390,21 +392,11 @@ reads_fine s line said h =
 
 -- what passes the last checks is what was read, and neither an event nor a change is one too many
 abbrev pub IsCounted : SoFar → Said → Type 0
-IsCounted s Nothing = Unit {0}
-IsCounted s (Header sizes) = Unit {0}
-IsCounted s (Numbered n) = Unit {0}
-IsCounted s (Toned given) = Unit {0}
-IsCounted s (Timed given) = Unit {0}
 IsCounted s (Happens e) = s.events < 65535
-IsCounted s Sync = Unit {0}
 IsCounted s Change = s.changes < 65535
+IsCounted s other = Unit {0}
 
 joins_same : (s : SoFar) (said other : Said) → joins s said ≡ Ok other → (said ≡ other) × IsCounted s said
-joins_same s Nothing other h = (grind (arith, h), tt)
-joins_same s (Header sizes) other h = (grind (arith, h), tt)
-joins_same s (Toned given) other h = (grind (arith, h), tt)
-joins_same s (Timed given) other h = (grind (arith, h), tt)
-joins_same s Sync other h = (grind (arith, h), tt)
 joins_same s (Happens e) other h =
     elim (true_or_false (nat_lt s.events 65535)) [
       | inl few ↦ let ok = rw few at h in (grind (arith, ok), ltb-true s.events 65535 few)
@@ -423,6 +415,7 @@ joins_same s (Numbered n) other h =
         | inr more ↦ let ok = rw (apart, more) at h in (grind (arith, ok), tt)
       ]
     ]
+joins_same s said other h = (grind (arith, h), tt)
 
 pub says_fine : (s : SoFar) (line : List ℕ) (said : Said) → says s line ≡ Ok said → IsFine s said × IsCounted s said
 says_fine s line said h =
@@ -438,53 +431,49 @@ pub record IsSoundFront (external : ℕ) (told : List Said) : Type 0 where
   pub planned : all_targets (is_reached external) (plan_of (numbers_in told)) ≡ true
 
 -- one more line that says neither an event nor a number
-stays : (external : ℕ) (told : List Said) (said : Said) → events_in (said ∷ []) ≡ [] → numbers_in (said ∷ []) ≡ [] → length (changes_in (told ++ said ∷ [])) ≤ 65535
+stays : (external : ℕ) (told : List Said) (said : Said) → event_said said ≡ None → number_said said ≡ None → length (changes_in (told ++ said ∷ [])) ≤ 65535
     → IsSoundFront external told → IsSoundFront external (told ++ said ∷ [])
 stays external told said no_event no_number few front =
-    let same : events_in (told ++ said ∷ []) ≡ events_in told =
-    events-append told (said ∷ []) ∙ ap (λ (es : List Event). events_in told ++ es) no_event ∙ append-nil (events_in told) in
+    let same : events_in (told ++ said ∷ []) ≡ events_in told = events_more told said ∙ ap (λ (o : Option Event). step push (events_in told) o) no_event in
+    let plan : plan_of (numbers_in told) ≡ plan_of (numbers_in (told ++ said ∷ [])) = ap (λ (o : Option Number). step with_number (plan_of (numbers_in told)) o) (sym no_number) ∙ plan_more told said in
     record {
       count = rw same front.count;
       changes = few;
       events = subst (All (Fits external)) (sym same) front.events;
-      planned = ap (all_targets (is_reached external)) (sym (plan_stays told said no_number)) ∙ front.planned;
+      planned = ap (all_targets (is_reached external)) (sym plan) ∙ front.planned;
     }
 
 -- as few changes as before
-as_few : (external : ℕ) (told : List Said) (said : Said) → changes_after (length (events_in told)) (said ∷ []) ≡ [] → IsSoundFront external told → length (changes_in (told ++ said ∷ [])) ≤ 65535
-as_few external told said none front = subst (λ (ns : List ℕ). length ns ≤ 65535) (changes_stay told said none) front.changes
+as_few : (external : ℕ) (told : List Said) (said : Said) → change_said (length (events_in told)) said ≡ None → IsSoundFront external told → length (changes_in (told ++ said ∷ [])) ≤ 65535
+as_few external told said none front = rw (changes_more told said, none) front.changes
 
 -- one more line
 one_more : (sizes : Sizes) (told : List Said) (said : Said) → ((first : Sizes) → sizes_in told ≡ Some first → first ≡ sizes) → IsFine (so_far told) said → IsCounted (so_far told) said
     → IsSoundFront sizes.external told → IsSoundFront sizes.external (told ++ said ∷ [])
-one_more sizes told Nothing same fine counted front = stays sizes.external told Nothing refl refl (as_few sizes.external told Nothing refl front) front
-one_more sizes told (Header first) same fine counted front = stays sizes.external told (Header first) refl refl (as_few sizes.external told (Header first) refl front) front
-one_more sizes told (Toned given) same fine counted front = stays sizes.external told (Toned given) refl refl (as_few sizes.external told (Toned given) refl front) front
-one_more sizes told (Timed given) same fine counted front = stays sizes.external told (Timed given) refl refl (as_few sizes.external told (Timed given) refl front) front
-one_more sizes told Sync same fine counted front = stays sizes.external told Sync refl refl (as_few sizes.external told Sync refl front) front
 one_more sizes told Change same fine counted front =
     let count = length (events_in told) in
-    let added : length (changes_in (told ++ Change ∷ [])) ≡ length (changes_in told) + 1 = ap length (changes-append told (Change ∷ [])) ∙ length-append (changes_in told) (count ∷ []) in
+    let added : length (changes_in (told ++ Change ∷ [])) ≡ length (changes_in told) + 1 = ap length (changes_more told Change) ∙ length-append (changes_in told) (count ∷ []) in
     stays sizes.external told Change refl refl (omega (arith, counted, added)) front
 one_more sizes told (Numbered n) same fine counted front =
-    let kept : events_in (told ++ Numbered n ∷ []) ≡ events_in told = events-append told (Numbered n ∷ []) ∙ append-nil (events_in told) in
+    let kept = events_more told (Numbered n) in
     let reached : is_reached sizes.external n.target ≡ true = subst (λ (v : Sizes). is_reached v.external n.target ≡ true) (same fine.0 fine.1) fine.2 in
     record {
       count = rw kept front.count;
       changes = as_few sizes.external told (Numbered n) refl front;
       events = subst (All (Fits sizes.external)) (sym kept) front.events;
-      planned = ap (all_targets (is_reached sizes.external)) (sym (plan_more told n))
+      planned = ap (all_targets (is_reached sizes.external)) (sym (plan_more told (Numbered n)))
           ∙ all_with (λ m. is_reached sizes.external m.target) (plan_of (numbers_in told)) n front.planned reached;
     }
 one_more sizes told (Happens e) same fine counted front =
-    let added : events_in (told ++ Happens e ∷ []) ≡ events_in told ++ e ∷ [] = events-append told (Happens e ∷ []) in
+    let added = events_more told (Happens e) in
     let fits : Fits sizes.external e = subst (λ (v : Sizes). Fits v.external e) (same fine.0 fine.1) fine.2 in
     record {
       count = rw (added, length-append (events_in told) (e ∷ [])) (omega (arith, counted));
       changes = as_few sizes.external told (Happens e) refl front;
       events = subst (All (Fits sizes.external)) (sym added) (All-push (Fits sizes.external) (events_in told) e front.events fits);
-      planned = ap (all_targets (is_reached sizes.external)) (sym (plan_stays told (Happens e) refl)) ∙ front.planned;
+      planned = ap (all_targets (is_reached sizes.external)) (sym (plan_more told (Happens e))) ∙ front.planned;
     }
+one_more sizes told other same fine counted front = stays sizes.external told other refl refl (as_few sizes.external told other refl front) front
 
 pub sound_front : (sizes : Sizes) (before told : List Said) (rows : List (List ℕ)) → EachSays before rows told → sizes_in (before ++ told) ≡ Some sizes
     → IsSoundFront sizes.external before → IsSoundFront sizes.external (before ++ told)
@@ -503,17 +492,11 @@ pub sizes_behind_all : (before told : List Said) (rows : List (List ℕ)) (sizes
 sizes_behind_all before [] [] sizes meets known = absurd (grind (arith, known))
 sizes_behind_all before [] (row ∷ rows) sizes meets known = absurd meets
 sizes_behind_all before (said ∷ told) [] sizes meets known = absurd meets
-sizes_behind_all before (Nothing ∷ told) (row ∷ rows) sizes meets known = sizes_behind_all (before ++ Nothing ∷ []) told rows sizes meets.1 known
-sizes_behind_all before (Numbered n ∷ told) (row ∷ rows) sizes meets known = sizes_behind_all (before ++ Numbered n ∷ []) told rows sizes meets.1 known
-sizes_behind_all before (Toned given ∷ told) (row ∷ rows) sizes meets known = sizes_behind_all (before ++ Toned given ∷ []) told rows sizes meets.1 known
-sizes_behind_all before (Timed given ∷ told) (row ∷ rows) sizes meets known = sizes_behind_all (before ++ Timed given ∷ []) told rows sizes meets.1 known
-sizes_behind_all before (Sync ∷ told) (row ∷ rows) sizes meets known = sizes_behind_all (before ++ Sync ∷ []) told rows sizes meets.1 known
-sizes_behind_all before (Change ∷ told) (row ∷ rows) sizes meets known = sizes_behind_all (before ++ Change ∷ []) told rows sizes meets.1 known
-sizes_behind_all before (Happens e ∷ told) (row ∷ rows) sizes meets known = sizes_behind_all (before ++ Happens e ∷ []) told rows sizes meets.1 known
 sizes_behind_all before (Header first ∷ told) (row ∷ rows) sizes meets known =
     let are = (says_fine (so_far before) row (Header first) meets.0).0 in
     let same : first ≡ sizes = grind (arith, known) in
     subst AreSizes same are
+sizes_behind_all before (said ∷ told) (row ∷ rows) sizes meets known = sizes_behind_all (before ++ said ∷ []) told rows sizes meets.1 known
 
 pub sound_trace : (bytes : List ℕ) (t : Trace) → IsTrace bytes t → IsSound t
 sound_trace bytes t is =

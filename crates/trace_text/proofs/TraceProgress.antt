@@ -1,10 +1,11 @@
 -- Reading line by line, up to the first line that fails.
-use Rattle.std.proofs.Common.{◌≡◌, ℕ, ◌+◌, ◌<◌, ◌≤◌, List, [], ◌∷◌, ◌++◌, length, Option, None, Ok, Err, refl, sym, ap, ◌∙◌, subst, append_assoc, arith}
+use Rattle.std.proofs.Common.{◌≡◌, ℕ, ◌+◌, ◌<◌, ◌≤◌, List, [], ◌∷◌, ◌++◌, length, Option, None, Result, Ok, Err, IfOk, IfErr, refl, sym, ap, ◌∙◌, subst, append_assoc, arith}
 use Rattle.std.proofs.lemmas.List.{append-nil, length_push, nil_from_length}
 use Rattle.trace_text.specs.declared.draft.Draft.{Draft}
 use Rattle.trace_text.specs.declared.fault.LineFault.{LineFault}
 use Rattle.trace_text.specs.declared.fault.LineFault.TheVariants.{Memory, Refused}
 use Rattle.trace_text.specs.declared.fault.TraceFault.{TraceFault}
+use Rattle.trace_text.specs.declared.fault.TraceFault.TheVariants as trace_fault
 use Rattle.trace_text.specs.declared.fault.Reason.{Reason}
 use Rattle.trace_text.specs.declared.fault.Reason.TheVariants as reason
 use Rattle.tone_rules.specs.declared.tones.Tones.{Tones}
@@ -17,7 +18,7 @@ use Rattle.exchange_events.specs.declared.trace.Trace.{Trace}
 use Rattle.trace_text.specs.TraceWords.{lines}
 use Rattle.trace_text.specs.TraceLines.{SoFar, says, Fails}
 use Rattle.trace_text.specs.TraceGrammar.{most_bytes, so_far, EachSays, IsWhatLinesSay, IsTrace, IsRefused, At_line, At_end}
-use Rattle.trace_text.specs.TraceDraft.{kept, Holds, at_line, IsFault}
+use Rattle.trace_text.specs.TraceDraft.{kept, FailsAtEnd, Holds, at_line, IsFault}
 
 -- the lines before the rest were read, each met its checks, and the draft holds what they said
 pub record Progress (bytes rest : List ℕ) (number : ℕ) (d : Draft) : Type 0 where
@@ -118,3 +119,14 @@ lacks_header bytes rest number last why d p few empty none at named =
       place = let e = p.place in omega (arith, e, ap length (whole bytes rest number d p empty));
       named = named;
     })
+
+-- what the draft makes at the end is what was read
+module _ (bytes rest : List ℕ) (number : ℕ) (d : Draft) (p : Progress bytes rest number d) (few : length bytes ≤ most_bytes) (empty : length rest ≡ 0) where
+  pub ends_read : (r : Result Trace TraceFault) → IfOk r (λ t. (told : List Said) → Holds d told → IsWhatLinesSay t told) → IfOk r (λ t. IsTrace bytes t)
+  ends_read (Ok t) made = is_read bytes rest number d t p few empty made
+  ends_read (Err e) made = tt
+
+  pub ends_refused : (r : Result Trace TraceFault) → IfErr r (λ e. FailsAtEnd d.sizes number e) → IfErr r (λ e. IsFault bytes e)
+  ends_refused (Ok t) fails = tt
+  ends_refused (Err trace_fault.Memory) fails = tt
+  ends_refused (Err (trace_fault.Line last why)) fails = lacks_header bytes rest number last why d p few empty fails.0 fails.1 fails.2

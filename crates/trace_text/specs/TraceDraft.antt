@@ -11,9 +11,9 @@ use Rattle.trace_text.specs.declared.fault.TraceFault.TheVariants as trace_fault
 use Rattle.trace_text.specs.declared.fault.Reason.TheVariants as reason
 use Rattle.trace_text.specs.declared.said.Sizes.{Sizes}
 use Rattle.trace_text.specs.declared.said.Said.{Said}
-use Rattle.trace_text.specs.declared.said.Said.TheVariants.{Nothing, Header, Numbered, Toned, Timed, Happens, Sync, Change}
+use Rattle.trace_text.specs.declared.said.Said.TheVariants.{Header, Numbered}
 use Rattle.trace_text.specs.TraceLines.{SoFar}
-use Rattle.trace_text.specs.TraceGrammar.{sizes_in, numbers_in, plan_of, tones_in, tones_of, timers_in, timers_of, events_in, segment_ends, ends_after, changes_in, IsRefused}
+use Rattle.trace_text.specs.TraceGrammar.{sizes_in, numbers_in, plan_of, tones_in, tones_of, timers_in, timers_of, events_in, open_segment_end, segment_ends, ends_after, changes_in, IsRefused}
 
 -- what a draft keeps of the lines so far, as far as the next line depends on it
 abbrev pub kept : Draft → SoFar
@@ -21,14 +21,9 @@ kept d = record { sizes = d.sizes; events = length d.events.items; plan = d.plan
 
 -- what a line said fits a draft: a header is the first, and a number is one
 abbrev pub Suits : Draft → Said → Type 0
-Suits d Nothing = Unit {0}
 Suits d (Header sizes) = d.sizes ≡ None
 Suits d (Numbered number) = IsTrue (is_number number.digits)
-Suits d (Toned given) = Unit {0}
-Suits d (Timed given) = Unit {0}
-Suits d (Happens event) = Unit {0}
-Suits d Sync = Unit {0}
-Suits d Change = Unit {0}
+Suits d other = Unit {0}
 
 -- a fault of a line, at its place in the trace
 abbrev pub at_line : LineFault → ℕ → TraceFault
@@ -51,6 +46,17 @@ pub record Holds (d : Draft) (told : List Said) : Type 0 where
   pub events : d.events.items ≡ events_in told
   pub ends : (more : List Said) → segment_ends (told ++ more) ≡ d.ends.items ++ ends_after d.begun (length d.events.items) more
   pub changes : d.changes.items ≡ changes_in told
+
+-- the draft, once the segment that is open has ended
+pub record IsEnded (d n : Draft) : Type 0 where
+  pub sizes : n.sizes ≡ d.sizes
+  pub plan : n.plan ≡ d.plan
+  pub tones : n.tones ≡ d.tones
+  pub timers : n.timers ≡ d.timers
+  pub events : n.events.items ≡ d.events.items
+  pub ends : n.ends.items ≡ d.ends.items ++ open_segment_end d.begun (length d.events.items)
+  pub begun : n.begun ≡ length d.events.items
+  pub changes : n.changes.items ≡ d.changes.items
 
 -- at the end of n lines a fault is memory that ran out, or no header was among them
 abbrev pub FailsAtEnd : Option Sizes → ℕ → TraceFault → Type 0

@@ -7,7 +7,7 @@ use Rattle.circuit_model.specs.declared.channel.Slot.{Slot}
 use Rattle.trace_text.specs.declared.fault.Reason.{Reason}
 use Rattle.trace_text.specs.declared.fault.Reason.TheVariants.{Hex, Length}
 use Rattle.trace_text.specs.declared.said.Sizes.{Sizes}
-use Rattle.trace_text.specs.TraceWords.{numeral, cut_at}
+use Rattle.trace_text.specs.TraceWords.{numeral, cut_at, three}
 
 -- the second step where the first found something
 infixl 10 ◌>>=◌
@@ -91,13 +91,16 @@ longest_tone = 8000
 abbrev pub of_tone : Option (List ℕ) → Result (List ℕ) Reason
 of_tone written = at_least_one (at_most longest_tone written)
 
--- the sizes that the words of a header give: `exchange`, `1`, and the numbers of external lines, bridge lines and processors
+-- the sizes that three words give: the numbers of external lines, bridge lines and processors
+abbrev pub exchange_sizes : List (List ℕ) → Option Sizes
+exchange_sizes words = do
+  all ← three words
+  external ← numeral_in 1 32 all.0
+  bridges ← numeral_in 0 2 all.1
+  processors ← numeral_in 1 8 all.2
+  Some (record { external = external; bridges = bridges; processors = processors })
+
+-- the sizes that the words of a header give, which begin with `exchange` and `1`
 abbrev pub header : List (List ℕ) → Option Sizes
-header (name ∷ version ∷ external ∷ bridges ∷ processors ∷ []) =
-    if bytes_eq name (codes "exchange") && bytes_eq version (codes "1") then (do
-      e ← numeral_in 1 32 external
-      b ← numeral_in 0 2 bridges
-      p ← numeral_in 1 8 processors
-      Some (record { external = e; bridges = b; processors = p }))
-    else None
+header (name ∷ version ∷ others) = if bytes_eq name (codes "exchange") && bytes_eq version (codes "1") then exchange_sizes others else None
 header other = None

@@ -1,5 +1,6 @@
 -- Which bytes are a trace, which trace they are, and why other bytes are none. Source: this exchange's own.
 use Rattle.std.specs.Prelude.{◌≡◌, ℕ, ◌+◌, ◌≤◌, ◌<◌, ◌==◌, List, [], ◌∷◌, ◌++◌, length, fold, Option, Some, None, Ok, Err, if◌then◌else◌}
+use Rattle.std.specs.List.{filter_map}
 use Rattle.number_plan.specs.declared.plan.Number.{Number}
 use Rattle.number_plan.specs.Plan.{with_number}
 use Rattle.tone_rules.specs.declared.tones.Tones.{Tones}
@@ -10,7 +11,7 @@ use Rattle.trace_text.specs.declared.fault.Reason.TheVariants as reason
 use Rattle.trace_text.specs.declared.said.Sizes.{Sizes}
 use Rattle.trace_text.specs.declared.said.GivenTone.{GivenTone}
 use Rattle.trace_text.specs.declared.said.Said.{Said}
-use Rattle.trace_text.specs.declared.said.Said.TheVariants.{Nothing, Header, Numbered, Toned, Timed, Happens, Sync, Change}
+use Rattle.trace_text.specs.declared.said.Said.TheVariants.{Header, Numbered, Toned, Timed, Happens, Sync, Change}
 use Rattle.trace_text.specs.declared.timing.GivenTimer.{GivenTimer}
 use Rattle.trace_text.specs.declared.timing.GivenTimers.{GivenTimers}
 use Rattle.trace_text.specs.TraceTimers.{no_timers, with_timer, timers_by}
@@ -24,54 +25,36 @@ most_bytes = 67108864
 -- the sizes of the header, where there is one
 abbrev pub sizes_in : List Said → Option Sizes
 sizes_in [] = None
-sizes_in (Nothing ∷ others) = sizes_in others
 sizes_in (Header sizes ∷ others) = Some sizes
-sizes_in (Numbered number ∷ others) = sizes_in others
-sizes_in (Toned given ∷ others) = sizes_in others
-sizes_in (Timed given ∷ others) = sizes_in others
-sizes_in (Happens event ∷ others) = sizes_in others
-sizes_in (Sync ∷ others) = sizes_in others
-sizes_in (Change ∷ others) = sizes_in others
+sizes_in (said ∷ others) = sizes_in others
 
 -- the events, in file order
+abbrev pub event_said : Said → Option Event
+event_said (Happens event) = Some event
+event_said other = None
+
 abbrev pub events_in : List Said → List Event
-events_in [] = []
-events_in (Nothing ∷ others) = events_in others
-events_in (Header sizes ∷ others) = events_in others
-events_in (Numbered number ∷ others) = events_in others
-events_in (Toned given ∷ others) = events_in others
-events_in (Timed given ∷ others) = events_in others
-events_in (Happens event ∷ others) = event ∷ events_in others
-events_in (Sync ∷ others) = events_in others
-events_in (Change ∷ others) = events_in others
+events_in told = filter_map event_said told
 
 -- the numbers, in file order
+abbrev pub number_said : Said → Option Number
+number_said (Numbered number) = Some number
+number_said other = None
+
 abbrev pub numbers_in : List Said → List Number
-numbers_in [] = []
-numbers_in (Nothing ∷ others) = numbers_in others
-numbers_in (Header sizes ∷ others) = numbers_in others
-numbers_in (Numbered number ∷ others) = number ∷ numbers_in others
-numbers_in (Toned given ∷ others) = numbers_in others
-numbers_in (Timed given ∷ others) = numbers_in others
-numbers_in (Happens event ∷ others) = numbers_in others
-numbers_in (Sync ∷ others) = numbers_in others
-numbers_in (Change ∷ others) = numbers_in others
+numbers_in told = filter_map number_said told
 
 -- the plan of these numbers: each in its place
 abbrev pub plan_of : List Number → List Number
 plan_of numbers = fold with_number [] numbers
 
 -- the tones that are given, in file order
+abbrev pub tone_said : Said → Option GivenTone
+tone_said (Toned given) = Some given
+tone_said other = None
+
 abbrev pub tones_in : List Said → List GivenTone
-tones_in [] = []
-tones_in (Nothing ∷ others) = tones_in others
-tones_in (Header sizes ∷ others) = tones_in others
-tones_in (Numbered number ∷ others) = tones_in others
-tones_in (Toned given ∷ others) = given ∷ tones_in others
-tones_in (Timed given ∷ others) = tones_in others
-tones_in (Happens event ∷ others) = tones_in others
-tones_in (Sync ∷ others) = tones_in others
-tones_in (Change ∷ others) = tones_in others
+tones_in told = filter_map tone_said told
 
 -- these tones, each under its kind; one that isn't given has no octets
 abbrev pub no_tones : Tones
@@ -81,16 +64,12 @@ abbrev pub tones_of : List GivenTone → Tones
 tones_of given = fold with_tone no_tones given
 
 -- the timers that are given, in file order
+abbrev pub timer_said : Said → Option GivenTimer
+timer_said (Timed given) = Some given
+timer_said other = None
+
 abbrev pub timers_in : List Said → List GivenTimer
-timers_in [] = []
-timers_in (Nothing ∷ others) = timers_in others
-timers_in (Header sizes ∷ others) = timers_in others
-timers_in (Numbered number ∷ others) = timers_in others
-timers_in (Toned given ∷ others) = timers_in others
-timers_in (Timed given ∷ others) = given ∷ timers_in others
-timers_in (Happens event ∷ others) = timers_in others
-timers_in (Sync ∷ others) = timers_in others
-timers_in (Change ∷ others) = timers_in others
+timers_in told = filter_map timer_said told
 
 -- these timers, each under its name
 abbrev pub timers_of : List GivenTimer → GivenTimers
@@ -103,14 +82,10 @@ open_segment_end begun count = if begun == count then [] else count ∷ []
 -- the numbers of the last events of the segments that have any. n events came before, and m before the segment that is open
 abbrev pub ends_after : ℕ → ℕ → List Said → List ℕ
 ends_after begun count [] = open_segment_end begun count
-ends_after begun count (Nothing ∷ others) = ends_after begun count others
-ends_after begun count (Header sizes ∷ others) = ends_after begun count others
-ends_after begun count (Numbered number ∷ others) = ends_after begun count others
-ends_after begun count (Toned given ∷ others) = ends_after begun count others
-ends_after begun count (Timed given ∷ others) = ends_after begun count others
 ends_after begun count (Happens event ∷ others) = ends_after begun (count + 1) others
 ends_after begun count (Sync ∷ others) = open_segment_end begun count ++ ends_after count count others
 ends_after begun count (Change ∷ others) = open_segment_end begun count ++ ends_after count count others
+ends_after begun count (said ∷ others) = ends_after begun count others
 
 abbrev pub segment_ends : List Said → List ℕ
 segment_ends told = ends_after 0 0 told
@@ -118,14 +93,9 @@ segment_ends told = ends_after 0 0 told
 -- for each change of meters, in file order, how many events are before it. `count` came before these lines
 abbrev pub changes_after : ℕ → List Said → List ℕ
 changes_after count [] = []
-changes_after count (Nothing ∷ others) = changes_after count others
-changes_after count (Header sizes ∷ others) = changes_after count others
-changes_after count (Numbered number ∷ others) = changes_after count others
-changes_after count (Toned given ∷ others) = changes_after count others
-changes_after count (Timed given ∷ others) = changes_after count others
 changes_after count (Happens event ∷ others) = changes_after (count + 1) others
-changes_after count (Sync ∷ others) = changes_after count others
 changes_after count (Change ∷ others) = count ∷ changes_after count others
+changes_after count (said ∷ others) = changes_after count others
 
 abbrev pub changes_in : List Said → List ℕ
 changes_in told = changes_after 0 told

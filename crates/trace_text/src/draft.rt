@@ -55,8 +55,8 @@ impl Draft {
     ghost use Rattle.std.specs.Prelude.{◌≡◌, ◌<◌, ◌++◌, ◌∷◌, [], List, Ok, OnOk, IfOk, IfErr, IfSome, vec_len};
     ghost use Rattle.trace_text.specs.TraceWords.{words};
     ghost use Rattle.trace_text.specs.TraceLines.{number, numbered, tone, toned, timer, timed, before_events, by_kind, reads, joins, says, Fails, Gives};
-    ghost use Rattle.trace_text.specs.TraceGrammar.{open_segment_end, IsWhatLinesSay};
-    ghost use Rattle.trace_text.specs.TraceDraft.{kept, Holds, Suits, FailsAtEnd};
+    ghost use Rattle.trace_text.specs.TraceGrammar.{IsWhatLinesSay};
+    ghost use Rattle.trace_text.specs.TraceDraft.{kept, Holds, IsEnded, Suits, FailsAtEnd};
 
     /// The draft of no lines.
     pub fn new(alloc: Global) -> Draft
@@ -76,15 +76,7 @@ impl Draft {
 
     // Ends the segment that is open.
     fn end_segment(&mut self) -> Result<(), AllocError>
-        ensures ended { OnOk result (self.new.ends.items
-            ≡ self.old.ends.items ++ open_segment_end self.old.begun (vec_len self.old.events)) }
-        ensures begun { OnOk result (self.new.begun ≡ vec_len self.old.events) }
-        ensures sizes { OnOk result (self.new.sizes ≡ self.old.sizes) }
-        ensures plan { OnOk result (self.new.plan ≡ self.old.plan) }
-        ensures tones { OnOk result (self.new.tones ≡ self.old.tones) }
-        ensures timers { OnOk result (self.new.timers ≡ self.old.timers) }
-        ensures events { OnOk result (self.new.events.items ≡ self.old.events.items) }
-        ensures changes { OnOk result (self.new.changes.items ≡ self.old.changes.items) }
+        ensures { OnOk result (IsEnded self.old self.new) }
     {
         let count = self.events.len() as u32;
         if count != self.begun {

@@ -43,7 +43,7 @@ pub enum TraceFault {
 }
 
 // Why a line could not be read.
-#[derive(Clone, Copy, Debug, PartialEq, Eq)]
+#[derive(Clone, Copy)]
 pub enum LineFault {
     Memory,
     Refused(Reason),

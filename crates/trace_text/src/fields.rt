@@ -1,9 +1,9 @@
 // The fields of a line: lines, slots and rooms of the exchange, sizes.
 ghost use Rattle.std.specs.Prelude.{◌≡◌, ◌<◌, IfSome};
 ghost use Rattle.trace_text.specs.TraceWords.{words};
-ghost use Rattle.trace_text.specs.TraceFields.{external_line, slot, room, numeral_in, header};
+ghost use Rattle.trace_text.specs.TraceFields.{external_line, slot, room, numeral_in, header, exchange_sizes};
 
-use crate::cut::{first_word, halves_at, numeral_of};
+use crate::cut::{first_word, halves_at, numeral_of, three_words};
 use crate::said::Sizes;
 use circuit_model::{Slot, slot_of_channel};
 
@@ -59,12 +59,17 @@ pub(crate) fn header_of(line: &[u8]) -> Option<Sizes>
 {
     let (name, rest) = first_word(line)?;
     let (version, rest) = first_word(rest)?;
-    let (external, rest) = first_word(rest)?;
-    let (bridges, rest) = first_word(rest)?;
-    let (processors, rest) = first_word(rest)?;
-    if first_word(rest).is_some() || name != b"exchange".as_slice() || version != b"1".as_slice() {
+    if name != b"exchange".as_slice() || version != b"1".as_slice() {
         return None;
     }
+    sizes_of(rest)
+}
+
+// The sizes that the words behind the first two of a header give.
+fn sizes_of(line: &[u8]) -> Option<Sizes>
+    ensures { result ≡ exchange_sizes (words line.now) }
+{
+    let (external, bridges, processors) = three_words(line)?;
     Some(Sizes {
         external: numeral_within(1, 32, external)?,
         bridges: numeral_within(0, 2, bridges)?,

@@ -6,7 +6,7 @@ use number_plan::Number;
 use tone_rules::ToneOctets;
 
 /// The sizes that the header of a trace gives.
-#[derive(Clone, Copy, Debug, PartialEq, Eq)]
+#[derive(Clone, Copy)]
 pub struct Sizes {
     /// How many external lines there are, 1 to 32.
     pub external: u8,
@@ -17,7 +17,7 @@ pub struct Sizes {
 }
 
 /// The kinds of line after the header.
-#[derive(Clone, Copy, Debug, PartialEq, Eq)]
+#[derive(Clone, Copy)]
 pub enum Kind {
     /// A frame arrives.
     Frame,

@@ -5,7 +5,7 @@ ghost use Rattle.trace_text.specs.TraceTimers.{no_timers, frames_given, with_tim
 use call_timers::Timers;
 
 /// The name of a timer of calls (Q.931, 9.1, table 9-1).
-#[derive(Clone, Copy, Debug, PartialEq, Eq)]
+#[derive(Clone, Copy)]
 pub enum TimerName {
     /// It runs in overlap sending.
     T302,
@@ -20,7 +20,7 @@ pub enum TimerName {
 }
 
 /// A timer that a line gives.
-#[derive(Clone, Copy, Debug, PartialEq, Eq)]
+#[derive(Clone, Copy)]
 pub struct GivenTimer {
     /// Which timer it is.
     pub name: TimerName,
@@ -29,7 +29,7 @@ pub struct GivenTimer {
 }
 
 /// The timers that the lines so far gave: how many frames each of them runs.
-#[derive(Clone, Copy, Debug, PartialEq, Eq)]
+#[derive(Clone, Copy)]
 pub struct GivenTimers {
     /// That of overlap sending.
     pub t302: Option<u32>,

@@ -1,8 +1,9 @@
-use Rattle.std.proofs.Common.{rules, ◌≡◌, ◌-◌, false, is_ok, ℕ, ap, sym, ◌∙◌}
+use Rattle.std.proofs.Common.{rules, arith, ◌≡◌, ◌-◌, Bool, false, IsTrue, is_ok, ℕ, ap, subst, sym, ◌∙◌}
 use Rattle.std.specs.List.{range_with_len}
 use Rattle.exchange_core.specs.Boards.{turns_of}
+use Rattle.exchange_events.specs.Sound.{IsSound}
 use Rattle.call_processor.specs.Parts.{events_of_segment}
-use Rattle.call_processor.proofs.AloneLemmas.{goes_begin, goes_on, goes_same, in_order_ended, in_order_lacking, octets_stay, works_lacking, works_none, works_whole}
+use Rattle.call_processor.proofs.AloneLemmas.{goes_begin, goes_on, goes_same, in_order_ended, in_order_lacking, in_order_none, in_order_whole, octets_stay, still_only, works_lacking, works_none, works_whole}
 use Rattle.call_processor.proofs.KeepingLemmas.{works_ended}
 use Rattle.call_processor.proofs.PartLemmas.{range_after, range_next, turn_left}
 use Rattle.call_processor.proofs.alone.run_alone.Goals as goal
@@ -11,6 +12,14 @@ pub returns-in_err-grow-clause-works : goal.returns-in_err-grow-clause-works
 returns-in_err-grow-clause-works g c =
     let failed : is_ok c.from_residual.result ≡ false = search rules in
     works_ended _ _ _ _ _ _ _ _ _ failed (works_none g.K.Keeper.holds _ _ (turns_of (g.B.Switchboard.board c.args.board.now)) _ _ _)
+
+pub returns-in_err-grow-clause-in_order : goal.returns-in_err-grow-clause-in_order
+returns-in_err-grow-clause-in_order g c =
+    let failed : is_ok c.from_residual.result ≡ false = search rules in
+    in_order_ended _ _ _ _ _ failed (in_order_none _ _)
+
+pub numbers_of-first-requires-clause-sound : goal.numbers_of-first-requires-clause-sound
+numbers_of-first-requires-clause-sound g c = subst IsSound (sym c.requires.trace) ((g.met.B.Switchboard g.world.𝓛 g.world.𝓜 g.world.𝓡 ((λ s x. x), (λ x. x), (λ x. x), λ x. x)).sound_trace c.args.board.now c.args.seat.now c.requires.seated)
 
 pub loop-event-init : goal.loop-event-init
 loop-event-init g c = record {
@@ -28,6 +37,21 @@ do_next-requires-clause-known g c κs within = c.numbers_of-first.ensures.events
 pub do_next-requires-clause-turn : goal.do_next-requires-clause-turn
 do_next-requires-clause-turn g c κs within =
     turn_left _ _ _ _ _ _ (range_after _ _ _ _ c.numbers_of-first.ensures.all c.loop-event.invariant.from c.loop-event-test.true) c.requires.turns c.loop-event.invariant.goes.keeps.going.did.turns
+
+pub do_next-requires-clause-some : goal.do_next-requires-clause-some
+do_next-requires-clause-some g c κs within =
+    let sound : IsSound c.args.trace.now = subst IsSound (sym c.requires.trace) ((g.met.B.Switchboard g.world.𝓛 g.world.𝓜 g.world.𝓡 ((λ s x. x), (λ x. x), (λ x. x), λ x. x)).sound_trace c.args.board.now c.args.seat.now c.requires.seated) in
+    let some = sound.processors.0 in
+    omega (arith, some)
+
+pub do_next-requires-clause-only : goal.do_next-requires-clause-only
+do_next-requires-clause-only g c κs within = still_only _ _ _ c.loop-event.invariant.goes.keeps.going.did c.requires.only
+
+pub do_next-requires-clause-baton : goal.do_next-requires-clause-baton
+do_next-requires-clause-baton g c κs within = subst (λ (b : Bool). IsTrue b) (sym c.loop-event.invariant.goes.keeps.going.did.baton) c.requires.baton
+
+pub returns-in_err-do_next-clause-settled : goal.returns-in_err-do_next-clause-settled
+returns-in_err-do_next-clause-settled g c = λ settled. c.do_next.ensures.next.settled
 
 pub returns-in_err-do_next-clause-in_order : goal.returns-in_err-do_next-clause-in_order
 returns-in_err-do_next-clause-in_order g c =
@@ -59,3 +83,13 @@ returns-clause-works g c =
     let over : c.loop-event.event ≡ c.numbers_of-first.result.1 = search rules in
     let all : range_with_len first (c.loop-event.event - first) ≡ events_of_segment c.args.trace.now c.args.segment = ap (λ (n : ℕ). range_with_len first (n - first)) over ∙ sym c.numbers_of-first.ensures.all in
     works_whole _ _ _ _ _ _ _ _ _ (goes_same _ _ _ _ _ _ _ _ _ _ all c.loop-event.invariant.goes)
+
+pub returns-clause-in_order : goal.returns-clause-in_order
+returns-clause-in_order g c =
+    let first = c.numbers_of-first.result.0 in
+    let over : c.loop-event.event ≡ c.numbers_of-first.result.1 = search rules in
+    let all : range_with_len first (c.loop-event.event - first) ≡ events_of_segment c.args.trace.now c.args.segment = ap (λ (n : ℕ). range_with_len first (n - first)) over ∙ sym c.numbers_of-first.ensures.all in
+    in_order_whole _ _ _ _ _ _ _ _ _ (goes_same _ _ _ _ _ _ _ _ _ _ all c.loop-event.invariant.goes)
+
+pub returns-clause-settled : goal.returns-clause-settled
+returns-clause-settled g c = c.loop-event.invariant.goes.settled

@@ -1,10 +1,11 @@
-use Rattle.std.proofs.Common.{rules, ◌≡◌, true, false, is_ok, [], sym, subst}
+use Rattle.std.proofs.Common.{rules, ◌≡◌, true, false, is_ok, [], ap, sym, ◌∙◌, subst}
 use Rattle.exchange_events.specs.declared.trace.Trace.{Trace}
 use Rattle.exchange_events.specs.Orders.{Frame_worker, IsEvent}
-use Rattle.call_processor.specs.Parts.{is_its}
+use Rattle.exchange_events.specs.Sound.{IsSound}
+use Rattle.call_processor.specs.Parts.{is_its, part_of}
 use Rattle.call_processor.proofs.EventLemmas.{frames_stay}
-use Rattle.call_processor.proofs.KeepingLemmas.{keeps_done, keeps_front, keeps_lacking, keeps_more, keeps_nothing, works_ended}
-use Rattle.call_processor.proofs.PartLemmas.{next_not, next_its, front_here, front_next, turn_left}
+use Rattle.call_processor.proofs.KeepingLemmas.{keeps_done, keeps_front, keeps_lacking, keeps_more, keeps_none, keeps_nothing, keeps_whole, works_ended}
+use Rattle.call_processor.proofs.PartLemmas.{next_not, next_its, none_up_to, front_here, front_next, turn_left, up_to}
 use Rattle.call_processor.proofs.framing.do_frames.Goals as goal
 
 pub input_of-requires : goal.input_of-requires
@@ -15,6 +16,20 @@ returns-in_err-grow-clause-works g c =
     let failed : is_ok c.from_residual.result ≡ false = search rules in
     let empty : g.K.Keeper.holds c.clear.new.self [] = search rules in
     works_ended _ _ _ _ _ _ _ _ _ failed (keeps_nothing _ _ _ _ _ _ empty)
+
+pub numbers_of-first-requires-clause-sound : goal.numbers_of-first-requires-clause-sound
+numbers_of-first-requires-clause-sound g c = subst IsSound (sym c.requires.may.trace_is) ((g.met.B.Switchboard g.world.𝓛 g.world.𝓜 g.world.𝓡 ((λ s x. x), (λ x. x), (λ x. x), λ x. x)).sound_trace c.args.board.now c.args.seat.now c.requires.seated)
+
+pub loop-event-init : goal.loop-event-init
+loop-event-init g c =
+    let empty : g.K.Keeper.holds c.clear.new.self [] = search rules in
+    record {
+      seated = c.requires.seated;
+      keeps = keeps_done _ _ _ _ _ _ _ _ (none_up_to c.args.trace.now Frame_worker c.numbers_of-first.result.0) (keeps_none _ _ _ _ _ empty);
+      from = search rules;
+      ready = c.requires.ready;
+      lines = search rules;
+    }
 
 pub loop-event-preserved-in_default : goal.loop-event-preserved-in_default
 loop-event-preserved-in_default g c =
@@ -59,3 +74,10 @@ loop-event-preserved g c =
       ready = c.do_frame.ensures.ready;
       lines = c.do_frame.ensures.lines;
     }
+
+pub returns-clause-works : goal.returns-clause-works
+returns-clause-works g c =
+    let first = c.numbers_of-first.result.0 in
+    let over : c.loop-event.event ≡ c.numbers_of-first.result.1 = search rules in
+    let all : up_to c.args.trace.now Frame_worker first c.loop-event.event ≡ part_of c.args.trace.now c.args.segment Frame_worker = ap (up_to c.args.trace.now Frame_worker first) over ∙ sym (c.numbers_of-first.ensures.parts Frame_worker) in
+    keeps_whole _ _ _ _ _ _ _ (keeps_done _ _ _ _ _ _ _ _ all c.loop-event.invariant.keeps)

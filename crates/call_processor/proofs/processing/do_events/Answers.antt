@@ -1,15 +1,29 @@
-use Rattle.std.proofs.Common.{rules, ◌≡◌, ◌+◌, Bool, true, false, is_ok, [], ◌∷◌, ◌++◌, sym, subst}
+use Rattle.std.proofs.Common.{rules, ◌≡◌, ◌+◌, Bool, true, false, is_ok, [], ◌∷◌, ◌++◌, ap, sym, ◌∙◌, subst}
 use Rattle.exchange_events.specs.declared.trace.Trace.{Trace}
 use Rattle.exchange_events.specs.Orders.{Processor, IsEvent}
 use Rattle.exchange_core.specs.Ahead.{IsReadAt}
 use Rattle.call_processor.specs.Keeping.{KeepsWork, has_no_octets}
+use Rattle.exchange_events.specs.Sound.{IsSound}
 use Rattle.call_processor.specs.Parts.{is_its, part_of}
-use Rattle.call_processor.proofs.KeepingLemmas.{keeps_done, keeps_front, keeps_lacking, keeps_more}
-use Rattle.call_processor.proofs.PartLemmas.{up_to, rest_from, next_not, next_its, front_here, front_next, turn_left}
+use Rattle.call_processor.proofs.KeepingLemmas.{keeps_done, keeps_front, keeps_lacking, keeps_more, keeps_none, keeps_whole}
+use Rattle.call_processor.proofs.PartLemmas.{up_to, rest_from, none_up_to, next_not, next_its, front_here, front_next, turn_left}
 use Rattle.call_processor.proofs.processing.do_events.Goals as goal
 
 pub is_of_processor-requires-clause-event : goal.is_of_processor-requires-clause-event
 is_of_processor-requires-clause-event g c = c.numbers_of-first.ensures.events c.loop-event.event c.loop-event.invariant.from c.loop-event-test.true
+
+pub numbers_of-first-requires-clause-sound : goal.numbers_of-first-requires-clause-sound
+numbers_of-first-requires-clause-sound g c = subst IsSound (sym c.requires.may.trace_is) ((g.met.B.Switchboard g.world.𝓛 g.world.𝓜 g.world.𝓡 ((λ s x. x), (λ x. x), (λ x. x), λ x. x)).sound_trace c.args.board.now c.args.seat.now c.requires.seated)
+
+pub loop-event-init : goal.loop-event-init
+loop-event-init g c =
+    let empty : g.K.Keeper.holds c.clear.new.self [] = search rules in
+    record {
+      seated = c.requires.seated;
+      keeps = keeps_done _ _ _ _ _ _ _ _ (none_up_to c.args.trace.now (Processor c.args.processor) c.numbers_of-first.result.0) (keeps_none _ _ _ _ _ empty);
+      from = search rules;
+      tool = c.requires.tool;
+    }
 
 pub loop-event-preserved-then-not-is_of_processor : goal.loop-event-preserved-then-not-is_of_processor
 loop-event-preserved-then-not-is_of_processor g c =
@@ -102,3 +116,11 @@ loop-event-preserved g c =
       from = search rules;
       tool = c.do_event.ensures.tool;
     }
+
+pub returns-clause-works : goal.returns-clause-works
+returns-clause-works g c =
+    let W = Processor c.args.processor in
+    let first = c.numbers_of-first.result.0 in
+    let over : c.loop-event.event ≡ c.numbers_of-first.result.1 = search rules in
+    let all : up_to c.args.trace.now W first c.loop-event.event ≡ part_of c.args.trace.now c.args.segment W = ap (up_to c.args.trace.now W first) over ∙ sym (c.numbers_of-first.ensures.parts W) in
+    keeps_whole _ _ _ _ _ _ _ (keeps_done _ _ _ _ _ _ _ _ all c.loop-event.invariant.keeps)

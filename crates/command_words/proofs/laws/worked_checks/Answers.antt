@@ -1,10 +1,10 @@
 use Rattle.std.proofs.Common.{refl}
 use Rattle.clap.proofs.OnLiterals.{clap_on_literals}
-use Rattle.command_words.specs.Words.{check_app, command_of, takes_words, text_for}
+use Rattle.command_words.specs.Words.{strict_app, command_of, takes_words, text_for}
 use Rattle.command_words.proofs.laws.worked_checks.Goals as goal
 
 pub returns : goal.returns
-unfolding clap_on_literals check_app takes_words text_for command_of
+unfolding clap_on_literals strict_app takes_words text_for command_of
 returns c = record {
   check = refl;
   strict = refl;

@@ -21,8 +21,8 @@ pub returns : goal.returns
 returns c =
     let seed_is : rule_of c.action-seed.result ≡ positional (codes "SEED") = search rules in
     let calls_is : rule_of c.action-calls.result ≡ positional (codes "CALLS") = search rules in
-    let command_is : app_of c.in_ok-command.command ≡ gen_app = c.in_ok-command.ensures.shape (search rules)
-    ∙ ap₂ with_rule (c.in_ok-arg.ensures.shape (search rules) ∙ ap₂ with_rule c.new-3.ensures.app seed_is) calls_is ∙ is_made in
+    let command_is : app_of c.in_ok-command-2.command ≡ gen_app = c.in_ok-command-2.ensures.shape (search rules)
+    ∙ ap₂ with_rule (c.in_ok-command.ensures.shape (search rules) ∙ ap₂ with_rule c.new-2.ensures.app seed_is) calls_is ∙ is_made in
     let words : List Text = map string_bytes c.args.words.now in
     let parse = c.try_get_matches_from in
     let fails = subst (λ (a : App). FailsBy (fault_of a words) parse.result) command_is (parse.ensures.kinds (ap is_simple_and_free command_is ∙ is_free)) in

@@ -2,7 +2,9 @@ use Rattle.std.proofs.Common.{◌≡◌, ℕ, ◌+◌, ◌-◌, ◌*◌, ◌≤�
 use Rattle.frame_buffer.specs.Speech.{octet_in_half}
 use Rattle.control_memory.specs.Carrying.{fetched}
 use Rattle.time_stage.specs.Interchange.{sends}
-use Rattle.frame_buffer.proofs.Parts.{IsWrittenTo, row_fits, written_past, written_idle, written_row}
+use Rattle.frame_buffer.specs.Highways.{IsPart}
+use Rattle.control_memory.specs.Image.{lines_of}
+use Rattle.frame_buffer.proofs.Parts.{IsWrittenTo, all_hold, row_fits, written_past, written_idle, written_row}
 use Rattle.time_stage.proofs.interchange.send_part.Goals as goal
 use Rattle.time_stage.proofs.interchange.send_part.Goals.{then-start-part, else-start-part}
 
@@ -48,3 +50,10 @@ loop-line-preserved c =
             (written_past slots octet first line part from done (omega (arith, start, w.if-start-part.false)))
       ];
     }
+
+pub returns-clause-octets : goal.returns-clause-octets
+returns-clause-octets c =
+    let image = c.args.image.now in
+    let reached : lines_of image ≤ c.loop-line.line = search rules in
+    all_hold c.args.slots (sends image c.args.buffer.now) c.args.first (lines_of image) c.loop-line.line c.loop-line.part
+    (subst (IsPart (lines_of image) c.args.slots c.args.first) (sym c.loop-line.invariant.size) c.requires.part) reached c.loop-line.invariant.done.written

@@ -1,5 +1,5 @@
-use Rattle.std.proofs.Common.{arith}
-use Rattle.trace_text.proofs.TraceProgress.{begun, goes_on, fault_at}
+use Rattle.std.proofs.Common.{rules, ◌≡◌, length, arith}
+use Rattle.trace_text.proofs.TraceProgress.{begun, ends_read, ends_refused, goes_on, fault_at}
 use Rattle.trace_text.proofs.reader.read_lines.Goals as goal
 
 pub loop-rest-init : goal.loop-rest-init
@@ -15,3 +15,13 @@ pub returns-in-Err-clause-refused : goal.returns-in-Err-clause-refused
 returns-in-Err-clause-refused c =
     fault_at c.args.bytes.now c.loop-rest.rest.now c.first_line.result.0.now c.first_line.result.1.now c.loop-rest.number c.loop-rest.draft c.in-Err.fault c.at_line.result c.loop-rest.invariant
     (omega (arith, c.if-bytes-gt-MOST_BYTES.false)) c.first_line.ensures.first c.in-Err.ensures.refused c.at_line.ensures
+
+pub returns-clause-read : goal.returns-clause-read
+returns-clause-read c =
+    let empty : length c.loop-rest.rest.now ≡ 0 = search rules in
+    ends_read _ _ _ _ c.loop-rest.invariant (omega (arith, c.if-bytes-gt-MOST_BYTES.false)) empty c.finish.result c.finish.ensures.read
+
+pub returns-clause-refused : goal.returns-clause-refused
+returns-clause-refused c =
+    let empty : length c.loop-rest.rest.now ≡ 0 = search rules in
+    ends_refused _ _ _ _ c.loop-rest.invariant (omega (arith, c.if-bytes-gt-MOST_BYTES.false)) empty c.finish.result c.finish.ensures.refused

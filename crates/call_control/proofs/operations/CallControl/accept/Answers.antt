@@ -1,8 +1,8 @@
-use Rattle.std.proofs.Common.{subst, sym, ◌∙◌, ap}
+use Rattle.std.proofs.Common.{[], subst, sym, ◌∙◌, ap}
 use Rattle.call_profile.specs.Legs.{Legs, new_reference}
 use Rattle.call_profile.specs.Operations.{making_at}
 use Rattle.call_profile.specs.Setup.{accept, await_digits, call_line, call_room}
-use Rattle.call_profile.proofs.AcceptedSetupLemmas.{accepts_line}
+use Rattle.call_profile.proofs.AcceptedSetupLemmas.{accepts_full_line, accepts_line}
 use Rattle.call_control.specs.Asked.{asked_of}
 use Rattle.call_control.specs.Choices.{IsReached}
 use Rattle.call_control.proofs.SetupMakingLemmas.{makes_begun, makes_same, row_of}
@@ -16,6 +16,16 @@ new_reference-reference-requires g c = record { line = row_of c.args.self.now.ma
 
 pub call_room-requires-clause-can : goal.call_room-requires-clause-can
 call_room-requires-clause-can g c = c.requires.seats c.in-Room.room c.in-Room.is
+
+pub returns-in_default-clause-makes : goal.returns-in_default-clause-makes
+returns-in_default-clause-makes g c d w holds =
+    let now = c.args.self.now in
+    let caller = c.args.caller in
+    let asked = asked_of c.args.asked.now in
+    let none = sym (c.lowest_idle_beside.ensures.slot d w holds) ∙ c.in_default.is in
+    makes_same d now.map now.legs c.args.out.now.sends c.args.out.now.moved (making_at w) [] (accept caller.first w caller.reference asked caller.slot c.args.target)
+    (ap (accept caller.first w caller.reference asked caller.slot) c.in-Line.is ∙ accepts_full_line w caller.first caller.reference asked caller.slot c.in-Line.line none)
+    (makes_begun d now.map now.legs c.args.out.now.sends c.args.out.now.moved w holds c.requires.fresh)
 
 pub returns-in-Some-clause-makes : goal.returns-in-Some-clause-makes
 returns-in-Some-clause-makes g c d w holds =

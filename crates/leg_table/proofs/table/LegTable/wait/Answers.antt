@@ -1,20 +1,17 @@
-use Rattle.std.proofs.Common.{rules, ◌<◌, length, set, Some, sym, ◌∙◌}
-use Rattle.leg_table.proofs.DueBoundLemmas.{table_with}
-use Rattle.leg_table.specs.declared.notes.Note.TheVariants.{Number}
+use Rattle.std.proofs.Common.{refl, sym, ◌∙◌}
 use Rattle.leg_table.specs.KeptNumbers.{legs_kept}
 use Rattle.leg_table.proofs.KeptNumberLemmas.{kept_wait}
 use Rattle.leg_table.proofs.table.LegTable.wait.Goals as goal
 
 pub invariant_of-self : goal.invariant_of-self
-invariant_of-self c =
-    let inside : c.number.result < length c.self.inside.legs.items = search rules in
-    table_with c.self.inside.lines c.self.inside.timers c.self.inside.legs.items c.self.inside.keys.items c.self.inside.bounds c.lower.new.bounds c.keep.new.notes.items
-    c.number.result c.key_index.result c.args.x.line c.args.x.place c.key_of.result c.due_from.result c.args.leg c.self.invariant.found c.self.invariant.due (search rules)
-    c.number.ensures c.key_index.ensures c.requires.place inside c.requires.told c.key_of.ensures c.lower.ensures.places c.lower.ensures.lower c.lower.ensures.here c.due_from.ensures
+invariant_of-self c = record {
+  found = c.hold.ensures.found c.self.inside.lines c.self.invariant.found;
+  room = c.keep.ensures.count ∙ c.self.invariant.room;
+  due = c.hold.ensures.due c.self.invariant.due;
+}
 
 pub returns : goal.returns
 returns c =
     let room = c.self.invariant.room ∙ sym c.self.invariant.found.slots in
-    let notes = c.keep.ensures.items ∙ (λ i. set c.self.inside.notes.items (sym c.number.ensures i) (Number c.args.pending)) in
-    (λ i. legs_kept (set c.self.inside.legs.items c.number.result (Some c.args.leg)) (notes i))
-    ∙ kept_wait c.self.inside.legs.items c.self.inside.notes.items c.args.self.now c.self.view_is c.number.result c.args.x c.number.ensures c.args.leg c.args.pending c.requires.state room
+    (λ i. legs_kept (c.hold.ensures.legs i) (c.keep.ensures.items i))
+    ∙ kept_wait c.self.inside.legs.items c.self.inside.notes.items c.args.self.now c.self.view_is _ c.args.x refl c.args.leg c.args.pending c.requires.state room
