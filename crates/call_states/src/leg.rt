@@ -3,7 +3,7 @@
 use circuit_model::Slot;
 
 /// The two sides of a call.
-#[derive(Clone, Copy)]
+#[derive(Clone, Copy, Debug, PartialEq, Eq)]
 pub enum Side {
     /// The line that asked for the call. It chose the call reference value.
     Caller,
@@ -25,7 +25,7 @@ impl Side {
 }
 
 /// What a leg is in a call with.
-#[derive(Clone, Copy)]
+#[derive(Clone, Copy, Debug, PartialEq, Eq)]
 pub enum Peer {
     /// Nothing: the call is being cleared.
     Alone,
@@ -36,7 +36,7 @@ pub enum Peer {
 }
 
 /// A leg of a call: what the exchange keeps of the call on one line, as long as it holds a slot of it.
-#[derive(Clone, Copy)]
+#[derive(Clone, Copy, Debug, PartialEq, Eq)]
 pub struct Leg {
     /// The call state value (Q.931, 4.5.7), one of [`states`](q931_codec::states).
     pub state: u8,
@@ -55,7 +55,7 @@ pub struct Leg {
 }
 
 /// A leg and the slot that it holds.
-#[derive(Clone, Copy)]
+#[derive(Clone, Copy, Debug, PartialEq, Eq)]
 pub struct Held {
     /// The slot.
     pub slot: Slot,

@@ -5,7 +5,7 @@ use arrayvec::ArrayVec;
 use std::marker::Model;
 
 /// The contents of an information element, of n octets at most. Contracts see their list.
-#[derive(Clone, Default, Drop)]
+#[derive(Clone, Debug, Default, Drop)]
 pub struct Contents<const MOST: usize> {
     octets: ArrayVec<u8, MOST>,
 }
@@ -53,7 +53,7 @@ impl<const MOST: usize> Contents<MOST> {
 
 /// What is kept of a call in overlap sending (Q.931, 5.1.3): the contents of the SETUP's elements that are
 /// passed on to the called user, with the number as far as it was dialled. No octets mean no element.
-#[derive(Clone, Default, Drop)]
+#[derive(Clone, Debug, Default, Drop)]
 pub struct Pending {
     /// The bearer capability (4.5.5).
     pub bearer: Contents<10>,

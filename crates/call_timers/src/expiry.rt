@@ -9,7 +9,7 @@ use q931_codec::states::{
 };
 
 /// What the expiry of a timer asks for (Q.931, 9.1, table 9-1).
-#[derive(Clone, Copy)]
+#[derive(Clone, Copy, Debug, PartialEq, Eq)]
 pub enum Expiry {
     /// T302 in overlap sending: the number stays incomplete.
     Digits,

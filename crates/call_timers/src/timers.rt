@@ -5,7 +5,7 @@ ghost use Rattle.call_timers.specs.Expiries.{usual};
 
 /// The timers of calls at the network side of an interface (Q.931, 9.1, table 9-1), each in frames of 125
 /// microseconds.
-#[derive(Clone, Copy, PartialEq, Eq)]
+#[derive(Clone, Copy, Debug, PartialEq, Eq)]
 pub struct Timers {
     /// T302: how long the next digits of a number may take.
     pub t302: u32,

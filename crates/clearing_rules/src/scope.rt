@@ -2,7 +2,7 @@
 
 /// What a RESTART asks to be restarted, which is what its restart indicator (Q.931, 4.5.25) and its channel
 /// identification (4.5.13) say.
-#[derive(Clone, Copy, PartialEq, Eq)]
+#[derive(Clone, Copy, Debug, PartialEq, Eq)]
 pub enum Restart {
     /// The bearer channel at this place of the line, 0 to 29.
     Channel(u8),

@@ -12,7 +12,7 @@ use std::alloc::Global;
 const MOST_CALLS: u32 = 2000;
 
 /// What the words ask for.
-#[derive(Clone, Copy)]
+#[derive(Clone, Copy, Debug, PartialEq, Eq)]
 pub enum Command {
     /// `run`, or `run --strict`: to run the trace of the input, with the flag on a fabric where no path
     /// ever moves.

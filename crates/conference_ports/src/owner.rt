@@ -3,7 +3,7 @@
 use circuit_model::Slot;
 
 /// Who has a port: a member, and the conference room that it sits in.
-#[derive(Clone, Copy)]
+#[derive(Clone, Copy, Debug, PartialEq, Eq)]
 pub struct Owner {
     /// The conference room.
     pub room: u8,

@@ -2,7 +2,7 @@
 use circuit_model::Slot;
 
 /// The two ends of a path: its inlet and its outlet.
-#[derive(Clone, Copy)]
+#[derive(Clone, Copy, Debug, PartialEq, Eq)]
 pub struct Ends {
     /// The inlet.
     pub from: Slot,

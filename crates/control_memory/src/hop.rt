@@ -2,7 +2,7 @@
 use circuit_model::Slot;
 
 /// Where a path goes, and the internal slot in which it crosses.
-#[derive(Clone, Copy)]
+#[derive(Clone, Copy, Debug, PartialEq, Eq)]
 pub struct Hop {
     /// The outlet.
     pub to: Slot,

@@ -6,7 +6,7 @@ use crate::ends::Failed;
 use std::marker::Model;
 
 // A count of faults, which stops at its last value.
-#[derive(Drop)]
+#[derive(Debug, Drop)]
 pub(crate) struct Faults {
     count: u64,
 }

@@ -11,7 +11,7 @@ use std::alloc::{AllocError, Global};
 use std::marker::Model;
 
 // Which calls are to fail, and how many there were.
-#[derive(Drop)]
+#[derive(Debug, Drop)]
 struct Script {
     fails: Vec<u32>,
     calls: u64,
@@ -37,7 +37,7 @@ impl Script {
 
 /// A source that holds its bytes, gives at most `piece` of them in one read, and fails at the reads
 /// that are listed.
-#[derive(Drop)]
+#[derive(Debug, Drop)]
 pub struct MemSource {
     bytes: Vec<u8>,
     taken: usize,
@@ -121,7 +121,7 @@ impl Source for MemSource {
 
 /// A sink that keeps what is written, up to `room` bytes, takes at most `piece` of them in one
 /// write, and fails at the writes that are listed.
-#[derive(Drop)]
+#[derive(Debug, Drop)]
 pub struct MemSink {
     bytes: Vec<u8>,
     room: usize,

@@ -15,7 +15,7 @@ use std::marker::Model;
 ///
 /// Each read is one read of the reader, with no buffer between. Each error of it counts as a fault,
 /// an interrupted call too, which comes only to a program that handles signals.
-#[derive(Drop)]
+#[derive(Debug, Drop)]
 pub struct StdSource<R = Stdin> {
     reader: R,
     faults: Faults,
@@ -72,7 +72,7 @@ impl<R: Read> Source for StdSource<R> {
 ///
 /// Each write is one write of the writer, with no buffer between, so nothing is left to flush. Each
 /// error of it counts as a fault, and so does a write that takes none of the bytes that it is given.
-#[derive(Drop)]
+#[derive(Debug, Drop)]
 pub struct StdSink<W = Stdout> {
     writer: W,
     faults: Faults,

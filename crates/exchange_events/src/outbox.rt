@@ -45,7 +45,7 @@ impl Outbox {
 
 /// A [`Reply`] without its lists, which are in the outbox that the step got. Each variant is the reply
 /// of that name.
-#[derive(Clone, Copy)]
+#[derive(Clone, Copy, Debug, PartialEq, Eq)]
 pub enum Response {
     Granted(u32, u32),
     Busy,

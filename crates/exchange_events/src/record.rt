@@ -10,7 +10,7 @@ use std::marker::Model;
 pub const MOST_RECORDS: usize = 64;
 
 /// Whom a caller was connected with, or was to be.
-#[derive(Clone, Copy)]
+#[derive(Clone, Copy, Debug, PartialEq, Eq)]
 pub enum Party {
     /// The slot of a called user.
     Line(Slot),
@@ -19,7 +19,7 @@ pub enum Party {
 }
 
 /// What is recorded of a call once its clearing has begun.
-#[derive(Clone, Copy)]
+#[derive(Clone, Copy, Debug, PartialEq, Eq)]
 pub struct CallRecord {
     /// The slot of the caller.
     pub caller: Slot,

@@ -10,7 +10,7 @@ use std::marker::Model;
 pub const MOST_SENDS: usize = 64;
 
 /// The octets of a message that is sent. Contracts see their list.
-#[derive(Clone, Default, Drop)]
+#[derive(Clone, Debug, Default, Drop)]
 pub struct Encoded {
     octets: ArrayVec<u8, LONGEST_MESSAGE>,
 }
@@ -66,7 +66,7 @@ impl Encoded {
 }
 
 /// A message that goes to the user of a line.
-#[derive(Clone, Default, Drop)]
+#[derive(Clone, Debug, Default, Drop)]
 pub struct Signal {
     /// The line, from 0 up.
     pub line: u8,

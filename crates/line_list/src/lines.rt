@@ -16,7 +16,7 @@ use std::marker::Model;
 
 /// What is known of a line: the place of its event in the history, and how many octets of the text and
 /// how many records are its own.
-#[derive(Clone, Copy)]
+#[derive(Clone, Copy, Debug, PartialEq, Eq)]
 pub struct Mark {
     /// The place of its event in the history.
     pub place: u32,
@@ -27,7 +27,7 @@ pub struct Mark {
 }
 
 /// How much some lines take up.
-#[derive(Clone, Copy)]
+#[derive(Clone, Copy, Debug, PartialEq, Eq)]
 pub struct Extent {
     /// How many lines they are.
     pub lines: usize,

@@ -4,7 +4,7 @@ ghost use Rattle.line_list.specs.declared.listing.Listing.{Listing};
 ghost use Rattle.line_list.specs.declared.listing.Listing.TheVariants as listed;
 
 /// What a run writes of its events.
-#[derive(Clone, Copy)]
+#[derive(Clone, Copy, Debug, PartialEq, Eq)]
 pub enum Listing {
     /// The lines of their report.
     Report,

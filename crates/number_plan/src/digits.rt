@@ -8,7 +8,7 @@ use std::marker::Model;
 pub const LONGEST_NUMBER: usize = 20;
 
 /// The digits of a number, as IA5 characters (ITU-T Q.931, 4.5.8). Contracts see their list.
-#[derive(Drop)]
+#[derive(Debug, Drop)]
 pub struct Digits {
     octets: ArrayVec<u8, LONGEST_NUMBER>,
 }

@@ -11,7 +11,7 @@ use thiserror::Error;
 pub const MOST_NUMBERS: usize = 256;
 
 /// A number and where it leads.
-#[derive(Drop)]
+#[derive(Debug, Drop)]
 pub struct Number {
     /// The digits.
     pub digits: Digits,
@@ -45,7 +45,7 @@ impl From<AllocError> for PlanFault {
 }
 
 /// A number plan. Contracts see the list of its numbers, in the order of their digits.
-#[derive(Drop)]
+#[derive(Debug, Drop)]
 pub struct Plan {
     numbers: Vec<Number>,
 }

@@ -1,7 +1,7 @@
 //! Where a number leads, and what a look for digits finds.
 
 /// Where a number leads.
-#[derive(Clone, Copy)]
+#[derive(Clone, Copy, Debug, PartialEq, Eq)]
 pub enum Target {
     /// This line.
     Line(u8),
@@ -10,7 +10,7 @@ pub enum Target {
 }
 
 /// What a plan answers for digits.
-#[derive(Clone, Copy, PartialEq, Eq)]
+#[derive(Clone, Copy, Debug, PartialEq, Eq)]
 pub enum Found {
     /// A number of the plan begins the digits, and leads to this line.
     Line(u8),

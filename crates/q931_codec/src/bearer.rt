@@ -4,7 +4,7 @@ use crate::codes::{BEARER_CAPABILITY, HIGH_LAYER_COMPATIBILITY, LOW_LAYER_COMPAT
 use crate::message::Message;
 
 /// What a bearer capability (Q.931, 4.5.5) asks for.
-#[derive(Clone, Copy)]
+#[derive(Clone, Copy, Debug, PartialEq, Eq)]
 pub enum BearerCapability {
     /// Speech, 3.1 kHz audio or unrestricted digital information, in circuit mode at 64 kbit/s: a
     /// bearer channel carries it.

@@ -5,7 +5,7 @@ use crate::message::Message;
 
 /// What a channel identification (Q.931, 4.5.13) of a primary rate interface asks for. Its channels are
 /// 1 to 15 and 17 to 31.
-#[derive(Clone, Copy, PartialEq, Eq)]
+#[derive(Clone, Copy, Debug, PartialEq, Eq)]
 pub enum ChannelIdentification {
     /// Any channel.
     Any,

@@ -2,7 +2,7 @@
 
 /// A message type (Q.931, 4.4), named as in table 4-2. Each variant names the section that describes
 /// the message.
-#[derive(Clone, Copy, PartialEq, Eq)]
+#[derive(Clone, Copy, Debug, PartialEq, Eq)]
 pub enum MessageKind {
     /// ALERTING (3.1.1): the called user is being alerted.
     Alerting,

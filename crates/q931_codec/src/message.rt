@@ -20,7 +20,7 @@ pub enum Discard {
 }
 
 /// A message as it was received. Contracts see `elements` as the list of its information elements.
-#[derive(Drop)]
+#[derive(Clone, Debug, Drop)]
 pub struct Message<'a> {
     /// The call reference flag (Q.931, 4.3): true where the message goes to the side that chose the
     /// call reference value.

@@ -4,7 +4,7 @@ use crate::kind::MessageKind;
 
 /// A message that is to be sent. An element is written where its field has something: an empty slice,
 /// `None` and `false` leave it out.
-#[derive(Clone, Copy)]
+#[derive(Clone, Copy, Debug)]
 pub struct Outgoing<'a> {
     /// The call reference flag (Q.931, 4.3): true towards the side that chose the value.
     pub flag: bool,

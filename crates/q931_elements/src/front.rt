@@ -7,7 +7,7 @@ ghost use Rattle.q931_elements.specs.Front.{front_of};
 /// An information element as it was received: its identifier octet, and its contents without the
 /// length octet (Q.931, 4.5.1). A single octet information element has no contents, and `code` is that
 /// whole octet.
-#[derive(Clone, Copy)]
+#[derive(Clone, Copy, Debug)]
 pub struct Element<'a> {
     /// The identifier, octet 1 of the element.
     pub code: u8,

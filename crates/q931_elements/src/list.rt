@@ -12,7 +12,7 @@ use std::marker::Model;
 /// string of octets has a list, and reading it takes one pass over them.
 ///
 /// Contracts see an `Elements` as the list of the elements that it has left to give.
-#[derive(Drop)]
+#[derive(Debug, Drop)]
 pub struct Elements<'a> {
     rest: &'a [u8],
 }

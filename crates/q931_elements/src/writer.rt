@@ -7,7 +7,7 @@ use std::marker::Model;
 pub const LONGEST_MESSAGE: usize = 112;
 
 /// Writes a message from its first octet on. Contracts see it as the octets that it has written.
-#[derive(Drop)]
+#[derive(Debug, Drop)]
 pub struct Writer {
     octets: ArrayVec<u8, LONGEST_MESSAGE>,
 }

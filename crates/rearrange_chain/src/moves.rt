@@ -1,7 +1,7 @@
 //! Moves of paths.
 
 /// A path of a row and a column that goes from one slot to another.
-#[derive(Clone, Copy, Default, PartialEq, Eq)]
+#[derive(Clone, Copy, Debug, Default, PartialEq, Eq)]
 pub struct Move {
     /// The row of the path.
     pub row: u8,
