@@ -14,8 +14,10 @@ pub(crate) fn strict_matches<'a>(
     words: &'a [String],
 ) -> Result<ArgMatches<'a>, Error>
     ensures taken { IfOk result (λ _. takes_words (strict_app name.now) (map string_bytes words.now) ≡ true) }
-    ensures refused { IfErr result (λ e. kind_of e ≢ ErrorKind.OutOfMemory → takes_words (strict_app name.now) (map string_bytes words.now) ≡ false) }
-    ensures strict { IfOk result (λ m. first_value (found_of m) (codes "strict") ≡ text_for (codes "strict") (strict_app name.now) (map string_bytes words.now)) }
+    ensures refused { IfErr result (λ e. kind_of e ≢ ErrorKind.OutOfMemory
+        → takes_words (strict_app name.now) (map string_bytes words.now) ≡ false) }
+    ensures strict { IfOk result (λ m. first_value (found_of m) (codes "strict")
+        ≡ text_for (codes "strict") (strict_app name.now) (map string_bytes words.now)) }
 {
     let strict = Arg::new(alloc, "strict")
         .long("strict")

@@ -10,9 +10,9 @@ ghost use Rattle.call_processor.specs.Frames.{IsReady, IsReadyFor};
 ghost use Rattle.segment_run.specs.Segment.{IsChief, Ran, RanWhole};
 ghost use Rattle.segment_run.specs.Segments.{IsDoneBelow};
 ghost use Rattle.line_list.specs.Lines.{calls_of, text_of};
-ghost use Rattle.exchange_top.specs.Commands.{RunsTo, parties};
+ghost use Rattle.exchange_top.specs.Commands.{parties};
 ghost use Rattle.exchange_top.specs.Outcomes.{IsFlushed};
-ghost use Rattle.exchange_top.specs.Running.{AreOfAnswers, GrowthIsTold, IsAdded, engine_of, fabric_at, status_of};
+ghost use Rattle.exchange_top.specs.Running.{AreOfAnswers, GrowthIsTold, IsAdded, RunsOn, engine_of, status_of};
 ghost use Rattle.exchange_top.specs.Streams.{AppendsFront};
 ghost use Rattle.exchange_top.specs.Telling.{AreTold, AreToldFront};
 
@@ -83,10 +83,9 @@ pub fn report_segments<
     requires ready { IsSomeAnd carried.old (λ c. IsReady C.carries C.next C.sizes (B.board board.now) [] c.engine c.tool) }
     ensures seated { B.seated board.now seat.new }
     ensures chief { IsChief (turns_of (B.board board.now)) (B.known seat.new) }
-    ensures runs { RunsTo (parties C.plays C.sizes C.carries (engine_of result)
+    ensures runs { RunsOn (parties C.plays C.sizes C.carries (engine_of result)
         (λ m. stands m) (λ m. text m) meters.old.items spare.old.items meters.new.items spare.new.items)
-        (fabric_at (B.board board.now)) L.listing (B.board board.now).trace
-        (status_of result) (order_of (B.known seat.new).seen) K.written K.faults sink.old sink.new }
+        (B.board board.now) L.listing result (B.known seat.new) K.written K.faults sink.old sink.new }
     ensures writes { (status_of result ≡ 4) ⊎ (K.faults sink.new ≡ K.faults sink.old) }
 {
     let ends = trace.segments.as_slice();

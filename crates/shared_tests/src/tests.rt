@@ -50,7 +50,7 @@ fn is_of_steps(journal: &[(u32, u32)], steps: &[Step]) -> bool {
     left.next().is_none()
 }
 
-// Does all nails on two threads. Whether each is granted, and the journal has those of each thread in their order.
+// Does all nails on two threads. Whether each is granted, and the journal has each thread's in their order.
 fn in_threads<R: Threads + Wait + Sync>(
     rt: &R,
     alloc: Global,

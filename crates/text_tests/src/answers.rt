@@ -63,6 +63,19 @@ fn frame(number: u32, sends: &[(u8, &[u8])]) -> Result<Reply, Fail> {
     })
 }
 
+// The line of an answer behind another octet.
+fn printed(
+    alloc: Global,
+    event: u32,
+    reply: &Reply,
+    octets: &[[u8; 30]],
+) -> Result<Vec<u8>, AllocError> {
+    let mut out = vec![in alloc; b'>']?;
+    let answer = Answer::keep(alloc, event, reply, octets)?;
+    append_answer(&mut out, &answer)?;
+    Ok(out)
+}
+
 // Whether the line of an answer is this one, behind what was there before.
 fn has_line(
     alloc: Global,
@@ -71,11 +84,9 @@ fn has_line(
     octets: &[[u8; 30]],
     line: &str,
 ) -> Result<bool, AllocError> {
-    let answer = Answer::keep(alloc, event, reply, octets)?;
-    let mut out = vec![in alloc; b'>']?;
-    append_answer(&mut out, &answer)?;
     let wanted = spelled(alloc, line)?;
-    Ok(out.as_slice().split_first() == Some((&b'>', wanted.as_slice())))
+    let printed = printed(alloc, event, reply, octets)?;
+    Ok(printed.as_slice().split_first() == Some((&b'>', wanted.as_slice())))
 }
 
 fn have_plain_lines(alloc: Global, octets: &[[u8; 30]]) -> Result<bool, AllocError> {
@@ -115,32 +126,34 @@ fn each_answer_has_its_line(rt: HostRuntime) -> Result<(), Fail> {
     Ok(())
 }
 
+/// An event, the paths that its message moved, what is sent, and the line.
+type Told<'a> = (u32, Option<(u32, u32)>, &'a [(u8, &'a [u8])], &'a str);
+
+// CONNECT ACKNOWLEDGE to a called user and CONNECT to a caller; one octet; no messages.
+const TOLD_LINES: [Told; 4] = [
+    (
+        3,
+        Some((0, 0)),
+        &[(1, b"\x08\x02\x00\x01\x0F"), (0, b"\x08\x02\x80\x01\x07")],
+        "3 message moved 0 0 1:080200010F 0:0802800107\n",
+    ),
+    (12, None, &[(31, b"\xAB")], "12 message 31:AB\n"),
+    (5, Some((62, 1)), &[], "5 message moved 62 1\n"),
+    (65535, None, &[], "65535 message\n"),
+];
+
+fn are_told(alloc: Global, rows: &[Told]) -> Result<bool, Fail> {
+    for (event, moved, sends, line) in rows {
+        let reply = sent(*moved, sends)?;
+        if !has_line(alloc, *event, &reply, &[], line)? {
+            return Ok(false);
+        }
+    }
+    Ok(true)
+}
+
 #[test]
 fn messages_are_told_with_their_lines(rt: HostRuntime) -> Result<(), Fail> {
-    let alloc = rt.alloc();
-    // CONNECT ACKNOWLEDGE to a called user and CONNECT to a caller; one octet; no messages.
-    for (event, moved, sends, line) in [
-        (
-            3,
-            Some((0, 0)),
-            [
-                (1, b"\x08\x02\x00\x01\x0F".as_slice()),
-                (0, b"\x08\x02\x80\x01\x07".as_slice()),
-            ]
-            .as_slice(),
-            "3 message moved 0 0 1:080200010F 0:0802800107\n",
-        ),
-        (
-            12,
-            None,
-            [(31, b"\xAB".as_slice())].as_slice(),
-            "12 message 31:AB\n",
-        ),
-        (5, Some((62, 1)), [].as_slice(), "5 message moved 62 1\n"),
-        (65535, None, [].as_slice(), "65535 message\n"),
-    ] {
-        let reply = sent(moved, sends)?;
-        assert!(rt; has_line(alloc, event, &reply, &[], line)?);
-    }
+    assert!(rt; are_told(rt.alloc(), &TOLD_LINES)?);
     Ok(())
 }

@@ -4,7 +4,7 @@ use crate::keeper::Keeper;
 use circuit_model::Slot;
 use exchange_events::{CallRecord, Party};
 use meters::{CallDetail, HoldingTime, Meter, PegCount, append_summaries};
-use std::alloc::AllocError;
+use std::alloc::{AllocError, Global};
 use std::test::Fail;
 
 // An answered call between slots, one to a room that lasted longer, and one that wasn't answered
@@ -42,12 +42,6 @@ const CALLS: [CallRecord; 3] = [
     },
 ];
 
-// What a ring of two, the registers and the keeper say of no call and of these three.
-const OF_NONE: &str = "peg 0 0\nholding 0 0\n";
-
-const OF_THREE: &str =
-    "call 31/15 room 63 100 4100 102\ncall 7/17 0/2 9 8 17\npeg 3 2\nholding 4008 4000\nAAN";
-
 fn note_to_each(meters: &mut [Box<dyn Meter>], call: &CallRecord) -> Result<(), AllocError> {
     for meter in meters.iter_mut() {
         meter.note(call)?;
@@ -62,46 +56,119 @@ fn note_all(meters: &mut [Box<dyn Meter>], calls: &[CallRecord]) -> Result<(), A
     Ok(())
 }
 
+/// A meter of these tests.
+#[derive(Clone, Copy)]
+enum Kind {
+    /// The details of the last two calls.
+    Details,
+    Peg,
+    Holding,
+    Keeper,
+    /// The calls to a line.
+    CallsTo(u8),
+}
+
+use Kind::{CallsTo, Details, Holding, Peg};
+
+/// Meters, what they say of no call, how many calls end then, and what the meters say of these.
+struct Told<'a> {
+    kinds: &'a [Kind],
+    before: &'a str,
+    count: usize,
+    after: &'a str,
+}
+
+// Whether the meters say so behind what was there before.
+fn say_behind(
+    alloc: Global,
+    meters: &mut [Box<dyn Meter>],
+    told: &Told,
+) -> Result<bool, AllocError> {
+    let mut out = vec![in alloc; b'>']?;
+    append_summaries(meters, &mut out)?;
+    note_all(meters, CALLS.get(..told.count).unwrap_or(&CALLS))?;
+    append_summaries(meters, &mut out)?;
+    let Some(said) = out.as_slice().strip_prefix(b">") else {
+        return Ok(false);
+    };
+    Ok(said.strip_prefix(told.before.as_bytes()) == Some(told.after.as_bytes()))
+}
+
+// Makes the meters of all tests, since each way out of a function that makes them drops those before. Whether they say so.
+fn say(alloc: Global, told: &Told) -> Result<bool, AllocError> {
+    let mut meters: Vec<Box<dyn Meter>> = Vec::new(alloc);
+    for kind in told.kinds {
+        let meter: Box<dyn Meter> = match kind {
+            Details => Box::new(alloc, CallDetail::new(alloc, 2)?)?,
+            Peg => Box::new(alloc, PegCount::new())?,
+            Holding => Box::new(alloc, HoldingTime::new())?,
+            Kind::Keeper => Box::new(alloc, Keeper::new(alloc))?,
+            CallsTo(line) => Box::new(alloc, CallsToLine::new(*line))?,
+        };
+        meters.push(meter)?;
+    }
+    say_behind(alloc, &mut meters, told)
+}
+
+const OF_ALL_KINDS: Told = Told {
+    kinds: &[Details, Peg, Holding, Kind::Keeper],
+    before: "peg 0 0\nholding 0 0\n",
+    count: 3,
+    after: "call 31/15 room 63 100 4100 102\ncall 7/17 0/2 9 8 17\npeg 3 2\nholding 4008 4000\nAAN",
+};
+
 #[test]
 fn meters_say_what_they_were_told(rt: HostRuntime) -> Result<(), Fail> {
-    let alloc = rt.alloc();
-    let mut meters: Vec<Box<dyn Meter>> = Vec::new(alloc);
-    meters.push(Box::new(alloc, CallDetail::new(alloc, 2)?)?)?;
-    meters.push(Box::new(alloc, PegCount::new())?)?;
-    meters.push(Box::new(alloc, HoldingTime::new())?)?;
-    meters.push(Box::new(alloc, Keeper::new(alloc))?)?;
-    let mut out = vec![in alloc; b'>']?;
-    append_summaries(&meters, &mut out)?;
-    note_all(&mut meters, &CALLS)?;
-    append_summaries(&meters, &mut out)?;
-    let wanted = format!(in alloc; ">{OF_NONE}{OF_THREE}")?;
-    assert!(rt; out.as_slice() == wanted.as_bytes());
+    assert!(rt; say(rt.alloc(), &OF_ALL_KINDS)?);
     Ok(())
 }
 
-// Two lines whose calls are counted, how many of the calls are noted, and what the counts say then.
-const SAID: [(u8, u8, usize, &str); 5] = [
-    (12, 0, 0, "to 12: 0\npeg 0 0\nto 0: 0\n"),
-    (12, 0, 1, "to 12: 1\npeg 1 1\nto 0: 0\n"),
-    (12, 0, 3, "to 12: 1\npeg 3 2\nto 0: 1\n"),
-    (0, 0, 3, "to 0: 1\npeg 3 2\nto 0: 1\n"),
-    (63, 7, 3, "to 63: 0\npeg 3 2\nto 7: 0\n"),
-];
-
 // Two counts of the calls to one line, the same or another, beside a peg count. None counts the line of
 // a caller, or a room with the number of the line.
+const OF_LINES: [Told; 5] = [
+    Told {
+        kinds: &[CallsTo(12), Peg, CallsTo(0)],
+        before: "to 12: 0\npeg 0 0\nto 0: 0\n",
+        count: 0,
+        after: "to 12: 0\npeg 0 0\nto 0: 0\n",
+    },
+    Told {
+        kinds: &[CallsTo(12), Peg, CallsTo(0)],
+        before: "to 12: 0\npeg 0 0\nto 0: 0\n",
+        count: 1,
+        after: "to 12: 1\npeg 1 1\nto 0: 0\n",
+    },
+    Told {
+        kinds: &[CallsTo(12), Peg, CallsTo(0)],
+        before: "to 12: 0\npeg 0 0\nto 0: 0\n",
+        count: 3,
+        after: "to 12: 1\npeg 3 2\nto 0: 1\n",
+    },
+    Told {
+        kinds: &[CallsTo(0), Peg, CallsTo(0)],
+        before: "to 0: 0\npeg 0 0\nto 0: 0\n",
+        count: 3,
+        after: "to 0: 1\npeg 3 2\nto 0: 1\n",
+    },
+    Told {
+        kinds: &[CallsTo(63), Peg, CallsTo(7)],
+        before: "to 63: 0\npeg 0 0\nto 7: 0\n",
+        count: 3,
+        after: "to 63: 0\npeg 3 2\nto 7: 0\n",
+    },
+];
+
+fn all_say(alloc: Global, rows: &[Told]) -> Result<bool, AllocError> {
+    for told in rows {
+        if !say(alloc, told)? {
+            return Ok(false);
+        }
+    }
+    Ok(true)
+}
+
 #[test]
 fn calls_are_counted_at_their_line(rt: HostRuntime) -> Result<(), Fail> {
-    let alloc = rt.alloc();
-    for (first, second, count, said) in &SAID {
-        let mut meters: Vec<Box<dyn Meter>> = Vec::new(alloc);
-        meters.push(Box::new(alloc, CallsToLine::new(*first))?)?;
-        meters.push(Box::new(alloc, PegCount::new())?)?;
-        meters.push(Box::new(alloc, CallsToLine::new(*second))?)?;
-        note_all(&mut meters, CALLS.get(..*count).unwrap_or(&CALLS))?;
-        let mut out = Vec::new(alloc);
-        append_summaries(&meters, &mut out)?;
-        assert!(rt; out.as_slice() == said.as_bytes());
-    }
+    assert!(rt; all_say(rt.alloc(), &OF_LINES)?);
     Ok(())
 }

@@ -14,13 +14,13 @@ const SETUP_TO_ROOM: &str =
 
 const CLEARING: &str = "M 0 080200015A\n";
 
-// The report of a trace with as many peg counts that are on and spare ones, and what is left of both.
+// The report of a trace with meters of these kinds that are on and spare ones of these, and what is left of both.
 pub(crate) fn changed(
     rt: &(impl Threads + Wait + Sync),
     alloc: Global,
     lines: &[&str],
     on: &[Kind],
-    spares: usize,
+    spare: &[Kind],
     sink: MemSink,
 ) -> Result<Metered, AllocError> {
     let mut input = Vec::new(alloc);
@@ -28,7 +28,7 @@ pub(crate) fn changed(
         input.extend_from_slice(line.as_bytes())?;
     }
     let source = MemSource::new(input, 4096, Vec::new(alloc));
-    called_with::<Engine>(rt, alloc, &["run"], source, sink, on, spares)
+    called_with::<Engine>(rt, alloc, &["run"], source, sink, on, spare)
 }
 
 pub(crate) const ONE_PEG: [Kind; 1] = [Kind::Peg];
@@ -37,7 +37,7 @@ pub(crate) const ONE_PEG: [Kind; 1] = [Kind::Peg];
 /// behind its first line, and what is left of those that are on and of the spare ones.
 struct ChangedRun {
     on: &'static [Kind],
-    spares: usize,
+    spare: &'static [Kind],
     lines: [&'static str; 4],
     report: &'static str,
     left: (&'static str, &'static str),
@@ -46,14 +46,14 @@ struct ChangedRun {
 const RUNS: [ChangedRun; 6] = [
     ChangedRun {
         on: &[Kind::Peg],
-        spares: 1,
+        spare: &[Kind::Peg],
         lines: ["sync\n", CLEARING, "change\nF\n", "change\nchange\n"],
         report: "2 message\npeg 1 1\n3 frame 0\npeg 0 0\n",
         left: ("", ""),
     },
     ChangedRun {
         on: &[Kind::Peg],
-        spares: 1,
+        spare: &[Kind::Peg],
         lines: ["sync\n", CLEARING, "change\nF\n", ""],
         report: "2 message\npeg 1 1\n3 frame 0\n",
         left: ("peg 0 0\n", ""),
@@ -61,7 +61,7 @@ const RUNS: [ChangedRun; 6] = [
     // The call ends in the time of the spare one.
     ChangedRun {
         on: &[Kind::Peg],
-        spares: 2,
+        spare: &[Kind::Peg, Kind::Peg],
         lines: ["change\n", CLEARING, "", ""],
         report: "peg 0 0\n2 message\n",
         left: ("peg 1 1\n", "peg 0 0\n"),
@@ -69,14 +69,14 @@ const RUNS: [ChangedRun; 6] = [
     // No meter is on at first, or there is no spare one.
     ChangedRun {
         on: &[],
-        spares: 1,
+        spare: &[Kind::Peg],
         lines: ["change\n", CLEARING, "", "change\n"],
         report: "2 message\npeg 1 1\n",
         left: ("", ""),
     },
     ChangedRun {
         on: &[Kind::Peg, Kind::Peg],
-        spares: 0,
+        spare: &[],
         lines: ["sync\n", CLEARING, "change\n", "F\n"],
         report: "2 message\npeg 1 1\n3 frame 0\n",
         left: ("peg 1 1\n", ""),
@@ -84,7 +84,7 @@ const RUNS: [ChangedRun; 6] = [
     // More changes than meters.
     ChangedRun {
         on: &[Kind::Peg, Kind::Peg],
-        spares: 1,
+        spare: &[Kind::Peg],
         lines: ["change\nchange\n", "change\nchange\n", CLEARING, "change\n"],
         report: "peg 0 0\npeg 0 0\npeg 0 0\n2 message\n",
         left: ("", ""),
@@ -100,7 +100,7 @@ fn is_changed(
     let [first, second, third, fourth] = run.lines;
     let all = [SETUP_TO_ROOM, first, second, third, fourth];
     let sink = MemSink::new(alloc, 1000, 4096, Vec::new(alloc))?;
-    let call = changed(rt, alloc, &all, run.on, run.spares, sink)?;
+    let call = changed(rt, alloc, &all, run.on, run.spare, sink)?;
     let report = call.ended.sink.bytes().strip_prefix(ACCEPTED.as_bytes());
     let (said, spare) = run.left;
     Ok(
@@ -174,7 +174,7 @@ fn is_cut(
     octets: usize,
 ) -> Result<bool, AllocError> {
     let sink = MemSink::new(alloc, 100, 6, [write].to_vec(alloc)?)?;
-    let call = changed(rt, alloc, &LINES, &ONE_PEG, 1, sink)?;
+    let call = changed(rt, alloc, &LINES, &ONE_PEG, &ONE_PEG, sink)?;
     let (events, said) = if octets < BEHIND_FIRST {
         (2, "peg 0 0\n")
     } else {

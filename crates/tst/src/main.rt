@@ -55,14 +55,15 @@ fn status_of<S: Source, K: Sink, R: Threads + Wait + Sync>(
     source: &mut S,
     sink: &mut K,
 ) -> Result<u8, AllocError> {
-    let mut meters: Vec<Box<dyn Meter>> = Vec::with_capacity(alloc, 3)?;
-    meters.push(Box::new(alloc, CallDetail::new(alloc, 10)?)?)?;
-    meters.push(Box::new(alloc, PegCount::new())?)?;
-    meters.push(Box::new(alloc, HoldingTime::new())?)?;
-    let mut spare: VecDeque<Box<dyn Meter>> = VecDeque::with_capacity(alloc, 3)?;
-    spare.push_back(Box::new(alloc, CallDetail::new(alloc, 10)?)?)?;
-    spare.push_back(Box::new(alloc, PegCount::new())?)?;
-    spare.push_back(Box::new(alloc, HoldingTime::new())?)?;
+    let mut boxed: VecDeque<Box<dyn Meter>> = VecDeque::with_capacity(alloc, 6)?;
+    for _ in 0..2 {
+        boxed.push_back(Box::new(alloc, CallDetail::new(alloc, 10)?)?)?;
+        boxed.push_back(Box::new(alloc, PegCount::new())?)?;
+        boxed.push_back(Box::new(alloc, HoldingTime::new())?)?;
+    }
+    let half = boxed.len() / 2;
+    let mut spare = boxed.split_off(half)?;
+    let mut meters = Vec::from(boxed);
     // In its box the engine goes from segment to segment as one word.
     let outcome: Outcome<Box<Engine>> = exchange(
         rt,

@@ -26,7 +26,7 @@ fn has_left(call: &Metered, left: (&str, &str)) -> bool {
 // Whether a run ends as it may, once there was memory for what is handed in and for what is left.
 fn is_kept(rt: &(impl Threads + Wait + Sync), alloc: Global) -> Result<bool, AllocError> {
     let sink = MemSink::new(alloc, 100, 4096, Vec::new(alloc))?;
-    let call = changed(rt, alloc, &LINES, &ONE_PEG, 1, sink)?;
+    let call = changed(rt, alloc, &LINES, &ONE_PEG, &ONE_PEG, sink)?;
     let octets = call.ended.sink.bytes().len();
     let may_be_left = match (call.ended.status, octets) {
         (0, _) => octets == REPORT.len() && has_left(&call, NONE),

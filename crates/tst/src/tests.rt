@@ -120,7 +120,7 @@ pub(crate) struct Metered {
     pub(crate) spare: Vec<u8>,
 }
 
-/// How a call ends with meters of these kinds and with spare peg counts.
+/// How a call ends with meters of these kinds and with spare ones of these.
 pub(crate) fn called_with<C: Carrier>(
     rt: &(impl Threads + Wait + Sync),
     alloc: Global,
@@ -128,21 +128,13 @@ pub(crate) fn called_with<C: Carrier>(
     source: MemSource,
     sink: MemSink,
     on: &[Kind],
-    spares: usize,
+    spare: &[Kind],
 ) -> Result<Metered, AllocError> {
     let mut meters: Vec<Box<dyn Meter>> = Vec::new(alloc);
-    for kind in on {
-        match kind {
-            Kind::LastCall => meters.push(Box::new(alloc, CallDetail::new(alloc, 1)?)?)?,
-            Kind::Calls => meters.push(Box::new(alloc, CallDetail::new(alloc, 20)?)?)?,
-            Kind::Peg => meters.push(Box::new(alloc, PegCount::new())?)?,
-            Kind::Holding => meters.push(Box::new(alloc, HoldingTime::new())?)?,
-        }
-    }
-    let mut spare: VecDeque<Box<dyn Meter>> = VecDeque::new(alloc);
-    for _ in 0..spares {
-        spare.push_back(Box::new(alloc, PegCount::new())?)?;
-    }
+    add_meters(alloc, on, &mut meters)?;
+    let mut others: Vec<Box<dyn Meter>> = Vec::new(alloc);
+    add_meters(alloc, spare, &mut others)?;
+    let mut spare = VecDeque::from_vec(others);
     let words = given(alloc, words)?;
     let gate = &OpenGate;
     let ended = called::<C, OpenGate>(
@@ -155,19 +147,36 @@ pub(crate) fn called_with<C: Carrier>(
         &mut meters,
         &mut spare,
     );
-    let mut said = Vec::new(alloc);
-    append_summaries(meters.as_slice(), &mut said)?;
-    let mut of_spare = Vec::new(alloc);
-    for _ in 0..spares {
-        if let Some(meter) = spare.pop_front() {
-            meter.summary(&mut of_spare)?;
-        }
-    }
+    let others = Vec::from(spare);
     Ok(Metered {
         ended,
-        said,
-        spare: of_spare,
+        said: said_by(alloc, meters.as_slice())?,
+        spare: said_by(alloc, others.as_slice())?,
     })
+}
+
+// Boxes a meter of each kind.
+fn add_meters(
+    alloc: Global,
+    kinds: &[Kind],
+    meters: &mut Vec<Box<dyn Meter>>,
+) -> Result<(), AllocError> {
+    for kind in kinds {
+        match kind {
+            Kind::LastCall => meters.push(Box::new(alloc, CallDetail::new(alloc, 1)?)?)?,
+            Kind::Calls => meters.push(Box::new(alloc, CallDetail::new(alloc, 20)?)?)?,
+            Kind::Peg => meters.push(Box::new(alloc, PegCount::new())?)?,
+            Kind::Holding => meters.push(Box::new(alloc, HoldingTime::new())?)?,
+        }
+    }
+    Ok(())
+}
+
+// What meters say.
+fn said_by(alloc: Global, meters: &[Box<dyn Meter>]) -> Result<Vec<u8>, AllocError> {
+    let mut said = Vec::new(alloc);
+    append_summaries(meters, &mut said)?;
+    Ok(said)
 }
 
 // Words as texts of their own.
@@ -344,7 +353,7 @@ fn is_no_command(
 ) -> Result<bool, AllocError> {
     let source = MemSource::new(Vec::new(alloc), 16, [1].to_vec(alloc)?);
     let sink = MemSink::new(alloc, 100, 16, Vec::new(alloc))?;
-    let ended = called_with::<Engine>(rt, alloc, words, source, sink, &[], 0)?.ended;
+    let ended = called_with::<Engine>(rt, alloc, words, source, sink, &[], &[])?.ended;
     Ok(
         ended.status == 2
             && ended.read_faults == 0
@@ -439,7 +448,7 @@ fn is_cut(rt: &(impl Threads + Wait + Sync), alloc: Global, cut: &Cut) -> Result
         [read].to_vec(alloc)?,
     );
     let sink = MemSink::new(alloc, 1000, write_piece, [write].to_vec(alloc)?)?;
-    let ended = called_with::<Engine>(rt, alloc, &[cut.word], source, sink, &[], 0)?.ended;
+    let ended = called_with::<Engine>(rt, alloc, &[cut.word], source, sink, &[], &[])?.ended;
     let (reads, writes) = cut.faults;
     Ok(
         ended.status == cut.status
@@ -475,7 +484,7 @@ fn is_cut_at(
 ) -> Result<bool, AllocError> {
     let source = MemSource::new(long_call(alloc)?, 65_536, Vec::new(alloc));
     let sink = MemSink::new(alloc, 100_000, 100_000, [write].to_vec(alloc)?)?;
-    let call = called_with::<Engine>(rt, alloc, &["run"], source, sink, &[Kind::Peg], 0)?;
+    let call = called_with::<Engine>(rt, alloc, &["run"], source, sink, &[Kind::Peg], &[])?;
     let (status, faults) = ends;
     Ok(
         call.ended.status == status
@@ -513,7 +522,7 @@ fn is_told(
 ) -> Result<bool, AllocError> {
     let source = MemSource::new(input.as_bytes().to_vec(alloc)?, 4096, Vec::new(alloc));
     let sink = MemSink::new(alloc, 1_000_000, 4096, Vec::new(alloc))?;
-    let call = called_with::<Engine>(rt, alloc, words, source, sink, &METERS, 0)?;
+    let call = called_with::<Engine>(rt, alloc, words, source, sink, &METERS, &[])?;
     Ok(
         call.ended.status == 0
             && call.ended.sink.bytes() == written.as_bytes()
@@ -550,7 +559,7 @@ fn told(
     let source = MemSource::new(input, 4096, Vec::new(alloc));
     let sink = MemSink::new(alloc, 1_000_000, 4096, Vec::new(alloc))?;
     let on = [Kind::Calls, Kind::Peg, Kind::Holding];
-    Ok(called_with::<Marker>(rt, alloc, words, source, sink, &on, 0)?.said)
+    Ok(called_with::<Marker>(rt, alloc, words, source, sink, &on, &[])?.said)
 }
 
 // `gen` and `run` of the octets that it draws tell meters of the same calls.

@@ -21,7 +21,7 @@ fn checked(
     }
     let source = MemSource::new(input, 16, Vec::new(alloc));
     let sink = MemSink::new(alloc, 1000, 16, Vec::new(alloc))?;
-    called_with::<Box<Engine>>(rt, alloc, words, source, sink, &ONE_PEG, 0)
+    called_with::<Box<Engine>>(rt, alloc, words, source, sink, &ONE_PEG, &[])
 }
 
 // Whether it ends with this status and this line, no event done, no engine handed out, and no call noted.

@@ -124,11 +124,6 @@ fn came_of(
     })
 }
 
-// Whether the steps are reported so, without tones.
-fn reports(alloc: Global, bridges: u8, steps: &[Step], wanted: &str) -> Result<bool, Fail> {
-    Ok(came_of(alloc, bridges, false, steps, wanted)?.is_reported)
-}
-
 const SETUP: Step = Message(0, "080200010504038090A31803A98381700480313031");
 
 const WHOLE_CALL: [Step; 10] = [
@@ -186,8 +181,6 @@ fn refused_or_moved_to_another_channel(rt: HostRuntime) -> Result<(), Fail> {
         4 message 0:080280035A08028281\n";
     let came = came_of(rt.alloc(), 0, false, &REFUSED_OR_MOVED, wanted)?;
     assert!(rt; came.is_reported && came.calls == 0);
-    let full = "15 granted 0 0\n16 message 0:080280015A080282A2\n";
-    assert!(rt; reports(rt.alloc(), 0, &[Fill(1), SETUP], full)?);
     Ok(())
 }
 
@@ -204,19 +197,6 @@ const CLEAR_COLLISION: [Step; 10] = [
     Message(1, "080280015A"),
 ];
 
-#[test]
-fn clear_collision(rt: HostRuntime) -> Result<(), Fail> {
-    let wanted = "4 message 0:080280014D 1:080200014508028290\n\
-        5 message 1:080200014D\n\
-        6 message\n\
-        7 message\n\
-        8 message 0:080280017D0802829E140100\n\
-        9 message 1:080200015A080282D1\n\
-        10 message\n";
-    assert!(rt; reports(rt.alloc(), 0, &CLEAR_COLLISION, wanted)?);
-    Ok(())
-}
-
 const LENIENT: [Step; 7] = [
     Message(0, "080200010570048031303104038090A3"),
     Message(0, "080200020504038090A39E700180700480313031"),
@@ -226,19 +206,6 @@ const LENIENT: [Step; 7] = [
     Message(0, "08010105"),
     Message(0, ""),
 ];
-
-#[test]
-fn lenient_reading(rt: HostRuntime) -> Result<(), Fail> {
-    let wanted = "1 message 0:08028001021803A98381 1:0802000105A104038090A31803A98381700480313031\n\
-        2 message 0:08028002021803A98382 1:0802000205A104038090A31803A98382700480313031\n\
-        3 message 0:08028003021803A98383 1:0802000305A104038090A31803A98383700480313031\n\
-        4 message 0:080280045A0802829C\n\
-        5 message 0:080280055A0802829C\n\
-        6 message\n\
-        7 message\n";
-    assert!(rt; reports(rt.alloc(), 0, &LENIENT, wanted)?);
-    Ok(())
-}
 
 const MORE_DIGITS: [Step; 9] = [
     Message(0, "080200010504038090A370028031"),
@@ -252,21 +219,6 @@ const MORE_DIGITS: [Step; 9] = [
     Message(0, "0802000046790186"),
 ];
 
-#[test]
-fn more_digits_awaited(rt: HostRuntime) -> Result<(), Fail> {
-    let wanted = "1 message 0:080280010D1803A98381\n\
-        2 message 0:080280020D1803A98382\n\
-        3 message 0:080280017D0802829E140102\n\
-        4 message 0:080280035A0802829C\n\
-        5 message 0:080280035A0802829C\n\
-        6 message 0:080280035A0802829C\n\
-        7 message 0:080280014D\n\
-        8 message\n\
-        9 message 0:080280004E790186\n";
-    assert!(rt; reports(rt.alloc(), 0, &MORE_DIGITS, wanted)?);
-    Ok(())
-}
-
 const IN_PARTS: [Step; 9] = [
     Message(0, "0802000105040288906C0400803536700281317C0288907D029181"),
     Message(0, "080200017B700180"),
@@ -278,22 +230,6 @@ const IN_PARTS: [Step; 9] = [
     Message(0, "080200027B7003803330"),
     Message(0, "080200027B70028037"),
 ];
-
-#[test]
-fn a_number_in_parts(rt: HostRuntime) -> Result<(), Fail> {
-    let wanted = "1 message 0:080280010D1803A98381\n\
-        2 message\n\
-        3 message\n\
-        4 message 0:0802800102 1:0802000105A1040288901803A983816C0400803536\
-        700581313031377C0288907D029181\n\
-        5 message\n\
-        6 message 1:080200017D080282E5140106\n\
-        7 message 0:080280020D1803A98382\n\
-        8 message moved 0 0 0:0802800202 0:0802800207\n\
-        9 message\n";
-    assert!(rt; reports(rt.alloc(), 1, &IN_PARTS, wanted)?);
-    Ok(())
-}
 
 // Callers who are cleared for what they dial: the SETUP, the INFORMATION, and what is sent. Line 1 is full,
 // and there is no port.
@@ -317,36 +253,44 @@ const GIVEN_UP: [(&str, &str, &str); 9] = [
     ("080200010504038090A370028033", "080200017B70028030", "AA"),
 ];
 
-#[test]
-fn callers_are_cleared_for_what_they_dial(rt: HostRuntime) -> Result<(), Fail> {
-    let alloc = rt.alloc();
-    for (setup, information, cause) in &GIVEN_UP {
-        let steps = [
-            Fill(1),
-            Message(0, *setup),
-            Message(0, *information),
-            Message(0, "080200014D"),
-        ];
-        let wanted = format!(in alloc;
-            "16 message 0:080280010D1803A98381\n\
-            17 message 0:0802800145080282{cause}\n\
-            18 message 0:080280015A\n"
-        )?;
-        let came = came_of(alloc, 0, false, &steps, wanted.as_str())?;
-        assert!(rt; came.is_reported && came.calls == 0 && came.legs == 0);
+// Whether a caller is cleared for this cause.
+fn is_cleared(
+    alloc: Global,
+    setup: &'static str,
+    information: &'static str,
+    cause: &str,
+) -> Result<bool, Fail> {
+    let steps = [
+        Fill(1),
+        Message(0, setup),
+        Message(0, information),
+        Message(0, "080200014D"),
+    ];
+    let wanted = format!(in alloc;
+        "16 message 0:080280010D1803A98381\n\
+        17 message 0:0802800145080282{cause}\n\
+        18 message 0:080280015A\n"
+    )?;
+    let came = came_of(alloc, 0, false, &steps, wanted.as_str())?;
+    Ok(came.is_reported && came.calls == 0 && came.legs == 0)
+}
+
+fn are_cleared(alloc: Global, rows: &[(&'static str, &'static str, &str)]) -> Result<bool, Fail> {
+    for (setup, information, cause) in rows {
+        if !is_cleared(alloc, *setup, *information, *cause)? {
+            return Ok(false);
+        }
     }
-    Ok(())
+    Ok(true)
 }
 
 #[test]
-fn a_call_to_a_room(rt: HostRuntime) -> Result<(), Fail> {
-    let setup = Message(0, "080200010504038090A37003803330");
-    let seated = "1 message moved 0 0 0:08028001021803A98381 0:0802800107\n";
-    assert!(rt; reports(rt.alloc(), 1, &[setup], seated)?);
-    let refused = "1 message 0:080280015A080282AA\n";
-    assert!(rt; reports(rt.alloc(), 0, &[setup], refused)?);
+fn callers_are_cleared_for_what_they_dial(rt: HostRuntime) -> Result<(), Fail> {
+    assert!(rt; are_cleared(rt.alloc(), &GIVEN_UP)?);
     Ok(())
 }
+
+const TO_A_ROOM: Step = Message(0, "080200010504038090A37003803330");
 
 const UNEXPECTED: [Step; 4] = [
     SETUP,
@@ -355,12 +299,92 @@ const UNEXPECTED: [Step; 4] = [
     Message(0, "0802000105"),
 ];
 
-#[test]
-fn unexpected_messages(rt: HostRuntime) -> Result<(), Fail> {
-    let wanted = "2 message 0:080280017D080282E5140103\n\
+// Worked examples on n bridge lines, without tones: their steps, and the last lines of the report. Clearing from both
+// sides at once, lenient reading, more digits awaited, a number in parts, unexpected messages, a full line, and a call to
+// a room with and without a port.
+const REPORTED: [(u8, &[Step], &str); 8] = [
+    (
+        0,
+        &CLEAR_COLLISION,
+        "4 message 0:080280014D 1:080200014508028290\n\
+        5 message 1:080200014D\n\
+        6 message\n\
+        7 message\n\
+        8 message 0:080280017D0802829E140100\n\
+        9 message 1:080200015A080282D1\n\
+        10 message\n",
+    ),
+    (
+        0,
+        &LENIENT,
+        "1 message 0:08028001021803A98381 1:0802000105A104038090A31803A98381700480313031\n\
+        2 message 0:08028002021803A98382 1:0802000205A104038090A31803A98382700480313031\n\
+        3 message 0:08028003021803A98383 1:0802000305A104038090A31803A98383700480313031\n\
+        4 message 0:080280045A0802829C\n\
+        5 message 0:080280055A0802829C\n\
+        6 message\n\
+        7 message\n",
+    ),
+    (
+        0,
+        &MORE_DIGITS,
+        "1 message 0:080280010D1803A98381\n\
+        2 message 0:080280020D1803A98382\n\
+        3 message 0:080280017D0802829E140102\n\
+        4 message 0:080280035A0802829C\n\
+        5 message 0:080280035A0802829C\n\
+        6 message 0:080280035A0802829C\n\
+        7 message 0:080280014D\n\
+        8 message\n\
+        9 message 0:080280004E790186\n",
+    ),
+    (
+        1,
+        &IN_PARTS,
+        "1 message 0:080280010D1803A98381\n\
+        2 message\n\
+        3 message\n\
+        4 message 0:0802800102 1:0802000105A1040288901803A983816C0400803536\
+        700581313031377C0288907D029181\n\
+        5 message\n\
+        6 message 1:080200017D080282E5140106\n\
+        7 message 0:080280020D1803A98382\n\
+        8 message moved 0 0 0:0802800202 0:0802800207\n\
+        9 message\n",
+    ),
+    (
+        0,
+        &UNEXPECTED,
+        "2 message 0:080280017D080282E5140103\n\
         3 message 0:080280017D080282E1140103\n\
-        4 message\n";
-    assert!(rt; reports(rt.alloc(), 0, &UNEXPECTED, wanted)?);
+        4 message\n",
+    ),
+    (
+        0,
+        &[Fill(1), SETUP],
+        "15 granted 0 0\n16 message 0:080280015A080282A2\n",
+    ),
+    (
+        1,
+        &[TO_A_ROOM],
+        "1 message moved 0 0 0:08028001021803A98381 0:0802800107\n",
+    ),
+    (0, &[TO_A_ROOM], "1 message 0:080280015A080282AA\n"),
+];
+
+// Whether each example is reported so.
+fn are_reported(alloc: Global, rows: &[(u8, &[Step], &str)]) -> Result<bool, Fail> {
+    for (bridges, steps, wanted) in rows {
+        if !came_of(alloc, *bridges, false, steps, wanted)?.is_reported {
+            return Ok(false);
+        }
+    }
+    Ok(true)
+}
+
+#[test]
+fn examples_are_reported(rt: HostRuntime) -> Result<(), Fail> {
+    assert!(rt; are_reported(rt.alloc(), &REPORTED)?);
     Ok(())
 }
 

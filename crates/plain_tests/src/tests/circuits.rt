@@ -218,19 +218,39 @@ fn a_tone_sounds_at_once(rt: HostRuntime) -> Result<(), Fail> {
     Ok(())
 }
 
+// Octets and their values.
+const EXPANDED: [(u8, i32); 4] = [(0xD5, 1), (0x55, -1), (0xAA, 4032), (0x2A, -4032)];
+
+// Values and their octets.
+const COMPRESSED: [(i32, u8); 6] = [
+    (0, 0xD5),
+    (63, 0xCA),
+    (64, 0xF5),
+    (-64, 0x75),
+    (9000, 0xAA),
+    (-9000, 0x2A),
+];
+
+fn expand_so(rows: &[(u8, i32)]) -> bool {
+    for (octet, value) in rows {
+        if expand_by_search(*octet) != *value {
+            return false;
+        }
+    }
+    true
+}
+
+fn compress_so(rows: &[(i32, u8)]) -> bool {
+    for (value, octet) in rows {
+        if compress_by_search(*value) != *octet {
+            return false;
+        }
+    }
+    true
+}
+
 #[test]
 fn a_law_values(rt: HostRuntime) {
-    for (octet, value) in [(0xD5, 1), (0x55, -1), (0xAA, 4032), (0x2A, -4032)] {
-        assert!(rt; expand_by_search(octet) == value);
-    }
-    for (value, octet) in [
-        (0, 0xD5),
-        (63, 0xCA),
-        (64, 0xF5),
-        (-64, 0x75),
-        (9000, 0xAA),
-        (-9000, 0x2A),
-    ] {
-        assert!(rt; compress_by_search(value) == octet);
-    }
+    assert!(rt; expand_so(&EXPANDED));
+    assert!(rt; compress_so(&COMPRESSED));
 }
