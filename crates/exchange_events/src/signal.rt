@@ -49,16 +49,13 @@ impl Encoded {
         copied
     }
 
-    /// Becomes the octets of another message. It takes no memory, and touches no octet behind the longer of
-    /// the two messages.
+    /// Becomes the octets of another message. It takes no memory, makes the octets of the old message blank, and
+    /// touches no octet behind the longer of the two.
     pub fn copy_from(&mut self, other: &Encoded)
         ensures { self.new ≡ other.now }
     {
-        let octets = other.octets.as_slice();
-        self.octets.truncate(octets.len());
-        let (front, others) = octets.split_at(self.octets.len());
-        self.octets.as_mut_slice().copy_from_slice(front);
-        match self.octets.try_extend_from_slice(others) {
+        self.octets.clear();
+        match self.octets.try_extend_from_slice(other.octets.as_slice()) {
             Ok(()) => {}
             Err(_) => unreachable!(),
         }
