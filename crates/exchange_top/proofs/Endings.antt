@@ -243,7 +243,7 @@ module _ (x : Parties) where
       trace = t;
       report = report;
       checked = checked;
-      valid = valid;
+      found = valid;
       text = subst (Appends old new) same text;
       none = none;
       meters = told;
@@ -254,18 +254,20 @@ module _ (x : Parties) where
     invalid_is : IsDue strict bytes wanted line → status ≡ wanted → status ≡ 6 → Appends old new line → order ≡ [] → x.meters.left []
         → IsFoundInvalid x.meters.left strict left_old left_new order old new
     invalid_is (Due_valid t report checked valid is same) s six text none told = absurd (omega (arith, is, s, six))
-    invalid_is (Due_invalid t report n checked invalid is same) s six text none told = record {
-      bytes = bytes;
-      input = record { front = input.front; ended = input.whole checked.few };
-      trace = t;
-      report = report;
-      checked = checked;
-      number = n;
-      invalid = invalid;
-      text = subst (Appends old new) same text;
-      none = none;
-      meters = told;
-    }
+    invalid_is (Due_invalid t report n checked invalid is same) s six text none told = (
+      n,
+      record {
+        bytes = bytes;
+        input = record { front = input.front; ended = input.whole checked.few };
+        trace = t;
+        report = report;
+        checked = checked;
+        found = invalid;
+        text = subst (Appends old new) same text;
+        none = none;
+        meters = told;
+      },
+    )
     invalid_is (Due_refusal number why unchecked is same) s six text none told = absurd (omega (arith, is, s, six))
 
   -- a check of an input ends a call whose words ask for it

@@ -94,33 +94,28 @@ ChecksTo strict status left reads written writes source_old sink_old source_new 
 
 -- ---- what a status says
 
--- all of the input was read; its report is its trace's in a lawful order; the line that says so was written; and no event was done, and
--- no meter noted a call
-pub record IsFoundValid (left : List Step → Type 0) (strict : Bool) (left_old left_new : Option (List ℕ))
-    (order : List ℕ) (old new : Option (List ℕ)) : Type 0 where
+-- all of the input was read, of its report a verdict was found, and the line that says so was written; no event was done, and no meter
+-- noted a call
+pub record IsFound (left : List Step → Type 0) (verdict : Trace → List ℕ → Type 0) (line : List ℕ)
+    (left_old left_new : Option (List ℕ)) (order : List ℕ) (old new : Option (List ℕ)) : Type 0 where
   pub bytes : List ℕ
   pub input : IsWholeInput left_old left_new bytes
   pub trace : Trace
   pub report : List ℕ
   pub checked : IsChecked bytes trace report
-  pub valid : IsValid (slots_of strict) trace report
-  pub text : Appends old new valid_line
+  pub found : verdict trace report
+  pub text : Appends old new line
   pub none : order ≡ []
   pub meters : left []
 
--- its report isn't, and the line that says which of its lines is the first that isn't good was written
-pub record IsFoundInvalid (left : List Step → Type 0) (strict : Bool) (left_old left_new : Option (List ℕ))
-    (order : List ℕ) (old new : Option (List ℕ)) : Type 0 where
-  pub bytes : List ℕ
-  pub input : IsWholeInput left_old left_new bytes
-  pub trace : Trace
-  pub report : List ℕ
-  pub checked : IsChecked bytes trace report
-  pub number : ℕ
-  pub invalid : IsInvalidAt (slots_of strict) trace report number
-  pub text : Appends old new (invalid_line number)
-  pub none : order ≡ []
-  pub meters : left []
+-- the report is its trace's in a lawful order
+abbrev pub IsFoundValid : (List Step → Type 0) → Bool → Option (List ℕ) → Option (List ℕ) → List ℕ → Option (List ℕ) → Option (List ℕ) → Type 0
+IsFoundValid left strict = IsFound left (IsValid (slots_of strict)) valid_line
+
+-- it isn't, and the line says which of its lines is the first that isn't good
+abbrev pub IsFoundInvalid : (List Step → Type 0) → Bool → Option (List ℕ) → Option (List ℕ) → List ℕ → Option (List ℕ) → Option (List ℕ) → Type 0
+IsFoundInvalid left strict left_old left_new order old new =
+    (number : ℕ) × IsFound left (λ trace report. IsInvalidAt (slots_of strict) trace report number) (invalid_line number) left_old left_new order old new
 
 -- the input has no trace, and was refused
 pub record IsFoundUnchecked (left : List Step → Type 0) (left_old left_new : Option (List ℕ)) (order : List ℕ) (old new : Option (List ℕ)) : Type 0 where

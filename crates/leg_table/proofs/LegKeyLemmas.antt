@@ -34,7 +34,7 @@ other_side false reference Called r apart = refl
 
 -- ---- a look along the row of a line
 
-module _ (legs : Legs) (line : ℕ) (row : List ℕ) (of : IsRowOf legs line row) (told : All (λ leg. IfSome leg FitsMessages) legs.held) (flag : Bool) (reference : ℕ) (small : reference < 2 ^ 16) where
+module _ (legs : Legs) (line : ℕ) (row : List ℕ) (of : IsRowOf legs.held line row) (told : All (λ leg. IfSome leg FitsMessages) legs.held) (flag : Bool) (reference : ℕ) (small : reference < 2 ^ 16) where
   passed : (place : ℕ) → place < 30 → (o : Option Leg) → leg_at legs (record { line = line; place = place }) ≡ o → key_of o ≢ key_named flag reference
       → found_from legs line flag reference place ≡ found_from legs line flag reference (place + 1)
   passed place within None at apart = found_none legs line flag reference place within at

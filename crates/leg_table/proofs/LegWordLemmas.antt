@@ -60,7 +60,7 @@ hits_other row key count word near hits apart = record {
 }
 
 -- what the word tells of the leg that a message is for
-module _ (legs : Legs) (line : ℕ) (row : List ℕ) (of : IsRowOf legs line row) (told : All (λ leg. IfSome leg FitsMessages) legs.held) (flag : Bool) (reference : ℕ) (small : reference < 2 ^ 16)
+module _ (legs : Legs) (line : ℕ) (row : List ℕ) (of : IsRowOf legs.held line row) (told : All (λ leg. IfSome leg FitsMessages) legs.held) (flag : Bool) (reference : ℕ) (small : reference < 2 ^ 16)
     (word : ℕ) (fits : word < 2 ^ 32) (bits : (place : ℕ) → place < 32 → bit_at word place ≡ hit (key_named flag reference) (slice_index row place)) where
   lacks_at : (place : ℕ) → place < 32 → bit_at word place ≡ 0 → slice_index row place ≢ key_named flag reference
   lacks_at place near clear = hit_not (key_named flag reference) (slice_index row place) (sym (bits place near) ∙ clear)
@@ -120,7 +120,7 @@ uses_other row count word uses apart = record {
   ];
 }
 
-module _ (legs : Legs) (line : ℕ) (row : List ℕ) (of : IsRowOf legs line row) (told : All (λ leg. IfSome leg FitsMessages) legs.held) where
+module _ (legs : Legs) (line : ℕ) (row : List ℕ) (of : IsRowOf legs.held line row) (told : All (λ leg. IfSome leg FitsMessages) legs.held) where
   -- a called leg with this reference
   called_key : (side : Side) (r reference : ℕ) → r < 2 ^ 15 → key_by side r ≡ 2 ^ 16 + reference → (side ≡ Called) × (r ≡ reference)
   called_key Caller r reference few e = absurd (omega (arith, e, few))

@@ -1,6 +1,6 @@
 -- How a table of legs keeps the numbers that are pending and the messages that may be sent again: for each slot it has room for one of either, which
 -- counts by the state of the slot's leg. Source: this exchange's own.
-use Rattle.std.specs.Prelude.{◌≡◌, ℕ, ◌*◌, ◌==◌, List, [], ◌∷◌, length, Option, Some, None, if◌then◌else◌}
+use Rattle.std.specs.Prelude.{ℕ, ◌==◌, List, [], ◌∷◌, Option, Some, None, if◌then◌else◌}
 use Rattle.q931_codec.specs.CallStates.{overlap_sending}
 use Rattle.call_states.specs.Acts.{is_among}
 use Rattle.call_states.specs.declared.leg.Leg.{Leg}
@@ -9,9 +9,6 @@ use Rattle.call_profile.specs.KeptMessages.{awaiting_answer}
 use Rattle.call_profile.specs.Legs.{Legs}
 use Rattle.leg_table.specs.declared.notes.Note.{Note}
 use Rattle.leg_table.specs.declared.notes.Note.TheVariants.{Number, Message}
-use Rattle.call_timers.specs.declared.timers.Timers.{Timers}
-use Rattle.leg_table.specs.DueBounds.{AreBoundsOf}
-use Rattle.leg_table.specs.LegKeys.{AreKeysOf}
 
 abbrev pub number_in : Note → Option Pending
 number_in (Number p) = Some p
@@ -44,8 +41,3 @@ keeping_all legs notes = shown_all (List ℕ) keeping legs notes
 
 abbrev pub legs_kept : List (Option Leg) → List Note → Legs
 legs_kept legs notes = record { held = legs; pending = counting_all legs notes; kept = keeping_all legs notes }
-
-pub record IsTable (lines : ℕ) (timers : Timers) (legs : List (Option Leg)) (keys : List ℕ) (notes : List Note) (bounds : List ℕ) : Type 0 where
-  pub found : AreKeysOf lines legs keys
-  pub room : length notes ≡ 30 * lines
-  pub due : AreBoundsOf timers legs bounds

@@ -5,7 +5,6 @@ use Rattle.call_states.specs.declared.leg.Leg.{Leg}
 use Rattle.call_states.specs.declared.leg.Side.{Side}
 use Rattle.call_states.specs.declared.leg.Side.TheVariants.{Caller, Called}
 use Rattle.call_states.specs.Status.{FitsMessages}
-use Rattle.call_profile.specs.Legs.{Legs}
 
 -- the key of a call reference: its value, and above sixteen bits the flag that the user of the line sends with it
 abbrev pub key_named : Bool → ℕ → ℕ
@@ -43,9 +42,9 @@ pub record AreKeysOf (lines : ℕ) (legs : List (Option Leg)) (keys : List ℕ) 
   pub behind : (line place : ℕ) → 30 ≤ place → place < 32 → key_on keys line place ≡ no_key
 
 -- a line has this row of 32 keys
-pub record IsRowOf (legs : Legs) (line : ℕ) (row : List ℕ) : Type 0 where
+pub record IsRowOf (legs : List (Option Leg)) (line : ℕ) (row : List ℕ) : Type 0 where
   pub size : length row ≡ 32
-  pub each : (place : ℕ) → place < 30 → slice_index row place ≡ key_of (leg_on legs.held line place)
+  pub each : (place : ℕ) → place < 30 → slice_index row place ≡ key_of (leg_on legs line place)
   pub behind : (place : ℕ) → 30 ≤ place → place < 32 → slice_index row place ≡ no_key
 
 -- the bit of a place whose key this is

@@ -1,3 +1,4 @@
 pub mod LegKeys
 pub mod KeptNumbers
 pub mod DueBounds
+pub mod KeyedLegs

@@ -15,6 +15,7 @@
 #![tactic(auto)]
 
 mod due_bounds;
+mod keyed_legs;
 mod leg_keys;
 mod notes;
 mod table;

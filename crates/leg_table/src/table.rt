@@ -7,13 +7,13 @@ ghost use Rattle.call_states.specs.Acts.{is_among};
 ghost use Rattle.call_states.specs.Status.{FitsMessages};
 ghost use Rattle.call_profile.specs.KeptMessages.{awaiting_answer};
 ghost use Rattle.leg_table.specs.KeptNumbers.{counting_all, keeping_all};
-ghost use Rattle.leg_table.specs.DueBounds.{AreBoundsOf, NoneDue};
-ghost use Rattle.leg_table.specs.LegKeys.{AreKeysOf, IsRowOf};
+ghost use Rattle.leg_table.specs.DueBounds.{NoneDue};
+ghost use Rattle.leg_table.specs.LegKeys.{IsRowOf};
 ghost use Rattle.call_profile.specs.Legs.{no_legs, leg_at, pending_at, kept_at, with_leg, with_waiting, with_kept, without_leg, leg_named, held_at, new_reference};
 ghost use Rattle.leg_table.specs.declared.notes.Note.TheVariants as A_note;
 
-use crate::due_bounds::{BOUNDS, NEVER, due_from, due_from_at, lower};
-use crate::leg_keys::{NO_KEY, ROW, key_named, key_of, places_with, references_in};
+use crate::keyed_legs::KeyedLegs;
+use crate::leg_keys::{key_named, places_with, references_in};
 use crate::notes::Note;
 use call_states::{Held, Leg, Pending};
 use call_timers::Timers;
@@ -25,33 +25,24 @@ use std::marker::Model;
 
 /// The legs of all calls, by the slots that they hold. Contracts see for each external slot, by its
 /// number, the leg that holds it, the number that is pending there, and the message that is kept there.
-///
-/// Beside the legs is a row of keys for each line, by which a message finds its leg in one pass
-/// without a branch, and for each slot room for a number that is pending, or a message that is kept. And for
-/// each place the table knows a frame before which no leg there is due.
 #[derive(Drop)]
 pub struct LegTable {
-    lines: u8,
-    legs: Vec<Option<Leg>>,
-    // The key of the leg at each place of each line.
-    keys: Vec<u32>,
+    legs: KeyedLegs,
     // What is kept at each slot. It counts by the state of the slot's leg, so that nothing is cleared when the
     // leg leaves that state.
     notes: Vec<Note>,
-    timers: Timers,
-    // For each place, a frame before which nothing is due of the legs there.
-    bounds: [u32; BOUNDS],
 }
 
 impl Model for LegTable {
-    ghost use Rattle.leg_table.specs.KeptNumbers.{IsTable, legs_kept};
+    ghost use Rattle.std.specs.Prelude.{◌≡◌, length};
+    ghost use Rattle.leg_table.specs.KeptNumbers.{legs_kept};
     ghost use Rattle.call_profile.specs.Legs.{Legs};
 
     ghost Value = { Legs };
 
-    ghost view = { λ t. legs_kept t.legs.items t.notes.items };
+    ghost view = { λ t. legs_kept t.legs t.notes.items };
 
-    ghost invariant = { λ t. IsTable t.lines t.timers t.legs.items t.keys.items t.notes.items t.bounds };
+    ghost invariant = { λ t. length t.notes.items ≡ length t.legs };
 }
 
 impl LegTable {
@@ -59,14 +50,10 @@ impl LegTable {
     pub fn new(alloc: Global, external: u8, timers: Timers) -> Result<LegTable, AllocError>
         ensures { IfOk result (λ t. t ≡ no_legs external) }
     {
-        let lines = usize::from(external);
+        let slots = usize::from(PLACES) * usize::from(external);
         Ok(LegTable {
-            lines: external,
-            legs: vec![in alloc; None; usize::from(PLACES) * lines]?,
-            keys: vec![in alloc; NO_KEY; ROW * lines]?,
-            notes: vec![in alloc; Note::Number(Pending::default()); usize::from(PLACES) * lines]?,
-            timers,
-            bounds: [NEVER; BOUNDS],
+            legs: KeyedLegs::new(alloc, external, timers)?,
+            notes: vec![in alloc; Note::Number(Pending::default()); slots]?,
         })
     }
 
@@ -76,10 +63,7 @@ impl LegTable {
         ensures inside { IfSome result (λ _. number_of x < length self.now.held) }
         ensures told { IfSome result FitsMessages }
     {
-        match self.legs.get(x.number()) {
-            Some(leg) => *leg,
-            None => None,
-        }
+        self.legs.at(x.number())
     }
 
     /// The number that is pending at a slot.
@@ -105,14 +89,7 @@ impl LegTable {
         requires unanswered { is_among awaiting_answer leg.state ≡ false }
         ensures { self.new ≡ with_leg self.old x leg }
     {
-        hold(
-            &mut self.legs,
-            &mut self.keys,
-            &mut self.bounds,
-            &self.timers,
-            x,
-            leg,
-        );
+        self.legs.put(x, leg);
     }
 
     /// Lets a leg hold a slot, in place of any other, and wait there with its number.
@@ -124,14 +101,7 @@ impl LegTable {
         ensures { self.new ≡ with_waiting self.old x leg pending }
     {
         keep(&mut self.notes, x, Note::Number(pending));
-        hold(
-            &mut self.legs,
-            &mut self.keys,
-            &mut self.bounds,
-            &self.timers,
-            x,
-            leg,
-        );
+        self.legs.put(x, leg);
     }
 
     /// Lets a leg hold a slot, in place of any other, and keeps there the message whose answer it waits for.
@@ -143,14 +113,7 @@ impl LegTable {
         ensures { self.new ≡ with_kept self.old x leg message.now }
     {
         keep_message(&mut self.notes, x, message);
-        hold(
-            &mut self.legs,
-            &mut self.keys,
-            &mut self.bounds,
-            &self.timers,
-            x,
-            leg,
-        );
+        self.legs.put(x, leg);
     }
 
     /// Lets a leg hold a slot, in place of any other, and go on to wait for the answer to the message that is
@@ -162,14 +125,7 @@ impl LegTable {
         requires state { is_among awaiting_answer leg.state ≡ true }
         ensures { (octets : List ℕ) → kept_at self.old x ≡ Some octets → self.new ≡ with_kept self.old x leg octets }
     {
-        hold(
-            &mut self.legs,
-            &mut self.keys,
-            &mut self.bounds,
-            &self.timers,
-            x,
-            leg,
-        );
+        self.legs.put(x, leg);
     }
 
     /// Lets no leg hold a slot; no number is pending there then, and no message kept.
@@ -178,8 +134,7 @@ impl LegTable {
         requires place { x.place < 30 }
         ensures { self.new ≡ without_leg self.old x }
     {
-        self.legs[x.number()] = None;
-        self.keys[key_index(x)] = NO_KEY;
+        self.legs.remove(x);
     }
 
     /// Whether a leg at this place may be due in a frame, by these timers.
@@ -187,10 +142,7 @@ impl LegTable {
         requires place { place < 30 }
         ensures { result ≡ false → NoneDue timers.now self.now.held place frame }
     {
-        if self.timers != *timers {
-            return true;
-        }
-        self.bounds[usize::from(place)] <= frame
+        self.legs.may_be_due(place, frame, timers)
     }
 
     /// Looks at the legs at a place, and notes the first frame in which one of them may be due: before it
@@ -199,8 +151,7 @@ impl LegTable {
         requires place { place < 30 }
         ensures { self.new ≡ self.old }
     {
-        let first = due_from_at(&self.legs, self.lines, place, &self.timers);
-        self.bounds[usize::from(place)] = first;
+        self.legs.settle(place);
     }
 
     /// The leg of a line that a message with this flag and call reference value is for.
@@ -239,54 +190,19 @@ impl LegTable {
     // The keys of a line's legs.
     fn row(&self, line: u8) -> &[u32]
         requires { 30 * line + 30 ≤ length self.now.held }
-        ensures row { IsRowOf self.now line result.now }
+        ensures row { IsRowOf self.now.held line result.now }
         ensures told { All (λ leg. IfSome leg FitsMessages) self.now.held }
     {
-        let start = ROW * usize::from(line);
-        &self.keys[start..start + ROW]
-    }
-}
-
-// Lets a leg hold a slot, in place of any other, with its key, and lowers the bound of its place.
-#[inline(always)]
-fn hold(
-    legs: &mut Vec<Option<Leg>>,
-    keys: &mut Vec<u32>,
-    bounds: &mut [u32; BOUNDS],
-    timers: &Timers,
-    x: Slot,
-    leg: Leg,
-)
-    requires inside { number_of x < length legs.old.items }
-    requires keys { (lines : ℕ) × AreKeysOf lines legs.old.items keys.old.items }
-    requires place { x.place < 30 }
-    requires told { FitsMessages leg }
-    ensures legs { legs.new.items ≡ slice_set legs.old.items (number_of x) (Some leg) }
-    ensures found { (lines : ℕ) → AreKeysOf lines legs.old.items keys.old.items → AreKeysOf lines legs.new.items keys.new.items }
-    ensures due { AreBoundsOf timers.now legs.old.items bounds.old → AreBoundsOf timers.now legs.new.items bounds.new }
-{
-    lower(bounds, x.place, due_from(leg, timers));
-    legs[x.number()] = Some(leg);
-    keys[key_index(x)] = key_of(leg);
-}
-
-// The leg of a slot with this number.
-fn leg_of(legs: &[Option<Leg>], number: usize) -> Option<Leg>
-    ensures found { result ≡ slice_index_or legs.now number None }
-    ensures inside { IfSome result (λ _. number < length legs.now) }
-{
-    match legs.get(number) {
-        Some(leg) => *leg,
-        None => None,
+        self.legs.row(line)
     }
 }
 
 // What is pending at a slot with this number: what is kept there counts in overlap sending alone.
-fn number_at<'a>(legs: &[Option<Leg>], notes: &'a [Note], number: usize) -> Option<&'a Pending>
+fn number_at<'a>(legs: &KeyedLegs, notes: &'a [Note], number: usize) -> Option<&'a Pending>
     requires { length notes.now ≡ length legs.now }
     ensures { option_copied result ≡ slice_index_or (counting_all legs.now notes.now) number None }
 {
-    let leg = leg_of(legs, number)?;
+    let leg = legs.at(number)?;
     if leg.state != OVERLAP_SENDING {
         return None;
     }
@@ -297,11 +213,11 @@ fn number_at<'a>(legs: &[Option<Leg>], notes: &'a [Note], number: usize) -> Opti
 }
 
 // Which message is kept at a slot with this number: it counts where the leg waits for the answer to it.
-fn message_at<'a>(legs: &[Option<Leg>], notes: &'a [Note], number: usize) -> Option<&'a Encoded>
+fn message_at<'a>(legs: &KeyedLegs, notes: &'a [Note], number: usize) -> Option<&'a Encoded>
     requires { length notes.now ≡ length legs.now }
     ensures { option_copied result ≡ slice_index_or (keeping_all legs.now notes.now) number None }
 {
-    let leg = leg_of(legs, number)?;
+    let leg = legs.at(number)?;
     if !awaits_answer(leg.state) {
         return None;
     }
@@ -337,11 +253,4 @@ fn keep_message(notes: &mut Vec<Note>, x: Slot, message: &Encoded)
         Note::Message(kept) => kept.copy_from(message),
         other => *other = Note::Message(message.copy()),
     }
-}
-
-// Where the key of a slot is.
-fn key_index(x: Slot) -> usize
-    ensures { result ≡ 32 * x.line + x.place }
-{
-    ROW * usize::from(x.line) + usize::from(x.place)
 }

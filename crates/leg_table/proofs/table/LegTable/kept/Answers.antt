@@ -6,5 +6,5 @@ use Rattle.leg_table.proofs.table.LegTable.kept.Goals as goal
 pub returns : goal.returns
 returns c =
     c.message_at.ensures
-    ∙ (λ i. slice_index_or (keeping_all (c.deref.ensures.value i) (c.deref-2.ensures.value i)) c.number.result None)
-    ∙ sym (kept_shown c.self.inside.legs.items c.self.inside.notes.items c.args.self.now c.self.view_is c.number.result c.args.x c.number.ensures)
+    ∙ (λ i. slice_index_or (keeping_all c.self.inside.legs (c.deref.ensures.value i)) c.number.result None)
+    ∙ sym (kept_shown c.self.inside.legs c.self.inside.notes.items c.args.self.now c.self.view_is c.number.result c.args.x c.number.ensures)

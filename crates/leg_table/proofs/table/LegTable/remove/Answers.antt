@@ -1,17 +1,9 @@
-use Rattle.std.proofs.Common.{rules, ◌<◌, length, None, arith}
-use Rattle.leg_table.proofs.DueBoundLemmas.{bounds_with, keys_without}
+use Rattle.std.proofs.Common.{refl, ap, ◌∙◌}
+use Rattle.leg_table.specs.KeptNumbers.{legs_kept}
 use Rattle.leg_table.proofs.KeptNumberLemmas.{kept_remove}
 use Rattle.leg_table.proofs.table.LegTable.remove.Goals as goal
 
-pub invariant_of-self : goal.invariant_of-self
-invariant_of-self c =
-    let inside : c.number.result < length c.self.inside.legs.items = search rules in
-    record {
-      found = keys_without c.self.inside.lines c.self.inside.legs.items c.self.inside.keys.items c.number.result c.key_index.result c.args.x.line c.args.x.place c.self.invariant.found c.number.ensures c.key_index.ensures c.requires.place inside;
-      room = c.self.invariant.room;
-      due = bounds_with c.self.inside.timers c.self.inside.legs.items c.self.inside.bounds c.self.inside.bounds c.self.invariant.due c.self.invariant.due.places (λ place near. omega arith)
-          c.number.result c.args.x.line c.args.x.place c.number.ensures c.requires.place inside None (λ frame early. tt);
-    }
-
 pub returns : goal.returns
-returns c = kept_remove c.self.inside.legs.items c.self.inside.notes.items c.args.self.now c.self.view_is c.number.result c.args.x c.number.ensures
+returns c =
+    ap (λ held. legs_kept held c.self.inside.notes.items) c.remove.ensures
+    ∙ kept_remove c.self.inside.legs c.self.inside.notes.items c.args.self.now c.self.view_is _ c.args.x refl
