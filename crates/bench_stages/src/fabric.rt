@@ -45,15 +45,31 @@ pub fn run(
     let mut image = Image::new(alloc, EXTERNAL, BRIDGES, SLOTS)?;
     connect_all(&mut image);
     let mut near = FrameBuffer::new(alloc, LINES)?;
+    fill(&mut near);
+    carry_to_and_fro(rt, alloc, pairs, way, &image, &mut near)
+}
+
+// Carries n pairs of frames to another buffer and back, and answers a sum over what came back.
+fn carry_to_and_fro(
+    rt: &(impl Threads + Sync),
+    alloc: Global,
+    pairs: u32,
+    way: Way,
+    image: &Image,
+    near: &mut FrameBuffer,
+) -> Result<u32, AllocError>
+    requires lines { (image.now.external ≡ 30) × (image.now.bridges ≡ 4) }
+    requires slots { image.now.slots ≡ 59 }
+    requires near { near.old.lines ≡ 34 }
+{
     let mut far = FrameBuffer::new(alloc, LINES)?;
     let mut highway = Highway::new(alloc, LINES, SLOTS)?;
     let mut crossed = Crossed::new(alloc, LINES, SLOTS)?;
-    fill(&mut near);
     for _ in 0..pairs {
-        carry(rt, way, &near, &image, &mut highway, &mut crossed, &mut far);
-        carry(rt, way, &far, &image, &mut highway, &mut crossed, &mut near);
+        carry(rt, way, near, image, &mut highway, &mut crossed, &mut far);
+        carry(rt, way, &far, image, &mut highway, &mut crossed, near);
     }
-    Ok(sum_of(&near))
+    Ok(sum_of(near))
 }
 
 // Carries one frame, and changes the halves of the buffer that it went to.

@@ -1,5 +1,5 @@
 use Rattle.std.proofs.Common.{◌≡◌}
-use Rattle.bench_stages.proofs.fabric.run.Given as goal
+use Rattle.bench_stages.proofs.fabric.carry_to_and_fro.Given as goal
 
 abbrev pub invariant-loop : goal.invariant-loop
 invariant-loop g l = record {
