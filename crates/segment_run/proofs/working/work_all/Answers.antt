@@ -17,6 +17,11 @@ use Rattle.segment_run.proofs.PairLemmas.{pairs, pairs_all, pairs_keep, pairs_lo
 use Rattle.segment_run.proofs.WholeRunLemmas.{Run, each_at, enough_turns, run_answered, run_apart, run_chief, run_long, run_many, run_ran, run_ready, run_whole}
 use Rattle.segment_run.proofs.working.work_all.Goals as goal
 
+pub deal-jobs-requires-clause-few : goal.deal-jobs-requires-clause-few
+deal-jobs-requires-clause-few g c lifetimes outlive =
+    let sound : IsSound c.args.trace.now = subst IsSound (sym c.requires.may.trace_is) ((g.met.B.Switchboard g.world.𝓛 g.world.𝓜 g.world.𝓡 ((λ s x. x), (λ x. x), (λ x. x), λ x. x)).sound_trace c.args.board.now c.args.seat.now c.requires.seated) in
+    sound.processors.1
+
 pub deal-jobs-requires-clause-turns : goal.deal-jobs-requires-clause-turns
 deal-jobs-requires-clause-turns g c lifetimes outlive =
     let sound : IsSound c.args.trace.now = subst IsSound (sym c.requires.may.trace_is) ((g.met.B.Switchboard g.world.𝓛 g.world.𝓜 g.world.𝓡 ((λ s x. x), (λ x. x), (λ x. x), λ x. x)).sound_trace c.args.board.now c.args.seat.now c.requires.seated) in
